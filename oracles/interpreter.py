@@ -40,7 +40,7 @@ def is_ground(term):
 def with_values(term, values):
     if isinstance(term, str):
         return values.get(term, term) if term[0] == "?" else term
-    return tuple([with_values(one, values) for one in term])
+    return tuple([with_values(member, values) for member in term])
 
 
 def fitted(pattern, term, values):
@@ -53,8 +53,8 @@ def fitted(pattern, term, values):
         return {**values, pattern: term}
     if isinstance(term, str) or len(term) != len(pattern):
         return None
-    for one, other in zip(pattern, term):
-        values = fitted(one, other, values)
+    for part, inner in zip(pattern, term):
+        values = fitted(part, inner, values)
         if values is None:
             return None
     return values
@@ -68,8 +68,8 @@ def narrowed(head, question, values):
         return fitted(head, question, values) if not is_variable(head) or is_ground(question) else values
     if isinstance(question, str) or len(question) != len(head):
         return None
-    for one, other in zip(head, question):
-        values = narrowed(one, other, values)
+    for part, asked in zip(head, question):
+        values = narrowed(part, asked, values)
         if values is None:
             return None
     return values
@@ -79,7 +79,7 @@ def key_of(question, names):
     """The question with its variables numbered, so that two that ask the same are equal."""
     if isinstance(question, str):
         return names.setdefault(question, f"?{len(names)}") if question[0] == "?" else question
-    return tuple([key_of(one, names) for one in question])
+    return tuple([key_of(part, names) for part in question])
 
 
 def name_of(sentence):
@@ -112,8 +112,8 @@ def leaves(term, path=()):
         if term[0] != "?":
             yield path, term
     else:
-        for place, one in enumerate(term):
-            yield from leaves(one, (*path, place))
+        for place, part in enumerate(term):
+            yield from leaves(part, (*path, place))
 
 
 def leaf_at(term, path):
@@ -203,8 +203,8 @@ class Look:
         for head, body in self.game.rules.get(name, ()):
             values = narrowed(head, question, {})
             if values is not None:
-                for each in self.all_values(body, values):
-                    answer = with_values(head, each)
+                for found in self.all_values(body, values):
+                    answer = with_values(head, found)
                     if fitted(question, answer, {}) is not None:
                         yield answer
 
@@ -225,8 +225,8 @@ class Look:
             case ("not", inner):
                 if not any(True for _ in self.all_values((inner,), {})):
                     yield from self.all_values(rest, values)
-            case ("distinct", one, other):
-                if one != other:
+            case ("distinct", left, right):
+                if left != right:
                     yield from self.all_values(rest, values)
             case _:
                 for answer in self.answers(literal):
@@ -303,7 +303,7 @@ class Game:
         found = {}
         for group in groups:
             circle = frozenset(name for name in group if len(group) > 1 or name in self.asks[name])
-            bodies = [body for one in circle for _, body in self.rules[one]]
+            bodies = [body for name in circle for _, body in self.rules[name]]
             if not any(denied in circle for body in bodies for literal in body for denied in denied_in(literal)):
                 found.update(dict.fromkeys(circle, circle))
         return found
@@ -311,7 +311,7 @@ class Game:
     def can_grow(self, circle):
         """Whether a question could come up again with more in the place of a variable, and so without an end."""
         asked = [sentence for name in circle for _, body in self.rules[name] for literal in body for sentence in asked_in(literal)]
-        return any(not (is_variable(one) or is_ground(one)) for sentence in asked if name_of(sentence) in circle for one in sentence[1:])
+        return any(not (is_variable(argument) or is_ground(argument)) for sentence in asked if name_of(sentence) in circle for argument in sentence[1:])
 
     def asked(self, state, joint, work):
         """What a question comes to in a state, asked anew where a relation is seen to go round."""

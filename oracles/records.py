@@ -4,6 +4,8 @@ what stands in `python`: it replays a record by its own reading of the profile, 
 
 records.py                    writes NAME.word for each NAME.record of examples/records, and the tests' constants
 records.py --check            ends with status 1 where one of these files is not what it would write
+records.py --random SEED MATCHES CHANGES
+                              prints records of random matches, each followed by as many that are changed in one place
 records.py --program PROGRAM  asks the program of records of random matches, and of each changed in one place again and again, and
                                ends with status 1 where it says something else
 """
@@ -222,10 +224,9 @@ def word(heap, text):
 
 def random_record(chance):
     """The record of a match with strikes, somewhere in its course, and its heap."""
-    heap, strikes = chance.randint(1, 12), chance.randint(0, 3)
+    heap, strikes, rounds = chance.randint(1, 12), chance.randint(0, 3), chance.choice([3, 20, 20, 20])
     state, moves, errors = Countdown(heap), [], []
     states = [state.texts()]
-    rounds = chance.choice([3, 20, 20, 20])
     while len(moves) < rounds and not state.terminal():
         retired = [is_retired(strikes, errors, role) for role in range(2)]
         if all(retired):
@@ -348,8 +349,11 @@ def compare(program):
 def main():
     words = argparse.ArgumentParser(description=__doc__, formatter_class=argparse.RawDescriptionHelpFormatter)
     words.add_argument("--check", action="store_true")
+    words.add_argument("--random", metavar=("SEED", "MATCHES", "CHANGES"), nargs=3, type=int)
     words.add_argument("--program", metavar="PROGRAM")
     given = words.parse_args()
+    if given.random:
+        return print(*(text for _, text in random_records(*given.random)), sep="\n")
     if given.program:
         return compare(given.program)
     for path, text in files():

@@ -1,16 +1,22 @@
-"""The tables of crates in a document, made of crates.txt, trials/trials.txt and what each crate says of itself first."""
+"""The layers and tables of crates in a document, made of crates.txt, trials/trials.txt and what each crate says of itself first."""
+import functools
 import re
 
 from crates import TOP, below, crate_rows, crates
-from trials import TRIALS, lines_of, trials
+from trials import TRIALS, trials
 
 CRATES = "| Crate | Stands on | What it is for |"
-TESTS = "| Crate of tests | Stands on | What it tries |"
+TESTS = "| Crate of tests | What it tries |"
+# The layers stand in a block of code behind this line.
+LAYERS = "The program's crates, each over some of the lines below its own:\n"
+LAYER_ROWS = r"\n(?:    .*\n)*"
+# Crates that no crate of the program stands on.
+ANNEXES = ("worked_", "uses_")
 # A table is its head and the lines below it that are rows.
 ROWS = r"\n(?:\|.*\n)*"
 COMMENT = re.compile(r"((?:^//! .*\n)+)", re.MULTILINE)
 
-Row = tuple[str, str, str]
+Row = tuple[str, ...]
 
 
 def first_sentence(text: str) -> str:
@@ -53,25 +59,36 @@ def crate_table(known: dict[str, list[str]]) -> list[Row]:
     return found
 
 
-def test_table(known: dict[str, list[str]]) -> list[Row]:
-    """Returns a row for each crate of tests: its name, what it stands on, and what it tries."""
-    named = {head.split()[0]: deps.split() for head, _, deps in (line.partition(":") for line in lines_of(f"{TRIALS}/trials.txt"))}
-    found = []
-    for name in trials():
-        main = "main" if name == "memory_trials" else "lib"
-        stands_on = nearest([dep for dep in named[name] if dep in known], known)
-        found.append((f"`{name}`", spelled(stands_on), comment_of(read(f"{TRIALS}/{name}/src/{main}.rt.trial"))))
-    return found
+def test_table() -> list[Row]:
+    """Returns a row for each crate of tests: its name and what it tries."""
+    main = {"memory_trials": "main"}
+    return [(f"`{name}`", comment_of(read(f"{TRIALS}/{name}/src/{main.get(name, 'lib')}.rt.trial"))) for name in trials()]
+
+
+def layers(known: dict[str, list[str]]) -> list[list[str]]:
+    """Returns the crates of the program by layers, the highest first: a crate stands one above the highest that it stands on."""
+    @functools.cache
+    def height(name: str) -> int:
+        return max((height(dep) + 1 for dep in known[name] if dep in known), default=0)
+
+    own = [name for name in known if not name.startswith(ANNEXES)]
+    return [[name for name in own if height(name) == level] for level in range(max(map(height, own)), -1, -1)]
+
+
+def with_layers(text: str, found: list[list[str]]) -> str:
+    """Returns a text in which the block of layers has these."""
+    body = "".join(f"    {' '.join(names)}\n" for names in found)
+    return re.sub(re.escape(LAYERS) + LAYER_ROWS, lambda _: f"{LAYERS}\n{body}", text)
 
 
 def with_table(text: str, head: str, rows: list[Row]) -> str:
     """Returns a text in which the table with this head has these rows."""
-    lines = ["|---|---|---|", *(f"| {name} | {deps} | {what} |".replace("|  |", "| |") for name, deps, what in rows)]
+    lines = ["|".join(["", *["---"] * (head.count("|") - 1), ""]), *(f"| {' | '.join(row)} |".replace("|  |", "| |") for row in rows)]
     body = "".join(f"{line}\n" for line in lines)
     return re.sub(re.escape(head) + ROWS, lambda _: f"{head}\n{body}", text)
 
 
 def with_tables(text: str) -> str:
-    """Returns a document with its tables of crates as they have to be."""
+    """Returns a document with its layers and tables of crates as they have to be."""
     known = crates()
-    return with_table(with_table(text, CRATES, crate_table(known)), TESTS, test_table(known))
+    return with_table(with_table(with_layers(text, layers(known)), CRATES, crate_table(known)), TESTS, test_table())

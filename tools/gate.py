@@ -27,7 +27,7 @@ LOOKS: list[Look] = [
     ["tools/tables", "--check"],
     ["examples/games/tictactoe.py", "--check"],
     ["oracles/ground_games.py", "--check"],
-    ["examples/games/embed", "--check"],
+    ["drivers/embed-games", "--check"],
     ["oracles/records.py", "--check"],
     ["tools/manual", "--check"],
     ["tools/edits", "--applies"],
@@ -36,10 +36,9 @@ LOOKS: list[Look] = [
     ["tools/kit-words"],
     ["tools/imports"],
 ]
-GENERAL = "examples/games/general"
 # The games that are compared here: small ones, and two that have to be folded and unrolled.
 FEW = ("tictactoe", "nim", "connectfour", "auction", "minority", "hanoi", "queens", "blocks", "foxandhounds", "hex")
-SEASONS = ("try", "crowd", "killed", "unread", "closed", "short", "named", "stopped", "restarted", "bloated", "full", "waiting", "added", "nonblocking", "large")
+SEASONS = ("small", "crowd", "killed", "unread", "closed", "short", "named", "stopped", "restarted", "bloated", "full", "waiting", "added", "nonblocking", "large")
 WITHOUT_PROGRAM = (
     "README.md's commands and the pages of records, since no program is up to date: `make build` proves one, and `make demo` compiles one"
 )
@@ -63,12 +62,12 @@ def quick_looks_of(program: str) -> list[Look]:
 
 def looks_of(program: str) -> list[Look]:
     """Returns the looks that run the proved program."""
-    seasons = [[f"examples/season/{season}", program] for season in SEASONS]
+    seasons = [[f"drivers/season-{season}", program] for season in SEASONS]
     competitions = [["tools/readme", program, "docs/COMPETITION.md"], ["python/tests/run", program]]
-    games = [[f"{GENERAL}/cases", program], ["oracles/compare", program, "--matches", "2", "--tries", "2", *FEW]]
+    games = [["drivers/instances", program], ["oracles/compare", program, "--matches", "2", "--tries", "2", *FEW]]
     records = [["tools/readme", program, "examples/records/README.md"], ["tools/readme", program, "docs/LIBRARY.md"]]
-    records += [["oracles/records.py", "--program", program], ["examples/records/in_pieces", program]]
-    faulty = [[f"examples/faults/{kind}", program] for kind in ("compare", "each", "limits", "damage")]
+    records += [["oracles/records.py", "--program", program], ["drivers/records-in-pieces", program]]
+    faulty = [[f"drivers/{kind}", program] for kind in ("faults-compare", "faults-each", "limits", "faults-damage")]
     archive = [["tools/empty-root", program]]
     return [["tools/played", program], *quick_looks_of(program), *seasons, *competitions, *games, *records, *faulty, *archive]
 

@@ -86,14 +86,17 @@ def kit_in_use() -> tuple[str, str]:
     return name, logic
 
 
+def sum_of_check(name: str) -> str:
+    """Returns the sum of all that a check of a crate rests on."""
+    known, (_, logic) = crates(), kit_in_use()
+    below = [sum_from_above(lower) for lower in with_below(known[name], known)]
+    return sum_of(logic, read("HANDLES"), sum_of_own(name), *below)
+
+
 def sums_of(names: Iterable[str]) -> dict[str, str]:
     """Returns the sum of each edit of these crates."""
-    known, (_, logic), found = crates(), kit_in_use(), {}
-    for name in names:
-        below = [sum_from_above(lower) for lower in with_below(known[name], known)]
-        rests_on = sum_of(logic, read("HANDLES"), sum_of_own(name), *below)
-        found.update({edit: sum_of(rests_on, read(edit))[:DIGITS] for edit in edits_of(name)})
-    return found
+    rests_on = {name: sum_of_check(name) for name in names}
+    return {edit: sum_of(rests_on[name], read(edit))[:DIGITS] for name in rests_on for edit in edits_of(name)}
 
 
 def read_ledger(file: str = LEDGER) -> dict[str, Entry]:

@@ -21,18 +21,18 @@ BEGINS = threading.Lock()
 GRACE = 3
 
 
-def name_of(look):
+def name_of(look: list[str]) -> str:
     """Returns a look's words without the paths that differ from computer to computer."""
     return " ".join(word for word in look if not os.path.isabs(word))
 
 
-def end_session(leader, number=signal.SIGTERM):
+def end_session(leader: int, number: int = signal.SIGTERM) -> None:
     """Ends a process that leads a session, with all that it started there."""
     with contextlib.suppress(ProcessLookupError):
         os.killpg(leader, number)
 
 
-def end_looks(leaders, is_over):
+def end_looks(leaders: list[int], is_over: typing.Callable[[], bool]) -> None:
     """Ends looks as Ctrl-C does, and behind the grace what is left of them."""
     for number in signal.SIGINT, signal.SIGTERM:
         for leader in leaders:
@@ -114,17 +114,17 @@ class Beside(threading.Thread):
     """Takes looks one after another while other work goes on, and has that work stopped after one that is not well. What a look says
     comes whole when it ends; what the other work says is to go through `say`, so that no line is mixed with another."""
 
-    def __init__(self, looks: list[list[str]], stop: typing.Callable[[], None], tally: Tally):
+    def __init__(self, looks: list[list[str]], stop: typing.Callable[[], None], tally: Tally) -> None:
         super().__init__(daemon=True)
         self.looks, self.stop, self.tally, self.says = looks, stop, tally, threading.Lock()
         # All is well only once each look was taken to its end.
         self.all_well = self.is_ended = False
 
-    def say(self, text):
+    def say(self, text: str) -> None:
         with self.says:
             print(text, end="", flush=True)
 
-    def run(self):
+    def run(self) -> None:
         try:
             self.all_well = all(map(self.is_well, self.looks))
         finally:
@@ -144,7 +144,7 @@ class Beside(threading.Thread):
         self.say(f"{''.join(said)}gate: {name_of(look)}: {'well' if well else 'WRONG'}, {took}\n")
         return well
 
-    def end(self):
+    def end(self) -> None:
         """Ends the look that is being taken. No other is taken then, and the other work is left to whoever calls this."""
         with BEGINS:
             self.is_ended = True

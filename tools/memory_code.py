@@ -40,10 +40,10 @@ class Names(NamedTuple):
         """Returns a name with all that it stands for, where names stand for names."""
         found, left = set(), [name]
         while left:
-            one = left.pop()
-            if one not in found:
-                found.add(one)
-                left += self.meant.get(one, ())
+            current = left.pop()
+            if current not in found:
+                found.add(current)
+                left += self.meant.get(current, ())
         return found
 
 

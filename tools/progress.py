@@ -5,9 +5,11 @@ import json
 import os
 import threading
 import time
+from collections.abc import Iterable
 
 from crates import TOP, spell
 
+Deps = dict[str, list[str]]
 TIMES = f"{TOP}/bin/times.json"
 # Of a line of tests, where no crate of tests has a time yet.
 SECONDS_A_LINE = 0.06
@@ -20,7 +22,7 @@ SECONDS_A_MEGABYTE = 1.28
 PROGRAM_SHARE = 0.04
 
 
-def read_times(kind, file=TIMES):
+def read_times(kind: str, file: str = TIMES) -> dict[str, float]:
     """Returns the seconds that each crate took at this kind of work."""
     try:
         with open(file, encoding="utf-8") as stream:
@@ -29,7 +31,7 @@ def read_times(kind, file=TIMES):
         return {}
 
 
-def write_times(kind, taken, file=TIMES):
+def write_times(kind: str, taken: dict[str, float], file: str = TIMES) -> None:
     """Keeps the seconds of what was worked on from nothing, beside those of the others."""
     try:
         with open(file, encoding="utf-8") as stream:
@@ -67,7 +69,7 @@ def expected(standard: dict[str, float], times: dict[str, float]) -> dict[str, f
     return {name: times.get(name, speed * seconds) for name, seconds in standard.items()}
 
 
-def behind(deps, seconds):
+def behind(deps: Deps, seconds: dict[str, float]) -> dict[str, float]:
     """Returns for each crate the longest chain of seconds that begins with it. `deps` has the lower crates first."""
     chain = {}
     for name in reversed([*deps]):
@@ -76,7 +78,7 @@ def behind(deps, seconds):
     return chain
 
 
-def time_left(deps, seconds, begun, ended, lanes):
+def time_left(deps: Deps, seconds: dict[str, float], begun: dict[str, float], ended: Iterable[str], lanes: int) -> float:
     """Returns the seconds until all crates have ended, each begun once those below it have, the longest chains first, on `lanes` lanes.
     `begun` has the seconds that each running crate has taken so far."""
     now, done, chain = 0.0, set(ended), behind(deps, seconds)
@@ -99,29 +101,29 @@ class Progress:
     """Which crates are being worked on and which have ended. `deps` has each crate with those that it waits for, the lower ones first,
     `standard` what each takes by its size."""
 
-    def __init__(self, kind, deps, standard, lanes):
+    def __init__(self, kind: str, deps: Deps, standard: dict[str, float], lanes: int) -> None:
         self.kind, self.deps, self.lanes, self.taken = kind, deps, lanes, {}
         self.seconds = expected(standard, read_times(kind))
         self.began, self.begun, self.ended, self.alone = time.monotonic(), {}, set(), threading.Lock()
 
-    def left(self):
+    def left(self) -> float:
         """Returns about how many seconds the rest takes, on a machine as fast as this one has been so far."""
         now, known = time.monotonic(), [*self.taken]
         scale = sum(self.taken[name] for name in known) / max(sum(self.seconds[name] for name in known), 1) if known else 1
         seconds = {name: scale * usual for name, usual in self.seconds.items()}
         return time_left(self.deps, seconds, {name: now - at for name, at in self.begun.items()}, self.ended, self.lanes)
 
-    def tell(self, name, text):
+    def tell(self, name: str, text: str) -> None:
         left = f"; about {spell(self.left())} left" if len(self.ended) < len(self.deps) else ""
         print(f"[{len(self.ended):2}/{len(self.deps)}] {name}: {text}{left}", flush=True)
 
-    def begin(self, name):
+    def begin(self, name: str) -> None:
         with self.alone:
             if name in self.deps and name not in self.begun and name not in self.ended:
                 self.begun[name] = time.monotonic()
                 self.tell(name, "begins")
 
-    def end(self, name, said, is_whole=True):
+    def end(self, name: str, said: str, is_whole: bool = True) -> None:
         """Tells that a crate has ended. Its time is kept where it was worked on from nothing."""
         with self.alone:
             if name not in self.deps or name in self.ended:
@@ -136,6 +138,6 @@ class Progress:
                 self.taken[name] = taken
             self.tell(name, f"{said}, in {spell(taken)}")
 
-    def keep_times(self):
+    def keep_times(self) -> None:
         if self.taken:
             write_times(self.kind, self.taken)

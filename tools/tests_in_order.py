@@ -67,9 +67,9 @@ def learn(folder: str, longest: float, module: str) -> None:
 def functions() -> dict[tuple[str, str], list[types.FunctionType]]:
     """Returns all functions that are there, by their file and name."""
     found = collections.defaultdict(list)
-    for one in gc.get_objects():
-        if isinstance(one, types.FunctionType):
-            found[one.__code__.co_filename, one.__code__.co_qualname].append(one)
+    for thing in gc.get_objects():
+        if isinstance(thing, types.FunctionType):
+            found[thing.__code__.co_filename, thing.__code__.co_qualname].append(thing)
     return found
 
 

@@ -1,11 +1,14 @@
 """The crates of trials/, which are compiled and not proved, in a room of their own: there they stand as crates beside copies of the others."""
 import os
+import re
 import shutil
 
 from crates import TOP
 
 TRIALS = f"{TOP}/trials"
 ENDING = ".trial"
+# A test as a whole, with its documentation and its name.
+TEST = re.compile(r"^(?:///.*\n)*#\[test\]\nfn (\w+)(?s:.*?)^\}\n", re.M)
 
 
 def lines_of(file):
@@ -28,6 +31,39 @@ def files_of(folder):
 def lines_in(name):
     """Returns how many lines the tests of a crate have."""
     return sum(len(lines_of(f"{TRIALS}/{name}/{file}")) for file in files_of(f"{TRIALS}/{name}"))
+
+
+def module_of(file):
+    """Returns what the names of the tests in a file of src/ begin with: its module, or nothing for those of lib.rt."""
+    module = file.removeprefix("src/").removesuffix(ENDING).removesuffix(".rt").replace("/", "::")
+    return "" if module == "lib" else f"{module}::"
+
+
+def without_other_tests(text, module, part):
+    """Returns the text of a file without the tests whose names don't contain this part, and the names of those that do."""
+    kept = []
+
+    def leave(found):
+        name = f"{module}{found[1]}"
+        if part not in name:
+            return ""
+        kept.append(name)
+        return found[0]
+
+    return TEST.sub(leave, text), kept
+
+
+def leave_tests(room, name, part):
+    """Leaves in a crate that was laid out the tests alone whose names contain this part. Returns these names."""
+    kept = []
+    for file in files_of(f"{room}/crates/{name}"):
+        path = f"{room}/crates/{name}/{file}"
+        with open(path, encoding="utf-8") as stream:
+            text, names = without_other_tests(stream.read(), module_of(file), part)
+        kept += names
+        with open(path, "w", encoding="utf-8") as stream:
+            stream.write(text)
+    return kept
 
 
 def lay_out(room):

@@ -30,7 +30,7 @@ class Budget(typing.NamedTuple):
     aims: dict[str, int] = {}
 
 
-def steps_in(body):
+def steps_in(body: object) -> int:
     """Returns how many steps a compiled function has: the leaves of its text, and the names of their parts."""
     count, left = 0, [body]
     while left:
@@ -45,13 +45,13 @@ def steps_in(body):
     return count
 
 
-def megabytes_of(function):
+def megabytes_of(function: dict) -> float:
     """Returns about how many megabytes a check lays out of one compiled function."""
     parameters = len(function["generics"]["types"])
     return OF_A_FUNCTION + (OF_A_STEP + OF_A_PARAMETER * parameters) * steps_in(function["body"])
 
 
-def volume_of(name, top=TOP):
+def volume_of(name: str, top: str = TOP) -> int | None:
     """Returns about how many megabytes a check lays out of the crate whose library stands there, none where there is no library."""
     try:
         with open(f"{top}/crates/{name}/out/rlib/{name}.rlib/toolchain/mir.json", encoding="utf-8") as file:
@@ -60,17 +60,17 @@ def volume_of(name, top=TOP):
         return None
 
 
-def source_sum(name, known):
+def source_sum(name: str, known: dict[str, list[str]]) -> str:
     """Returns the sum of what a crate's library is made from."""
     return text_sum(with_below([name], known), ("src",))
 
 
-def source_sums(known):
+def source_sums(known: dict[str, list[str]]) -> dict[str, str]:
     """Returns the sum of each crate: what is measured later of a library that is built now is kept under it."""
     return {name: source_sum(name, known) for name in known}
 
 
-def kept_volumes(sums, file=MEASURED):
+def kept_volumes(sums: dict[str, str], file: str = MEASURED) -> dict[str, int]:
     """Returns the megabytes of each crate that were measured of its text with this sum."""
     try:
         with open(file, encoding="utf-8") as stream:
@@ -80,7 +80,7 @@ def kept_volumes(sums, file=MEASURED):
     return {name: found[name]["megabytes"] for name in sums if name in found and found[name]["text"] == sums[name]}
 
 
-def keep_volumes(volumes, sums, file=MEASURED):
+def keep_volumes(volumes: dict[str, int], sums: dict[str, str], file: str = MEASURED) -> None:
     """Keeps what was measured, each with the sum of the text that it is of, as it was before the libraries were built."""
     volumes = {**kept_volumes(sums, file), **volumes}
     found = {name: {"megabytes": megabytes, "text": sums[name]} for name, megabytes in volumes.items() if name in sums}

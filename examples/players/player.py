@@ -88,12 +88,12 @@ class Game:
             case ("not", inner):
                 return not self.holds(inner, state, joint, known)
             case ("or", *inner):
-                for one in inner:
-                    if self.holds(one, state, joint, known):
+                for alternative in inner:
+                    if self.holds(alternative, state, joint, known):
                         return True
                 return False
-            case ("distinct", one, other):
-                return one != other
+            case ("distinct", left, right):
+                return left != right
             case ("true", term):
                 return term in state
             case ("does", _, _):
@@ -106,8 +106,8 @@ class Game:
         """Whether all literals of some rule for this head are true."""
         # (loops, since `any` and `all` would take a part of the stack for each rule)
         for body in self.bodies.get(head, []):
-            for one in body:
-                if not self.holds(one, state, joint, known):
+            for literal in body:
+                if not self.holds(literal, state, joint, known):
                     break
             else:
                 return True

@@ -34,13 +34,6 @@ def free_ports(count):
     return list(islice(filter(is_free, random.sample(PORTS, len(PORTS))), count))
 
 
-def closed_port():
-    """Returns a socket whose port takes no connection. The port is nobody else's as long as the socket is open."""
-    endpoint = socket.socket()
-    endpoint.bind(("127.0.0.1", 0))
-    return endpoint
-
-
 def roles_of(file: str) -> list:
     """Returns the roles of the game that a file describes: none where it is no ground description."""
     try:

@@ -4,6 +4,8 @@ import re
 from collections.abc import Iterable, Iterator
 
 Expression = str | tuple
+# The name of a relation, and the number of its arguments: none for an atom alone.
+Relation = tuple[str, int | None]
 MOST_LEVELS = 64
 COMMENT = re.compile(r";[^\n]*")
 TOKEN = re.compile(r"[()]|[^\s()]+")
@@ -126,6 +128,6 @@ def fresh(word: str, taken: Iterable[str]) -> str:
 
 def fresh_before_digits(word: str, taken: Iterable[str]) -> str:
     """The word, with as many strokes behind it as make it and a number none of those that are taken."""
-    while any(re.fullmatch(re.escape(word) + "[0-9]+", one) for one in taken):
+    while any(re.fullmatch(re.escape(word) + "[0-9]+", name) for name in taken):
         word += "-"
     return word

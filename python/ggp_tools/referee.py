@@ -9,10 +9,15 @@ import shutil
 import subprocess
 import sys
 import tempfile
+from collections.abc import Iterator, Sequence
+from typing import TYPE_CHECKING
+
+from ggp_tools.kif import expressions, spelled
+
+if TYPE_CHECKING:
+    from ggp_tools.competition.schedule import Match
 
 PROGRAM = "ggp_manager"
-# A desk opens a match only with a player for each role, so one of this many tries tells the number of roles.
-MOST_ROLES = 16
 # The last line on standard error where status 1 is a verdict, and no fault of the program's own.
 NOT_LAWFUL = "ggp_manager: records not lawful {}"
 NOT_LAWFUL_ITSELF = re.compile(r"ggp_manager: not lawful: .*")
@@ -34,7 +39,7 @@ class Unchecked(Exception):
     """What the program could not check, and why: it is short of something, or was ended. That says nothing of what was to be checked."""
 
 
-def find_program(given):
+def find_program(given: str | None) -> str:
     """Returns the path of the program: the one that was given; else where it stands beside this program, in the repository's bin, or on
     the path of the shell."""
     if given:
@@ -51,44 +56,44 @@ def find_program(given):
     raise NoReferee(f"{PROGRAM} is not in {looked}, nor on the path of the shell (PATH); `--program FILE` names it")
 
 
-def said_lines(said):
+def said_lines(said: subprocess.CompletedProcess) -> list[str]:
     """Returns the lines that a run has said on standard error."""
     return said.stderr.decode("ascii", "replace").splitlines()
 
 
-def last_line(said):
+def last_line(said: subprocess.CompletedProcess) -> str:
     return (said_lines(said) or [""])[-1]
 
 
-def is_no_answer(status, line):
+def is_no_answer(status: int | None, line: str) -> bool:
     """Returns whether `info` ended since the player did not answer, by its status and the last line that it said."""
     return status == 1 and line == NO_ANSWER
 
 
-def is_not_lawful(status, line):
+def is_not_lawful(status: int | None, line: str) -> bool:
     """Returns whether `verify` ended since a record is not lawful, by its status and the last line that it said."""
     return status == 1 and bool(NOT_LAWFUL_ITSELF.fullmatch(line))
 
 
-def is_not_replayed(status, line):
+def is_not_replayed(status: int | None, line: str) -> bool:
     """Returns whether `replay` ended since an account is wrong, by its status and the last line that it said."""
     return status == 1 and bool(NOT_REPLAYED.fullmatch(line))
 
 
-def records_replayed(output):
+def records_replayed(output: bytes) -> list[bytes]:
     """Returns the records of each account that `replay` has made again. Behind them may stand the right line in place of a wrong one."""
     parts = re.split(rb"^replayed .*\n", output, flags=re.MULTILINE)[1:]
     return [b"".join(line for line in part.splitlines(True) if line.startswith(b"{")) for part in parts]
 
 
-def unchecked(said, name):
+def unchecked(said: subprocess.CompletedProcess, name: object) -> Unchecked:
     """Returns the fault of a run that did not check what it was given; `name` says with which rules."""
     words = last_line(said).removeprefix("ggp_manager: ") or "it said nothing"
     return Unchecked(f"`{PROGRAM} {said.args[1]}` came to no verdict with {name}: {words}, status {said.returncode}")
 
 
 @contextlib.contextmanager
-def rules_file(rules):
+def rules_file(rules: bytes) -> Iterator[str]:
     """Gives the path of a file with rules, as long as it is needed. A fault names it."""
     with tempfile.NamedTemporaryFile() as file:
         try:
@@ -98,7 +103,7 @@ def rules_file(rules):
         yield file.name
 
 
-def read_records(said):
+def read_records(said: subprocess.CompletedProcess) -> list[dict] | None:
     """Returns the records that a run of the desk has printed: None where one is none."""
     try:
         return [json.loads(line) for line in said.stdout.splitlines() if line.startswith(b"{")]
@@ -106,7 +111,7 @@ def read_records(said):
         return None
 
 
-def is_text_list(value):
+def is_text_list(value: object) -> bool:
     return isinstance(value, list) and all(isinstance(member, str) for member in value)
 
 
@@ -114,40 +119,36 @@ class Referee:
     """The program at a path, by the limits that it has for large games or the usual ones. A file stands in one word with its option, since
     its name may begin with a hyphen."""
 
-    def __init__(self, path, is_large=False):
+    def __init__(self, path: str, is_large: bool = False) -> None:
         self.path, self.is_large = path, is_large
 
-    def taking(self, is_large):
+    def taking(self, is_large: bool) -> "Referee":
         """Returns the program as it takes large games, or those within the usual limits alone."""
         return self if is_large == self.is_large else Referee(self.path, is_large)
 
-    def rules_words(self, rules_path):
+    def rules_words(self, rules_path: pathlib.Path | str) -> list[str]:
         """Returns the words that say which rules, and by which limits."""
         return [f"--rules-file={rules_path}", *(["--large"] if self.is_large else [])]
 
-    def call(self, *words, data=b""):
+    def call(self, *words: object, data: bytes = b"") -> subprocess.CompletedProcess:
         return subprocess.run([self.path, *map(str, words)], input=data, capture_output=True)
 
-    def version(self):
+    def version(self) -> str:
         said = self.call("--version")
         if not VERSION_LINE.fullmatch(said.stdout):
             raise NoReferee(f"{self.path} is no {PROGRAM}: `--version` does not say `{PROGRAM} N.N.N`")
         return said.stdout.decode("ascii").strip()
 
-    def roles(self, rules, name):
+    def roles(self, rules: bytes, name: object) -> tuple[str, ...]:
         """Returns the names of the roles of a ground description; `name` says which one it is. Refuses what is none."""
-        tries = "".join(f"open r{count} 0 1 1 {' '.join(f'p{number}' for number in range(count))}\n" for count in range(1, MOST_ROLES + 1))
         with rules_file(rules) as path:
-            said = self.call("desk", *self.rules_words(path), data=tries.encode())
-        if said.returncode == 1 and last_line(said) == BAD_RULES:
-            # The line before says where, and what is wrong there.
-            raise BadRules(said_lines(said)[-2:][0].removeprefix("ggp_manager: "))
-        records = read_records(said)
-        if said.returncode or records is None or len(records) != 1 or not is_text_list(records[0].get("roles")):
-            raise unchecked(said, name)
-        return tuple(records[0]["roles"])
+            self.check_rules(path, name)
+        facts = (sentence[1] if sentence[0] == "<=" else sentence for sentence in expressions(rules.decode("latin-1")))
+        return tuple(spelled(fact[1]) for fact in facts if fact[0] == "role")
 
-    def run_words(self, rules_path, player_rules_path, match, strikes, places):
+    def run_words(
+        self, rules_path: pathlib.Path | str, player_rules_path: pathlib.Path | str | None, match: "Match", strikes: int, places: list[str]
+    ) -> list[str]:
         """Returns the command that plays a match; START carries the rules of the second path where there is one."""
         player_rules = [] if player_rules_path is None else [f"--player-rules={player_rules_path}"]
         options = f"--id={match.id}", f"--start={match.start}", f"--play={match.play}", f"--strikes={strikes}", "--history", "--log"
@@ -156,27 +157,28 @@ class Referee:
     def abort_words(self, match: str, place: str) -> list[str]:
         return [self.path, "abort", "--", match, place]
 
-    def info_words(self, place):
+    def info_words(self, place: str) -> list[str]:
         return [self.path, "info", "--", place]
 
-    def desk_words(self, rules_path):
+    def desk_words(self, rules_path: pathlib.Path | str) -> list[str]:
         return [self.path, "desk", *self.rules_words(rules_path)]
 
-    def verify_words(self, rules_path):
+    def verify_words(self, rules_path: pathlib.Path | str) -> list[str]:
         return [self.path, "verify", *self.rules_words(rules_path)]
 
-    def replay_words(self, rules_path):
+    def replay_words(self, rules_path: pathlib.Path | str) -> list[str]:
         return [self.path, "replay", *self.rules_words(rules_path)]
 
-    def check_rules(self, rules_path):
-        """Refuses a file that is no ground description."""
+    def check_rules(self, rules_path: pathlib.Path | str, name: object = None) -> None:
+        """Refuses a file that is no ground description; `name` says which one it is, where the path does not."""
         said = self.call("verify", "--lines", *self.rules_words(rules_path))
         if said.returncode == 1 and last_line(said) == BAD_RULES:
+            # The line before says where, and what is wrong there.
             raise BadRules(said_lines(said)[-2:][0].removeprefix("ggp_manager: "))
         if said.returncode:
-            raise unchecked(said, rules_path)
+            raise unchecked(said, name or rules_path)
 
-    def verdicts(self, rules_path, records):
+    def verdicts(self, rules_path: pathlib.Path | str, records: Sequence[bytes]) -> list[str]:
         """Returns for each record what `verify` says of it. Each is one line, and begins with `{`."""
         said = self.call("verify", "--lines", *self.rules_words(rules_path), data=b"".join(records))
         found = said.stdout.decode("ascii", "replace").splitlines()
@@ -186,7 +188,7 @@ class Referee:
             raise unchecked(said, rules_path)
         return found
 
-    def replays(self, rules_path, accounts, records):
+    def replays(self, rules_path: pathlib.Path | str, accounts: Sequence[bytes], records: Sequence[bytes]) -> list[bool]:
         """Returns for each account whether its calls give its record again. One run looks at all, up to one that is not replayed: a brace
         before each account ends the one before it."""
         found = []

@@ -7,20 +7,22 @@ import re
 import sys
 import time
 from collections.abc import Callable
+from typing import TextIO
 
-from ggp_tools.competition.results import forfeit_words
+from ggp_tools.competition.results import Result, forfeit_words
+from ggp_tools.competition.schedule import Match
 from ggp_tools.moments import moment
 
 REDRAWN = 0.5
 NOT_PLAIN = re.compile(r"[^\x20-\x7e]")
 
 
-def lead_nowhere(output):
+def lead_nowhere(output: TextIO | None) -> None:
     """Has all that is written to an output from now on, and what it still holds, be lost."""
     os.dup2(os.open(os.devnull, os.O_WRONLY), output.fileno())
 
 
-def ready_streams():
+def ready_streams() -> None:
     """Has a standard stream that is closed lead nowhere, so that no file takes its number, and spells out what an encoding lacks."""
     for number, (name, mode) in enumerate((("stdin", "r"), ("stdout", "w"), ("stderr", "w"))):
         if getattr(sys, name) is None:
@@ -35,7 +37,7 @@ def ready_streams():
             stream.reconfigure(errors="backslashreplace")
 
 
-def say(text, end="\n"):
+def say(text: str, end: str = "\n") -> None:
     """Writes to standard output, at once. A fault names it, and what comes after it goes nowhere."""
     try:
         print(text, end=end, flush=True)
@@ -44,7 +46,7 @@ def say(text, end="\n"):
         raise OSError(why.errno, why.strerror, "standard output") from None
 
 
-def spell(seconds):
+def spell(seconds: float) -> str:
     """Returns a time as hours, minutes and seconds."""
     minutes, rest = divmod(round(seconds), 60)
     return f"{minutes // 60}:{minutes % 60:02}:{rest:02}"
@@ -90,7 +92,7 @@ class Reporter:
         self.is_shown = sys.stderr.isatty()
         self.drawn = 0.0
 
-    def draw(self, text):
+    def draw(self, text: str) -> None:
         """Rewrites the line of the terminal."""
         if not self.is_shown:
             return
@@ -100,7 +102,7 @@ class Reporter:
             self.is_shown = False
             lead_nowhere(sys.stderr)
 
-    def clear(self):
+    def clear(self) -> None:
         self.draw("")
 
     def note(self, text: str) -> None:
@@ -126,11 +128,11 @@ class Reporter:
         except OSError as why:
             self.fault = why
 
-    def begins(self, match, host=None):
+    def begins(self, match: Match, host: object = None) -> None:
         place = f" on {host}" if host else ""
         self.line(f"begin {match.id} {match.game} {' '.join(match.players)}{place}")
 
-    def ends(self, result, seconds):
+    def ends(self, result: Result, seconds: float) -> None:
         """Says of each player its goal, how many of its moves were replaced, and whether it has lost by forfeit, why, and what counts."""
         match = result.match
         goals = result.goals or ["none"] * len(match.players)
@@ -142,11 +144,11 @@ class Reporter:
         said += [forfeit_words(result)] if result.forfeits() else []
         self.line(f"end {match.id} {match.game} {', '.join(said)}, {seconds:.1f} s")
 
-    def progress(self, over: int, open_ones: int, to_come: int, left: Callable[[], float | None]) -> None:
+    def progress(self, over: int, open_count: int, to_come: int, left: Callable[[], float | None]) -> None:
         """Shows how far the matches are, and how many seconds the rest takes, which is asked for only where it is shown."""
         now = time.monotonic()
         if not self.is_shown or now - self.drawn < REDRAWN:
             return
         self.drawn, seconds = now, left()
         said = "unknown" if seconds is None else spell(seconds)
-        self.draw(f"over {over}, open {open_ones}, to come {to_come}, left {said}")
+        self.draw(f"over {over}, open {open_count}, to come {to_come}, left {said}")

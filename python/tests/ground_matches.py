@@ -50,7 +50,7 @@ def played(sentences: Sentences, seed: int, most: int = MOST_TURNS) -> Record:
     while len(match.moves) < most and match.phase()[0] == "playing":
         dice = [random.Random(f"{seed} {len(match.moves)} {role}") for role in game.roles]
         legal = [game.legal(match.states[-1], role) for role in game.roles]
-        match.turn([judged(one, found, every[role]) for one, found, role in zip(dice, legal, game.roles)])
+        match.turn([judged(die, found, every[role]) for die, found, role in zip(dice, legal, game.roles)])
     return ended(match)
 
 

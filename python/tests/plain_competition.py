@@ -23,13 +23,13 @@ def counting_goals(record, forfeit):
     return [0 if seat in gone else 100 // left for seat in seats], gone
 
 
-def beats(goals, gone, one, other):
+def beats(goals, gone, seat, other):
     """Returns 1, 1/2 or 0: what the player in one seat gets against that in another, or none where both have forfeited."""
-    if one in gone and other in gone:
+    if seat in gone and other in gone:
         return None
-    if one in gone or other in gone:
+    if seat in gone or other in gone:
         return Fraction(int(other in gone))
-    return Fraction(1 if goals[one] > goals[other] else 0) if goals[one] != goals[other] else Fraction(1, 2)
+    return Fraction(1 if goals[seat] > goals[other] else 0) if goals[seat] != goals[other] else Fraction(1, 2)
 
 
 def verdict(goals, gone, seat):
@@ -85,9 +85,9 @@ def crosstable(records, forfeit, games=None):
         goals, gone = counting_goals(record, forfeit)
         if games and record["game"] not in games or goals is None:
             continue
-        for one, first in enumerate(record["players"]):
+        for seat, first in enumerate(record["players"]):
             for other, second in enumerate(record["players"]):
-                got = beats(goals, gone, one, other) if one != other else None
+                got = beats(goals, gone, seat, other) if seat != other else None
                 if got is not None:
                     points, met = found.get((first, second), (0, 0))
                     found[first, second] = points + got, met + 1
@@ -125,8 +125,8 @@ def swiss_pairs(names, games, rounds, records, forfeit):
         bye = [name for name in order if had[name] == min(had.values())][-1]
         order = [name for name in order if name != bye]
 
-    def met(one, other):
-        return sum(1 for pairs, _ in rounds for pair in pairs if set(pair) == {one, other})
+    def met(first, second):
+        return sum(1 for pairs, _ in rounds for pair in pairs if set(pair) == {first, second})
 
     pairs = []
     while order:
@@ -140,8 +140,9 @@ def swiss_pairs(names, games, rounds, records, forfeit):
             continue
         above, below = list(reversed(range(low))), list(range(low + 1, len(pairs)))
         for high in above + below:
-            (a, b), (c, d) = pairs[high], pairs[low]
-            fresh = [new for new in (((a, c), (b, d)), ((a, d), (b, c))) if not met(*new[0]) and not met(*new[1])]
+            (first, second), (third, fourth) = pairs[high], pairs[low]
+            crossed = ((first, third), (second, fourth)), ((first, fourth), (second, third))
+            fresh = [new for new in crossed if not met(*new[0]) and not met(*new[1])]
             if fresh:
                 pairs[high], pairs[low] = fresh[0]
                 break
@@ -171,6 +172,6 @@ def knockout_round(names, by_round, forfeit):
     places = knockout_places(names)
     for records in by_round:
         halves = [(places[at], places[at + 1]) for at in range(0, len(places), 2)]
-        places = [one if other is None else other if one is None else knockout_winner((one, other), records, names, forfeit) for one, other in halves]
+        places = [first if second is None else second if first is None else knockout_winner((first, second), records, names, forfeit) for first, second in halves]
     halves = [(places[at], places[at + 1]) for at in range(0, len(places), 2)]
-    return [pair for pair in halves if None not in pair], [one or other for one, other in halves if None in (one, other)]
+    return [pair for pair in halves if None not in pair], [first or second for first, second in halves if None in (first, second)]

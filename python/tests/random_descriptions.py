@@ -125,9 +125,9 @@ class Describing:
         while at < count:
             group = made[at : at + self.dice.choice((1, 1, 2))]
             is_circle = self.dice.random() < 0.6
-            for one in group:
+            for source in group:
                 for number in range(self.dice.randint(2, 4) if is_circle else self.dice.randint(1, 3)):
-                    self.add_rule(one, [*known, *found], group if is_circle and number else [])
+                    self.add_rule(source, [*known, *found], group if is_circle and number else [])
             found += group
             at += len(group)
         return found
@@ -137,9 +137,9 @@ class Describing:
         body = Body(self.dice)
         for _ in range(1 if circle else self.dice.randint(1, 3)):
             body.literals.append(body.asked(self.dice.choice(known), self.roles))
-        for one in circle:
+        for source in circle:
             if self.dice.random() < 0.7:
-                body.literals.append(body.asked(one, self.roles))
+                body.literals.append(body.asked(source, self.roles))
         for _ in range(self.dice.choice((0, 0, 1) if circle else (0, 0, 1, 1, 2))):
             body.literals.append(self.condition(body, known))
         if self.dice.random() < 0.2:
@@ -252,10 +252,10 @@ def main() -> int:
     sys.setrecursionlimit(20_000)
     count = turns = late = 0
     ends: Counter = Counter()
-    for seed, one in tried(asked.seed, time.monotonic() + asked.seconds):
-        count, turns, late, ends = count + 1 - one.is_late, turns + one.turns, late + one.is_late, ends + one.ends
-        if one.fault:
-            print(f"{one.text}\nseed {seed}: {one.fault}, after {count:,} descriptions")
+    for seed, made in tried(asked.seed, time.monotonic() + asked.seconds):
+        count, turns, late, ends = count + 1 - made.is_late, turns + made.turns, late + made.is_late, ends + made.ends
+        if made.fault:
+            print(f"{made.text}\nseed {seed}: {made.fault}, after {count:,} descriptions")
             return 1
     print(f"{count:,} descriptions, {ends.total():,} matches, {turns:,} turns, {dict(ends)}: no difference; {late} not instantiated in time")
     return 0

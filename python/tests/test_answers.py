@@ -2,7 +2,16 @@
 
 import unittest
 
-from ggp_tools.answers import listed, no_expression
+from ggp_tools.answers import MOST_TOLD, Illegal, Whys, game_of, listed, no_expression
+from ggp_tools.records.show import page_of
+from tests.support import GAMES
+
+STATES = [["(heap 2)", "(turn red)"], ["(heap 1)", "(turn blue)"]]
+RECORD = {"states": STATES, "roles": ["red", "blue"]}
+
+
+def game():
+    return game_of((GAMES / "countdown.kif").read_bytes())
 
 
 class Answers(unittest.TestCase):
@@ -28,3 +37,29 @@ class Answers(unittest.TestCase):
         self.assertEqual(listed(["a", "b"]), "2: a, b")
         self.assertEqual(listed(["x" * 500, "b"]), f"2: {'x' * 500}, and 1 more")
         self.assertEqual(listed(["x" * 198] * 5), f"5: {', '.join(['x' * 198] * 2)}, and 3 more")
+
+    def test_what_is_legal_in_the_place_of_a_move(self):
+        illegal = Illegal(STATES, ["red", "blue"], game)
+        self.assertEqual(illegal.moves(0, 0, "IL noop"), "2: (take 1), (take 2); it is legal for blue")
+        self.assertEqual(illegal.moves(0, 1, "IL (take 2)"), "1: noop; it was legal in the turn before")
+        self.assertEqual([illegal.moves(0, 0, error) for error in ("IL ?", "TO", "CE", "RT")], [""] * 4)
+        self.assertEqual(Illegal([["(heap"]], ["red"], game).moves(0, 0, "IL noop"), "")
+
+    def test_a_page_tells_of_the_first_illegal_moves(self):
+        whys = Whys(RECORD, game, {(1, 0): "a b"})
+        self.assertEqual(whys.more(1, 0, "IL ?"), ": a second expression begins at column 3")
+        self.assertEqual([whys.more(0, 0, error) for error in ("IL ?", "TO")], [""] * 2)
+        found = [whys.more(0, 0, "IL x") for _ in range(MOST_TOLD + 1)]
+        self.assertEqual(found, [", of which there were 2: (take 1), (take 2)"] * MOST_TOLD + [""])
+        self.assertEqual(Whys(RECORD, None, {}).more(0, 0, "IL x"), "")
+
+    def test_a_page_has_them_as_titles(self):
+        record = {
+            "phase": "playing", "cause": None, "roles": ["red", "blue"], "players": ["a", "b"], "goalValues": [], "startMarks": ["", ""],
+            "endMarks": [None, None], "errors": [["IL <b>", "IL ?"]], "moves": [["(take 1)", "noop"]], "states": STATES, "version": 2, "strikes": 0,
+            "matchId": "m1", "startClock": 1, "playClock": 1,
+        }
+        page = page_of(record, game, {(1, 0): "(<i>"}).decode("ascii")
+        self.assertIn('title="the answer was no legal move, of which there were 2: (take 1), (take 2)"', page)
+        self.assertIn('title="the answer was not one expression: a list that is not closed at column 1"', page)
+        self.assertNotIn("of which", page_of(record).decode("ascii"))

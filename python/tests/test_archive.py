@@ -55,9 +55,9 @@ def changed(name, change):
     return spoil
 
 
-def swapped(one, other):
+def swapped(first, second):
     def spoil(files):
-        files[one], files[other] = files[other], files[one]
+        files[first], files[second] = files[second], files[first]
         return packed(files)
 
     return spoil
@@ -104,9 +104,9 @@ def nonsense(files):
 
 def moved_calls(files):
     """Moves the last calls of a match to the head of the account of the match before it, where both are replayed together."""
-    one, other = "cup/accounts/cup-001.txt", "cup/accounts/cup-002.txt"
-    head, *rest = files[other].splitlines(keepends=True)
-    files[one], files[other] = files[one] + head, b"".join(rest)
+    first, second = "cup/accounts/cup-001.txt", "cup/accounts/cup-002.txt"
+    head, *rest = files[second].splitlines(keepends=True)
+    files[first], files[second] = files[first] + head, b"".join(rest)
     return packed(files)
 
 
@@ -201,14 +201,14 @@ SPOILINGS = {
 
 
 def list_of_words(_, records):
-    return [f"the same: {one}" for one in records]
+    return [f"the same: {record}" for record in records]
 
 
 class SideBySide(unittest.TestCase):
     def test_what_is_said_of_records_comes_in_their_order(self):
         with mock.patch.object(archive_module, "PROCESSORS", 3), mock.patch.object(archive_module, "held_records", list_of_words):
             for count in range(1, 12):
-                self.assertEqual(archive_module.held_side_by_side("file", list(range(count))), [f"the same: {one}" for one in range(count)])
+                self.assertEqual(archive_module.held_side_by_side("file", list(range(count))), [f"the same: {record}" for record in range(count)])
 
 
 class Archive(unittest.TestCase):
@@ -246,8 +246,8 @@ class Archive(unittest.TestCase):
         yield "a name in the sums is no plain text", packed({**files, "cup/SHA256SUMS": sums}, fits=False)
         both = dict(files)
         for kind in ("records/cup-00{}.json", "accounts/cup-00{}.txt", "logs/cup-00{}.txt"):
-            one, other = (f"cup/{kind.format(number)}" for number in (1, 2))
-            both[one], both[other] = files[other], files[one]
+            first, second = (f"cup/{kind.format(number)}" for number in (1, 2))
+            both[first], both[second] = files[second], files[first]
         yield "two whole matches are exchanged", packed(both)
 
     def test_checked_elsewhere_and_refused_after_each_spoiling(self):
@@ -293,7 +293,7 @@ class Archive(unittest.TestCase):
             with mock.patch(place, side_effect=MemoryError), mock.patch("sys.argv", words), mock.patch("sys.stderr", said):
                 self.assertEqual(main(), 3)
         what = "the archive", "records and accounts"
-        self.assertEqual(said.getvalue(), "".join(f"ggp_competition: {place_of_fault} can't be checked: want of memory; nothing is changed\n" for place_of_fault in what))
+        self.assertEqual(said.getvalue(), "".join(f"ggp_competition: {place_of_fault} can't be checked: out of memory; nothing is changed\n" for place_of_fault in what))
 
     def test_an_archive_for_which_the_disk_is_full(self):
         words, said = ["ggp_competition", "check", str(self.archive), "--program", program()], io.StringIO()

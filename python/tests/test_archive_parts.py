@@ -217,7 +217,7 @@ class Checked(Made):
             self.check()
         with mock.patch.object(archive, "unpacked", side_effect=MemoryError), self.assertRaises(Unchecked) as why:
             self.check()
-        self.assertEqual(str(why.exception), "the archive can't be checked: want of memory")
+        self.assertEqual(str(why.exception), "the archive can't be checked: out of memory")
 
     def test_an_archive_that_can_not_be_read_is_no_verdict(self):
         for name, status in (("check", 3), ("table", 1)):
@@ -324,10 +324,10 @@ class Parts(unittest.TestCase):
         data = io.BytesIO()
         with tarfile.open(fileobj=data, mode="w:gz") as made:
             for name, content in members:
-                it = tarfile.TarInfo(name)
-                it.type = tarfile.REGTYPE if content is not None else tarfile.DIRTYPE
-                it.size = len(content or b"")
-                made.addfile(it, io.BytesIO(content or b""))
+                member = tarfile.TarInfo(name)
+                member.type = tarfile.REGTYPE if content is not None else tarfile.DIRTYPE
+                member.size = len(content or b"")
+                made.addfile(member, io.BytesIO(content or b""))
         path = self.folder / "a.tar.gz"
         path.write_bytes(data.getvalue())
         with tempfile.TemporaryDirectory() as room:

@@ -220,10 +220,10 @@ class BadInput(InFolder):
 
     def test_a_referee_that_can_not_read_a_description(self):
         self.write(PLAYERS, [("tictactoe", GAMES / "tictactoe.kif")])
-        short = program_but(self.folder / "short", '"$1" = desk', "echo 'ggp_manager: want of memory' >&2; exit 3")
+        short = program_but(self.folder / "short", '"$1" = verify', "echo 'ggp_manager: want of memory' >&2; exit 3")
         status, out, said = run(self.folder, "plan", "--program", short)
         self.assertEqual((status, out), (3, ""))
-        self.assertEqual(said, f"ggp_competition: `ggp_manager desk` came to no verdict with {GAMES}/tictactoe.kif: want of memory, status 3; nothing is changed\n")
+        self.assertEqual(said, f"ggp_competition: `ggp_manager verify` came to no verdict with {GAMES}/tictactoe.kif: want of memory, status 3; nothing is changed\n")
         self.assertEqual(sorted(file.name for file in self.folder.iterdir()), ["competition.toml", "short"])
 
     def test_all_descriptions_are_told_at_once(self):

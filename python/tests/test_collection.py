@@ -46,10 +46,10 @@ class Sorting(unittest.TestCase):
             self.assertRaisesRegex(Refused, "variables", game_of, path)
 
     def test_only_lines_of_an_account_by_their_form_are_skipped(self):
-        for line in (b"0\topen m 0 1 1 a b\topened", b"12\tnext m 0\tover"):
-            self.assertTrue(ACCOUNT_LINE.fullmatch(line))
-        for line in (b"1 {}", b"1\t{}", b"7", b"3\tnext m 0", b"3\tplay m\tx", b"1764273600 next m 0\tover", b'3\tnext m 0\to{"cause":null}'):
-            self.assertFalse(ACCOUNT_LINE.fullmatch(line))
+        for line in (b"0\topen m 0 1 1 a b\topened", b"12\tnext m 0\tover", b'1\tnext m 0\towe 2 play ({"cause":} })', b"1\tsubmit m} 0 1 }\trefused stale 2", b"1\tquery\tstatus"):
+            self.assertTrue(ACCOUNT_LINE.fullmatch(line), line)
+        for line in (b"1 {}", b"1\t{}", b"7", b"3\tnext m 0", b"3\tplay m\tx", b"1764273600 next m 0\tover", b'3\tnext m 0\to{"cause":null}', b"3\tnext m 0\t{} ", b"3\tnext m\tover\t", b"3\tnextm 0\tover", b"3\tnext m\t"):
+            self.assertFalse(ACCOUNT_LINE.fullmatch(line), line)
 
 
 class Says:
@@ -246,7 +246,7 @@ class Commands(unittest.TestCase):
     def test_tables_take_what_is_no_lawful_record(self):
         odd = [{"strikes": 10**30}, {"matchId": "\ud800"}, {"matchId": "a\0b"}, {"version": [1]}, {"players": ["=x", "a\"b\n,c\r"]}]
         whole = json.loads(record(LAWFUL[1]))
-        self.pile.write_text("".join(json.dumps({**whole, **one}) + "\n" for one in odd), encoding="ascii")
+        self.pile.write_text("".join(json.dumps({**whole, **keys}) + "\n" for keys in odd), encoding="ascii")
         for action in ("sqlite", "csv", "pages"):
             said = self.run_records(action, str(self.folder / action), str(self.pile))
             self.assertEqual((said.returncode, said.stderr), (1, "ggp-records: 5 not lawful\n"), action)

@@ -9,8 +9,8 @@ from ggp_tools.holding.game import Game
 from ggp_tools.kif import expressions, put, spelled, variables
 
 TERMS = ["a", "b", "c", ("f", "a"), ("f", "b")]
-STATE = [*(("at", one, other) for one in TERMS[:3] for other in TERMS), *(("on", one) for one in TERMS), "flag", "a", ("f", "b")]
-MOVES = [("m", one, other) for one in TERMS for other in TERMS[:2]] + ["noop", "b", ("f", "a")]
+STATE = [*(("at", term, other) for term in TERMS[:3] for other in TERMS), *(("on", term) for term in TERMS), "flag", "a", ("f", "b")]
+MOVES = [("m", term, other) for term in TERMS for other in TERMS[:2]] + ["noop", "b", ("f", "a")]
 ROLES = ["r", "s"]
 NAMES = ["?x", "?y", "?z"]
 
@@ -21,8 +21,8 @@ class Dice:
     def __init__(self, seed):
         self.dice, self.layers = random.Random(seed), []
         self.text = " ".join([
-            "(role r) (role s)", *(f"(d {spelled(one)})" for one in TERMS),
-            *(f"(e {spelled(one)} {spelled(other)})" for one, other in self.dice.sample(list(itertools.product(TERMS, TERMS)), 9)),
+            "(role r) (role s)", *(f"(d {spelled(term)})" for term in TERMS),
+            *(f"(e {spelled(first)} {spelled(second)})" for first, second in self.dice.sample(list(itertools.product(TERMS, TERMS)), 9)),
             *(f"(init {spelled(term)})" for term in self.dice.sample(STATE, 6)),
             *(self.layer(f"p{number}", self.dice.randrange(3)) for number in range(5)), *self.own(),
         ])
@@ -92,8 +92,8 @@ class Tried:
 
     def __init__(self, text):
         self.sentences = expressions(text)
-        self.facts = {one for one in self.sentences if one[0] != "<="}
-        self.rules = [(number, one[1], one[2:]) for number, one in enumerate(self.sentences) if one[0] == "<="]
+        self.facts = {sentence for sentence in self.sentences if sentence[0] != "<="}
+        self.rules = [(number, sentence[1], sentence[2:]) for number, sentence in enumerate(self.sentences) if sentence[0] == "<="]
 
     def holds(self, literal, true):
         match literal:
@@ -103,8 +103,8 @@ class Tried:
                 return any(self.holds(inner, true) for inner in inners)
             case ("and", *inners):
                 return all(self.holds(inner, true) for inner in inners)
-            case ("distinct", one, other):
-                return one != other
+            case ("distinct", left, right):
+                return left != right
         return literal in true
 
     def derived(self, rule, true):
@@ -134,25 +134,25 @@ class ByDice(unittest.TestCase):
         made = Dice(seed)
         game, tried = Game(made.text), Tried(made.text)
         dice = random.Random(seed)
-        self.assertEqual((game.roles, game.initial), (ROLES, {one[1] for one in tried.facts if one[0] == "init"}))
+        self.assertEqual((game.roles, game.initial), (ROLES, {fact[1] for fact in tried.facts if fact[0] == "init"}))
         for state in (game.initial, frozenset(dice.sample(STATE, 9)), frozenset(dice.sample(STATE, 3))):
             joint = {role: dice.choice(MOVES) for role in ROLES}
             true = tried.true(state, joint)
             position = game.position(state, tuple(joint.values()))
             self.assertEqual(game.is_over(position), "terminal" in true)
             for role in ROLES:
-                legal = {one[2] for one in true if one[0] == "legal" and one[1] == role}
+                legal = {atom[2] for atom in true if atom[0] == "legal" and atom[1] == role}
                 self.assertEqual(set(game.moves(position, role)), legal)
                 self.assertEqual([move for move in MOVES if game.is_legal(position, role, move)], [move for move in MOVES if move in legal])
-                self.assertEqual(game.goals(position, role), sorted({int(one[2]) for one in true if one[0] == "goal" and one[1] == role}))
+                self.assertEqual(game.goals(position, role), sorted({int(atom[2]) for atom in true if atom[0] == "goal" and atom[1] == role}))
             following = list(game.following(position))
-            self.assertEqual((set(following), len(following)), ({one[1] for one in true if one[0] == "next"}, len(set(following))))
+            self.assertEqual((set(following), len(following)), ({atom[1] for atom in true if atom[0] == "next"}, len(set(following))))
             self.look_at_sources(game, tried, state, joint, true, dice)
         return made
 
     def look_at_sources(self, game, tried, state, joint, true, dice):
         """Compares which sentences give something."""
-        for atom in dice.sample(sorted((one for one in true if one[0] in ("next", "legal")), key=repr), min(3, len([one for one in true if one[0] in ("next", "legal")]))):
+        for atom in dice.sample(sorted((given for given in true if given[0] in ("next", "legal")), key=repr), min(3, len([given for given in true if given[0] in ("next", "legal")]))):
             giving = [rule[0] for rule in tried.rules if atom in tried.derived(rule, true)]
             self.assertEqual(game.sources((atom[0], len(atom) - 1), atom[1:], state, tuple(joint.values())), giving)
 

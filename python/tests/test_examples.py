@@ -87,7 +87,7 @@ class Examples(unittest.TestCase):
     def test_a_record_with_its_account(self):
         record, page = RECORD.read_bytes(), run(SHOW_RECORD, RECORD)[1]
         account = b"0\topen m1 0 1 1 ann bob\topened\r\n1\tnext m1 0\tover\n"
-        each = "A page is of one record: `ggp-records pages` makes a page of each"
+        refused = "A page is of one record: `ggp-records pages` makes a page of each"
         with tempfile.TemporaryDirectory() as room:
             file = pathlib.Path(room) / "played"
             pretty = json.dumps(json.loads(record), indent=1).encode()
@@ -96,7 +96,7 @@ class Examples(unittest.TestCase):
                 self.assertEqual(run(SHOW_RECORD, file), (0, page, ""), text)
             for text, line in ((record + account + record + account, "4 is no line of its account"), (record + record, "2 has another one")):
                 file.write_bytes(text)
-                self.assertEqual(run(SHOW_RECORD, file), (1, "", f"ggp-show-record: no record: line {line}. {each}\n"))
+                self.assertEqual(run(SHOW_RECORD, file), (1, "", f"ggp-show-record: no record: line {line}. {refused}\n"))
 
     def test_the_longest_record(self):
         record, most = RECORD.read_bytes().rstrip(b"\n"), 16 << 20
@@ -314,9 +314,9 @@ class Explained(unittest.TestCase):
             self.assertEqual(pathlib.Path(room, "runs").read_text(), "\n")
         wanted = []
         for number, (line, word, lines) in enumerate(faulty, 1):
-            wanted += [f"line {number}, match m1: not lawful: {word}", *(f"\t{one}" for one in lines)]
+            wanted += [f"line {number}, match m1: not lawful: {word}", *(f"\t{line}" for line in lines)]
         self.assertEqual((status, out[: len(wanted)]), (1, wanted))
-        rest = [one for one in out[len(wanted) :] if not one.startswith("\t")]
+        rest = [line for line in out[len(wanted) :] if not line.startswith("\t")]
         at = len(faulty) + 3
         self.assertEqual(rest, [f"line {at}: not lawful: json", f"line {at + 1}: not lawful: json", f"line {at + 2}: not lawful: json", f"line {at + 3}: not lawful: shape cause"])
         self.assertEqual(said, f"ggp-explain-record: 1 lawful, {len(faulty) + 4} not lawful, 1 line of accounts skipped\n")

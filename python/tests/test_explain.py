@@ -137,7 +137,7 @@ class Verdicts(WithStandIn):
         path = self.referee.path
         self.answers(b"lawful\nnot lawful: goals\n", b"ggp_manager: records not lawful 1\n", 1)
         self.assertEqual(judged_lines(path, ["--countdown=3"], [b"{}", b"7\tx"]), [None, "goals"])
-        self.assertEqual(self.asked(), (["verify", "--lines", "--countdown=3"], b"{}\n 7\tx\n"))
+        self.assertEqual(self.asked(), (["verify", "--lines", "--countdown=3"], b"{}\n7\tx\n"))
         self.answers(b"lawful\n")
         self.assertEqual(judged_lines(path, [], [b"{}"]), [None])
         wrong = "gives no verdict, and its status is"

@@ -13,12 +13,13 @@ import unittest
 
 from ggp_tools.competition.log_faults import shown
 from ggp_tools.records.collection import Judged, KnownGame, Line
-from ggp_tools.records.facts import TWO_LOGS, TWO_RECORDS, Exchanges, Facts, description_sums
+from ggp_tools.records.facts import TWO_LOGS, TWO_RECORDS, Exchanges, Facts, description_sums, record_sum, version_beside
 from ggp_tools.records.match_logs import LONGEST_LINE, MatchLogs, Part, beginnings, files_of, lines_of
 from tests.players import TestPlayer
 from tests.support import GAMES, TOP, InFolder, program, run
 
-RECORD = json.loads((TOP / "examples/records/countdown-3-second_version.record").read_bytes())
+RECORD_BYTES = (TOP / "examples/records/countdown-3-second_version.record").read_bytes().rstrip()
+RECORD = json.loads(RECORD_BYTES)
 FAULTY = (TOP / "examples/records/countdown-3-another_state.record").read_bytes()
 # In this one no connection was made to blue for START, nor for the first PLAY.
 BROKEN = {**RECORD, "startMarks": ["", "CE"], "errors": [["", "CE"], ["", ""]]}
@@ -147,7 +148,7 @@ class Lines(unittest.TestCase):
         for log in logs:
             for match_id, beginning in beginnings(log.split("\n")):
                 found.add(match_id, beginning)
-        return Facts("ggp_manager 1.2.3", descriptions or {}, found)
+        return Facts("ggp_manager 1.2.3", "ggp_manager 1.0.0", descriptions or {}, found)
 
     def judged(self, record: dict) -> Judged:
         game = KnownGame("countdown", "", "5" * 64, None, tuple(record["roles"]), ())
@@ -163,13 +164,13 @@ class Lines(unittest.TestCase):
     def assert_unknown(self, fault: str, record: dict, *logs: str) -> None:
         found = self.of(record, *logs)
         self.assertEqual([found[key] for key in ("begin", "end", "host", "messages")], [None] * 4)
-        self.assertEqual({one["why"] for one in found["broken"]} - {None}, set())
+        self.assertEqual({answer["why"] for answer in found["broken"]} - {None}, set())
         self.assertIn(fault, self.made.faults["m1"])
 
     def test_all_that_is_known_of_a_match(self):
         self.assertEqual(self.of(BROKEN, LOG), {
             "id": "m1", "record": hashlib.sha256(said(BROKEN)).hexdigest(), "game": "countdown", "rules": "5" * 64, "description": None,
-            "checkedBy": "ggp_manager 1.2.3", "players": ["ann", "bob"], "begin": "2026-11-28T06:00:00.900Z", "end": "2026-11-28T06:00:05.500Z",
+            "program": "ggp_manager 1.0.0", "checkedBy": "ggp_manager 1.2.3", "players": ["ann", "bob"], "begin": "2026-11-28T06:00:00.900Z", "end": "2026-11-28T06:00:05.500Z",
             "host": None, "messages": MESSAGES, "broken": WHY,
         })
         self.assertEqual(self.made.faults, {})
@@ -178,7 +179,7 @@ class Lines(unittest.TestCase):
         for logs in ((), (LOG.replace("m1", "m2"),)):
             found = self.of(BROKEN, *logs)
             self.assertEqual([found[key] for key in ("begin", "end", "host", "messages")], [None] * 4)
-            self.assertEqual(found["broken"], [{**one, "why": None} for one in WHY])
+            self.assertEqual(found["broken"], [{**answer, "why": None} for answer in WHY])
             self.assertEqual(self.made.faults, {})
 
     def test_a_line_that_is_missing_leaves_its_message_null(self):
@@ -219,9 +220,9 @@ class Lines(unittest.TestCase):
         facts, other = self.facts(LOG), {**BROKEN, "playClock": 6}
         data = [json.dumps(facts.of(self.judged(record))).encode() for record in (BROKEN, BROKEN, other)]
         self.assertEqual(facts.faults, {"m1": TWO_RECORDS})
-        for one in map(json.loads, map(facts.without_log, data)):
-            self.assertEqual((one["begin"], one["end"], one["host"], one["messages"]), (None,) * 4)
-            self.assertEqual(one["broken"], [{**known, "why": None} for known in WHY])
+        for fact in map(json.loads, map(facts.without_log, data)):
+            self.assertEqual((fact["begin"], fact["end"], fact["host"], fact["messages"]), (None,) * 4)
+            self.assertEqual(fact["broken"], [{**known, "why": None} for known in WHY])
         same = self.facts(LOG)
         self.assertEqual([same.of(self.judged(BROKEN))["messages"] for _ in range(2)], [MESSAGES] * 2)
         self.assertEqual(same.faults, {})
@@ -285,14 +286,14 @@ class Files(unittest.TestCase):
         sums = first["rules"], first["record"], first["game"]
         self.assertEqual(sums, (hashlib.sha256(self.rules.read_bytes()).hexdigest(), hashlib.sha256(said(BROKEN)).hexdigest(), "countdown"))
         said_by = subprocess.run([program(), "--version"], capture_output=True, text=True).stdout
-        self.assertEqual(first["checkedBy"], said_by.strip())
+        self.assertEqual((first["checkedBy"], first["program"]), (said_by.strip(), None))
         self.assertEqual(sorted(path.name for path in self.folder.iterdir()), ["facts.jsonl", "log", "pile", "rules"])
 
     def test_several_matches_of_one_id_are_named(self):
         done = self.run_facts(said(BROKEN) + said({**BROKEN, "playClock": 6}), "--log", self.folder / "log")
         self.assertEqual(done.returncode, 0)
         self.assertEqual(done.stderr, "ggp-records: nothing of a log is written of m1: several matches have this id\nggp-records: 2 lawful\n")
-        self.assertEqual([(one["messages"], one["broken"][0]["why"]) for one in self.lines()], [(None, None)] * 2)
+        self.assertEqual([(line["messages"], line["broken"][0]["why"]) for line in self.lines()], [(None, None)] * 2)
 
     def test_a_log_may_be_a_pipe(self):
         os.mkfifo(self.folder / "pipe")
@@ -324,6 +325,21 @@ class Files(unittest.TestCase):
             description_sums(rules, None)
 
 
+    def test_which_program_refereed_stands_beside_the_rules_or_is_told(self):
+        rules = str(self.folder / "rules")
+        for said_by, wanted in ((b"ggp_manager 0.2.0\n", "ggp_manager 0.2.0"), (b"ggp_manager 0.2.0", None), (b"me\n", None)):
+            (self.folder / "VERSION").write_bytes(said_by)
+            self.assertEqual(version_beside(rules), wanted)
+        (self.folder / "VERSION").unlink()
+        self.assertEqual(version_beside(rules), None)
+        self.run_facts(said(BROKEN), "--refereed-by", "mine 1")
+        self.assertEqual(self.lines()[0]["program"], "mine 1")
+
+    def test_the_sum_of_a_record_is_that_of_its_line(self):
+        sums = {record_sum(RECORD_BYTES + end) for end in (b"", b"\n", b"\r\n")}
+        self.assertEqual(sums, {hashlib.sha256(RECORD_BYTES + b"\n").hexdigest()})
+
+
 class Competitions(InFolder):
     def test_what_matches_jsonl_has_too_is_the_same(self):
         players = [TestPlayer(f"p{at}", kind, at) for at, kind in enumerate(("good", "closing"))]
@@ -337,11 +353,11 @@ class Competitions(InFolder):
         self.assertEqual((done.returncode, done.stderr), (0, "ggp-records: 2 lawful\n"))
         facts = [json.loads(line) for line in out.read_text(encoding="ascii").splitlines()]
         matches = [json.loads(line) for line in (self.folder / "matches.jsonl").read_text(encoding="ascii").splitlines()]
-        shared = {"id", "game", "rules", "players", "begin", "end", "host", "messages"}
+        shared = {"id", "record", "game", "rules", "description", "players", "begin", "end", "host", "messages", "broken"}
         self.assertEqual(facts[0].keys() & matches[0].keys(), shared)
-        self.assertEqual(*([{key: one[key] for key in shared} for one in found] for found in (facts, matches)))
+        self.assertEqual(*([{key: line[key] for key in shared} for line in found] for found in (facts, matches)))
         self.assertEqual([fact["record"] for fact in facts], [hashlib.sha256(record.read_bytes()).hexdigest() for record in records])
         self.assertEqual(facts[0]["description"], hashlib.sha256((GAMES / "countdown.kif").read_bytes()).hexdigest())
         for fact in facts:
-            self.assertEqual({(fact["players"][one["role"]], one["message"]) for one in fact["broken"]}, {("p1", 2)})
-            self.assertTrue(all(one["why"] for one in fact["broken"]), fact)
+            self.assertEqual({(fact["players"][answer["role"]], answer["message"]) for answer in fact["broken"]}, {("p1", 2)})
+            self.assertTrue(all(answer["why"] for answer in fact["broken"]), fact)

@@ -80,6 +80,25 @@ class OfFormulas(unittest.TestCase):
             texts[expression] = number
         self.assertGreater(len(set(found)), 100)
 
+    def test_formulas_that_stand_in_one_another(self):
+        a, b, c = self.atoms[:3]
+        any_of, no, expression = self.formulas.any, self.formulas.no, self.formulas.expression
+        self.assertEqual((self.formulas.sizes[: FALSE + 1], self.formulas.depths[: FALSE + 1]), ([0, 0], [0, 0]))
+        self.assertEqual(expression(any_of([any_of([a, b]), c])), ("or", *STATE))
+        self.assertEqual([self.formulas.parts(number) for number in (no(any_of([a, b])), any_of([a, b]), no(a), a)], [[no(a), no(b)], [any_of([a, b])], [no(a)], [a]])
+        self.assertEqual(self.formulas.body([no(any_of([a, b]))]), {no(a), no(b)})
+        # Two ways to say one move come to one.
+        *three, fourth = (self.formulas.atom(move) for move in MOVES["r"])
+        twice = self.formulas.listed({fourth, no(any_of(three))})
+        self.assertEqual((expression(twice)[0], self.formulas.shortest(twice)), ("or", fourth))
+
+    def test_what_is_put_in_the_place_of_atoms_stays_as_it_was(self):
+        a, b, c = self.atoms[:3]
+        by, known = {a: b}, {}
+        formula = self.formulas.no(self.formulas.any([a, self.formulas.no(c)]))
+        self.assertEqual(self.formulas.expression(self.formulas.replaced(formula, by, known)), ("not", ("or", STATE[1], ("not", STATE[2]))))
+        self.assertEqual((by, set(known)), ({a: b}, {a, c, self.formulas.no(c), self.formulas.any([a, self.formulas.no(c)]), formula}))
+
     def test_all_moves_of_a_role_together_are_true(self):
         for role, moves in MOVES.items():
             numbers = [self.formulas.atom(move) for move in moves]

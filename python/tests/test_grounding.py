@@ -27,7 +27,7 @@ class Grounding(unittest.TestCase):
         fact = Rule(3, ("s", "b"), ())
         found = ground({0: (rule, ["?x", "?y"]), 1: (fact, [])}, [(0, ("a", "c")), (0, ("b", ("f", "c"))), (1, ())])
         self.assertEqual(texts(found), ["(<= (p a) (q a c))", "(<= (p b) (q b (f c)) (not (s b)))", "(s b)"])
-        self.assertEqual([one.sentence for one in found], [0, 0, 3])
+        self.assertEqual([rule.sentence for rule in found], [0, 0, 3])
 
     def test_what_can_be_true_in_some_state_and_with_some_moves(self):
         found = possible(rules("(role r) (init a) (<= (next b) p) (legal r m) (legal s n) (<= p (true a)) (role q)"))
@@ -111,7 +111,7 @@ class Told(unittest.TestCase):
 class Splitting(unittest.TestCase):
     """What a rule gives stays as it is, and no rule has more variables than before."""
 
-    FACTS = {("e", one, other) for one, other in zip("abcdeabc", "bcdeabda")}
+    FACTS = {("e", start, end) for start, end in zip("abcdeabc", "bcdeabda")}
 
     def heads(self, found):
         """Returns what follows by rules, by trying all values of their variables, from below."""
@@ -135,7 +135,7 @@ class Splitting(unittest.TestCase):
     def test_a_chain_is_split_where_it_says_the_same_with_fewer_variables(self):
         before = rules("(<= (p ?a ?d) (e ?a ?b) (e ?b ?c) (e ?c ?d))")
         after = split(before)
-        self.assertEqual(max(len(variables((rule.head, *(one.atom for one in rule.body)))) for rule in after), 3)
+        self.assertEqual(max(len(variables((rule.head, *(literal.atom for literal in rule.body)))) for rule in after), 3)
         self.assertEqual({head for head in self.heads(after) if head[0] in "pe"}, self.heads(before))
 
     def test_parts_that_say_the_same_have_one_relation(self):
@@ -177,7 +177,7 @@ class Splitting(unittest.TestCase):
             before = rules(f"(<= (p {head}) {' '.join(body)} {more})")
             after = split(before)
             splits += after != before
-            self.assertEqual({one for one in self.heads(after) if one[0] in "pe"}, self.heads(before), before)
+            self.assertEqual({head for head in self.heads(after) if head[0] in "pe"}, self.heads(before), before)
         self.assertGreater(splits, 5)
 
 

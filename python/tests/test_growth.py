@@ -9,6 +9,7 @@ from ggp_tools.competition.competition_file import Mistaken, read_competition
 from ggp_tools.competition.files import Folder, Refused
 from ggp_tools.competition.growth import Again, History, Misfit, grown, refuse_changes, refuse_unchanged, shape
 from ggp_tools.competition.history import again_text, read_history
+from ggp_tools.competition.results import Result
 from ggp_tools.competition.schedule import planned
 from tests.support import GAMES, InFolder, run, toml
 
@@ -126,6 +127,64 @@ class Growth(unittest.TestCase):
         one, other = competition(3), competition(3, head="wait = 3\nforfeit = true\nhosts = [\"one\"]")
         self.assertEqual(shape(one), shape(other))
         self.assertNotEqual(shape(one), shape(competition(3, 2)))
+
+
+    def test_ids_keep_the_width_of_the_first_file(self):
+        for files, wanted in (([(1_000, 1)], ["cup-0001", "cup-0002", "cup-0003", "cup-1000"]), ([(2, 1), (1_000, 2)], ["cup-001", "cup-002", "cup-003", "cup-2000"])):
+            found = ids(self.grown(*(competition(count, rounds, ("one",)) for count, rounds in files)))
+            self.assertEqual([*found[:3], found[-1]], wanted)
+
+    def test_what_is_added_has_the_clocks_of_its_game(self):
+        found = self.grown(competition(2, head="start = 7\nplay = 3"), competition(3, head="start = 7\nplay = 3"))
+        self.assertEqual({(match.start, match.play) for match in found.matches}, {(7, 3)})
+
+    def test_matches_that_were_ordered_again_count_for_the_limit(self):
+        versions, orders = (competition(3, 1, ("two",)), competition(4, 1, ("two",))), [Again("cup-007", "cup-001", "x")]
+        with mock.patch("ggp_tools.competition.schedule.MOST_MATCHES", 13):
+            self.assertEqual(len(self.grown(*versions, again=orders).matches), 13)
+        with mock.patch("ggp_tools.competition.schedule.MOST_MATCHES", 12), self.assertRaises(Mistaken):
+            self.grown(*versions, again=orders)
+
+    def test_a_line_with_the_players_of_before_is_added_beside_a_new_player(self):
+        lines = 'kind = "schedule"\nlines = [{}]'
+        before = competition(3, games=("three",), form=lines.format('"three p0 p1 p2"'))
+        after = competition(4, games=("three",), form=lines.format('"three p0 p1 p2", "three p1 p2 p0", "three p3 p0 p1"'))
+        self.assertEqual([match.players for match in self.grown(before, after).matches], [("p0", "p1", "p2"), ("p1", "p2", "p0"), ("p3", "p0", "p1")])
+
+    def test_what_is_refused_names_the_first(self):
+        orders = Again("cup-007", "cup-001", "x"), Again("cup-009", "cup-002", "x")
+        games = ("three", "more")
+        for history, after, words in (
+            (History((), orders), competition(2), "cup-007, which was ordered again, is not the next match"),
+            (History(((8, competition(4, 1, games)),)), competition(5, 2, games), "more has more than two roles, so rounds and players are added"),
+            (History(((9, competition(3)),)), competition(3, head="strikes = 1"), "strikes was 0 and is 1"),
+        ):
+            with self.assertRaises(Misfit) as why:
+                grown(history, after, {**ROLES, "more": 3})
+            self.assertIn(words, str(why.exception))
+
+
+class ByRounds(unittest.TestCase):
+    def swiss(self, rounds, game="two"):
+        return competition(4, games=(game,), form=f'kind = "swiss"\nrounds = {rounds}')
+
+    def result(self, match):
+        """Returns the result of a match: the first match of each two players is won by the lower number, and so is the other one. One that
+        was ordered again is lost by it."""
+        is_won = (match.players[0] < match.players[1]) != bool(match.instead_of)
+        return Result(match, (100, 0) if is_won else (0, 100), 1, (Counter(), Counter()), (None, None), "finished", None)
+
+    def test_a_game_of_three_roles_is_refused(self):
+        with self.assertRaises(Mistaken):
+            grown(History(), self.swiss(1, "three"), ROLES)
+
+    def test_only_the_match_that_was_ordered_again_pairs_the_next_round(self):
+        # p2 has two points, p0 and p1 have one each; with the match before it p0 would have two, and a stronger opponent than p2.
+        order = Again("cup-005", "cup-001", "x")
+        for history, competition_before in ((History((), (order,)), self.swiss(2)), (History(((4, self.swiss(1)),), (order,)), self.swiss(2))):
+            found = grown(history, competition_before, ROLES, self.result)
+            self.assertEqual([(paired.pairs, paired.byes) for paired in found.rounds.found], [((("p0", "p1"), ("p2", "p3")), ()), ((("p2", "p0"), ("p1", "p3")), ())])
+            self.assertEqual([match.id for match in found.matches if match.round == 2], [f"cup-00{number}" for number in range(6, 10)])
 
 
 class Histories(InFolder):

@@ -76,6 +76,18 @@ class Words(unittest.TestCase):
         self.assertTrue(differs(self.game, record).startswith(said))
         self.assertIsNone(differs(self.game, {**record, "errors": [["", ""]]}))
 
+    def test_the_moves_of_roles_that_a_rule_gives_stand_in_the_order_of_the_record(self):
+        text = "(player a) (player b) (<= (role ?x) (player ?x)) (legal a go) (legal b stay) (init s) (<= (next (did ?r ?m)) (does ?r ?m)) (<= terminal (true t))"
+        for roles, moves in ((["a", "b"], ["go", "stay"]), (["b", "a"], ["stay", "go"])):
+            record = {"roles": roles, "states": [["s"], ["(did a go)", "(did b stay)"]], "moves": [moves], "errors": [["", ""]], "goalValues": [], "phase": "playing", "cause": None}
+            self.assertIsNone(differs(Game(text), record), roles)
+
+    def test_of_the_moves_of_one_sentence_the_least_number_is_the_first(self):
+        game = Game("(role r) (n 2) (n 10) (<= (legal r (go ?x)) (n ?x)) (init s) (<= (next s) (true s)) (<= terminal (true t))")
+        record = {"roles": ["r"], "states": [["s"], ["s"]], "moves": [["(go 2)"]], "errors": [["TO"]], "goalValues": [], "phase": "playing", "cause": None}
+        self.assertIsNone(differs(game, record))
+        self.assertIn("(go 2) stands before it", differs(game, {**record, "moves": [["(go 10)"]]}))
+
     def test_the_end(self):
         said = "ann has the goal 99 in the record, and by the description sentence 12, line 7: (<= (goal ann 100) (true (at 4))) gives 100"
         self.assertEqual(self.words(goalValues=[99, 50]), said)
@@ -185,7 +197,7 @@ class Described(unittest.TestCase):
         facts = "(role a) (init s) (p 1) (q 2)"
         ors = " ".join(f"(or (p ?v{at}) (q ?v{at}))" for at in range(30))
         game = Game(f"{facts} (<= (legal a (m ?v0 ?v1)) {ors})")
-        self.assertEqual(set(game.moves(game.position(game.initial), "a")), {("m", one, other) for one in "12" for other in "12"})
+        self.assertEqual(set(game.moves(game.position(game.initial), "a")), {("m", first, second) for first in "12" for second in "12"})
         ors = " ".join(f"(or (p ?v{at}) (q ?z))" for at in range(12))
         game = Game(f"{facts} (<= (legal a ?z) (q ?z) {ors})")
         self.assertEqual(game.moves(game.position(game.initial), "a"), ["2"])
@@ -205,7 +217,7 @@ class Described(unittest.TestCase):
         self.addCleanup(sys.setrecursionlimit, sys.getrecursionlimit())
         sys.setrecursionlimit(MOST_CALLS)
         names = [f"?v{at}" for at in range(40)]
-        links = " ".join(f"(after {one} {other})" for one, other in zip(names, names[1:]))
+        links = " ".join(f"(after {before} {after})" for before, after in zip(names, names[1:]))
         facts = " ".join(f"(after {at} {at + 1})" for at in range(45))
         game = Game(f"(role a) {facts} (init (c 0)) (<= (legal a (go ?v39)) (true (c ?v0)) {links})")
         self.assertEqual(game.moves(game.position(game.initial), "a"), [("go", "39")])

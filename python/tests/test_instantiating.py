@@ -117,7 +117,7 @@ class Folding(unittest.TestCase):
         # Two rules of one head; only the second has the body that all the others share, which becomes a part.
         long = " ".join(f"(true (a-long-name {k}))" for k in range(9))
         rules = [Rule(2, ("next", "c0"), (Literal(True, ("true", "s")),))]
-        rules += [Rule(3, ("next", f"c{k}"), tuple(Literal(True, one) for one in expressions(long))) for k in range(5)]
+        rules += [Rule(3, ("next", f"c{k}"), tuple(Literal(True, atom) for atom in expressions(long))) for k in range(5)]
         game = folding.folded([*all_rules(expressions("(role r) (legal r m)")), *rules], 10_000, 1 << 20)
         self.assertEqual(game.part_count, 1)
         costs = game.costs(True)
@@ -127,8 +127,8 @@ class Folding(unittest.TestCase):
     def compare(self, plain, found, seed):
         for count in range(len(STATE) + 1):
             for state in itertools.combinations(STATE, count):
-                for one, other in itertools.product(MOVES["r"], MOVES["s"]):
-                    joint = [("does", "r", one), ("does", "s", other)]
+                for move, answer in itertools.product(MOVES["r"], MOVES["s"]):
+                    joint = [("does", "r", move), ("does", "s", answer)]
                     self.assertEqual(own(holds(plain, state, joint)), own(holds(found, state, joint)), seed)
 
     def test_legal_moves_keep_their_order(self):
@@ -158,14 +158,14 @@ class Rounds(unittest.TestCase):
         """Ways over edges that the state has, from a start or between any two places."""
         places = [str(k) for k in range(5)]
         rules = []
-        for one, other in itertools.product(places, repeat=2):
-            edge = Literal(True, ("true", (one, other)))
+        for start, end in itertools.product(places, repeat=2):
+            edge = Literal(True, ("true", (start, end)))
             if is_closure:
-                rules.append(Rule(1, ("w", one, other), (edge,)))
-                halves = [[("w", one, middle), ("w", middle, other)] for middle in places]
-                rules += [Rule(2, ("w", one, other), tuple(Literal(True, half) for half in dict.fromkeys(both))) for both in halves]
-            elif one != other:
-                rules.append(Rule(1, ("w", one), (edge, Literal(True, ("w", other)))))
+                rules.append(Rule(1, ("w", start, end), (edge,)))
+                halves = [[("w", start, middle), ("w", middle, end)] for middle in places]
+                rules += [Rule(2, ("w", start, end), tuple(Literal(True, half) for half in dict.fromkeys(both))) for both in halves]
+            elif start != end:
+                rules.append(Rule(1, ("w", start), (edge, Literal(True, ("w", end)))))
         if not is_closure:
             rules.append(Rule(0, ("w", "0"), ()))
         dice.shuffle(rules)
@@ -184,10 +184,10 @@ class Rounds(unittest.TestCase):
         # Two ways make a longer one only where the second is an edge of the game: a round then adds one edge, and does not double the way.
         places = range(6)
         rules = [Rule(1, ("w", str(a), str(b)), (Literal(True, ("true", (str(a), str(b)))),)) for a, b in itertools.product(places, repeat=2)]
-        for a, b, c in itertools.product(places, repeat=3):
-            if abs(b - c) == 1:
-                halves = dict.fromkeys([("w", str(a), str(b)), ("w", str(b), str(c))])
-                rules.append(Rule(2, ("w", str(a), str(c)), tuple(Literal(True, half) for half in halves)))
+        for start, middle, end in itertools.product(places, repeat=3):
+            if abs(middle - end) == 1:
+                halves = dict.fromkeys([("w", str(start), str(middle)), ("w", str(middle), str(end))])
+                rules.append(Rule(2, ("w", str(start), str(end)), tuple(Literal(True, half) for half in halves)))
         found, dice = self.unrolled(rules, 35), random.Random(7)
         self.compare(rules, found, [(str(k), str(k + 1)) for k in range(5)])
         for _ in range(20):
@@ -197,10 +197,10 @@ class Rounds(unittest.TestCase):
         # Any two ways make a longer one, but some of these are part of no other: the way from 0 to 0 over 4, 1 and 2 is not made of halves.
         ends = ["00", "02", "04", "10", "11", "12", "14", "20", "24", "40", "41", "44"]
         rules = [Rule(1, ("w", *way), (Literal(True, ("true", way)),)) for way in ends]
-        for one, other in itertools.product(ends, repeat=2):
-            if one[1] == other[0]:
-                both = dict.fromkeys([("w", *one), ("w", *other)])
-                rules.append(Rule(2, ("w", one[0], other[1]), tuple(Literal(True, half) for half in both)))
+        for way, onward in itertools.product(ends, repeat=2):
+            if way[1] == onward[0]:
+                both = dict.fromkeys([("w", *way), ("w", *onward)])
+                rules.append(Rule(2, ("w", way[0], onward[1]), tuple(Literal(True, half) for half in both)))
         self.compare(rules, self.unrolled(rules, 11), ["04", "41", "12", "20"])
 
     def test_sentences_keep_their_places(self):
@@ -225,6 +225,16 @@ class Rounds(unittest.TestCase):
         found, dice = self.unrolled(rules, 11), random.Random(5)
         for _ in range(200):
             self.compare(rules, found, [name for name in named.values() if dice.random() < 0.6])
+
+    def test_what_goes_one_way_alone_saves_no_round(self):
+        # 1 can be derived from 2, 3 and 4, 2 from 3 and 4, 3 from 4, and 4 from 1: from 1 on it takes two rounds to 2 and 3.
+        steps = {"1": "234", "2": "34", "3": "4", "4": "1"}
+        for order in itertools.permutations(steps):
+            rules = [Rule(1, ("w", start), (Literal(True, ("true", start)),)) for start in order]
+            rules += [Rule(2, ("w", start), (Literal(True, ("w", end)),)) for start in order for end in steps[start]]
+            found = self.unrolled(rules, 3)
+            for state in (["1"], ["2"], ["3"], ["4"], []):
+                self.compare(rules, found, state)
 
     def unrolled(self, rules, most):
         found, circles = rounds.unrolled(rules)
@@ -304,7 +314,7 @@ class Texts(unittest.TestCase):
         text = "(<= (p ?x) (and (q ?x) (or a b)) (or c (and (not d) (distinct ?x 1))) (not (and (e (and)) (distinct ?x 2))))"
         lines = text_for_players(expressions(text), []).splitlines()
         both = "(<= (p ?x) (q ?x) (or a b)"
-        ways = [f"{one} (not {other})" for one in ("c", "(not d) (distinct ?x 1)") for other in ("(e (and))", "(distinct ?x 2)")]
+        ways = [f"{literal} (not {denied})" for literal in ("c", "(not d) (distinct ?x 1)") for denied in ("(e (and))", "(distinct ?x 2)")]
         self.assertEqual(lines, [f"{both} {way})" for way in ways])
 
 

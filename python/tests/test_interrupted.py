@@ -35,7 +35,7 @@ class Ended(unittest.TestCase):
             self.addCleanup(process.wait)
             self.addCleanup(process.kill)
         self.assertEqual(([process.poll() for process in processes], match.stage), ([None] * 2, "asking"))
-        self.playing.end_open_ones()
+        self.playing.end_open_matches()
         self.assertNotIn(None, [process.poll() for process in processes])
         self.assertEqual((match.stage, self.playing.seats.free), ("over", {"ann": 1, "bob": 1}))
         self.assertEqual((list(self.playing.plan.folder.open.iterdir()), self.lines), ([], []))

@@ -14,7 +14,8 @@ from unittest import mock
 from ggp_tools.competition import kept
 from ggp_tools.competition.files import Folder, Refused, held, write_whole
 from ggp_tools.competition.kept import (
-    fault_of_files, free_ending, has_shape, is_of_one_match, judged, keep, look_at_records, read_at_most, read_or_none, result_in_file, set_aside, strangers,
+    batches, fault_of_files, free_ending, has_shape, is_of_one_match, judged, keep, look_at_records, looked_at, read_at_most, read_or_none, result_in_file,
+    set_aside, strangers,
 )
 from ggp_tools.competition.known import Known
 from ggp_tools.competition.schedule import Match
@@ -83,6 +84,13 @@ class Kept(unittest.TestCase):
             self.plan.matches.clear()
             self.matches(50, 50, 50, 300, 20, 20, 100, 20)
             self.assertEqual(self.counts(), [2, 1, 1, 2, 1, 1])
+
+    @mock.patch("ggp_tools.competition.kept.BYTES_TOGETHER", 200)
+    def test_just_so_many_bytes_are_checked_together(self):
+        self.matches(300, 50, 50, 50, 100, 50)
+        self.folder.account("cup-4").unlink()
+        self.assertEqual([[match.id[-1] for match in batch] for batch in batches(self.folder, self.plan.matches)], [["0"], ["1", "2"], ["3", "4"], ["5"]])
+        self.assertEqual(list(batches(self.folder, [])), [])
 
     def test_a_file_past_the_limit_is_not_read_to_its_end(self):
         self.matches(20)
@@ -155,7 +163,7 @@ class Kept(unittest.TestCase):
         self.matches(20)
         with self.assertRaises(Unchecked) as why:
             look_at_records(self.plan, Short())
-        self.assertEqual(str(why.exception), "records and accounts can't be checked: want of memory")
+        self.assertEqual(str(why.exception), "records and accounts can't be checked: out of memory")
 
 
 class Said(Counting):
@@ -277,6 +285,25 @@ class Looked(unittest.TestCase):
         self.assertEqual(self.known()[1], 3)
         rules.unlink()
         self.assertEqual([self.known()[1] for _ in range(2)], [3, 3])
+
+    def test_what_was_judged_by_other_rules_in_between_is_not_known(self):
+        rules, plain = self.folder.rules_of("one"), self.referee.verdicts
+
+        def changing(path, records):
+            if path == rules:
+                rules.write_text("other")
+            return plain(path, records)
+
+        with mock.patch.object(self.referee, "verdicts", changing):
+            self.assertEqual(self.known()[1], 4)
+        rules.write_text("one")
+        self.assertEqual([self.known()[1] for _ in range(2)], [3, 0])
+
+    def test_a_known_result_is_given_once(self):
+        self.known()
+        for known in (None, Known(self.folder.path)):
+            found = list(looked_at(self.plan, self.referee, "two", self.plan.matches[3:], known))
+            self.assertEqual([(match.id, fault, misfit, result.goals) for match, fault, misfit, result in found], [("cup-3", None, None, (40, 60))])
 
     def test_a_file_that_has_become_wrong_is_not_right_by_what_is_known(self):
         self.known()

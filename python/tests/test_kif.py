@@ -70,7 +70,7 @@ class Expressions(unittest.TestCase):
         self.assertEqual([relation(atom) for atom in ("p", ("p",), ("p", "a"), ("p", ("f", "a"), "b"))], [("p", None), ("p", 0), ("p", 1), ("p", 2)])
 
     def test_levels_count_lists_in_one_another(self):
-        self.assertEqual([levels(one) for one in ("a", (), ("a", "b"), ("a", ("b",), "c"), self.DEEP)], [0, 1, 1, 2, 3])
+        self.assertEqual([levels(expression) for expression in ("a", (), ("a", "b"), ("a", ("b",), "c"), self.DEEP)], [0, 1, 1, 2, 3])
 
     def test_numbers_come_first_by_their_value_then_words_then_lists(self):
         order = ["0", "007", "7", "9", "10", "100", "a", "a1", "b", "x10", ("10", "b"), ("a", "2"), ("a", "10"), ("a", ("a",))]

@@ -76,7 +76,7 @@ class Figures(unittest.TestCase):
             ("(orc a)", ["(orc a)"]), ("(distinct a b)", ["(distinct a b)"]),
         ):
             sentence, = expressions(text)
-            self.assertEqual(list(atoms_of(sentence)), [expressions(one)[0] for one in wanted])
+            self.assertEqual(list(atoms_of(sentence)), [expressions(text)[0] for text in wanted])
 
     def test_what_is_counted(self):
         sentences = expressions("(role r) (role (s t)) (legal r a) (<= (legal r a) p) (<= (legal r b) (not p) (or p q)) (<= (legal (s t) a) p) (legal x y z) (role) terminal")
@@ -134,7 +134,7 @@ class Endless(unittest.TestCase):
                 yield from parts(member)
 
         small = ["a", "b", ("f", "a"), ("g", "a"), ("f", "a", "b")]
-        terms = [*small, *(("f", one) for one in small), *(("f", one, other) for one, other in itertools.product(small, repeat=2)), ("g", ("f", "a"))]
+        terms = [*small, *(("f", term) for term in small), *(("f", term, second) for term, second in itertools.product(small, repeat=2)), ("g", ("f", "a"))]
         self.assertFalse(fits(("f", "a"), "fa", {}))
         for pattern in expressions("?x a (f ?x) (f ?x ?y) (f ?x ?x) (f a) (f (f ?x)) (g ?y) (f (g ?x) a) (f ?y (f ?y))"):
             for term in terms:

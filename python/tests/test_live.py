@@ -294,7 +294,7 @@ class Lines(InRoom):
         self.say(log, self.play(3, "((take 1) noop)", ["a b", "(take 1)"]) + self.play(4, "(noop (take 1))", ["", "noop"], [1]))
         self.say(log, line(self.match, 1, 5, f"(STOP {self.match.id} ((take 1) noop))", "done"))
         reader.look()
-        found = [(one.player, one.turn, one.error, one.move, before) for one, before in reader.last_replaced()]
+        found = [(move.player, move.turn, move.error, move.move, before) for move, before in reader.last_replaced()]
         wanted = [("ann", 3, "RT", "(take 1)", 0), ("ann", 2, "IL ?", "", 0), ("bob", 1, "IL lost (no memory)", "noop", 1)]
         self.assertEqual(found, wanted)
         self.assertIn("does not tell", reason_of("lost (no memory)"))
@@ -308,7 +308,7 @@ class Lines(InRoom):
             self.plan.folder.log(match.id).write_text(f"began {times[0]}\n{times[0]} {said}\nended {times[1]}\n")
         reader = Reader(self.plan)
         reader.look()
-        self.assertEqual([one.match.id[-1] for one, _ in reader.last_replaced()], list("642135"))
+        self.assertEqual([move.match.id[-1] for move, _ in reader.last_replaced()], list("642135"))
 
     def test_a_line_with_an_impossible_time_is_passed_over_and_named(self):
         one = line(self.match, 0, 2, f"(PLAY {self.match.id} NIL)", "(take 1)", 10**17)

@@ -119,8 +119,8 @@ class Matches(InFolder):
             for found, error, is_open in zip(turn.errors, errors, turn.doubts):
                 self.assertTrue(is_open or found.partition(" ")[0] == error.partition(" ")[0], (turn, errors, texts))
         # What is said to be replaced was.
-        for one in seen.replaced:
-            self.assertTrue(one.turn > known or record["errors"][one.turn - 1][self.match.players.index(one.player)], (one, texts))
+        for move in seen.replaced:
+            self.assertTrue(move.turn > known or record["errors"][move.turn - 1][self.match.players.index(move.player)], (move, texts))
         count = sum(bool(error) for errors in record["errors"] for error in errors)
         self.assertLessEqual(seen.replaced_count, count + 2 * (record["phase"] == "aborted"), texts)
 

@@ -24,7 +24,7 @@ class Narrow(Served):
 
     def test_no_page_is_wider_than_the_screen(self):
         match, other = self.plan.matches[:2]
-        places = ["", "matches.html", "games/heap.html", f"players/player-{NAMES[0]}.html", *(f"matches/{one.id}.html" for one in (match, other))]
+        places = ["", "matches.html", "games/heap.html", f"players/player-{NAMES[0]}.html", *(f"matches/{shown.id}.html" for shown in (match, other))]
         files = Pages(self.plan)
         files.write(list(self.site.reader.results.values()))
         addresses = [f"http://127.0.0.1:{self.server.server_port}/{place}" for place in places]

@@ -111,15 +111,15 @@ class WithMatch(unittest.TestCase):
         self.account = f"0\topen {self.match.id}\topened\n".encode()
         Process.laid_down |= {"played": [(0, self.record + self.account, "a line\n")], "verified": [LAWFUL], "replayed": [(0, b"replayed 1 calls\n" + self.record, "")]}
 
-    def go(self, most=50, each=None):
+    def go(self, most=50, meanwhile=None):
         """Has the match go on until it is over. Returns the stages that it was seen in."""
         stages = [self.open.stage]
         for _ in range(most):
             if self.open.stage == "over":
                 return stages
             next(self.open.steps, None)
-            if each:
-                each()
+            if meanwhile:
+                meanwhile()
             if stages[-1] != self.open.stage:
                 stages.append(self.open.stage)
         self.fail(f"it is not over: {stages}")
@@ -141,7 +141,7 @@ class Whole(WithMatch):
         Process.laid_down["verified"] = [(*LAWFUL, 1)]
         self.plan.folder.open.rmdir()
         seen = []
-        self.assertEqual(self.go(each=lambda: seen.append((self.open.stage, (self.open.room / "players").exists() and (self.open.room / "players").read_text()))), ["asking", "checking", "over"])
+        self.assertEqual(self.go(meanwhile=lambda: seen.append((self.open.stage, (self.open.room / "players").exists() and (self.open.room / "players").read_text()))), ["asking", "checking", "over"])
         self.assertEqual(self.names(), ["info-0", "info-1", "played", "verified", "replayed"])
         self.assertEqual(self.words_of("info-1"), ["program", "info", "--", "bob@h:2"])
         rules = self.plan.folder.rules_of("heap")
@@ -169,7 +169,7 @@ class Whole(WithMatch):
         def later():
             Process.now += 2 if self.open.stage == "playing" else 50
 
-        self.assertEqual(self.go(each=later), ["asking", "playing", "over"])
+        self.assertEqual(self.go(meanwhile=later), ["asking", "playing", "over"])
         self.assertEqual(self.open.seconds, 6)
 
     def test_players_are_told_the_rules_that_they_get(self):
@@ -200,7 +200,7 @@ class Whole(WithMatch):
     def test_its_seats_are_left_once_it_is_played(self):
         Process.laid_down["verified"] = [(*LAWFUL, 3)]
         free = []
-        self.go(each=lambda: free.append((self.open.stage, self.seats.free["ann"])))
+        self.go(meanwhile=lambda: free.append((self.open.stage, self.seats.free["ann"])))
         self.assertEqual(set(free), {("asking", 0), ("checking", 1), ("over", 1)})
 
     def test_a_match_that_the_referee_did_not_end(self):
@@ -285,7 +285,7 @@ class Asking(WithMatch):
         def later():
             Process.now += 0.5
 
-        self.go(each=later)
+        self.go(meanwhile=later)
         return sorted(self.reporter.notes)
 
     def test_so_many_seconds_are_waited_for_an_answer(self):
@@ -423,7 +423,7 @@ class OnHosts(WithMatch):
         super().setUp()
         self.begin(self.HEAD, (*self.ALONE, Host("far", 2)))
 
-    def play(self, *answers, each=None):
+    def play(self, *answers, meanwhile=None):
         """Has the match be played, each time with the next of these answers."""
         Process.laid_down["played"] = list(answers)
         Process.laid_down["abort-0"], Process.laid_down["abort-1"] = [(0, b"", "")], [(1, b"", "", 2)]
@@ -432,10 +432,10 @@ class OnHosts(WithMatch):
         def later():
             Process.now += 1
             seen.append((self.open.host, dict(self.hosts.connecting), dict(self.hosts.open)))
-            if each:
-                each()
+            if meanwhile:
+                meanwhile()
 
-        self.go(most=200, each=later)
+        self.go(most=200, meanwhile=later)
         return seen
 
     def whole(self, looks=0):
@@ -505,21 +505,21 @@ class OnHosts(WithMatch):
             if len(waited) == 5:
                 self.hosts.connecting["near"] = 3
 
-        self.play(self.whole(), each=wait)
+        self.play(self.whole(), meanwhile=wait)
         self.assertEqual((waited[:5], self.hosts.connecting["near"]), ([False] * 5, 3))
 
     def test_while_it_is_not_connected_it_is_counted(self):
         Process.laid_down["played"] = [(0, self.record + self.account, "", 12)]
         counts = []
 
-        def each():
+        def meanwhile():
             counts.append((self.open.stage, self.hosts.connecting["near"]))
             for process in Process.begun:
                 if process.name == "played" and len(counts) == 3:
                     process.said.write_text(self.SAID)
                     process.lines.count += 1
 
-        self.go(each=each)
+        self.go(meanwhile=meanwhile)
         self.assertEqual(sorted(set(counts)), [("asking", 0), ("over", 0), ("playing", 0), ("playing", 1)])
 
     def test_a_match_that_is_lost_with_its_host_begins_again_on_another(self):

@@ -51,7 +51,7 @@ def head_of(sentence: Expression) -> Expression:
 
 def places(sentences: Sentences, names: tuple[str, ...]) -> list[int]:
     """Returns where rules with heads of these relations stand."""
-    return [at for at, one in enumerate(sentences) if one[0] == "<=" and relation(head_of(one))[0] in names]
+    return [at for at, sentence in enumerate(sentences) if sentence[0] == "<=" and relation(head_of(sentence))[0] in names]
 
 
 def dropped(name: str, dice: random.Random) -> Sentences:
@@ -64,7 +64,7 @@ def dropped(name: str, dice: random.Random) -> Sentences:
 def swapped(name: str, dice: random.Random) -> Sentences:
     """The rules with two legal moves of a role in each other's place."""
     sentences = right_rules(name)
-    heads = list(dict.fromkeys(head_of(one) for one in sentences if relation(head_of(one)) == ("legal", 2)))
+    heads = list(dict.fromkeys(head_of(sentence) for sentence in sentences if relation(head_of(sentence)) == ("legal", 2)))
     role = dice.choice(heads)[1]
     one, other = dice.sample([head for head in heads if head[1] == role], 2)
     instead = {one: other, other: one}
@@ -74,7 +74,7 @@ def swapped(name: str, dice: random.Random) -> Sentences:
         if head not in instead:
             found.append(sentence)
         elif head not in seen:
-            found += [one for one in sentences if head_of(one) == instead[head]]
+            found += [sentence for sentence in sentences if head_of(sentence) == instead[head]]
         seen.add(head)
     return found
 
@@ -91,7 +91,7 @@ def goal_off(name: str, dice: random.Random) -> Sentences:
 def without_last_literal(name: str, dice: random.Random) -> Sentences:
     """The rules with one that has lost its last literal."""
     sentences = right_rules(name)
-    at = dice.choice([at for at, one in enumerate(sentences) if one[0] == "<=" and len(one) > 3])
+    at = dice.choice([at for at, sentence in enumerate(sentences) if sentence[0] == "<=" and len(sentence) > 3])
     return [*sentences[:at], sentences[at][:-1], *sentences[at + 1 :]]
 
 
@@ -151,7 +151,7 @@ def made_by_program(sentences: Sentences, record: Record) -> str:
         file.write("".join(f"{ground_games.text_of(sentence)}\n" for sentence in sentences))
         file.flush()
         script = script_of(record)
-        *replies, line = asked("desk", file.name, "".join(f"{one}\n" for one in script))
+        *replies, line = asked("desk", file.name, "".join(f"{text}\n" for text in script))
         if replies != ["opened", *["taken"] * (len(script) - 1)]:
             raise AssertionError(f"the desk does not take the match: {replies}")
         account = "".join(f"0\t{call}\t{reply}\n" for call, reply in zip(script, replies))

@@ -526,7 +526,9 @@ class Play(InFolder):
         self.planned(["good", "good"])
         short = "echo 'ggp_manager: want of memory' >&2; exit 3"
         played = ("records/cup-001.json", "accounts/cup-001.txt", "logs/cup-001.txt")
-        shortages = [('"$1" = verify', short, "want of memory"), ('"$1" = verify', "kill -9 $$", "status -9"), ('"$1" = replay', short, "want of memory")]
+        # With --lines `verify` only says whether the rules are accepted, as the plan is read.
+        record = '"$1" = verify && "$2" != --lines'
+        shortages = [(record, short, "want of memory"), (record, "kill -9 $$", "status -9"), ('"$1" = replay', short, "want of memory")]
         for (asked, done, words), ending in zip(shortages, ("unchecked", "unchecked.2", "unchecked.3")):
             before = self.files() if (self.folder / "records").exists() else {}
             status, out, _ = run(self.folder, "play", "--program", program_but(self.folder / "short", asked, done))

@@ -35,8 +35,8 @@ class Said:
     def ends(self, result, seconds):
         self.ended.append((result, seconds))
 
-    def progress(self, over, open_ones, to_come, left):
-        self.shown.append((over, open_ones, to_come))
+    def progress(self, over, open_count, to_come, left):
+        self.shown.append((over, open_count, to_come))
 
     def draw(self, text):
         self.drawn.append(text)
@@ -128,7 +128,7 @@ class Going(WithMatches):
         most, ids = [], {match.id for match in self.plan.matches}
 
         def look(match):
-            most.append(max(collections.Counter(player for one in Standing.begun if one.stage != "over" for player in one.match.players).values()))
+            most.append(max(collections.Counter(player for standing in Standing.begun if standing.stage != "over" for player in standing.match.players).values()))
 
         Standing.laid_down = {match: [look, "playing", look, won] for match in ids}
         self.wait_for_all()
@@ -143,7 +143,7 @@ class Going(WithMatches):
         counts = []
 
         def look(match):
-            counts.append(sum(one.stage in ("asking", "playing") for one in Standing.begun))
+            counts.append(sum(standing.stage in ("asking", "playing") for standing in Standing.begun))
 
         def check(match):
             match.stage = "checking"
@@ -156,7 +156,7 @@ class Going(WithMatches):
         self.wait_for_all()
         self.playing.go()
         self.assertEqual((max(counts), len(self.playing.results)), (1, 12))
-        self.assertGreater(max(open_ones for _, open_ones, _ in self.reporter.shown), 1)
+        self.assertGreater(max(open_count for _, open_count, _ in self.reporter.shown), 1)
 
     def test_who_ends_tells_who_waits_for_it(self):
         told = []
@@ -197,9 +197,9 @@ class Going(WithMatches):
         self.assertEqual((set(self.playing.results), self.playing.stopped), ({match.id for match in self.plan.matches[6:]}, {"heap": why}))
         self.assertEqual(self.reporter.lines, ["no record cup-001: differs", f"stopped {why}; 4 matches of it do not begin"])
         # A second one of that game says nothing more.
-        one = Standing(self.playing.shared, self.plan.matches[1])
-        one.stage, one.why, one.stops_game, one.steps = "over", "differs too", True, iter(())
-        self.playing.step(one)
+        standing = Standing(self.playing.shared, self.plan.matches[1])
+        standing.stage, standing.why, standing.stops_game, standing.steps = "over", "differs too", True, iter(())
+        self.playing.step(standing)
         self.assertEqual((self.reporter.lines[2:], self.playing.stopped["heap"]), (["no record cup-002: differs too"], why))
 
     def test_where_a_file_can_not_be_written_no_more_matches_begin(self):
@@ -213,16 +213,16 @@ class Going(WithMatches):
             Standing.laid_down = {"cup-001": [fail]}
             self.wait_for_all()
             self.playing.go()
-            one, = Standing.begun
-            self.assertEqual((self.playing.left, self.playing.is_full, self.playing.may_go_on(), one.is_ended, one.has_left, one.is_broken), ({"cup-001": words}, True, False, True, True, False))
+            standing, = Standing.begun
+            self.assertEqual((self.playing.left, self.playing.is_full, self.playing.may_go_on(), standing.is_ended, standing.has_left, standing.is_broken), ({"cup-001": words}, True, False, True, True, False))
         self.assertEqual(self.playing.seats.free, dict.fromkeys(self.NAMES, 1))
 
     def test_a_match_at_play_that_is_lost_is_broken_and_one_that_is_checked_has_left(self):
         for stage, is_broken, has_left in (("asking", False, True), ("playing", True, True), ("checking", False, False)):
-            one = Standing(self.playing.shared, self.plan.matches[0])
-            one.stage = stage
-            self.playing.lose(one, "why")
-            self.assertEqual((one.is_broken, one.has_left, one.is_ended, one.stage, one.why), (is_broken, has_left, True, "over", "why"))
+            standing = Standing(self.playing.shared, self.plan.matches[0])
+            standing.stage = stage
+            self.playing.lose(standing, "why")
+            self.assertEqual((standing.is_broken, standing.has_left, standing.is_ended, standing.stage, standing.why), (is_broken, has_left, True, "over", "why"))
 
     def test_a_full_disk_that_the_referee_tells_lets_no_more_begin(self):
         self.begin(at_once=1)
@@ -234,9 +234,9 @@ class Going(WithMatches):
                          [True, True, True, False, False, False])
         for hosts, is_broken, is_full in (((Host("h", 1),), True, False), ((Host("h", 1),), False, True), ((), True, True)):
             self.begin(hosts=hosts)
-            one = Standing(self.playing.shared, self.plan.matches[0])
-            one.stage, one.why, one.is_broken, one.steps = "over", UNSAID.format(1), is_broken, iter(())
-            self.playing.step(one)
+            standing = Standing(self.playing.shared, self.plan.matches[0])
+            standing.stage, standing.why, standing.is_broken, standing.steps = "over", UNSAID.format(1), is_broken, iter(())
+            self.playing.step(standing)
             self.assertEqual(bool(self.playing.is_full), is_full, (hosts, is_broken))
 
     def test_one_interrupt_lets_open_matches_end_and_two_end_them(self):
@@ -252,7 +252,7 @@ class Going(WithMatches):
         self.playing.go()
         self.assertEqual((sorted(self.begun()), sorted(self.playing.results)), (["cup-001", "cup-003"], ["cup-001", "cup-003"]))
         self.assertEqual(self.reporter.lines, ["no more matches begin; 2 are played to their ends, or ended by one more Ctrl-C"])
-        self.assertEqual([one.may_begin for one in Standing.begun], [False, False])
+        self.assertEqual([standing.may_begin for standing in Standing.begun], [False, False])
 
     def test_who_ends_open_matches_tells_their_players(self):
         self.begin(at_once=9)
@@ -260,13 +260,13 @@ class Going(WithMatches):
             (self.plan.folder.open / match).mkdir(parents=True)
         stages, places = ("playing", "asking", "checking"), [match for match in self.plan.matches if match.id in ("cup-001", "cup-003", "cup-002")]
         for stage, match in zip(stages, places):
-            one = Standing(self.playing.shared, match)
-            one.stage = stage
-            self.playing.open.append(one)
+            standing = Standing(self.playing.shared, match)
+            standing.stage = stage
+            self.playing.open.append(standing)
         first, second, third = self.playing.open
         self.playing.interrupts = 2
         self.playing.say_interrupt()
-        self.assertEqual(([one.stage for one in (first, second, third)], [one.is_ended for one in (first, second, third)]), (["over", "over", "checking"], [True, True, False]))
+        self.assertEqual(([standing.stage for standing in (first, second, third)], [standing.is_ended for standing in (first, second, third)]), (["over", "over", "checking"], [True, True, False]))
         self.assertEqual((self.aborted, self.playing.left), ([({first.match.id: first.places}, 3)], {first.match.id: "it was ended before its end"}))
         self.assertEqual((first.is_broken, first.why, first.has_left, second.has_left, third.has_left), (True, None, True, True, False))
 
@@ -291,7 +291,7 @@ class Going(WithMatches):
         self.wait_for_all()
         self.playing.go()
         self.assertEqual((max(most), len(self.playing.results), self.playing.hosts.open), (2, 12, {"near": 0, "far": 0}))
-        self.assertEqual({one.host for one in Standing.begun}, {"near", "far"})
+        self.assertEqual({standing.host for standing in Standing.begun}, {"near", "far"})
         self.assertEqual(self.playing.seconds_left() is None, False)
 
     def leave_host(self, match):

@@ -16,8 +16,8 @@ WITH_A_CYCLE = range(12, 18)
 class RandomDescriptions(unittest.TestCase):
     def test_four_forms_are_one_game(self):
         tried = [Tried(seed) for seed in FEW]
-        self.assertEqual([one.fault for one in tried], [None] * len(FEW))
-        self.assertGreater(sum(one.turns for one in tried), 100)
+        self.assertEqual([match.fault for match in tried], [None] * len(FEW))
+        self.assertGreater(sum(match.turns for match in tried), 100)
 
     def test_a_fault_shows(self):
         with mock.patch.object(rounds, "last_round", lambda circle, rules_for: 0):

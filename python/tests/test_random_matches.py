@@ -65,12 +65,12 @@ class WithDesk(unittest.TestCase):
 class Matches(WithDesk):
     def test_matches_are_played_to_their_ends_and_are_those_of_the_desk(self):
         found = self.play(RULES, 4, 30)
-        self.assertEqual([one.seed for one in found.ended], list(range(4, 34)))
+        self.assertEqual([match.seed for match in found.ended], list(range(4, 34)))
         self.assertEqual((found.differing, found.notes, found.uncompared, found.too_long, found.is_too_deep, found.causes), ([], [], 0, 0, False, {None}))
-        self.assertEqual({one.cause for one in found.ended}, {None})
-        for one in found.ended:
-            self.assertIn((one.turns, one.goals), ((2, [0, 100]), (3, [100, 0])))
-            self.assertEqual((one.choices, one.state), ([2, 2] if one.turns == 3 or one.choices[1] == 2 else [2, 1], []))
+        self.assertEqual({match.cause for match in found.ended}, {None})
+        for match in found.ended:
+            self.assertIn((match.turns, match.goals), ((2, [0, 100]), (3, [100, 0])))
+            self.assertEqual((match.choices, match.state), ([2, 2] if match.turns == 3 or match.choices[1] == 2 else [2, 1], []))
         (words, script, more), = self.kept
         self.assertEqual((words[:2], words[2].partition("=")[0], more["timeout"]), (["program", "desk"], "--rules-file", 60))
         self.assertEqual([line for line in script.splitlines() if line.startswith("open")], [f"open seed-{seed} 0 1 1 p0 p1" for seed in range(4, 34)])
@@ -78,7 +78,7 @@ class Matches(WithDesk):
     def test_a_match_is_that_of_its_seed(self):
         whole = self.play(RULES, 1, 12).ended
         self.assertEqual([self.play(RULES, seed).ended[0] for seed in range(1, 13)], whole)
-        self.assertEqual({one.turns for one in whole}, {2, 3})
+        self.assertEqual({match.turns for match in whole}, {2, 3})
         dice, game = random.Random(5), Game(expressions(RULES.decode()))
         match = Match(game, "m", 1, 1, ["a", "b"])
         match.marks["start"] = {0: "", 1: ""}
@@ -91,10 +91,10 @@ class Matches(WithDesk):
 
     def test_why_matches_are_aborted(self):
         found = self.play(STUCK, 7, 3)
-        self.assertEqual([(one.cause, one.turns, one.goals, one.state, one.choices) for one in found.ended], [("nolegal ann", 1, [], ["(step 2)"], [1, 1]), *[("nolegal ann", 1, [], [], [1, 1])] * 2])
+        self.assertEqual([(match.cause, match.turns, match.goals, match.state, match.choices) for match in found.ended], [("nolegal ann", 1, [], ["(step 2)"], [1, 1]), *[("nolegal ann", 1, [], [], [1, 1])] * 2])
         self.assertEqual((found.causes, found.differing), ({None, "nolegal ann"}, []))
         found = self.play(NO_GOAL)
-        self.assertEqual([(one.cause, one.turns, one.state) for one in found.ended], [("nogoal ann", 1, ["(step 2)"])])
+        self.assertEqual([(match.cause, match.turns, match.state) for match in found.ended], [("nogoal ann", 1, ["(step 2)"])])
         roles = expressions("ann (f b)")
         self.assertEqual([named(cause, roles) for cause in ("nolegal 1", "nogoal 0", "toolong", None)], ["nolegal (f b)", "nogoal ann", "toolong", None])
 

@@ -11,11 +11,11 @@ from ggp_tools.competition.ratings import NORMAL_95, SCALE, groups, rated
 def played(chance, strengths, matches):
     """Returns the points of players of these strengths, of whom each pair plays so many matches."""
     points = {}
-    for one, strength in strengths.items():
-        for other, against in strengths.items():
-            if one < other:
+    for player, strength in strengths.items():
+        for opponent, against in strengths.items():
+            if player < opponent:
                 won = sum(chance.random() < strength / (strength + against) for _ in range(matches))
-                points[one, other], points[other, one] = won, matches - won
+                points[player, opponent], points[opponent, player] = won, matches - won
     return points
 
 
@@ -32,7 +32,7 @@ class Ratings(unittest.TestCase):
 
     def test_a_circle_of_equals_is_level(self):
         players = list("abcd")
-        points = {(one, other): 3 for one in players for other in players if one != other}
+        points = {(player, opponent): 3 for player in players for opponent in players if player != opponent}
         found = rated(players, points)
         for rating in found.values():
             self.assertAlmostEqual(rating.rating, 0, 6)
@@ -43,14 +43,14 @@ class Ratings(unittest.TestCase):
         chance = random.Random(1)
         players = list("abcde")
         points = played(chance, dict(zip(players, (1, 2, 3, 4, 5))), 7)
-        found = {one: rating.rating / SCALE for one, rating in rated(players, points).items()}
+        found = {player: rating.rating / SCALE for player, rating in rated(players, points).items()}
 
         def likelihood(logs):
-            return -sum(count * math.log(1 + math.exp(logs[other] - logs[one])) for (one, other), count in points.items())
+            return -sum(count * math.log(1 + math.exp(logs[opponent] - logs[player])) for (player, opponent), count in points.items())
 
-        for one in players:
+        for player in players:
             for step in (-0.01, 0.01):
-                self.assertLess(likelihood({**found, one: found[one] + step}), likelihood(found))
+                self.assertLess(likelihood({**found, player: found[player] + step}), likelihood(found))
 
     def test_known_strengths_lie_in_the_intervals(self):
         chance, inside, total, nearest = random.Random(48), 0, 0, []
@@ -84,7 +84,7 @@ class Ratings(unittest.TestCase):
 
     def test_a_long_chain_is_one_group(self):
         names = [f"p{number}" for number in range(3000)]
-        points = {(one, other): 1 for one, other in zip(names, [*names[1:], names[0]])}
+        points = {(player, opponent): 1 for player, opponent in zip(names, [*names[1:], names[0]])}
         self.assertEqual(len(groups(names, points)), 1)
 
 
@@ -105,17 +105,17 @@ def halves(players, points, logs):
     """Returns half the interval of each rating: in terms of all players but the last one, whose logarithm is minus the sum of the others."""
     count = len(players)
 
-    def information(one, other):
+    def information(row, column):
         total = 0
         for low in range(count):
             for high in range(low):
                 met = points.get((players[low], players[high]), 0) + points.get((players[high], players[low]), 0)
-                by = [(place == low) - (place == high) - (low == count - 1) + (high == count - 1) for place in (one, other)]
+                by = [(place == low) - (place == high) - (low == count - 1) + (high == count - 1) for place in (row, column)]
                 chance = 1 / (1 + math.exp(logs[players[high]] - logs[players[low]]))
                 total += met * chance * (1 - chance) * by[0] * by[1]
         return total
 
-    matrix = [[information(one, other) for other in range(count - 1)] for one in range(count - 1)]
+    matrix = [[information(row, column) for column in range(count - 1)] for row in range(count - 1)]
     columns = [solved(matrix, [float(at == column) for at in range(count - 1)]) for column in range(count - 1)]
     found = [columns[at][at] for at in range(count - 1)]
     return [400 / math.log(10) * 1.959964 * math.sqrt(variance) for variance in (*found, sum(map(sum, columns)))]
@@ -136,40 +136,54 @@ class Outside(unittest.TestCase):
         for _ in range(300):
             players = [f"p{number}" for number in range(chance.randrange(1, 8))]
             chance.shuffle(players)
-            points = {(one, other): chance.choice((0, 0, 0.5, 1)) for one in players for other in players if one != other and chance.random() < 0.5}
-            reached = {one: {one} for one in players}
+            points = {(player, opponent): chance.choice((0, 0, 0.5, 1)) for player in players for opponent in players if player != opponent and chance.random() < 0.5}
+            reached = {player: {player} for player in players}
             for _ in players:
-                for (one, other), got in points.items():
+                for (player, opponent), got in points.items():
                     for some in players:
-                        if got and one in reached[some]:
-                            reached[some].add(other)
+                        if got and player in reached[some]:
+                            reached[some].add(opponent)
             wanted = []
-            for one in players:
-                group = [other for other in players if other in reached[one] and one in reached[other]]
-                wanted += [group] if group[0] == one else []
+            for player in players:
+                group = [opponent for opponent in players if opponent in reached[player] and player in reached[opponent]]
+                wanted += [group] if group[0] == player else []
             self.assertEqual(groups(players, points), wanted)
 
     def test_intervals_are_those_of_the_information(self):
         chance = random.Random(3)
         for _ in range(40):
             players = [f"p{number}" for number in range(chance.randrange(2, 6))]
-            points = {(one, other): chance.choice((1, 1.5, 3, 7)) for one in players for other in players if one != other}
+            points = {(player, opponent): chance.choice((1, 1.5, 3, 7)) for player in players for opponent in players if player != opponent}
             found = rated(players, points)
             logs = {name: found[name].rating / (400 / math.log(10)) for name in players}
             for name, half in zip(players, halves(players, points, logs)):
                 self.assertAlmostEqual(found[name].half, half, 2)
             self.assertAlmostEqual(sum(logs.values()), 0, 9)
             # Where the likelihood is greatest each has got what is expected of it.
-            for one in players:
-                met = {other: points[one, other] + points[other, one] for other in players if other != one}
-                expected = sum(count / (1 + math.exp(logs[other] - logs[one])) for other, count in met.items())
-                self.assertAlmostEqual(expected, sum(points[one, other] for other in met), 6)
+            for player in players:
+                met = {opponent: points[player, opponent] + points[opponent, player] for opponent in players if opponent != player}
+                expected = sum(count / (1 + math.exp(logs[opponent] - logs[player])) for opponent, count in met.items())
+                self.assertAlmostEqual(expected, sum(points[player, opponent] for opponent in met), 6)
 
     def test_too_few_steps_are_told(self):
         points = {("a", "b"): 30, ("b", "a"): 1, ("b", "c"): 20, ("c", "b"): 1, ("c", "d"): 9, ("d", "c"): 2}
         for steps, is_close in ((3, False), (100_000, True)):
             with mock.patch("ggp_tools.competition.ratings.MOST_STEPS", steps):
                 self.assertEqual({rating.is_close for rating in rated(list("abcd"), points).values()}, {is_close})
+
+    def test_steps_go_on_while_one_strength_still_changes(self):
+        # The first step leaves the strength of b as it is: a has won 4 of 6, b 5 of 10, c 3 of 8, and 4/6 * 3/8 is a quarter.
+        points = {("a", "b"): 3, ("b", "a"): 1, ("a", "c"): 1, ("c", "a"): 1, ("b", "c"): 4, ("c", "b"): 2}
+        found = rated(list("abc"), points)
+        for player, won in (("a", 4), ("b", 5), ("c", 3)):
+            met = {opponent: points[player, opponent] + points[opponent, player] for opponent in "abc" if opponent != player}
+            expected = sum(count / (1 + math.exp((found[opponent].rating - found[player].rating) / SCALE)) for opponent, count in met.items())
+            self.assertAlmostEqual(expected, won, 6)
+
+    def test_who_is_not_named_has_got_nothing(self):
+        points = {("a", "b"): 2, ("b", "c"): 1, ("c", "d"): 3, ("d", "a"): 1}
+        zeros = {(player, opponent): 0 for player in "abcd" for opponent in "abcd" if player != opponent}
+        self.assertEqual(rated(list("abcd"), points), rated(list("abcd"), {**zeros, **points}))
 
     def test_a_player_alone_has_no_rating_and_no_group(self):
         found = rated(["a", "b", "c"], {("a", "b"): 1, ("b", "c"): 2, ("c", "b"): 2})

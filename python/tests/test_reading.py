@@ -4,6 +4,7 @@ that are followed."""
 import itertools
 import random
 import unittest
+from unittest import mock
 
 from ggp_tools.holding.following import Differs, Following, fits, must_be_record, place_of
 from ggp_tools.holding.game import Game
@@ -201,7 +202,15 @@ class Tied(unittest.TestCase):
         self.assertEqual((set(found.circles), found.denying), ({("w", 2)}, {("n", None)}))
         self.assertEqual(found.facts, {("e", 2): {("a", "b"): None}})
         # No `or` asks for a relation of its own circle any more.
-        self.assertFalse([one for rule in found.rules["w", 2] for one in rule.body if isinstance(one, Either)])
+        self.assertFalse([condition for rule in found.rules["w", 2] for condition in rule.body if isinstance(condition, Either)])
+
+    def test_an_or_is_left_where_it_asks_for_nothing_of_its_circle(self):
+        found = Relations(rules("(<= (v ?x) (n ?x) (or (s ?x) (v a)) (or (v b) (v c)) (or (s ?x) (k ?x)) (m ?x)) (<= (u ?x) (n ?x) (or (true ?x) (s ?x)))"))
+        n, s, k, m, *v = (Asked(True, (name, 1), (term,)) for name, term in (("n", "?x"), ("s", "?x"), ("k", "?x"), ("m", "?x"), ("v", "a"), ("v", "b"), ("v", "c")))
+        wanted = [(n, m, first, second, Either(((s,), (k,)))) for first in (s, v[0]) for second in v[1:]]
+        self.assertEqual([rule.body for rule in found.rules["v", 1]], wanted)
+        self.assertEqual((found.circles, found.timely), ({("v", 1): (("v", 1),)}, {("true", 1), ("does", 2), ("u", 1)}))
+        self.assertEqual(set(found.asks["v", 1]), {("n", 1), ("s", 1), ("v", 1), ("k", 1), ("m", 1)})
 
     def test_sets_stand_behind_what_they_depend_on(self):
         asks = {"a": {"b": None, "x": None}, "b": {"c": None}, "c": {"b": None, "d": None}, "d": {"y": None}, "e": {"a": None, "e": None}}
@@ -264,9 +273,73 @@ class Reckoned(unittest.TestCase):
         self.assertEqual((self.answers("(d ?x)"), self.answers("(big ?x ?y)"), self.answers("(d ?x)", "?x")), (3, 2, 1))
         self.assertAlmostEqual(self.answers("(big ?x ?y)", "?x"), 2 ** 0.5)
 
+    def test_what_is_reckoned_of_circles_and_of_nothing(self):
+        # Three edges, and for each one as many ways that end there as the root of 64.
+        self.assertAlmostEqual(self.answers("(w ?x ?y)"), 3 + 3 * 8)
+        few = Sizes(Relations(rules("(<= p (q a))")), (), ())
+        asked = [Asked(True, ("true", 1), ("?t",)), Asked(True, ("does", 2), ("?r", "?m")), Asked(True, ("p", None), ())]
+        self.assertEqual([few.answers(condition, set()) for condition in asked], [8, 1, 1])
+
+    def test_a_body_is_joined_from_what_has_the_fewest_answers(self):
+        e, f = Asked(True, ("e", 2), ("?x", "?y")), Asked(True, ("f", 1), ("?x",))
+        beside = [Asked(False, ("e", 2), ("?x", "?x")), Same(False, ("?x", "?y")), Either(((f,), (e,)))]
+        self.assertEqual([self.sizes.joined(body) for body in ([e, f], [*beside, e, f], beside, [])], [1.5, 1.5, 1, 1])
+
     def test_what_is_known_and_what_is_a_test(self):
         self.assertEqual([is_known(("f", "?x", "a"), {"?x"}), is_known("?y", {"?x"}), is_known("a", set())], [True, False, True])
         self.assertEqual([is_test(Same(True, ("?x", "?y")), {"?x"}), is_test(Same(True, ("?x", "a")), {"?x"})], [False, True])
+
+
+class Games(unittest.TestCase):
+    """What is asked of a game, and which sentences give it."""
+
+    TEXT = """(role a) (role b) (init s) (n 1) (n 2) (legal a go) (<= (legal a stay) (true s)) (<= (legal a go) (true s)) (<= (legal b (m ?x)) (n ?x))
+    (<= (next (did ?r ?m)) (does ?r ?m)) (<= terminal (true t)) (goal a 100) (goal a 5) (goal a 101) (goal a x) (goal a (f 1)) (goal a 05) (<= (goal b 7) (true s))"""
+    MOVES = "go", ("m", "1")
+
+    def setUp(self):
+        self.game = Game(self.TEXT)
+
+    def test_goals_are_numbers_from_0_to_100(self):
+        for state, wanted in (({"s"}, ([5, 100], [7])), (set(), ([5, 100], []))):
+            position = self.game.position(frozenset(state))
+            self.assertEqual((self.game.goals(position, "a"), self.game.goals(position, "b")), wanted)
+
+    def test_the_sentences_that_give_something(self):
+        s, other = frozenset({"s"}), frozenset({"other"})
+        for relation, arguments, state, moves, wanted in (
+            (("legal", 2), ("a", "go"), s, (), [5, 7]), (("legal", 2), ("a", "go"), other, (), [5]), (("legal", 2), ("a", "stay"), s, (), [6]),
+            (("legal", 2), ("a", "stay"), other, (), []), (("legal", 2), ("b", ("m", "2")), other, (), [8]), (("next", 1), (("did", "a", "go"),), s, self.MOVES, [9]),
+            (("next", 1), (("did", "a", "go"),), s, ("stay", ("m", "1")), []), (("goal", 2), ("b", "7"), s, (), [17]), (("terminal", None), (), s, (), []), (("init", 1), ("s",), other, (), [2]),
+        ):
+            for _ in range(2):
+                self.assertEqual(self.game.sources(relation, arguments, state, moves), wanted, (relation, arguments, state))
+        self.assertEqual({number: len(found) for number, found in self.game.by_sentence(("legal", 2)).items()}, {5: 1, 6: 1, 7: 1, 8: 1})
+
+    def test_a_state_that_is_asked_about_again_is_not_looked_through_again(self):
+        words = ("legal", 2), ("a", "go"), frozenset({"s"})
+        self.game.sources(*words)
+        with mock.patch.object(self.game, "position", wraps=self.game.position) as made:
+            self.assertEqual([self.game.sources(*words) for _ in range(3)], [[5, 7]] * 3)
+        self.assertLessEqual(made.call_count, 1)
+
+    def test_terms_are_reckoned_by_the_first_state_and_moves_by_the_roles(self):
+        asked = Asked(True, ("true", 1), ("?t",)), Asked(True, ("does", 2), ("?r", "?m"))
+        self.assertEqual([self.game.program.sizes.answers(condition, set()) for condition in asked], [1, 2])
+
+    def test_what_follows_the_moves(self):
+        self.assertEqual(set(self.game.following(self.game.position(frozenset({"s"}), self.MOVES))), {("did", "a", "go"), ("did", "b", ("m", "1"))})
+
+    def test_what_is_asked_between_turns_depends_on_no_moves(self):
+        for text, words in (
+            ("(<= (legal a m) (does a m))", "legal depends on does"), ("(<= (legal a m) p) (<= p q) (<= q p) (<= q (does a m))", "legal depends on does"),
+            ("(<= (goal a 1) (not (does a m)))", "goal depends on does"), ("(<= terminal (does a m))", "terminal depends on does"), ("(<= (init x) (true x))", "init depends on true"),
+            ("(<= (init x) (does a m))", "init depends on does"), ("(<= (role b) (true x))", "role depends on true"), ("(<= (role b) p) (<= p (does a m))", "role depends on does"),
+        ):
+            with self.assertRaises(NotFollowed) as why:
+                Game(f"(role a) {text}")
+            self.assertEqual(str(why.exception), words)
+        Game("(role a) (<= (next x) (does a m) (true y)) (<= (legal a m) p) (<= p q) (<= q p) (<= q (true x))")
 
 
 class Followed(unittest.TestCase):
@@ -298,15 +371,15 @@ class Followed(unittest.TestCase):
         self.assertEqual(sorted(reversed(order), key=place_of), order)
 
     def test_the_place_of_a_term_is_that_of_its_parts(self):
-        def before(one, other):
+        def before(first, second):
             """Whether a term stands before another: numbers by value, and equal ones by their texts, then other atoms, then lists."""
-            if isinstance(one, tuple) and isinstance(other, tuple):
-                differ = next(((a, b) for a, b in zip(one, other) if a != b), None)
-                return before(*differ) if differ else len(one) < len(other)
-            kinds = [2 if isinstance(term, tuple) else 0 if term.isdigit() else 1 for term in (one, other)]
+            if isinstance(first, tuple) and isinstance(second, tuple):
+                differ = next(((a, b) for a, b in zip(first, second) if a != b), None)
+                return before(*differ) if differ else len(first) < len(second)
+            kinds = [2 if isinstance(term, tuple) else 0 if term.isdigit() else 1 for term in (first, second)]
             if kinds != [0, 0]:
-                return one < other if kinds == [1, 1] else kinds[0] < kinds[1]
-            return (int(one), one) < (int(other), other)
+                return first < second if kinds == [1, 1] else kinds[0] < kinds[1]
+            return (int(first), first) < (int(second), second)
 
         def made(dice, depth):
             if depth and dice.random() < 0.4:
@@ -315,8 +388,8 @@ class Followed(unittest.TestCase):
 
         dice = random.Random(4)
         for _ in range(2_000):
-            one, other = made(dice, 2), made(dice, 2)
-            self.assertEqual(place_of(one) < place_of(other), one != other and before(one, other), (one, other))
+            first, second = made(dice, 2), made(dice, 2)
+            self.assertEqual(place_of(first) < place_of(second), first != second and before(first, second), (first, second))
 
     def test_of_many_differences_five_of_each_kind_are_told(self):
         game = Game("(role r) (legal r m) " + " ".join(f"(init (at {at}))" for at in range(7)) + "(<= (next ?t) (true ?t)) (<= terminal (true none)) (goal r 1)")

@@ -116,8 +116,8 @@ class Schedules(unittest.TestCase):
                 wanted = [(game, seats) for game in games for seats in permutations([f"p{at}" for at in range(count)], ROLES[game])] * rounds
                 again = [match for match in matches if match.again]
                 self.assertEqual(Counter((match.game, match.players) for match in matches if not match.again), Counter(wanted))
-                if (open_ones := [match for match in matches if not match.again]) and chance.random() < 0.5:
-                    old = chance.choice(open_ones)
+                if (open_matches := [match for match in matches if not match.again]) and chance.random() < 0.5:
+                    old = chance.choice(open_matches)
                     history = History(history.earlier, (*history.again, Again(f"cup-{len(matches) + 1:03}", old.id, "why")))
                     matches = grown(history, after, ROLES).matches
                     self.assertEqual((matches[-1].players, matches[-1].instead_of, len([match for match in matches if match.again])), (old.players, old.id, len(again) + 1))
@@ -163,7 +163,7 @@ class Rounds(unittest.TestCase):
             found = competition(count, games, f'kind = "swiss"\nrounds = {rounds}', head)
             growing, by_round, results = self.played(chance, found, strikes, forfeit)
             self.assertEqual(len(by_round), rounds)
-            names, said = [player.name for player in found.players], [(one.pairs, (one.byes or (None,))[0]) for one in growing.rounds.found]
+            names, said = [player.name for player in found.players], [(paired.pairs, (paired.byes or (None,))[0]) for paired in growing.rounds.found]
             order, total, buchholz = plain.swiss_standings(names, len(games), said, sum(by_round, []), forfeit)
             table = tables(found, results, growing.rounds.found)[0]
             self.assertEqual([(of.player, of.points(), of.buchholz) for of in table.standings()], [(name, total[name], buchholz[name]) for name in order])
@@ -187,18 +187,18 @@ class Rounds(unittest.TestCase):
             growing, by_round, results = self.played(chance, found, strikes, forfeit)
             names, left = [player.name for player in found.players], [player.name for player in found.players]
             lost_in = {}
-            for number, one in enumerate(growing.rounds.found):
-                self.assertEqual(sorted((*(name for pair in one.pairs for name in pair), *one.byes)), sorted(left))
-                self.assertTrue(number == 0 or not one.byes)
-                for pair in one.pairs:
+            for number, paired in enumerate(growing.rounds.found):
+                self.assertEqual(sorted((*(name for pair in paired.pairs for name in pair), *paired.byes)), sorted(left))
+                self.assertTrue(number == 0 or not paired.byes)
+                for pair in paired.pairs:
                     loser = (set(pair) - {plain.knockout_winner(pair, by_round[number], names, forfeit)}).pop()
                     lost_in[loser] = number
                     left.remove(loser)
             self.assertEqual(len(left), 1)
             won = {**lost_in, left[0]: len(by_round)}
             table = tables(found, results, growing.rounds.found)[0]
-            self.assertEqual([(of.player, of.rounds_won) for of in table.standings()], sorted(won.items(), key=lambda one: (-one[1], names.index(one[0]))))
-            self.assertEqual(table.places(), [1 + sum(other > rounds for other in won.values()) for _, rounds in sorted(won.items(), key=lambda one: (-one[1], names.index(one[0])))])
+            self.assertEqual([(of.player, of.rounds_won) for of in table.standings()], sorted(won.items(), key=lambda place: (-place[1], names.index(place[0]))))
+            self.assertEqual(table.places(), [1 + sum(other > rounds for other in won.values()) for _, rounds in sorted(won.items(), key=lambda place: (-place[1], names.index(place[0])))])
             self.assertEqual(len(growing.rounds.found), (count - 1).bit_length())
 
     def test_the_best_seeds_meet_last(self):

@@ -127,14 +127,12 @@ class Replays(WithStandIn):
 class Rules(WithStandIn):
     BAD = b"ggp_manager: line 2, column 1: no such thing: (x)\nggp_manager: bad description\n"
 
-    def test_the_roles_are_those_of_the_one_match_that_opens(self):
-        self.answers(b'opened\n{"roles":["x","o"]}\n')
-        self.assertEqual(self.referee.roles(b"(role x)", "nim"), ("x", "o"))
-        words, tried = self.asked()
-        self.assertEqual((words[0], words[1].partition("=")[0], len(words)), ("desk", "--rules-file", 2))
-        lines = tried.decode().splitlines()
-        self.assertEqual(lines[:3], ["open r1 0 1 1 p0", "open r2 0 1 1 p0 p1", "open r3 0 1 1 p0 p1 p2"])
-        self.assertEqual((len(lines), lines[-1].split()[-1]), (16, "p15"))
+    def test_the_roles_are_those_of_the_facts_in_their_order(self):
+        self.answers()
+        rules = b"(<= (init (role y)) (role o)) (role X) ; (role z)\n(roles a) role (<= (role (o 1))) (role o)"
+        self.assertEqual(self.referee.roles(rules, "nim"), ("x", "(o 1)", "o"))
+        words, handed = self.asked()
+        self.assertEqual((words[:2], words[2].partition("=")[0], len(words), handed), (["verify", "--lines"], "--rules-file", 3, b""))
 
     def test_a_bad_description_has_its_place(self):
         for ask in (lambda: self.referee.roles(b"", "nim"), lambda: self.referee.check_rules("game.kif")):
@@ -145,14 +143,11 @@ class Rules(WithStandIn):
             self.assertEqual(str(why.exception), "line 2, column 1: no such thing: (x)")
 
     def test_roles_that_no_answer_tells(self):
-        one = b'{"roles":["x"]}\n'
         for said, *answer in (
-            ("it said nothing, status 0", b""), ("it said nothing, status 0", one + one), ("it said nothing, status 0", b"{\n"),
-            ("it said nothing, status 0", b'{"roles":"x"}\n'), ("it said nothing, status 0", b'{"roles":["x",1]}\n'), ("it said nothing, status 0", b"{}\n"),
-            ("want of memory, status 3", one, b"ggp_manager: want of memory\n", 3), ("bad description, status 2", one, self.BAD, 2),
-            ("bad, status 1", one, b"ggp_manager: bad\n", 1),
+            ("want of memory, status 3", b"", b"ggp_manager: want of memory\n", 3), ("bad description, status 2", b"", self.BAD, 2),
+            ("bad, status 1", b"", b"ggp_manager: bad\n", 1),
         ):
-            self.assert_unchecked(f"`ggp_manager desk` came to no verdict with nim: {said}", lambda: self.referee.roles(b"", "nim"), *answer)
+            self.assert_unchecked(f"`ggp_manager verify` came to no verdict with nim: {said}", lambda: self.referee.roles(b"", "nim"), *answer)
 
     def test_rules_that_were_not_looked_at(self):
         for said, *answer in (("bad description, status 2", b"", self.BAD, 2), ("no input, status 1", b"", b"ggp_manager: no input\n", 1)):

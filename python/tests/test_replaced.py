@@ -10,7 +10,7 @@ import unittest
 from unittest import mock
 
 from ggp_tools.competition import tail
-from ggp_tools.competition.replaced import ENDED, MOST_REPLACED, Replaced, last_moment, moments_of_turns, newest, play_lines
+from ggp_tools.competition.replaced import ENDED, MOST_OF_MATCH, MOST_REPLACED, Replaced, last_moment, moments_of_turns, newest, play_lines
 from ggp_tools.competition.tail import Tail
 
 TIME = "2026-01-02T03:04:{:06.3f}Z "
@@ -29,10 +29,11 @@ class Moments(unittest.TestCase):
     def test_the_newest_stand_last_and_of_one_moment_those_of_the_greater_number(self):
         dice = random.Random(3)
         found = [Replaced(None, f"p{number}", 1, "TO", "m", dice.choice((1.0, 2.0, 3.0)), number) for number in range(60)]
-        wanted = [one for moment in (1.0, 2.0, 3.0) for one in found if one.moment == moment][-MOST_REPLACED:]
+        wanted = [move for moment in (1.0, 2.0, 3.0) for move in found if move.moment == moment][-MOST_REPLACED:]
         shuffled = list(found)
         dice.shuffle(shuffled)
         self.assertEqual((newest(shuffled), MOST_REPLACED, newest(found[:1]), newest([])), (wanted, 20, found[:1], []))
+        self.assertEqual(MOST_OF_MATCH, 3)
         later = dataclasses.replace(found[0], moment=9.0)
         self.assertEqual(newest([later, *found])[-1], later)
 

@@ -4,8 +4,10 @@ import json
 import unittest
 from dataclasses import replace
 
+from ggp_tools.competition.log_lines import reasons
 from ggp_tools.competition.results import (
-    Result, fault_of_record, forfeit_words, kind_of, match_line, remarks, result_of, result_of_values, retirement_of, times_of, values_of,
+    Result, Sums, fault_of_record, forfeit_words, is_set_back, kind_of, match_line, remarks, result_of, result_of_values, retirement_of, times_of,
+    values_of,
 )
 from ggp_tools.competition.schedule import Match
 
@@ -14,6 +16,8 @@ RECORD = {
     "matchId": "cup-001", "players": ["ann", "bob"], "startClock": 10, "playClock": 5, "strikes": 2, "phase": "finished", "cause": None,
     "goalValues": [100, 0], "moves": [["a", "n"], ["n", "b"], ["a", "n"]], "errors": [["", "TO"], ["CE", ""], ["IL (x y)", "IL ?"]],
 }
+SUMS = Sums("first", "sum")
+BROKEN = [{"role": 0, "message": 3, "why": "no connection"}]
 
 
 def record(**changed):
@@ -86,12 +90,21 @@ class Times(unittest.TestCase):
         self.assertEqual((found["begin"], found["end"], found["host"]), ("2026-11-27T20:44:17.690Z", "2026-11-27T20:44:42.148Z", "10.0.0.1"))
         self.assertEqual(found["messages"], [[["start", 3], ["play", 5001]], [["start", 4]]])
 
+    def test_a_log_has_the_reasons_of_broken_answers_since_the_match_began_last(self):
+        line = "cup-001 role {} message 2 (PLAY cup-001 NIL): {}, 5 ms\n"
+        rows = [("0 ann", "CE (gone)"), ("1 bob", "TO (late)"), ("1 bob", "CE"), ("1 eve", "CE (other)"), ("2 bob", "CE (none)")]
+        log = "".join(line.format(*row) for row in rows).encode()
+        self.assertEqual(reasons(log, MATCH), {(0, 2): "gone"})
+        again = b"began 2026-11-27T20:44:17.690Z\n" + line.format("1 bob", "CE ()").encode()
+        self.assertEqual(reasons(log + again, MATCH), {(1, 2): ""})
+
     def test_the_line_of_a_match_says_all_of_it(self):
-        line = match_line(result_of(RECORD, MATCH), "sum", self.LOG)
+        line = match_line(result_of(RECORD, MATCH), SUMS, self.LOG, BROKEN)
         self.assertEqual(line[-1:], b"\n")
         said = json.loads(line)
         self.assertEqual(said["errors"], [{"CE": 1, "IL": 1}, {"IL": 1, "TO": 1}])
-        self.assertEqual((said["id"], said["game"], said["rules"], said["players"], said["goals"]), ("cup-001", "nim", "sum", ["ann", "bob"], [100, 0]))
+        self.assertEqual((said["id"], said["game"], said["players"], said["goals"]), ("cup-001", "nim", ["ann", "bob"], [100, 0]))
+        self.assertEqual([said[key] for key in ("record", "rules", "description", "broken")], ["first", "sum", None, BROKEN])
         self.assertEqual([*said["errors"][1]], ["IL", "TO"])
         self.assertEqual(said["messages"][1], [["start", 4]])
         self.assertNotIn("forfeit", said)
@@ -102,7 +115,7 @@ class Forfeits(unittest.TestCase):
     def test_a_forfeit_says_who_why_and_what_counts(self):
         found = result_of(RECORD, MATCH, True)
         self.assertEqual(forfeit_words(found), "forfeit: ann (CE, IL in turns 2 to 3), counts as ann 0, bob 100")
-        said = json.loads(match_line(found, "sum", b""))
+        said = json.loads(match_line(found, SUMS, b"", []))
         self.assertEqual((said["goals"], said["counted"]), ([100, 0], [0, 100]))
         self.assertEqual(said["forfeit"], [{"player": "ann", "errors": ["CE", "IL"], "turn": 3}])
         self.assertEqual((forfeit_words(result_of(RECORD, MATCH)), result_of(RECORD, MATCH).counted()), ("", (100, 0)))
@@ -157,9 +170,9 @@ class Remarks(unittest.TestCase):
 
     def test_the_line_of_a_match_says_its_round_and_its_orders(self):
         match = replace(MATCH, round=2, again="cup-009", reason="late", instead_of="cup-000")
-        said = json.loads(match_line(result_of(RECORD, match), "sum", b""))
+        said = json.loads(match_line(result_of(RECORD, match), SUMS, b"", []))
         self.assertEqual([said[key] for key in ("round", "again", "reason", "insteadOf")], [2, "cup-009", "late", "cup-000"])
-        said = json.loads(match_line(result_of(RECORD, MATCH), "sum", b""))
+        said = json.loads(match_line(result_of(RECORD, MATCH), SUMS, b"", []))
         self.assertFalse({"round", "again", "reason", "insteadOf"} & said.keys())
         self.assertEqual([said[key] for key in ("begin", "end", "host")], [None] * 3)
 
@@ -190,6 +203,18 @@ class Began(unittest.TestCase):
     def test_lines_that_have_a_time_before_them(self):
         lines = [b"2026-11-27T20:44:17.700Z " * line.startswith(b"cup") + line for line in Times.LOG.splitlines(keepends=True)]
         self.assertEqual(times_of(b"".join(lines) + b"no line\n", 2), times_of(Times.LOG, 2))
+
+    def test_a_clock_was_set_back_where_a_line_has_an_earlier_time_than_the_one_before(self):
+        first, second, third = (f"2026-11-27T20:44:1{second}.700Z" for second in (1, 2, 3))
+        for lines, wanted in (
+            ([], False), ([f"began {second}", f"{second} x", f"ended {third}"], False), ([f"began {second}", f"{first} x"], True),
+            ([f"began {first}", f"{third} x", f"{second} y", f"ended {third}"], True), ([f"began {first}", f"{second} x", f"ended {first}"], True),
+            # What was before the match began again is another run.
+            ([f"began {second}", f"{first} x", f"began {second}", f"ended {third}"], False),
+            ([f"began {third}", f"{third} x", f"began {second}", f"{first} x"], True),
+            ([f"began {second}", f"x {first}", "host one"], False),
+        ):
+            self.assertEqual(is_set_back("".join(f"{line}\n" for line in lines).encode()), wanted, lines)
 
 
 if __name__ == "__main__":

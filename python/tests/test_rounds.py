@@ -6,6 +6,7 @@ import pathlib
 import re
 import tempfile
 import unittest
+from collections import Counter
 from unittest import mock
 
 from ggp_tools.competition.again import order_again
@@ -15,7 +16,7 @@ from ggp_tools.competition.kept import result_in_file
 from ggp_tools.competition.pages import Site
 from ggp_tools.competition.plan import make_plan, plan_next_round, read_plan, refuse_lost_results, round_words, rounds_left
 from ggp_tools.competition.round_pages import count_of_all, round_text, rounds_part, rounds_words
-from ggp_tools.competition.rounds import bracket
+from ggp_tools.competition.rounds import Round, bracket, matches_to_come, paired, rounds_of
 from ggp_tools.competition.schedule import Match, asked
 from ggp_tools.competition.table import tables_of
 from ggp_tools.competition.table_text import notes, standings_rows, table_files
@@ -242,8 +243,28 @@ class Refusals(unittest.TestCase):
             seeds = bracket(count)
             self.assertEqual(sorted(seeds), list(range(len(seeds))))
             self.assertTrue(len(seeds) == 1 or len(seeds) < 2 * count)
-            sums = [one + other for one, other in zip(seeds[::2], seeds[1::2])]
+            sums = [seed + second for seed, second in zip(seeds[::2], seeds[1::2])]
             self.assertEqual(set(sums), {len(seeds) - 1} if sums else set())
+
+    def test_pairs_that_have_met_exchange_with_the_nearest_ones(self):
+        for met, wanted in (
+            # c has met all that stand below it: its pair is the second of three.
+            ("cd ce cf", "ac bd ef"),
+            # From e and f both new pairs of c come; only then can c and d exchange, with the pair just below.
+            ("ac cd ce cf ef", "ae fd bc"),
+        ):
+            found = paired("abcdef", Counter(map(frozenset, met.split())))
+            self.assertEqual(" ".join(map("".join, found)), wanted)
+
+    def test_how_many_rounds_and_matches_are_to_come(self):
+        players, games = [(f"p{at}", f"h:{at + 1}") for at in range(7)], [("one", "f"), ("two", "f")]
+        first = [Round(1, (("p0", "p1"), ("p2", "p3"), ("p4", "p5")), ("p6",))]
+        # Of 7 players, in 2 games: 3 meetings of 4 matches in each of 4 further rounds; in a knockout 6 meetings in all.
+        for form, rounds, left in ((SWISS.format(5), 5, 48), ('kind = "knockout"', 3, 12), ('kind = "round_robin"', 0, None)):
+            found = read_competition(toml(players, games, form).encode())
+            self.assertEqual(rounds_of(found), rounds)
+            if left is not None:
+                self.assertEqual(matches_to_come(found, first), left)
 
     def test_a_line_has_no_round(self):
         self.assertEqual(Match("cup-1", "game", 1, 2, ("a", "b"), 3).line(), "cup-1\tgame\t1\t2\ta b\n")

@@ -6,7 +6,7 @@ import unittest
 from collections import Counter
 
 from ggp_tools.competition.competition_file import Mistaken, read_competition
-from ggp_tools.competition.schedule import MOST_MATCHES, circle_steps, planned, schedule_text
+from ggp_tools.competition.schedule import MOST_MATCHES, circle_steps, planned, refuse_too_many, schedule_text
 from tests.support import toml
 
 
@@ -21,7 +21,7 @@ def seats(found):
 
 
 def meetings(found):
-    return Counter(frozenset((one, other)) for match in found for one in match.players for other in match.players if one < other)
+    return Counter(frozenset((player, opponent)) for match in found for player in match.players for opponent in match.players if player < opponent)
 
 
 def plain_steps(count, roles, rounds):
@@ -30,7 +30,7 @@ def plain_steps(count, roles, rounds):
     for _ in range(math.ceil((count - 1) / math.comb(roles, 2)) * rounds):
         found.append([0])
         while len(found[-1]) < roles:
-            distances = [(one - other) % count for steps in found for one, other in itertools.permutations(steps, 2)]
+            distances = [(step - second) % count for steps in found for step, second in itertools.permutations(steps, 2)]
             others = [step for step in range(count) if step not in found[-1]]
             often = {step: sum(distances.count((step - other) % count) for other in found[-1]) for step in others}
             found[-1].append(min(step for step in others if often[step] == min(often.values())))
@@ -96,6 +96,12 @@ class Schedule(unittest.TestCase):
             matches(317, 2)
         self.assertEqual([(mistake.line, mistake.key, mistake.words) for mistake in why.exception.mistakes], [(2, "form", "there are more than 100,000 matches")])
 
+    def test_just_as_many_matches_as_the_limit_are_taken(self):
+        found = read_competition(toml([("ann", "h:1"), ("bob", "h:2")], [("game", "f")]).encode())
+        refuse_too_many(found, 100_000)
+        with self.assertRaises(Mistaken):
+            refuse_too_many(found, 100_001)
+
     def test_gauntlet(self):
         for roles in range(2, 6):
             for count in range(roles, 10):
@@ -119,6 +125,8 @@ class Schedule(unittest.TestCase):
 
         self.assertEqual(seated(3, 1, 'kind = "round_robin"\nrounds = 2'), ["p0", "p1", "p2"] * 2)
         self.assertEqual(seated(3, 1, 'kind = "gauntlet"\none = "p1"'), ["p0", "p1", "p2"])
+        one_round = ["p1 p0", "p1 p2", "p0 p1", "p2 p1"]
+        self.assertEqual(seated(3, 2, 'kind = "gauntlet"\none = "p1"\nrounds = 2'), one_round * 2)
         self.assertEqual(seated(4, 2), ["p0 p1", "p1 p2", "p2 p3", "p3 p0", "p0 p2", "p1 p3", "p2 p0", "p3 p1", "p0 p3", "p1 p0", "p2 p1", "p3 p2"])
         self.assertEqual(seated(5, 3), [
             "p0 p1 p3", "p1 p2 p4", "p2 p3 p0", "p3 p4 p1", "p4 p0 p2", "p0 p1 p2", "p1 p2 p3", "p2 p3 p4", "p3 p4 p0", "p4 p0 p1",

@@ -71,7 +71,7 @@ class Reading(unittest.TestCase):
     def test_terminal_in_a_list_is_the_atom(self):
         self.assertEqual(as_read(("<=", ("terminal",), ("not", ("terminal",)), ("or", ("and", ("terminal",), "p"), "q"))),
                          ("<=", "terminal", ("not", "terminal"), ("or", ("and", "terminal", "p"), "q")))
-        self.assertEqual([as_read(one) for one in ("p", ("terminal",), ("next", ("terminal",)), ("distinct", ("terminal",), "a"))],
+        self.assertEqual([as_read(sentence) for sentence in ("p", ("terminal",), ("next", ("terminal",)), ("distinct", ("terminal",), "a"))],
                          ["p", "terminal", ("next", ("terminal",)), ("distinct", ("terminal",), "a")])
 
     def test_each_sentence_has_its_number(self):

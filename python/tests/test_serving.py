@@ -132,7 +132,7 @@ class Pages(Served):
             path = todo.pop()
             known.add(path)
             found = [os.path.normpath(os.path.join(os.path.dirname(path), link.partition("#")[0])) for link in Links(self.page(path)).links if link[0] != "#"]
-            todo += [one for one in dict.fromkeys(found) if one not in known and one not in todo]
+            todo += [path for path in dict.fromkeys(found) if path not in known and path not in todo]
         self.assertEqual(len(known), len({"index", "all matches", "game"}) + 3 + 2)
 
     def test_a_list_of_many_matches_comes_in_pages(self):
@@ -264,9 +264,9 @@ class Limits(Served):
         for request in list(self.server.connections):
             self.server.connections[request] -= 2 * serving.PATIENCE
         self.server.end_idle()
-        self.assertEqual([one.recv(100) for one in held], [b""] * self.MOST)
-        for one in held:
-            one.close()
+        self.assertEqual([connection.recv(100) for connection in held], [b""] * self.MOST)
+        for connection in held:
+            connection.close()
         while self.server.connections:
             time.sleep(0.01)
         # Those who are told of changes leave some connections free.

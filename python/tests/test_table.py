@@ -59,7 +59,7 @@ class Tables(unittest.TestCase):
                 self.assertEqual(found.replaced, sum(played.replaced(at) for played, at in mine))
                 self.assertEqual((found.scored, found.moves, found.absent, found.retired), (len(mine), 5 * len(mine), sum(played.replaced(at) == 5 for played, at in mine), 0))
                 points = sum((own > other_goal) + (own == other_goal) / 2 for own, others in versus for other_goal in others)
-                self.assertEqual(sum(got for (one, _), got in table.points.items() if one == name), points)
+                self.assertEqual(sum(got for (player, _), got in table.points.items() if player == name), points)
 
     def test_the_order_and_places(self):
         # Means of 33.333.. and 33.33 are printed alike, so wins decide; then losses; else the place is shared.
@@ -68,9 +68,9 @@ class Tables(unittest.TestCase):
             ({}, {"goals": 101}, 1), ({"goals": 3333, "scored": 100}, {"won": 0}, -1), ({}, {"goals": 3333, "scored": 100}, 0),
             ({}, {"won": 0, "lost": 0}, -1), ({}, {"lost": 1}, 1), ({"goals": 0, "scored": 0}, {"goals": 0}, 0), ({}, {"drawn": 2, "replaced": 7}, 0),
         ]
-        for one, other, sign in changes:
-            orders = [replace(line, **change).order("goals") for change in (one, other)]
-            self.assertEqual((orders[0] > orders[1]) - (orders[0] < orders[1]), sign, (one, other))
+        for change_before, change_after, sign in changes:
+            orders = [replace(line, **change).order("goals") for change in (change_before, change_after)]
+            self.assertEqual((orders[0] > orders[1]) - (orders[0] < orders[1]), sign, (change_before, change_after))
         results = [result(["dan", "bob"], [100, 0]), result(["cid", "ann"], [0, 50]), result(["bob", "cid"], [50, 50]), result(["ann", "dan"], [0, 50])]
         results += [result(["bob", "cid"], [0, 0])]
         table = tables_of(competition(), results)[0]
@@ -101,6 +101,11 @@ class Tables(unittest.TestCase):
         self.assertEqual(found(False, [], [False, True]), [(0, 0, None, 0, 0), (0, 0, None, 0, 0)])
         both = [result(["ann", "bob"], [], [5, 5], retired=[True, True])]
         self.assertEqual(tables_of(competition(), both)[0].met, {})
+
+    def test_a_match_that_all_have_forfeited_shows_the_forfeits(self):
+        table = tables_of(competition(), [result(["ann", "bob"], [50, 50], [5, 5], retired=[True, True])])[0]
+        rows = list(standings_rows(table))
+        self.assertEqual([row[rows[0].index("by forfeit")] for row in rows[1:]], ["0 won, 1 lost"] * 2)
 
     def test_who_was_retired_is_counted(self):
         for forfeit in (False, True):
@@ -188,7 +193,7 @@ class Tables(unittest.TestCase):
         """Returns the tables of a competition by rounds: results are the players of a match, its goals, its round, and the match in its place."""
         players = [(name, f"h:{at + 1}") for at, name in enumerate(NAMES[:3])]
         found = read_competition(toml(players, [("two", "f"), ("other", "f")], f'kind = "{kind}"' + "\nrounds = 2" * (kind == "swiss")).encode())
-        made = [replace(one, match=replace(one.match, round=number, again=again)) for one, number, again in ((result(names, goals), number, again) for names, goals, number, again in results)]
+        made = [replace(played, match=replace(played.match, round=number, again=again)) for played, number, again in ((result(names, goals), number, again) for names, goals, number, again in results)]
         return tables_of(found, made, rounds)
 
     def test_a_swiss_table_counts_byes_and_the_points_of_opponents(self):

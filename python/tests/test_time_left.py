@@ -29,17 +29,17 @@ def told_and_true(players, form, concurrent, at_once, lengths):
     who = [(f"p{number}", f"h:{number + 1}", f"concurrent = {concurrent}") for number in range(players)]
     competition = read_competition(toml(who, [(game, "f") for game in lengths], form).encode())
     matches, chance = planned(competition, dict.fromkeys(lengths, 2)), random.Random(1)
-    seats, left, waiting, now, open_ones, told = Seats(competition), TimeLeft(competition), collections.deque(matches), 1.0, [], []
+    seats, left, waiting, now, open_matches, told = Seats(competition), TimeLeft(competition), collections.deque(matches), 1.0, [], []
     for match in matches:
         left.add(match)
-    while open_ones or waiting:
-        while len(open_ones) < at_once and (match := seats.next_match(waiting, now)):
+    while open_matches or waiting:
+        while len(open_matches) < at_once and (match := seats.next_match(waiting, now)):
             left.add(match, -1)
-            open_ones.append((now + chance.uniform(*lengths[match.game]), now, match))
-        now, began, match = open_ones.pop(open_ones.index(min(open_ones, key=lambda found: found[0])))
+            open_matches.append((now + chance.uniform(*lengths[match.game]), now, match))
+        now, began, match = open_matches.pop(open_matches.index(min(open_matches, key=lambda found: found[0])))
         seats.leave(match)
         left.ended(match, now - began)
-        told.append((now, left.left([(other, now - since) for _, since, other in open_ones], at_once)))
+        told.append((now, left.left([(other, now - since) for _, since, other in open_matches], at_once)))
     return [(number / len(matches), seconds, now - when) for number, (when, seconds) in enumerate(told, 1)]
 
 

@@ -44,7 +44,7 @@ def recount(records):
             lost = is_counted and (worth[role] < max(others) or out[role])
             drawn = is_counted and not won and not lost
             added = (1, counted[role], has_goals, won, drawn, lost, len(record["moves"]), wrong, out[role])
-            found[player] = [one + int(more) for one, more in zip(line, added)]
+            found[player] = [count + int(more) for count, more in zip(line, added)]
     return found
 
 

@@ -144,12 +144,13 @@ class Why(InFolder):
         match = plan.matches[0]
         told = Told(plan, match)
         told.record = {"states": [["(heap 2)", "(turn red)"], ["(heap 1)", "(turn blue)"]]}
-        self.assertEqual([told.roles, told.legal(0, 0), told.legal(1, 0)], [("red", "blue"), ["(take 1)", "(take 2)"], ["noop"]])
+        self.assertEqual([told.roles, told.illegal.legal(0, 0), told.illegal.legal(1, 0)], [("red", "blue"), ["(take 1)", "(take 2)"], ["noop"]])
         self.assertEqual(told.illegal_words(0, 0, "IL noop", "noop"), ", which has 2: (take 1), (take 2); it is legal for blue")
         self.assertEqual(told.illegal_words(0, 1, "IL (take 2)", "(take 2)"), ", which has 1: noop; it was legal in the turn before")
         self.assertEqual(told.illegal_words(0, 0, "IL (take 3)", "(take 3)"), ", which has 2: (take 1), (take 2)")
         self.assertEqual([told.illegal_words(0, 0, error, "") for error in ("TO", "CE", "RT")], ["", "", ""])
         for states in ([], [["(heap 2"]], [[]]):
+            told = Told(plan, match)
             told.record = {"states": states}
             self.assertEqual(told.illegal_words(0, 0, "IL noop", "noop"), "")
 

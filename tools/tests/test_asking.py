@@ -1,15 +1,10 @@
-"""How the scripts of examples run a program that may not end: each is killed, and says so by its status."""
-import os
+"""How the drivers run a program that may not end: each is killed, and says so by its status."""
 import subprocess
-import sys
 import time
 import unittest
 import unittest.mock
 
-TOP = os.path.dirname(os.path.dirname(os.path.dirname(os.path.realpath(__file__))))
-sys.path[:0] = [f"{TOP}/examples/faults", f"{TOP}/examples/season"]
-import asking
-import seasons
+from driving import asking, seasons
 
 ENDLESS = ["sleep", "600"]
 KILLED = -9

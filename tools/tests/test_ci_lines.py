@@ -1,11 +1,8 @@
 """What is taken from the lines of `rt ci`."""
 import contextlib
 import io
-import os
-import sys
 import unittest
 
-sys.path.insert(0, os.path.dirname(os.path.dirname(os.path.realpath(__file__))))
 from ci_lines import Waits, follow, library_of
 from crates import rows
 

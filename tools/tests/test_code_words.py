@@ -1,9 +1,6 @@
 """How a text of code is taken apart into words, and what is in its brackets."""
-import os
-import sys
 import unittest
 
-sys.path.insert(0, os.path.dirname(os.path.dirname(os.path.realpath(__file__))))
 from code_words import Group, UnreadCode, flat, grouped, parts, tokens
 
 

@@ -1,10 +1,7 @@
 """What the gate counts, and how it is compared with the figures."""
-import os
-import sys
 import tempfile
 import unittest
 
-sys.path.insert(0, os.path.dirname(os.path.dirname(os.path.realpath(__file__))))
 from counting import Tally, faults, keep, kept, read_figures, table, write_figures
 
 
@@ -34,27 +31,24 @@ class Counting(unittest.TestCase):
         self.assertEqual(tally.counts, wanted)
 
     def test_wrong_edits_are_counted_once_whether_each_is_told_or_their_number(self):
-        each = [f"rt: must-fail kif_text/{name}.edit: refused, as it must be: src/lib.rt:1:1: a goal" for name in ("one", "two")]
+        refused = [f"rt: must-fail kif_text/{name}.edit: refused, as it must be: src/lib.rt:1:1: a goal" for name in ("one", "two")]
         number = "rt: ok; handles allowed: Net; must-fail edits: 2 refused; every proof was done in this run"
         let_through = "rt: must-fail kif_text/three.edit: NOT REFUSED: the crate is still proved with this edit"
-        for lines in ([*each, let_through], [number], [*each, number]):
+        for lines in ([*refused, let_through], [number], [*refused, number]):
             self.assertEqual(tally_of(*lines).counts, {"wrong edits refused by the prover": 2})
 
     def test_fewer_than_the_figure_is_a_fault(self):
         self.assertEqual(faults({"trials": 99}, {"trials": 100}), ["99 trials: fewer than the 100 of tools/counts.txt"])
         self.assertEqual(faults({}, {"trials": 100}), ["0 trials: fewer than the 100 of tools/counts.txt"])
 
-    def test_a_tenth_more_than_the_figure_is_none(self):
-        self.assertEqual(faults({"trials": 110}, {"trials": 100}), [])
-        self.assertEqual(faults({"trials": 111}, {"trials": 100}), ["111 trials: so many more than the 100 of tools/counts.txt"])
-
-    def test_a_kind_without_a_figure_has_to_be_written_down(self):
-        self.assertEqual(faults({"trials": 1}, {}), ["1 trials: so many more than the 0 of tools/counts.txt"])
+    def test_more_than_the_figure_is_no_fault(self):
+        self.assertEqual(faults({"trials": 1000, "looks of a new kind": 1}, {"trials": 100}), [])
 
     def test_the_table_has_each_kind(self):
-        said = table({"trials": 99, "looks of a kind": 5}, {"trials": 100, "seasons": 2})
-        self.assertEqual([line.split() for line in said], [
-            "99 of 100 trials: FEWER".split(), "0 of 2 seasons: FEWER".split(), "5 of 0 looks of a kind: MORE".split(),
+        said = table({"trials": 99, "looks of a kind": 5, "limits": 3}, {"trials": 100, "seasons": 2, "limits": 3})
+        self.assertEqual([line.strip() for line in said], [
+            "99 of    100 trials: FEWER", "0 of      2 seasons: FEWER", "3 of      3 limits",
+            "5 of      0 looks of a kind: more, `tools/counts --write` stores it",
         ])
 
     def test_what_is_written_is_read(self):

@@ -1,10 +1,7 @@
 """The tables of crates: what a crate says of itself first, what it stands on, and where a table is put."""
-import os
-import sys
 import unittest
 
-sys.path.insert(0, os.path.dirname(os.path.dirname(os.path.realpath(__file__))))
-from crate_tables import CRATES, comment_of, nearest, purpose, with_table
+from crate_tables import CRATES, LAYERS, TESTS, comment_of, layers, nearest, purpose, with_layers, with_table
 
 ROW = ("`low`", "", "texts")
 
@@ -26,6 +23,15 @@ class CrateTables(unittest.TestCase):
         wanted = f"Before.\n\n{CRATES}\n|---|---|---|\n| `low` | | texts |\n\nBehind.\n\n| Other |\n|---|\n"
         self.assertEqual(with_table(text, CRATES, [ROW]), wanted)
         self.assertEqual(with_table(wanted, CRATES, [ROW]), wanted)
+
+    def test_a_table_has_as_many_columns_as_its_head(self) -> None:
+        self.assertEqual(with_table(f"{TESTS}\n", TESTS, [("`low_trials`", "texts")]), f"{TESTS}\n|---|---|\n| `low_trials` | texts |\n")
+
+    def test_a_crate_stands_above_all_that_it_stands_on(self) -> None:
+        known = {"low": [], "mid": ["low"], "side": ["thiserror"], "top": ["low", "mid", "side"], "uses_low": ["top"]}
+        self.assertEqual(layers(known), [["top"], ["mid"], ["low", "side"]])
+        text = f"Before.\n\n{LAYERS}\n    old\n\nBehind.\n"
+        self.assertEqual(with_layers(text, layers(known)), f"Before.\n\n{LAYERS}\n    top\n    mid\n    low side\n\nBehind.\n")
 
     def test_a_text_without_the_table_stays(self) -> None:
         self.assertEqual(with_table("| Other |\n|---|\n", CRATES, [ROW]), "| Other |\n|---|\n")

@@ -1,11 +1,9 @@
 """What is read of crates.txt, the order of crates, and sums of their text."""
 import os
-import sys
 import tempfile
 import unittest
 import unittest.mock
 
-sys.path.insert(0, os.path.dirname(os.path.dirname(os.path.realpath(__file__))))
 import crates
 from crates import PARTS, below, is_current, own_deps, rows, spell, strays, with_below, write_beside
 

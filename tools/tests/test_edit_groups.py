@@ -1,10 +1,8 @@
 """Which functions code has, which wrong edits are tried together, and what one check says of each."""
 import os
-import sys
 import tempfile
 import unittest
 
-sys.path.insert(0, os.path.dirname(os.path.dirname(os.path.realpath(__file__))))
 from edit_groups import groups_of, spots_of, word_of
 from functions import functions_in, shown
 from wrong_edits import Pair

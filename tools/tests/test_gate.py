@@ -2,17 +2,16 @@
 import contextlib
 import io
 import os
-import sys
 import typing
 import unittest
 import unittest.mock
 
-TOP = os.path.dirname(os.path.dirname(os.path.dirname(os.path.realpath(__file__))))
-sys.path.insert(0, f"{TOP}/tools")
 import gate
 from ci_lines import Waits
 from counting import Tally
 from gate import LOOKS, Proofs, looks_of, spell_skipped
+
+TOP = os.path.dirname(os.path.dirname(os.path.dirname(os.path.realpath(__file__))))
 
 FIGURES = {"looks": 2, "trials": 10}
 LAST = "12 passed, 0 failed\n"

@@ -5,15 +5,13 @@ import subprocess
 import sys
 import unittest
 
-sys.path.insert(0, os.path.dirname(os.path.dirname(os.path.realpath(__file__))))
 from crates import TOP
 
-FOLDERS = (".ci", "bench", "examples", "oracles", "python", "tools")
+FOLDERS = (".ci", "bench", "drivers", "examples", "oracles", "python", "tools")
 # What reads the words of a command line, and prints its help.
-READERS = ("ArgumentParser(", "arguments(__doc__", "program_of(__doc__)", "reader(__doc__)")
-# These hand their words on: to modules of `ggp_tools`, and to `rt try`.
+READERS = ("ArgumentParser(", "arguments(__doc__", "program_of(__doc__)", "reader(__doc__)", "words_with_program(__doc__)")
+# These hand their words on to modules of `ggp_tools`.
 COMMANDS = tuple(sorted(os.path.relpath(path, TOP) for path in glob.glob(f"{TOP}/python/ggp*") if os.path.isfile(path)))
-HANDED_ON = *COMMANDS, "tools/try-alone"
 OLDER = "import runpy, sys; sys.version_info = (3, 10, 18); runpy.run_path(sys.argv[1], run_name='__main__')"
 
 
@@ -34,7 +32,7 @@ class Help(unittest.TestCase):
         found = scripts()
         self.assertGreater(len(found), 40)
         without = [file for file, text in found.items() if not any(reader in text for reader in READERS)]
-        self.assertEqual(sorted(without), sorted(HANDED_ON))
+        self.assertEqual(sorted(without), list(COMMANDS))
 
     def test_what_a_command_is_for_is_printed(self):
         for file in (*COMMANDS, "examples/players/player.py", "examples/players/interpreting.py"):

@@ -1,9 +1,6 @@
 """The packages of Debian that a package depends on."""
-import os
-import sys
 import unittest
 
-sys.path.insert(0, os.path.dirname(os.path.dirname(os.path.realpath(__file__))))
 from installed import closure, installed, names_in
 
 TEXT = "".join(f"{line}\n" for line in (

@@ -1,11 +1,7 @@
 """The interpreter of `oracles`: what is true by rules with variables, also by those that go round."""
-import os
-import sys
 import time
 import unittest
 
-TOP = os.path.dirname(os.path.dirname(os.path.dirname(os.path.realpath(__file__))))
-sys.path.insert(0, f"{TOP}/oracles")
 from interpreter import Game, read
 
 # Ways over edges that no state changes, from place to place.
@@ -32,7 +28,7 @@ class Interpreter(unittest.TestCase):
 
     def test_a_rule_goes_round(self):
         game = Game(f"(role r) {WAYS} (<= (legal r (go ?x ?y)) (way ?x ?y))")
-        self.assertEqual(legal(game), {("go", one, other) for one in "123" for other in "123"} | {("go", "4", "4")})
+        self.assertEqual(legal(game), {("go", start, end) for start in "123" for end in "123"} | {("go", "4", "4")})
 
     def test_what_goes_round_by_a_state_is_derived_anew(self):
         game = Game("(role r) (<= (w ?x) (true (e ?y ?x)) (w ?y)) (<= (w 1) (true s)) (<= (legal r ?x) (w ?x))")

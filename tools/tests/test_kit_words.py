@@ -1,9 +1,6 @@
 """Which words of the kit the crates' code must not have: each is planted here, and has to be found."""
-import os
-import sys
 import unittest
 
-sys.path.insert(0, os.path.dirname(os.path.dirname(os.path.realpath(__file__))))
 from kit_words import REFUSED, uses_in
 
 # A desk that serves a line as far as it has seen, and never looks again.

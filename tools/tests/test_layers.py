@@ -1,9 +1,6 @@
 """Which imports reach past the public definitions of another crate, and which crates are named and not used."""
-import os
-import sys
 import unittest
 
-sys.path.insert(0, os.path.dirname(os.path.dirname(os.path.realpath(__file__))))
 from layers import reaching, unmentioned
 
 KNOWN = ("low", "high")

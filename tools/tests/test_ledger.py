@@ -1,10 +1,7 @@
 """The ledger of the wrong edits."""
-import os
-import sys
 import tempfile
 import unittest
 
-sys.path.insert(0, os.path.dirname(os.path.dirname(os.path.realpath(__file__))))
 from ledger import Counts, Entry, count, read_ledger, tried, write_ledger
 from needs import KITS
 

@@ -8,7 +8,6 @@ import time
 import unittest
 import unittest.mock
 
-sys.path.insert(0, os.path.dirname(os.path.dirname(os.path.realpath(__file__))))
 from counting import Tally
 from looking import Beside, is_well, name_of
 

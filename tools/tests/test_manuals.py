@@ -1,11 +1,8 @@
 """Pages of the manual and completions follow from what commands print by --help."""
-import os
 import shutil
 import subprocess
-import sys
 import unittest
 
-sys.path.insert(0, os.path.dirname(os.path.dirname(os.path.realpath(__file__))))
 from crates import TOP
 from manuals import bash, page, read_help, zsh
 

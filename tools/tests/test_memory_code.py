@@ -1,10 +1,7 @@
 """What counts as a place where the code says that it is out of memory, and as a size that is not at hand: wrong code of each kind that
 hides it is planted here, and has to be found."""
-import os
-import sys
 import unittest
 
-sys.path.insert(0, os.path.dirname(os.path.dirname(os.path.realpath(__file__))))
 from memory_code import names_of, places_in
 
 DECLARED = """

@@ -7,13 +7,12 @@ import tempfile
 import unittest
 from unittest import mock
 
-sys.path.insert(0, os.path.dirname(os.path.dirname(os.path.realpath(__file__))))
+import mutant_ledger
 import mutant_rooms
-from crates import TOP
+from mutant_ledger import LEDGER, has_changed, keep, read_ledger, sums_of
 from mutant_rooms import Room, Test, tests_for
 from mutation import Mutant, mutants
 
-LEDGER = pathlib.Path(TOP) / "tools/mutants.json"
 SMALL = """
 MOST = 3
 
@@ -177,6 +176,35 @@ class Rooms(unittest.TestCase):
 
 
 class Ledger(unittest.TestCase):
+    def in_small_repository(self) -> pathlib.Path:
+        """Returns a folder with one module, and two modules of tests."""
+        python = pathlib.Path(self.enterContext(tempfile.TemporaryDirectory()))
+        for name in ("ggp_tools/small.py", "tests/test_small.py", "tests/test_other.py"):
+            (python / name).parent.mkdir(exist_ok=True)
+            (python / name).write_text(name)
+        self.enterContext(mock.patch.object(mutant_rooms, "PYTHON", python))
+        self.enterContext(mock.patch.object(mutant_ledger, "LEDGER", python / "mutants.json"))
+        return python
+
+    def test_a_module_has_changed_with_its_text_and_that_of_the_tests_that_found_its_changes(self):
+        found_by = {"test_small": 7, "ended": 1, "(TypeError)": 2}
+        for file, wanted in (("ggp_tools/small.py", True), ("tests/test_small.py", True), ("tests/test_other.py", False)):
+            python = self.in_small_repository()
+            kept = {"found_by": found_by, "sums": sums_of("ggp_tools.small", found_by)}
+            self.assertFalse(has_changed("ggp_tools.small", kept))
+            (python / file).write_text("another text")
+            self.assertEqual(has_changed("ggp_tools.small", kept), wanted, file)
+        (python / "tests/test_small.py").unlink()
+        self.assertTrue(has_changed("ggp_tools.small", kept))
+
+    def test_sentences_that_were_written_meanwhile_stay(self):
+        self.in_small_repository()
+        keep("small", {"survivors": {"one": "", "two": ""}})
+        keep("other", {"survivors": {}})
+        mutant_ledger.LEDGER.write_text(json.dumps({**read_ledger(), "small": {"survivors": {"one": "Harmless.", "two": "Gone."}}}))
+        keep("small", {"survivors": {"one": "", "three": ""}})
+        self.assertEqual(read_ledger(), {"small": {"survivors": {"one": "Harmless.", "three": ""}}, "other": {"survivors": {}}})
+
     def test_each_survivor_has_been_read_and_there_are_few(self):
         for name, result in json.loads(LEDGER.read_text(encoding="utf-8")).items():
             self.assertNotIn("", result["survivors"].values(), name)

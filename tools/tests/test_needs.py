@@ -1,9 +1,6 @@
 """What is said where Python or the kit is not there, or in no version that serves."""
-import os
-import sys
 import unittest
 
-sys.path.insert(0, os.path.dirname(os.path.dirname(os.path.realpath(__file__))))
 from needs import KITS, kit_lack, python_lack
 
 

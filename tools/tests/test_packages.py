@@ -2,12 +2,10 @@
 import contextlib
 import io
 import os
-import sys
 import tempfile
 import unittest
 import unittest.mock
 
-sys.path.insert(0, os.path.dirname(os.path.dirname(os.path.realpath(__file__))))
 from packages import Need, bring, fault_of_rights, install, missing, need_of, no_services, read_needs, searched
 
 GONE = Need("nothing", ["no-such-command", "sh"], "nothing is done", False)

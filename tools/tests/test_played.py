@@ -1,10 +1,7 @@
 """What is said of the record of a match that example players play."""
 import json
-import os
-import sys
 import unittest
 
-sys.path.insert(0, os.path.dirname(os.path.dirname(os.path.realpath(__file__))))
 from played import fault_of_record
 
 WELL = {"phase": "finished", "errors": [["", ""], ["", ""]], "startMarks": ["", ""], "endMarks": ["", ""]}

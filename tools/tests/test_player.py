@@ -11,10 +11,10 @@ import time
 import unittest
 import unittest.mock
 
-TOP = os.path.dirname(os.path.dirname(os.path.dirname(os.path.realpath(__file__))))
-sys.path.insert(0, f"{TOP}/examples/players")
 import player
 from ports import free_ports
+
+TOP = os.path.dirname(os.path.dirname(os.path.dirname(os.path.realpath(__file__))))
 
 RULES = "((role red) (init p) (legal red go) (legal red (stay 1)))"
 SECONDS = 600

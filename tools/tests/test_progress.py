@@ -1,10 +1,8 @@
 """How long the rest takes, and the times that are kept."""
 import os
-import sys
 import tempfile
 import unittest
 
-sys.path.insert(0, os.path.dirname(os.path.dirname(os.path.realpath(__file__))))
 from progress import PROGRAM_SHARE, SECONDS_A_CRATE, SECONDS_A_MEGABYTE, behind, by_megabytes, expected, read_times, time_left, write_times
 from room import at_once, free_memory, processors
 

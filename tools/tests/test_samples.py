@@ -1,9 +1,6 @@
 """Which lines of a document are taken from a file, and which crate a cell of the index of promises names."""
-import os
-import sys
 import unittest
 
-sys.path.insert(0, os.path.dirname(os.path.dirname(os.path.realpath(__file__))))
 from samples import indexed, sources, without_targets
 
 

@@ -1,15 +1,14 @@
-"""The players inside the scripts of examples/season, and what these look at in a file of records."""
+"""The players inside the drivers of seasons, and what these look at in a file of records."""
 import os
 import pathlib
-import sys
 import tempfile
 import unittest
 import unittest.mock
 
+from driving.players import Hall, Player, Seat
+from driving.seasons import CUT_OFF, cut_off, errors_of, records_in, schedule, whole_lines
+
 TOP = os.path.dirname(os.path.dirname(os.path.dirname(os.path.realpath(__file__))))
-sys.path.insert(0, f"{TOP}/examples/season")
-from players_inside import Hall, Player, Seat
-from seasons import CUT_OFF, cut_off, errors_of, records_in, schedule, whole_lines
 
 
 class Players(unittest.TestCase):

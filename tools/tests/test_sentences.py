@@ -1,9 +1,6 @@
 """Which sentences of a document are too long, and what counts as one sentence."""
-import os
-import sys
 import unittest
 
-sys.path.insert(0, os.path.dirname(os.path.dirname(os.path.realpath(__file__))))
 from sentences import MOST_WORDS, sentences, too_long, words
 
 

@@ -1,11 +1,9 @@
 """The budget of the crates' volumes."""
 import json
 import os
-import sys
 import tempfile
 import unittest
 
-sys.path.insert(0, os.path.dirname(os.path.dirname(os.path.realpath(__file__))))
 from volume import OF_A_FUNCTION, OF_A_PARAMETER, OF_A_STEP, Budget, above, all_above, fault_of, keep_volumes, kept_volumes
 from volume import read_budget, steps_in, table, totals_of, volume_of, write_budget
 

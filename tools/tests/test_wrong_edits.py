@@ -1,10 +1,8 @@
 """How wrong edits are applied, and on what the prover is said to refuse one."""
 import os
-import sys
 import tempfile
 import unittest
 
-sys.path.insert(0, os.path.dirname(os.path.dirname(os.path.realpath(__file__))))
 from wrong_edits import applied, reason
 
 SOURCE = "fn one() -> u8 {\n    1\n}\nfn two() -> u8 {\n    2\n}\n"

@@ -2,14 +2,9 @@
 -- served.
 use Rattle.std.proofs.Common.{◌≡◌, ℕ, ◌<◌, List, [], ◌∷◌, ◌++◌, length, get_or, refl, sym, ◌∙◌, subst, arith, rules}
 use Rattle.std.specs.List.{All}
-use Rattle.call_history.specs.declared.journal.Entry.{Entry}
 use Rattle.call_history.specs.declared.port.Port.{Port}
-use Rattle.call_history.specs.declared.ring_line.RingLine.{RingLine}
-use Rattle.call_history.specs.declared.object.Object.{Ghosts}
-use Rattle.call_history.specs.declared.ring_line.LineEnd.{LineEnd}
-use Rattle.call_history.specs.Parts.{part, calls_of}
-use Rattle.call_history.specs.RingLines.{posted_calls, SamePorts, SameLine, IsPortOf, IsLineOf, AreEndsOf, IsNewLine, AreNewLines}
-use Rattle.call_history.specs.RingClosing.{SameEnds, IsServed, AreEndsInOrder, AreServedInOrder}
+use Rattle.call_history.specs.RingLines.{LineValue, SamePorts, SameLine, IsPortOf, IsLineOf, AreEndsOf, IsNewLine, AreNewLines}
+use Rattle.call_history.specs.RingClosing.{SameEnds}
 use Rattle.std.proofs.lemmas.List.Elements.{All-push}
 use Rattle.call_history.proofs.ServedLines.{same_port_trans}
 use Rattle.call_history.proofs.ReturnedEnds.{port_of_same}
@@ -23,18 +18,18 @@ same_ports_trans ps qs rs s t = record {
   each = λ i p below. same_port_trans _ _ _ (s.each i p below) (t.each i p (omega (arith, below, s.count)));
 }
 
-module _ {O C R : Type 0} {G : Ghosts O C R} where
-  pub same_ends_refl : (es : List (LineEnd O C R G)) → SameEnds es es
+module _ {C R : Type 0} where
+  pub same_ends_refl : (es : List (LineValue C R)) → SameEnds es es
   same_ends_refl es = record { count = refl; each = λ i e below. record { line = search rules; posted = refl; taken = refl } }
 
-  pub line_of_new : (ps : List (Port C R)) (i : ℕ) (l : RingLine O C R G) → i < length ps → IsNewLine ps i l → IsLineOf ps l
+  pub line_of_new : (ps : List (Port C R)) (i : ℕ) (l : LineValue C R) → i < length ps → IsNewLine ps i l → IsLineOf ps l
   line_of_new ps i l below f = record {
     within = omega (arith, below, f.number_is);
     rings = λ p. let P : ℕ → Type 0 = λ n. IsPortOf (get_or ps n p) l in subst P (sym f.number_is) (f.rings p);
   }
 
   -- a new line stays new through the desk's rounds
-  pub new_of_same : (ps qs : List (Port C R)) (i : ℕ) (l : RingLine O C R G) → SamePorts ps qs → i < length ps → IsNewLine ps i l → IsNewLine qs i l
+  pub new_of_same : (ps qs : List (Port C R)) (i : ℕ) (l : LineValue C R) → SamePorts ps qs → i < length ps → IsNewLine ps i l → IsNewLine qs i l
   new_of_same ps qs i l s below new = record {
     number_is = new.number_is;
     rings = λ p. port_of_same (get_or ps i p) (get_or qs i p) l l (new.rings p) (s.each i p below) (search rules);
@@ -42,7 +37,7 @@ module _ {O C R : Type 0} {G : Ghosts O C R} where
     taken = new.taken;
   }
 
-  pub line_of_same : (ps qs : List (Port C R)) (l m : RingLine O C R G) → SamePorts ps qs → SameLine l m → IsLineOf ps l → IsLineOf qs m
+  pub line_of_same : (ps qs : List (Port C R)) (l m : LineValue C R) → SamePorts ps qs → SameLine l m → IsLineOf ps l → IsLineOf qs m
   line_of_same ps qs l m s t was =
       let within : m.number < length qs = omega (arith, was.within, s.count, t.0) in
       record {
@@ -51,30 +46,15 @@ module _ {O C R : Type 0} {G : Ghosts O C R} where
             subst P (sym t.0) (port_of_same (get_or ps l.number p) (get_or qs l.number p) l m (was.rings p) (s.each l.number p was.within) t);
       }
 
-  pub ends_snoc : (ps : List (Port C R)) (es fs : List (LineEnd O C R G)) (e : LineEnd O C R G) → AreEndsOf ps es → IsLineOf ps e.line → fs ≡ es ++ e ∷ [] → AreEndsOf ps fs
+  pub ends_snoc : (ps : List (Port C R)) (es fs : List (LineValue C R)) (e : LineValue C R) → AreEndsOf ps es → IsLineOf ps e → fs ≡ es ++ e ∷ [] → AreEndsOf ps fs
   ends_snoc ps es fs e all one is =
-      let P : List (LineEnd O C R G) → Type 0 = λ x. AreEndsOf ps x in
-      let E : LineEnd O C R G → Type 0 = λ x. IsLineOf ps x.line in
-      subst P (sym is) (All-push E es e all one)
+      let P : List (LineValue C R) → Type 0 = λ x. AreEndsOf ps x in
+      subst P (sym is) (All-push (IsLineOf ps) es e all one)
 
   -- the new lines of a desk are its lines
-  pub lines_of_new : (ps : List (Port C R)) (ls : List (RingLine O C R G)) → AreNewLines ps ls → length ls ≡ length ps → All (IsLineOf ps) ls
+  pub lines_of_new : (ps : List (Port C R)) (ls : List (LineValue C R)) → AreNewLines ps ls → length ls ≡ length ps → All (IsLineOf ps) ls
   lines_of_new ps ls new count = λ k l below. line_of_new ps k (get_or ls k l) (omega (arith, below, count)) (new k l below)
 
   -- ends stay the desk's through its rounds
-  pub ends_of_ports : (ps qs : List (Port C R)) (es : List (LineEnd O C R G)) → SamePorts ps qs → AreEndsOf ps es → AreEndsOf qs es
-  ends_of_ports ps qs es s all = λ k e below. line_of_same ps qs (get_or es k e).line (get_or es k e).line s (search rules) (all k e below)
-
-  -- the ends of the lines that a desk opened with, in their order
-  pub ordered_ends : (ps qs : List (Port C R)) (ls : List (RingLine O C R G)) (es : List (LineEnd O C R G)) → AreNewLines ps ls → length ls ≡ length ps → SamePorts ps qs → AreEndsInOrder ls es → AreEndsOf qs es
-  ordered_ends ps qs ls es new count same order i e below =
-      let within : i < length ls = omega (arith, below, order.count) in
-      let l = get_or ls i e.line in
-      line_of_same ps qs l (get_or es i e).line same (order.each i e.line e within) (line_of_new ps i l (omega (arith, within, count)) (new i e.line within))
-
-  pub ordered_parts : (ps : List (Port C R)) (ls : List (RingLine O C R G)) (es : List (LineEnd O C R G)) (history : List (Entry C R)) → AreNewLines ps ls → AreEndsInOrder ls es → All (IsServed history) es → AreServedInOrder history es
-  ordered_parts ps ls es history new order served i e below =
-      let within : i < length ls = omega (arith, below, order.count) in
-      let end = get_or es i e in
-      let number : end.line.number ≡ i = (order.each i e.line e within).0 ∙ (new i e.line within).number_is in
-      sym (subst (λ n. posted_calls end.line ≡ calls_of (part n history)) number (served i e below))
+  pub ends_of_ports : (ps qs : List (Port C R)) (es : List (LineValue C R)) → SamePorts ps qs → AreEndsOf ps es → AreEndsOf qs es
+  ends_of_ports ps qs es s all = λ k e below. line_of_same ps qs (get_or es k e) (get_or es k e) s (search rules) (all k e below)

@@ -5,9 +5,7 @@ use Rattle.std.proofs.lemmas.List.{get_or_append_left, get_or_push}
 use Rattle.std.proofs.lemmas.Bool.Decides.{eqb_tells}
 use Rattle.std.proofs.Math.Dec.{eqb}
 use Rattle.call_history.specs.declared.port.Port.{Port}
-use Rattle.call_history.specs.declared.ring_line.RingLine.{RingLine}
-use Rattle.call_history.specs.declared.object.Object.{Ghosts}
-use Rattle.call_history.specs.RingLines.{posted_calls, taken_replies, AreNewLines, IsNewLine, IsPortOf}
+use Rattle.call_history.specs.RingLines.{LineValue, posted_calls, taken_replies, AreNewLines, IsNewLine, IsPortOf}
 
 -- the i-th element of a list with one more, for i below the length, and at the length
 pub before_last : {X : Type 0} (xs : List X) (x : X) (i : ℕ) (d : X) → i < length xs → get_or (xs ++ x ∷ []) i d ≡ get_or xs i d
@@ -16,13 +14,13 @@ before_last xs x i d lt = grind (arith, common_steps)
 pub at_last : {X : Type 0} (xs : List X) (x : X) (i : ℕ) (d : X) → i ≡ length xs → get_or (xs ++ x ∷ []) i d ≡ x
 at_last xs x i d e = grind (arith, common_steps)
 
-module _ {O C R : Type 0} {G : Ghosts O C R} where
-  pub new_lines_snoc : (ps : List (Port C R)) (ls : List (RingLine O C R G)) (p : Port C R) (l : RingLine O C R G)
+module _ {C R : Type 0} where
+  pub new_lines_snoc : (ps : List (Port C R)) (ls : List (LineValue C R)) (p : Port C R) (l : LineValue C R)
       → length ps ≡ length ls → AreNewLines ps ls → l.number ≡ length ls → IsPortOf p l → posted_calls l ≡ [] → taken_replies l ≡ []
       → AreNewLines (ps ++ p ∷ []) (ls ++ l ∷ [])
   new_lines_snoc ps ls p l same all number rings posted taken = λ i d below.
-      let P : RingLine O C R G → Type 0 = λ x. IsNewLine (ps ++ p ∷ []) i x in
-      let Q : RingLine O C R G → Port C R → Type 0 = λ x y. IsPortOf y x in
+      let P : LineValue C R → Type 0 = λ x. IsNewLine (ps ++ p ∷ []) i x in
+      let Q : LineValue C R → Port C R → Type 0 = λ x y. IsPortOf y x in
       ⊎_elim
       (λ (e : (eqb i (length ls) ≡ true) × (i ≡ length ls)).
       subst P (sym (get_or_push ls l d i (sym e.1))) (record {

@@ -1,5 +1,5 @@
 -- A line's part of a history.
-use Rattle.std.specs.Prelude.{◌==◌, ℕ, List, map}
+use Rattle.std.specs.Prelude.{◌==◌, ℕ, zero, suc, ◌+◌, List, map, length}
 use Rattle.std.specs.List.{filter}
 use Rattle.call_history.specs.declared.journal.Entry.{Entry}
 
@@ -12,3 +12,8 @@ calls_of entries = map (λ e. e.call) entries
 
 abbrev pub replies_of : {C R : Type 0} → List (Entry C R) → List R
 replies_of entries = map (λ e. e.reply) entries
+
+-- the number of entries of the lines with numbers below this one
+abbrev pub entries_below : {C R : Type 0} → ℕ → List (Entry C R) → ℕ
+entries_below zero history = 0
+entries_below (suc line) history = entries_below line history + length (part line history)

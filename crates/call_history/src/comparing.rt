@@ -6,6 +6,7 @@ ghost use Rattle.call_history.specs.RingLines.{IsPortOf, SamePort, SamePorts, Ar
 ghost use Rattle.call_history.specs.Rounds.{Serves, ServesLines};
 ghost use Rattle.call_history.specs.RingClosing.{IsServed, IsUnserved, TakesPrefix, SameEnd, SameEnds, IsLowestUnserved};
 
+use crate::gathering::Numbered;
 use crate::journal::Journal;
 use crate::object::Object;
 use crate::port::Port;
@@ -18,16 +19,17 @@ fn compare<O: Object>(
     port: &mut Port<O::Call, O::Reply>,
     end: &mut LineEnd<O>,
 ) -> bool
-    requires rings { IsPortOf port.old end.old.line }
-    requires serves { Serves (part end.old.line.number journal.now.history) port.old }
+    requires rings { IsPortOf port.old end.old }
+    requires serves { Serves (part end.old.number journal.now.history) port.old }
     ensures port { SamePort port.old port.new }
-    ensures serves { Serves (part end.old.line.number journal.now.history) port.new }
+    ensures serves { Serves (part end.old.number journal.now.history) port.new }
     ensures end { SameEnd end.old end.new }
     ensures calls { MatchBool result (IsServed journal.now.history end.new) (IsUnserved journal.now.history end.new) }
     ensures replies { TakesPrefix journal.now.history end.new }
 {
-    let waiting = port.calls.slots_beside(&mut end.line.calls);
-    end.line.replies.slots_beside(&mut port.replies);
+    let line = &mut end.line;
+    let waiting = port.calls.slots_beside(&mut line.calls);
+    line.replies.slots_beside(&mut port.replies);
     waiting == 0 && port.kept.is_none()
 }
 
@@ -61,7 +63,7 @@ pub(crate) fn lowest_unserved<O: Object>(
     let mut lowest = None;
     for k in 0..ends.len() {
         let end = &mut ends[k];
-        let number = end.line.number();
+        let number = end.number();
         let port = &mut ports[number as usize];
         let is_served = compare(journal, port, end);
         if !is_served {
@@ -78,13 +80,13 @@ pub(crate) fn note_made<O: Object>(
     ends: &Vec<LineEnd<O>>,
 )
     requires served { All (IsServed journal.now.history) ends.now.items }
-    requires numbers { All (λ e. e.line.number < length made_by_line.old.items) ends.now.items }
+    requires numbers { All (λ e. e.number < length made_by_line.old.items) ends.now.items }
     ensures count { length made_by_line.new.items ≡ length made_by_line.old.items }
     ensures made { (k : ℕ) (e : _) → k < length ends.now.items
-        → slice_index_or made_by_line.new.items (slice_index_or ends.now.items k e).line.number 0
-        ≡ length (part (slice_index_or ends.now.items k e).line.number journal.now.history) }
+        → slice_index_or made_by_line.new.items (slice_index_or ends.now.items k e).number 0
+        ≡ length (part (slice_index_or ends.now.items k e).number journal.now.history) }
 {
     for end in ends {
-        made_by_line[end.line.number() as usize] = end.line.posted();
+        made_by_line[end.number() as usize] = end.line.posted();
     }
 }

@@ -26,7 +26,7 @@ impl fmt::Display for CallFault {
     fn fmt<W: fmt::Write>(&self, f: &mut fmt::Formatter<W>) -> fmt::Result {
         f.write_str(match *self {
             CallFault::Full => "the history is full",
-            CallFault::Memory => "want of memory",
+            CallFault::Memory => "out of memory",
         })
     }
 }

@@ -9,7 +9,7 @@
 ghost use Rattle.std.specs.Prelude.{◌≡◌, ◌↔◌, [], ◌∷◌, ◌++◌};
 ghost use Rattle.call_history.specs.History.{run, IsLegalHistory};
 ghost use Rattle.call_history.specs.Limits.{max_entries, max_lines, max_room};
-ghost use Rattle.call_history.specs.RingLaws.{LinesStay, EndsStay, NewLinesStay, NewLinesAreLines, OrderedEndsAreEnds, OrderedEndsAreServed, NumbersAreOfEnds, PortsAreSame, PortsStaySame};
+ghost use Rattle.call_history.specs.RingLaws.{LinesStay, EndsStay, NewLinesStay, NewLinesAreLines, NumbersAreOfEnds, PortsAreSame, PortsStaySame};
 
 use crate::journal::{Entry, MAX_ENTRIES};
 use crate::lock::MAX_LINES;
@@ -47,14 +47,14 @@ pub fn constants_are_the_limits()
 
 /// The lines of a desk over rings stay its lines while the desk serves, and while the lines post and take. So do their ends.
 pub fn lines_stay<O: Object>()
-    ensures lines { LinesStay O.Object }
-    ensures ends { EndsStay O.Object }
+    ensures lines { LinesStay O.Call O.Reply }
+    ensures ends { EndsStay O.Call O.Reply }
 {}
 
 /// A new line of a desk over rings is a line of it, and stays a new one while the desk serves.
 pub fn new_lines_are_lines<O: Object>()
-    ensures lines { NewLinesAreLines O.Object }
-    ensures stay { NewLinesStay O.Object }
+    ensures lines { NewLinesAreLines O.Call O.Reply }
+    ensures stay { NewLinesStay O.Call O.Reply }
 {}
 
 /// A desk over rings stands for the same lines before and after any number of rounds.
@@ -63,14 +63,7 @@ pub fn desks_stay<O: Object>()
     ensures through { PortsStaySame O.Call O.Reply }
 {}
 
-/// A desk over rings can be closed with the ends of all lines that it opened with, in their order. Once it has closed, the part of each
-/// number has exactly the calls of the line in that place.
-pub fn ends_stand_in_order<O: Object>()
-    ensures ends { OrderedEndsAreEnds O.Object }
-    ensures served { OrderedEndsAreServed O.Object }
-{}
-
 /// A number that is among those of some ends is the number of one of these ends.
 pub fn numbers_are_of_ends<O: Object>()
-    ensures { NumbersAreOfEnds O.Object }
+    ensures { NumbersAreOfEnds O.Call O.Reply }
 {}

@@ -35,6 +35,6 @@ pub use pause::Pause;
 pub use port::Port;
 pub use ring_desk::{DeskFault, RingCloseFault, RingDesk, RingUnclosed};
 pub use ring_line::{LineEnd, RingLine};
-pub use ring_opening::{MAX_ROOM, open_rings};
+pub use ring_opening::{MAX_ROOM, last_line, open_rings};
 pub use ring_wire::RingWire;
 pub use wire::{AskFault, Wire};

@@ -5,7 +5,7 @@ use rtrb::{Consumer, Producer};
 /// made yet.
 #[derive(Drop)]
 pub struct Port<C, R> {
-    pub(crate) calls: Consumer<C>,
-    pub(crate) replies: Producer<R>,
-    pub(crate) kept: Option<C>,
+    pub calls: Consumer<C>,
+    pub replies: Producer<R>,
+    pub kept: Option<C>,
 }

@@ -1,10 +1,9 @@
 //! The lines of a desk over rings.
-ghost use Rattle.std.specs.Prelude.{◌≡◌, length};
-ghost use Rattle.rtrb.specs.Ring.{sent, received};
 
 use crate::gathering::Numbered;
 use crate::object::Object;
 use rtrb::{Consumer, Producer, PushError};
+use std::marker::Model;
 
 /// One line of a desk: a caller's ends of two rings. One takes its calls to the desk, the other brings the replies. It can be
 /// sent to a thread of its own, and never waits.
@@ -15,14 +14,32 @@ pub struct RingLine<O: Object> {
     pub(crate) replies: Consumer<O::Reply>,
     posted: u64,
     taken: u64,
-    ghost posted_is: { posted ≡ length (sent calls) },
-    ghost taken_is: { taken ≡ length (received replies) },
 }
 
-/// A line that posts no more. The desk is closed with it.
+impl<O: Object> Model for RingLine<O> {
+    ghost use Rattle.std.specs.Prelude.{◌≡◌, length};
+    ghost use Rattle.rtrb.specs.Ring.{sent, received};
+    ghost use Rattle.call_history.specs.RingLines.{LineValue};
+
+    ghost Value = { LineValue O.Call O.Reply };
+
+    ghost view = { λ l. record { number = l.number; calls = l.calls; replies = l.replies } };
+
+    ghost invariant = { λ l. (l.posted ≡ length (sent l.calls)) × (l.taken ≡ length (received l.replies)) };
+}
+
+/// A line that posts no more. The desk is closed with it. Contracts see the line.
 #[derive(Drop)]
 pub struct LineEnd<O: Object> {
     pub(crate) line: RingLine<O>,
+}
+
+impl<O: Object> Model for LineEnd<O> {
+    ghost use Rattle.call_history.specs.RingLines.{LineValue};
+
+    ghost Value = { LineValue O.Call O.Reply };
+
+    ghost view = { λ e. e.line };
 }
 
 impl<O: Object> RingLine<O> {
@@ -111,7 +128,7 @@ impl<O: Object> RingLine<O> {
 
     /// Ends the posting, so that the desk can be closed.
     pub fn finish(self) -> LineEnd<O>
-        ensures { result.line ≡ self }
+        ensures { result ≡ self }
     {
         LineEnd { line: self }
     }
@@ -124,18 +141,18 @@ impl<O: Object> LineEnd<O> {
 
     /// Takes the next reply, if one has come. There is none after 2^64 - 1 replies.
     pub fn take(&mut self) -> Option<O::Reply>
-        ensures line { SameLine self.old.line self.new.line }
-        ensures posted { posted_calls self.new.line ≡ posted_calls self.old.line }
-        ensures some { IfSome result (λ r. taken_replies self.new.line ≡ taken_replies self.old.line ++ r ∷ []) }
-        ensures none { IfNone result (taken_replies self.new.line ≡ taken_replies self.old.line) }
-        ensures known { 0 < length (known_items self.old.line.replies) → length (taken_replies self.old.line) < 2 ^ 64 - 1 → IsSome result }
+        ensures line { SameLine self.old self.new }
+        ensures posted { posted_calls self.new ≡ posted_calls self.old }
+        ensures some { IfSome result (λ r. taken_replies self.new ≡ taken_replies self.old ++ r ∷ []) }
+        ensures none { IfNone result (taken_replies self.new ≡ taken_replies self.old) }
+        ensures known { 0 < length (known_items self.old.replies) → length (taken_replies self.old) < 2 ^ 64 - 1 → IsSome result }
     {
         self.line.take()
     }
 }
 
 impl<O: Object> Numbered for LineEnd<O> {
-    ghost number = { λ end. end.line.number };
+    ghost number = { λ end. end.number };
 
     fn number(&self) -> u32 {
         self.line.number()

@@ -1,8 +1,8 @@
 //! The opening of a desk over rings.
-ghost use Rattle.std.specs.Prelude.{◌≡◌, ◌≤◌, [], length, IfOk, IfErr};
+ghost use Rattle.std.specs.Prelude.{◌≡◌, ◌+◌, ◌<◌, ◌≤◌, [], length, IfOk, IfErr};
 ghost use Rattle.std.specs.List.{All};
 ghost use Rattle.call_history.specs.Limits.{max_entries, max_lines, max_room};
-ghost use Rattle.call_history.specs.RingLines.{posted_calls, taken_replies, IsPortOf, IsLineOf, AreNewLines, HasRoom};
+ghost use Rattle.call_history.specs.RingLines.{posted_calls, taken_replies, IsPortOf, IsLineOf, IsNewLine, AreNewLines, HasRoom};
 ghost use Rattle.call_history.specs.Rounds.{IsUnused};
 
 use crate::journal::Journal;
@@ -49,6 +49,22 @@ pub fn open_rings<O: Object>(
             Ok((RingDesk::new(journal, ports, found, made_by_line), lines))
         }
         Err(refused) => Err((object, refused)),
+    }
+}
+
+/// Takes the last line of a new desk. Its number is the number of those that are left.
+pub fn last_line<O: Object>(desk: &RingDesk<O>, lines: &mut Vec<RingLine<O>>) -> RingLine<O>
+    requires some { 0 < length lines.old.items }
+    requires within { length lines.old.items ≤ length desk.now.ports }
+    requires new { AreNewLines desk.now.ports lines.old.items }
+    ensures line { IsNewLine desk.now.ports (length lines.new.items) result }
+    ensures of_desk { IsLineOf desk.now.ports result }
+    ensures one_fewer { length lines.old.items ≡ length lines.new.items + 1 }
+    ensures left { AreNewLines desk.now.ports lines.new.items }
+{
+    match lines.pop() {
+        Some(line) => line,
+        None => unreachable!(),
     }
 }
 

@@ -7,15 +7,24 @@ use crate::moment::back_off;
 use crate::object::Object;
 use crate::ring_line::RingLine;
 use crate::wire::{AskFault, Wire};
+use std::marker::Model;
 use std::sync::Arc;
 
-/// A line of a desk over rings, with a limit of tries for each call.
+/// A line of a desk over rings, with a limit of tries for each call. Contracts see no bell.
 #[derive(Drop)]
 pub struct RingWire<O: Object> {
     line: RingLine<O>,
     tries: u64,
     bell: Option<Arc<Bell>>,
     has_stalled: bool,
+}
+
+impl<O: Object> Model for RingWire<O> {
+    ghost use Rattle.call_history.specs.RingLines.{RingWireValue};
+
+    ghost Value = { RingWireValue O.Call O.Reply };
+
+    ghost view = { λ w. record { line = w.line; tries = w.tries; has_stalled = w.has_stalled } };
 }
 
 impl<O: Object> RingWire<O> {

@@ -22,7 +22,7 @@ impl fmt::Display for AskFault {
     fn fmt<W: fmt::Write>(&self, f: &mut fmt::Formatter<W>) -> fmt::Result {
         f.write_str(match *self {
             AskFault::Full => "the history is full",
-            AskFault::Memory => "want of memory",
+            AskFault::Memory => "out of memory",
             AskFault::Stalled => "no reply came",
         })
     }

@@ -302,7 +302,7 @@ impl CommandForm {
 }
 
 /// The commands.
-const COMMANDS: [CommandForm; 8] = [
+static COMMANDS: [CommandForm; 8] = [
     CommandForm {
         name: "desk",
         about: "Answers a script, line by line",
@@ -386,9 +386,14 @@ const COMMANDS: [CommandForm; 8] = [
     },
 ];
 
+/// The forms of the commands.
+fn forms() -> &'static [CommandForm] {
+    &COMMANDS
+}
+
 /// The form of the command with this name.
 pub fn form_named(name: &str) -> Option<CommandForm> {
-    COMMANDS.iter().find(|form| form.name == name).copied()
+    forms().iter().find(|form| form.name == name).copied()
 }
 
 /// The program's command line.
@@ -399,7 +404,7 @@ pub fn program<'a>(alloc: Global) -> Result<Command<'a>, AllocError> {
         .no_binary_name(true)
         .subcommand_required(true)
         .bin_name(PROGRAM)?;
-    for form in COMMANDS {
+    for form in forms() {
         program = program.subcommand(form.command(alloc)?)?;
     }
     Ok(program)

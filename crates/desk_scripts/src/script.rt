@@ -32,7 +32,7 @@ fn answer_line<O: Object<Call = Call, Reply = Reply>>(
     ensures answer { OnOk result (out.new.items ≡ out.old.items ++ line_answer O.reply object.old (call_of line.now) ++ line_feed ∷ []) }
     ensures after { OnOk result (object.new ≡ after_line O.after object.old (call_of line.now)) }
 {
-    let Some(call) = call_of(alloc, line)? else {
+    let Ok(call) = call_of(alloc, line)? else {
         out.extend_from_slice(b"badline\n")?;
         return Ok(false);
     };

@@ -25,9 +25,9 @@ no_lines (byte ∷ text) empty = absurd (omega arith)
 
 module _ {S : Type 0} (reply : S → Call → Reply) (after : S → Call → S) where
   -- the lines before the last ones tell a history that is legal from the start, of the calls that were made and of further ones
-  pub record Tells (start : S) (told last : List (List ℕ)) (object : S) (calls : ℕ) (more : List (Entry Call Reply)) : Type 0 where
+  pub record Tells (start : S) (all last : List (List ℕ)) (object : S) (calls : ℕ) (more : List (Entry Call Reply)) : Type 0 where
     pub history : List (Entry Call Reply)
-    pub cut : told ≡ map entry_text history ++ last
+    pub cut : all ≡ map entry_text history ++ last
     pub are_read : AllByRecursion IsRead history
     pub legal : IsLegalHistory reply after start history
     pub leaves : run after object more ≡ run after start history
@@ -35,18 +35,18 @@ module _ {S : Type 0} (reply : S → Call → Reply) (after : S → Call → S) 
 
   -- each history from the object in the lines that are left continues one from the start in all lines
   abbrev pub IsAccountSoFar : S → List (List ℕ) → List (List ℕ) → S → ℕ → Type 0
-  IsAccountSoFar start told rest object calls = (more : List (Entry Call Reply)) (last : List (List ℕ))
-      → rest ≡ map entry_text more ++ last → AllByRecursion IsRead more → IsLegalHistory reply after object more → Tells start told last object calls more
+  IsAccountSoFar start all rest object calls = (more : List (Entry Call Reply)) (last : List (List ℕ))
+      → rest ≡ map entry_text more ++ last → AllByRecursion IsRead more → IsLegalHistory reply after object more → Tells start all last object calls more
 
-  pub account_begins : (start : S) (told : List (List ℕ)) → IsAccountSoFar start told told start 0
-  account_begins start told more last cut read legal = record { history = more; cut = cut; are_read = read; legal = legal; leaves = refl; counted = omega arith }
+  pub account_begins : (start : S) (all : List (List ℕ)) → IsAccountSoFar start all all start 0
+  account_begins start all more last cut read legal = record { history = more; cut = cut; are_read = read; legal = legal; leaves = refl; counted = omega arith }
 
   -- one entry more
-  pub account_goes_on : (start : S) (told rest : List (List ℕ)) (line : List ℕ) (old new : S) (calls : ℕ) (e : Entry Call Reply)
-      → IsAccountSoFar start told (line ∷ rest) old calls
+  pub account_goes_on : (start : S) (all rest : List (List ℕ)) (line : List ℕ) (old new : S) (calls : ℕ) (e : Entry Call Reply)
+      → IsAccountSoFar start all (line ∷ rest) old calls
       → line ≡ entry_text e → IsRead e → e.reply ≡ reply old e.call → new ≡ after old e.call
-      → IsAccountSoFar start told rest new (calls + 1)
-  account_goes_on start told rest line old new calls e so_far is_line is_read is_reply is_new more last cut read legal =
+      → IsAccountSoFar start all rest new (calls + 1)
+  account_goes_on start all rest line old new calls e so_far is_line is_read is_reply is_new more last cut read legal =
       let whole = so_far (e ∷ more) last (ap (λ x. x ∷ rest) is_line ∙ ap (λ xs. entry_text e ∷ xs) cut) (is_read, read) (is_reply, subst (λ s. IsLegalHistory reply after s more) is_new legal) in
       record {
         history = whole.history;
@@ -57,8 +57,8 @@ module _ {S : Type 0} (reply : S → Call → Reply) (after : S → Call → S) 
         counted = omega (arith, whole.counted);
       }
 
-  pub account_ends : (start : S) (told : List (List ℕ)) (object : S) (calls : ℕ) → IsAccountSoFar start told [] object calls → IsAccount reply after start told object calls
-  account_ends start told object calls so_far =
+  pub account_ends : (start : S) (all : List (List ℕ)) (object : S) (calls : ℕ) → IsAccountSoFar start all [] object calls → IsAccount reply after start all object calls
+  account_ends start all object calls so_far =
       let whole = so_far [] [] refl tt tt in
       record {
         history = whole.history;
@@ -69,9 +69,9 @@ module _ {S : Type 0} (reply : S → Call → Reply) (after : S → Call → S) 
       }
 
   -- the next line is refused
-  pub fault_comes : (start : S) (told rest : List (List ℕ)) (line : List ℕ) (old : S) (calls : ℕ) (fault : ReplayFault)
-      → IsAccountSoFar start told (line ∷ rest) old calls → RefusesLine reply old (calls + 1) line fault → IsFirstFault reply after start told fault
-  fault_comes start told rest line old calls fault so_far refused =
+  pub fault_comes : (start : S) (all rest : List (List ℕ)) (line : List ℕ) (old : S) (calls : ℕ) (fault : ReplayFault)
+      → IsAccountSoFar start all (line ∷ rest) old calls → RefusesLine reply old (calls + 1) line fault → IsFirstFault reply after start all fault
+  fault_comes start all rest line old calls fault so_far refused =
       let whole = so_far [] (line ∷ rest) refl tt tt in
       let count : calls ≡ length whole.history = omega (arith, whole.counted) in
       record {

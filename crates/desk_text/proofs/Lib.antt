@@ -4,10 +4,10 @@ pub mod CallTexts
 pub mod Digits
 pub mod EscapedTexts
 pub mod LineLemmas
+pub mod Names
 pub mod Numbers
-pub mod OpeningWords
 pub mod Pieces
+pub mod ReadCalls
+pub mod ReadHistories
 pub mod Submits
-pub mod ToldCalls
-pub mod ToldHistories
 pub mod WordLemmas

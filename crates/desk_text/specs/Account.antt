@@ -1,5 +1,5 @@
 -- The account of a desk: its history as text, one line for each entry, and the history that is read from such lines.
-use Rattle.std.specs.Prelude.{◌≡◌, ◌==◌, ℕ, ◌+◌, ◌≤◌, ◌<◌, List, [], ◌∷◌, ◌++◌, map, length, Option, Some, None, option_and_then, option_map, codes, if◌then◌else◌}
+use Rattle.std.specs.Prelude.{◌≡◌, ◌==◌, ℕ, ◌≤◌, ◌<◌, List, [], ◌∷◌, ◌++◌, map, length, Option, Some, None, option_and_then, option_map, codes, if◌then◌else◌}
 use Rattle.std.specs.Fmt.{decimal}
 use Rattle.std.specs.List.{AllByRecursion}
 use Rattle.game_core.specs.Bytes.{line_feed, tab}
@@ -12,7 +12,7 @@ use Rattle.desk_calls.specs.declared.call.Reply.{Reply}
 use Rattle.match_desk.specs.ManagerValue.{ManagerValue}
 use Rattle.desk_text.specs.Escapes.{escaped_name, escaped_text, unescaped, all_unescaped}
 use Rattle.desk_text.specs.Words.{pieces, words, spaced, max_in_32_bits, max_in_64_bits}
-use Rattle.desk_text.specs.ScriptLines.{call_of_words, names_in, reply_text}
+use Rattle.desk_text.specs.ScriptLines.{account, call_of_words, reply_text}
 
 -- a desk of these games before any call
 abbrev pub no_matches : {G M : Type 0} → List G → ManagerValue G M
@@ -54,22 +54,22 @@ unescaped_call (Miss id role round broken) = option_map (λ name. Miss name role
 unescaped_call (Query id) = option_map (λ name. Query name) (unescaped id)
 unescaped_call (Abort id) = option_map (λ name. Abort name) (unescaped id)
 
--- the call of a text with escapes: that of its words, unescaped
-abbrev pub told_call : List ℕ → Option Call
-told_call text = option_and_then unescaped_call (call_of_words (words text))
+-- the call of a text in an account: that of its words, unescaped
+abbrev pub account_call : List ℕ → Option Call
+account_call text = option_and_then unescaped_call (call_of_words account (words text))
 
 -- the number of the desk's line that made the call, and the call, in the fields of an entry's text
-abbrev pub told_fields : List (List ℕ) → Option (ℕ × Call)
-told_fields (line ∷ (call ∷ more)) = option_and_then (λ number. option_map (λ made. (number, made)) (told_call call)) (plain_number line max_in_32_bits)
-told_fields _ = None
+abbrev pub fields_call : List (List ℕ) → Option (ℕ × Call)
+fields_call (line ∷ (call ∷ more)) = option_and_then (λ number. option_map (λ made. (number, made)) (account_call call)) (plain_number line max_in_32_bits)
+fields_call _ = None
 
 -- the same in an entry's text
-abbrev pub told : List ℕ → Option (ℕ × Call)
-told text = told_fields (pieces tab text)
+abbrev pub entry_call : List ℕ → Option (ℕ × Call)
+entry_call text = fields_call (pieces tab text)
 
 -- the number and the call that are read from an entry's text are the entry's
 abbrev pub IsRead : Entry Call Reply → Type 0
-IsRead e = told (entry_text e) ≡ Some (e.line, e.call)
+IsRead e = entry_call (entry_text e) ≡ Some (e.line, e.call)
 
 -- the lines are those of a history, and each is read as its entry
 pub record Tell (lines : List (List ℕ)) (history : List (Entry Call Reply)) : Type 0 where
@@ -98,6 +98,15 @@ HasNumbers (Submit id role round text) = (role ≤ max_in_64_bits) × (round ≤
 HasNumbers (Miss id role round broken) = (role ≤ max_in_64_bits) × (round ≤ max_in_64_bits)
 HasNumbers (Query id) = Unit {0}
 HasNumbers (Abort id) = Unit {0}
+
+-- the names in a call
+abbrev pub names_in : Call → List (List ℕ)
+names_in (Open id game start play strikes players) = id ∷ players
+names_in (Next id role) = id ∷ []
+names_in (Submit id role round text) = id ∷ []
+names_in (Miss id role round broken) = id ∷ []
+names_in (Query id) = id ∷ []
+names_in (Abort id) = id ∷ []
 
 -- the text of a submission. Other calls have none.
 abbrev pub text_in : Call → List ℕ

@@ -5,16 +5,16 @@ use Rattle.call_history.specs.History.{IsLegalHistory, run}
 use Rattle.call_history.specs.declared.journal.Entry.{Entry}
 use Rattle.desk_calls.specs.declared.call.Call.{Call}
 use Rattle.desk_calls.specs.declared.call.Reply.{Reply}
-use Rattle.desk_text.specs.Account.{IsAccount, IsRead, entry_text, told}
+use Rattle.desk_text.specs.Account.{IsAccount, IsRead, entry_call, entry_text}
 use Rattle.desk_text.specs.declared.replaying.ReplayFault.{ReplayFault}
 use Rattle.desk_text.specs.declared.replaying.ReplayFault.TheVariants.{Memory, NoEntry, Differs}
 
--- Why the line of this number, counted from 1, is refused in this state of the object: it tells no call, or it is not the text of
+-- Why the line of this number, counted from 1, is refused in this state of the object: it has no call, or it is not the text of
 -- the call and its reply.
 abbrev pub RefusesLine : {S : Type 0} → (S → Call → Reply) → S → ℕ → List ℕ → ReplayFault → Type 0
 RefusesLine reply s place text Memory = Unit {0}
-RefusesLine reply s place text (NoEntry at) = (at ≡ place) × (told text ≡ None)
-RefusesLine reply s place text (Differs at right) = (at ≡ place) × (e : Entry Call Reply) × (told text ≡ Some (e.line, e.call)) × (e.reply ≡ reply s e.call) × (right.items ≡ entry_text e) × (text ≢ entry_text e)
+RefusesLine reply s place text (NoEntry at why) = (at ≡ place) × (entry_call text ≡ None)
+RefusesLine reply s place text (Differs at right) = (at ≡ place) × (e : Entry Call Reply) × (entry_call text ≡ Some (e.line, e.call)) × (e.reply ≡ reply s e.call) × (right.items ≡ entry_text e) × (text ≢ entry_text e)
 
 -- the lines before one tell a legal history, and that one is refused
 pub record IsFirstFault {S : Type 0} (reply : S → Call → Reply) (after : S → Call → S) (start : S) (lines : List (List ℕ)) (fault : ReplayFault) : Type 0 where

@@ -1,5 +1,5 @@
 -- The calls of script lines, and the lines of replies.
-use Rattle.std.specs.Prelude.{ℕ, ◌&&◌, nat_le, nat_lt, Bool, true, false, List, [], ◌∷◌, ◌++◌, length, Option, Some, None, option_and_then, if◌then◌else◌, bytes_eq, codes}
+use Rattle.std.specs.Prelude.{ℕ, ◌&&◌, ◌||◌, nat_le, nat_lt, Bool, true, false, List, [], ◌∷◌, ◌++◌, length, Option, Some, None, option_and_then, option_map, if◌then◌else◌, bytes_eq, codes}
 use Rattle.std.specs.List.{list_all}
 use Rattle.std.specs.Fmt.{decimal}
 use Rattle.game_core.specs.Bytes.{left_parenthesis, right_parenthesis}
@@ -16,95 +16,129 @@ use Rattle.desk_calls.specs.declared.call.Reply.TheVariants.{Opened, Due as IsDu
 use Rattle.desk_calls.specs.declared.call.Refusal.{Refusal}
 use Rattle.desk_calls.specs.declared.call.Refusal.TheVariants.{BadId, IdUsed, NoGame, WrongPlayers, BadName, BadClock, BadStrikes, DeskFull, NoMatch, NoRole, Over as IsOver, Stale, Twice, Ended}
 use Rattle.game_core.specs.Numerals.{plain_number}
+use Rattle.desk_text.specs.declared.script_lines.Grammar.{Grammar}
 use Rattle.desk_text.specs.Words.{words, spaced, max_number, max_in_32_bits, max_in_64_bits}
 
--- the call that f makes from a number up to this limit, if the word is one: in decimal digits, without leading zeros
-abbrev pub with_number : ℕ → List ℕ → (ℕ → Option Call) → Option Call
-with_number limit word f = option_and_then f (plain_number word limit)
+-- what the names and the numbers of a call's words may be: a script's names are not empty, and its numbers at most the largest
+abbrev pub script : Grammar
+script = record { has_empty_names = false; largest = max_number }
 
--- the call that opens a match, if these words are numbers and there is a number of strikes
-abbrev pub opening_call : List ℕ → List ℕ → List ℕ → List ℕ → Option ℕ → List (List ℕ) → Option Call
-opening_call id game start play strikes players =
-    with_number max_in_64_bits game (λ g. with_number max_in_32_bits start (λ s. with_number max_in_32_bits play (λ p. option_and_then (λ k. Some (Open id g s p k players)) strikes)))
+-- an account's are any that a call holds
+abbrev pub account : Grammar
+account = record { has_empty_names = true; largest = max_in_64_bits }
 
--- ID GAME START PLAY PLAYER .., with 0 strikes
-abbrev pub open_call : List (List ℕ) → Option Call
-open_call (id ∷ (game ∷ (start ∷ (play ∷ players)))) = opening_call id game start play (Some 0) players
-open_call _ = None
+abbrev pub is_name : Grammar → List ℕ → Bool
+is_name grammar word = grammar.has_empty_names || nat_lt 0 (length word)
 
--- ID GAME START PLAY STRIKES PLAYER ..
-abbrev pub strict_call : List (List ℕ) → Option Call
-strict_call (id ∷ (game ∷ (start ∷ (play ∷ (strikes ∷ players))))) = opening_call id game start play (plain_number strikes max_in_32_bits) players
-strict_call _ = None
+-- ---- the first of some words, and those behind it
+
+infixl 10 ◌>>=◌
+abbrev pub ◌>>=◌ : {A B : Type 0} → Option A → (A → Option B) → Option B
+o >>= f = option_and_then f o
+
+abbrev pub first_name : Grammar → List (List ℕ) → Option (List ℕ × List (List ℕ))
+first_name grammar [] = None
+first_name grammar (word ∷ more) = if is_name grammar word then Some (word, more) else None
+
+-- a number in decimal digits, without leading zeros
+abbrev pub first_number : Grammar → List (List ℕ) → Option (ℕ × List (List ℕ))
+first_number grammar [] = None
+first_number grammar (word ∷ more) = option_map (λ number. (number, more)) (plain_number word grammar.largest)
+
+-- `silent` or `broken`: whether it is `broken`
+abbrev pub first_reason : List (List ℕ) → Option (Bool × List (List ℕ))
+first_reason [] = None
+first_reason (word ∷ more) = if bytes_eq word (codes "silent") then Some (false, more) else (if bytes_eq word (codes "broken") then Some (true, more) else None)
+
+-- strikes: 0 if there is no word for them
+abbrev pub first_strikes : Grammar → Bool → List (List ℕ) → Option (ℕ × List (List ℕ))
+first_strikes grammar is_strict words = if is_strict then first_number grammar words else Some (0, words)
+
+-- no words are left
+abbrev pub is_end : List (List ℕ) → Bool
+is_end [] = true
+is_end (word ∷ more) = false
+
+-- each of these words is a name
+abbrev pub names_of : Grammar → List (List ℕ) → Option (List (List ℕ))
+names_of grammar words = if list_all (is_name grammar) words then Some words else None
+
+-- ---- the words of each call behind the keyword
+
+-- ID GAME START PLAY PLAYER .., for `strict` with STRIKES before the players
+abbrev pub opening_words : Grammar → Bool → List (List ℕ) → Option (List ℕ × ℕ × ℕ × ℕ × ℕ × List (List ℕ))
+opening_words grammar is_strict words = do
+  id ← first_name grammar words
+  game ← first_number grammar id.1
+  start ← first_number grammar game.1
+  play ← first_number grammar start.1
+  strikes ← first_strikes grammar is_strict play.1
+  Some (id.0, game.0, start.0, play.0, strikes.0, strikes.1)
+
+-- clocks and strikes have 32 bits
+abbrev pub opening_call : Grammar → Bool → List (List ℕ) → Option Call
+opening_call grammar is_strict words = do
+  opening ← opening_words grammar is_strict words
+  players ← if nat_le opening.2 max_in_32_bits && nat_le opening.3 max_in_32_bits && nat_le opening.4 max_in_32_bits then names_of grammar opening.5 else None
+  Some (Open opening.0 opening.1 opening.2 opening.3 opening.4 players)
 
 -- ID ROLE
-abbrev pub next_call : List (List ℕ) → Option Call
-next_call (id ∷ (role ∷ [])) = with_number max_in_64_bits role (λ r. Some (Next id r))
-next_call _ = None
+abbrev pub next_words : Grammar → List (List ℕ) → Option (List ℕ × ℕ)
+next_words grammar words = do
+  id ← first_name grammar words
+  role ← first_number grammar id.1
+  if is_end role.1 then Some (id.0, role.0) else None
+
+abbrev pub next_call : Grammar → List (List ℕ) → Option Call
+next_call grammar words = option_map (λ w. Next w.0 w.1) (next_words grammar words)
+
+-- ID ROLE ROUND, and the words behind them
+abbrev pub round_words : Grammar → List (List ℕ) → Option (List ℕ × ℕ × ℕ × List (List ℕ))
+round_words grammar words = do
+  id ← first_name grammar words
+  role ← first_number grammar id.1
+  round ← first_number grammar role.1
+  Some (id.0, role.0, round.0, round.1)
 
 -- ID ROLE ROUND TEXT, where the text is the rest of the line
-abbrev pub submit_call : List (List ℕ) → Option Call
-submit_call (id ∷ (role ∷ (round ∷ text))) = with_number max_in_64_bits role (λ r. with_number max_in_64_bits round (λ n. Some (Submit id r n (spaced text))))
-submit_call _ = None
-
--- `silent` or `broken`
-abbrev pub is_broken : List ℕ → Option Bool
-is_broken word = if bytes_eq word (codes "silent") then Some false else (if bytes_eq word (codes "broken") then Some true else None)
+abbrev pub submit_call : Grammar → List (List ℕ) → Option Call
+submit_call grammar words = option_map (λ w. Submit w.0 w.1 w.2 (spaced w.3)) (round_words grammar words)
 
 -- ID ROLE ROUND, and why there is no answer
-abbrev pub miss_call : List (List ℕ) → Option Call
-miss_call (id ∷ (role ∷ (round ∷ (why ∷ [])))) = with_number max_in_64_bits role (λ r. with_number max_in_64_bits round (λ n. option_and_then (λ broken. Some (Miss id r n broken)) (is_broken why)))
-miss_call _ = None
+abbrev pub miss_words : Grammar → List (List ℕ) → Option (List ℕ × ℕ × ℕ × Bool)
+miss_words grammar words = do
+  w ← round_words grammar words
+  reason ← first_reason w.3
+  if is_end reason.1 then Some (w.0, w.1, w.2, reason.0) else None
+
+abbrev pub miss_call : Grammar → List (List ℕ) → Option Call
+miss_call grammar words = option_map (λ w. Miss w.0 w.1 w.2 w.3) (miss_words grammar words)
 
 -- ID
-abbrev pub query_call : List (List ℕ) → Option Call
-query_call (id ∷ []) = Some (Query id)
-query_call _ = None
+abbrev pub only_id : Grammar → List (List ℕ) → Option (List ℕ)
+only_id grammar words = do
+  id ← first_name grammar words
+  if is_end id.1 then Some id.0 else None
 
-abbrev pub abort_call : List (List ℕ) → Option Call
-abort_call (id ∷ []) = Some (Abort id)
-abort_call _ = None
+abbrev pub id_call : Grammar → Bool → List (List ℕ) → Option Call
+id_call grammar is_abort words = option_map (λ id. if is_abort then Abort id else Query id) (only_id grammar words)
 
--- the call of a keyword and the words after it, with any names, and any numbers that a call holds
-abbrev pub call_of_words : List (List ℕ) → Option Call
-call_of_words [] = None
-call_of_words (keyword ∷ rest) =
-    if bytes_eq keyword (codes "open") then open_call rest
-    else (if bytes_eq keyword (codes "next") then next_call rest
-    else (if bytes_eq keyword (codes "submit") then submit_call rest
-    else (if bytes_eq keyword (codes "miss") then miss_call rest
-    else (if bytes_eq keyword (codes "query") then query_call rest
-    else (if bytes_eq keyword (codes "abort") then abort_call rest
-    else (if bytes_eq keyword (codes "strict") then strict_call rest
+-- the call of a keyword and the words behind it
+abbrev pub call_of_words : Grammar → List (List ℕ) → Option Call
+call_of_words grammar [] = None
+call_of_words grammar (keyword ∷ rest) =
+    if bytes_eq keyword (codes "open") then opening_call grammar false rest
+    else (if bytes_eq keyword (codes "strict") then opening_call grammar true rest
+    else (if bytes_eq keyword (codes "next") then next_call grammar rest
+    else (if bytes_eq keyword (codes "submit") then submit_call grammar rest
+    else (if bytes_eq keyword (codes "miss") then miss_call grammar rest
+    else (if bytes_eq keyword (codes "query") then id_call grammar false rest
+    else (if bytes_eq keyword (codes "abort") then id_call grammar true rest
     else None))))))
-
--- the names in a call, and its numbers
-abbrev pub names_in : Call → List (List ℕ)
-names_in (Open id game start play strikes players) = id ∷ players
-names_in (Next id role) = id ∷ []
-names_in (Submit id role round text) = id ∷ []
-names_in (Miss id role round broken) = id ∷ []
-names_in (Query id) = id ∷ []
-names_in (Abort id) = id ∷ []
-
-abbrev pub numbers_in : Call → List ℕ
-numbers_in (Open id game start play strikes players) = game ∷ (start ∷ (play ∷ (strikes ∷ [])))
-numbers_in (Next id role) = role ∷ []
-numbers_in (Submit id role round text) = role ∷ (round ∷ [])
-numbers_in (Miss id role round broken) = role ∷ (round ∷ [])
-numbers_in (Query id) = []
-numbers_in (Abort id) = []
-
-abbrev pub is_named : List ℕ → Bool
-is_named word = nat_lt 0 (length word)
-
--- a script's names are not empty, and its numbers are at most the largest
-abbrev pub is_scripted : Call → Bool
-is_scripted call = list_all is_named (names_in call) && list_all (λ number. nat_le number max_number) (numbers_in call)
 
 -- the call of a script's line. A bad line has none.
 abbrev pub call_of : List ℕ → Option Call
-call_of line = option_and_then (λ call. if is_scripted call then Some call else None) (call_of_words (words line))
+call_of line = call_of_words script (words line)
 
 -- the last joint move. It is NIL before the first turn.
 abbrev pub joint_text : Option (List (List ℕ)) → List ℕ

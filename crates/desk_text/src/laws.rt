@@ -4,14 +4,14 @@ ghost use Rattle.std.specs.List.{AllByRecursion};
 ghost use Rattle.std.specs.Str.Lines.{lines};
 ghost use Rattle.call_history.specs.declared.journal.Entry.{Entry};
 ghost use Rattle.desk_calls.specs.declared.call.Call.{Call};
-ghost use Rattle.desk_text.specs.Account.{IsCall, IsEntry, Tell, call_text, history_text, told_call};
+ghost use Rattle.desk_text.specs.Account.{IsCall, IsEntry, Tell, account_call, call_text, history_text};
 
 /// A call can be read from its text, so no two calls have the same text.
-pub fn calls_are_told()
-    ensures { (call : Call) → IsCall call → told_call (call_text call) ≡ Some call }
+pub fn calls_are_read()
+    ensures { (call : Call) → IsCall call → account_call (call_text call) ≡ Some call }
 {}
 
 /// The lines of a history's text are the texts of its entries, and each entry can be read from its line.
-pub fn histories_are_told()
+pub fn histories_are_read()
     ensures { (history : List (Entry _ _)) → AllByRecursion IsEntry history → Tell (lines (history_text history)) history }
 {}

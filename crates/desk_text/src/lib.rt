@@ -7,18 +7,20 @@
 #![tactic(auto)]
 
 mod account;
+mod entry_calls;
 mod escapes;
 pub mod laws;
+mod line_fault;
 mod lines;
 mod replaying;
 mod reply_lines;
 mod script_lines;
-mod told_calls;
 mod words;
 
 pub use account::push_history;
+pub use line_fault::{FaultKind, LineFault};
 pub use lines::first_line;
 pub use replaying::{ReplayFault, Replayed, replay};
 pub use reply_lines::{push_reply, refusal_word};
-pub use script_lines::{MAX_NUMBER, call_of};
+pub use script_lines::call_of;
 pub use words::{first_piece, plain_number_up_to};

@@ -3,13 +3,14 @@ ghost use Rattle.std.specs.Prelude.{◌≡◌, ◌≢◌, IfErr, IfOk, OnOk};
 ghost use Rattle.std.specs.Str.Lines.{lines};
 ghost use Rattle.match_desk.specs.Steps.{reply, after};
 ghost use Rattle.call_history.specs.declared.journal.Entry.{Entry};
-ghost use Rattle.desk_text.specs.Account.{entry_text, no_matches, told, IsAccount, IsRead};
+ghost use Rattle.desk_text.specs.Account.{entry_call, entry_text, no_matches, IsAccount, IsRead};
 ghost use Rattle.desk_text.specs.Replaying.{IsFirstFault, RefusesLine, TellNoHistory};
 ghost use Rattle.desk_text.specs.declared.replaying.ReplayFault.TheVariants.{Memory};
 
 use crate::account::push_entry;
+use crate::entry_calls::entry_call;
+use crate::line_fault::LineFault;
 use crate::lines::first_line;
-use crate::told_calls::told;
 use call_history::Object;
 use desk_calls::{Call, Reply};
 use game_core::Game;
@@ -29,7 +30,7 @@ pub struct Replayed<G: Game> {
 pub enum ReplayFault {
     Memory,
     /// The line holds no call.
-    NoEntry(u64),
+    NoEntry(u64, LineFault),
     /// The call gets another reply, or the line is written in another way. The bytes are the right line.
     Differs(u64, Vec<u8>),
 }
@@ -67,7 +68,7 @@ fn right_text<O: Object<Call = Call, Reply = Reply>>(
     entry_bytes(alloc, line, call, &reply)
 }
 
-/// Makes this call, which the account's line of number `place` tells, counted from 1. The line must be the text that is written for the
+/// Makes this call, that of the account's line of number `place`, counted from 1. The line must be the text that is written for the
 /// call and its reply.
 fn replay_call<O: Object<Call = Call, Reply = Reply>>(
     alloc: Global,
@@ -77,7 +78,7 @@ fn replay_call<O: Object<Call = Call, Reply = Reply>>(
     line: u32,
     call: &Call,
 ) -> Result<(), ReplayFault>
-    requires { told text.now ≡ Some (line, call.now) }
+    requires { entry_call text.now ≡ Some (line, call.now) }
     ensures ok { OnOk result ((e : Entry _ _) × (text.now ≡ entry_text e) × IsRead e × (e.reply ≡ O.reply object.old e.call) × (object.new ≡ O.after object.old e.call)) }
     ensures refused { IfErr result (RefusesLine O.reply object.old place text.now) }
 {
@@ -89,7 +90,7 @@ fn replay_call<O: Object<Call = Call, Reply = Reply>>(
     Ok(())
 }
 
-/// Makes the call that the account's line of number `place` tells, counted from 1, if it tells one. The line must be the text that is
+/// Makes the call of the account's line of number `place`, counted from 1, if it has one. The line must be the text that is
 /// written for the call and its reply.
 fn replay_entry<O: Object<Call = Call, Reply = Reply>>(
     alloc: Global,
@@ -100,9 +101,9 @@ fn replay_entry<O: Object<Call = Call, Reply = Reply>>(
     ensures ok { OnOk result ((e : Entry _ _) × (text.now ≡ entry_text e) × IsRead e × (e.reply ≡ O.reply object.old e.call) × (object.new ≡ O.after object.old e.call)) }
     ensures refused { IfErr result (RefusesLine O.reply object.old place text.now) }
 {
-    match told(alloc, text)? {
-        Some((line, call)) => replay_call(alloc, object, place, text, line, &call),
-        None => Err(ReplayFault::NoEntry(place)),
+    match entry_call(alloc, text)? {
+        Ok((line, call)) => replay_call(alloc, object, place, text, line, &call),
+        Err(why) => Err(ReplayFault::NoEntry(place, why)),
     }
 }
 

@@ -1,287 +1,352 @@
-//! The calls of script lines.
-ghost use Rattle.std.specs.Prelude.{◌≡◌, ◌≢◌, ◌∷◌, IfOk, map, codes, nat_le};
-ghost use Rattle.std.specs.List.{list_all};
-ghost use Rattle.game_core.specs.Numerals.{plain_number};
-ghost use Rattle.desk_text.specs.Words.{words, max_number, max_in_64_bits};
-ghost use Rattle.desk_text.specs.ScriptLines.{opening_call, open_call, next_call, submit_call, miss_call, query_call, abort_call, strict_call, call_of_words, call_of, is_named, names_in, numbers_in, is_broken};
+//! The calls of script lines, and of the same lines in an account.
+ghost use Rattle.std.specs.Prelude.{◌≡◌, IfOk, option_copied, option_map};
+ghost use Rattle.std.specs.Result.{is_ok, result_ok};
+ghost use Rattle.desk_text.specs.Words.{words, words_behind};
+ghost use Rattle.desk_text.specs.ScriptLines.{call_of, call_of_words, first_name, first_number, first_reason, first_strikes, id_call, is_end, miss_call, miss_words, names_of, next_call, next_words, only_id, opening_call, opening_words, round_words, submit_call};
 
-use crate::words::{first_word, plain_number_up_to, small_number, words};
+use crate::line_fault::{FaultKind, LineFault};
+use crate::words::{first_piece, plain_number_up_to};
 use desk_calls::Call;
 use game_core::{Text, Texts};
 use std::alloc::{AllocError, Global};
 
-/// The number of a word, if 64 bits hold it.
-fn number(word: &[u8]) -> Option<u64>
-    ensures { result ≡ plain_number word.now max_in_64_bits }
-{
-    plain_number_up_to(word, u64::MAX)
+/// The largest number in a script.
+const MAX_NUMBER: u64 = 1_000_000_000;
+
+/// What the names and the numbers of a call's words may be.
+#[derive(Clone, Copy)]
+pub(crate) struct Grammar {
+    pub(crate) has_empty_names: bool,
+    /// The largest number.
+    pub(crate) largest: u64,
 }
 
-fn texts(alloc: Global, words: &[&[u8]]) -> Result<Texts, AllocError>
-    ensures { IfOk result (λ t. t ≡ map (λ w. w.now) words.now) }
-{
-    let mut items = Vec::with_capacity(alloc, words.len())?;
-    for word in words {
-        items.push(Text::from_slice(alloc, word)?)?;
-    }
-    Ok(Texts { items })
-}
+/// The grammar of an account's calls.
+pub(crate) const ACCOUNT: Grammar = Grammar {
+    has_empty_names: true,
+    largest: u64::MAX,
+};
 
-/// The call that opens a match, if these words are numbers and there is a number of strikes.
-fn opening_call(
-    alloc: Global,
-    id: &[u8],
-    game: &[u8],
-    start: &[u8],
-    play: &[u8],
-    strikes: Option<u32>,
-    players: &[&[u8]],
-) -> Result<Option<Call>, AllocError>
-    ensures { IfOk result (λ o. o ≡ opening_call id.now game.now start.now play.now strikes (map (λ w. w.now) players.now)) }
+/// The grammar of a script's calls.
+const SCRIPT: Grammar = Grammar {
+    has_empty_names: false,
+    largest: MAX_NUMBER,
+};
+
+/// The first of the words that are left, which has to be a name, and the words behind it.
+fn name<'a>(
+    grammar: Grammar,
+    rest: Option<&'a [u8]>,
+) -> Result<(&'a [u8], Option<&'a [u8]>), LineFault>
+    ensures { option_map (λ r. (r.0.now, words_behind (option_copied r.1))) (result_ok result) ≡ first_name grammar (words_behind (option_copied rest.entry)) }
 {
-    let (Some(game), Some(start), Some(play), Some(strikes)) = (
-        number(game),
-        small_number(start),
-        small_number(play),
-        strikes,
-    ) else {
-        return Ok(None);
+    let Some(text) = rest else {
+        return Err(LineFault::at(b"", FaultKind::FewerWords));
     };
-    Ok(Some(Call::Open {
-        id: Text::from_slice(alloc, id)?,
-        game: game as usize,
+    let (word, rest) = first_piece(text, b' ');
+    if word.is_empty() && !grammar.has_empty_names {
+        return Err(LineFault::at(text, FaultKind::NoName));
+    }
+    Ok((word, rest))
+}
+
+/// The first of the words that are left, which has to be a number, and the words behind it.
+fn number<'a>(
+    grammar: Grammar,
+    rest: Option<&'a [u8]>,
+) -> Result<(u64, Option<&'a [u8]>), LineFault>
+    ensures { option_map (λ r. (r.0, words_behind (option_copied r.1))) (result_ok result) ≡ first_number grammar (words_behind (option_copied rest.entry)) }
+{
+    let Some(text) = rest else {
+        return Err(LineFault::at(b"", FaultKind::FewerWords));
+    };
+    let (word, rest) = first_piece(text, b' ');
+    match plain_number_up_to(word, grammar.largest) {
+        Some(number) => Ok((number, rest)),
+        None => Err(LineFault::at(text, FaultKind::NoNumber(grammar.largest))),
+    }
+}
+
+/// The first of the words that are left, which has to be `silent` or `broken`: whether it is `broken`. And the words behind it.
+fn reason(rest: Option<&[u8]>) -> Result<(bool, Option<&[u8]>), LineFault>
+    ensures { option_map (λ r. (r.0, words_behind (option_copied r.1))) (result_ok result) ≡ first_reason (words_behind (option_copied rest.entry)) }
+{
+    let Some(text) = rest else {
+        return Err(LineFault::at(b"", FaultKind::FewerWords));
+    };
+    let (word, rest) = first_piece(text, b' ');
+    if word == b"silent".as_slice() {
+        Ok((false, rest))
+    } else if word == b"broken".as_slice() {
+        Ok((true, rest))
+    } else {
+        Err(LineFault::at(text, FaultKind::NoReason))
+    }
+}
+
+/// No words may be left.
+fn end(rest: Option<&[u8]>) -> Result<(), LineFault>
+    ensures { is_ok result ≡ is_end (words_behind (option_copied rest.entry)) }
+{
+    match rest {
+        None => Ok(()),
+        Some(text) => Err(LineFault::at(text, FaultKind::MoreWords)),
+    }
+}
+
+/// The id, the role and the round that a line begins with behind its keyword, and the words behind them.
+fn round_words<'a>(
+    grammar: Grammar,
+    rest: Option<&'a [u8]>,
+) -> Result<(&'a [u8], u64, u64, Option<&'a [u8]>), LineFault>
+    ensures { option_map (λ r. (r.0.now, r.1, r.2, words_behind (option_copied r.3))) (result_ok result) ≡ round_words grammar (words_behind (option_copied rest.entry)) }
+{
+    let (id, rest) = name(grammar, rest)?;
+    let (role, rest) = number(grammar, rest)?;
+    let (round, rest) = number(grammar, rest)?;
+    Ok((id, role, round, rest))
+}
+
+/// The number of strikes of a `strict` line, or 0 for an `open` line, and the words behind it.
+fn strikes<'a>(
+    grammar: Grammar,
+    is_strict: bool,
+    rest: Option<&'a [u8]>,
+) -> Result<(u64, Option<&'a [u8]>), LineFault>
+    ensures { option_map (λ r. (r.0, words_behind (option_copied r.1))) (result_ok result) ≡ first_strikes grammar is_strict (words_behind (option_copied rest.entry)) }
+{
+    if is_strict {
+        number(grammar, rest)
+    } else {
+        Ok((0, rest))
+    }
+}
+
+/// The words of an opening: its id, its numbers, and what is left for its players.
+#[derive(Clone, Copy)]
+struct Opening<'a> {
+    id: &'a [u8],
+    game: u64,
+    start: u64,
+    play: u64,
+    strikes: u64,
+    players: Option<&'a [u8]>,
+}
+
+fn opening_words(
+    grammar: Grammar,
+    is_strict: bool,
+    rest: Option<&[u8]>,
+) -> Result<Opening<'_>, LineFault>
+    ensures { option_map (λ o. (o.id.now, o.game, o.start, o.play, o.strikes, words_behind (option_copied o.players))) (result_ok result) ≡ opening_words grammar is_strict (words_behind (option_copied rest.entry)) }
+{
+    let (id, rest) = name(grammar, rest)?;
+    let (game, rest) = number(grammar, rest)?;
+    let (start, rest) = number(grammar, rest)?;
+    let (play, rest) = number(grammar, rest)?;
+    let (strikes, players) = strikes(grammar, is_strict, rest)?;
+    Ok(Opening {
+        id,
+        game,
         start,
         play,
         strikes,
-        players: texts(alloc, players)?,
+        players,
+    })
+}
+
+/// The words that are left, each of which has to be a name.
+fn names(
+    alloc: Global,
+    grammar: Grammar,
+    rest: Option<&[u8]>,
+) -> Result<Result<Texts, LineFault>, AllocError>
+    ensures { IfOk result (λ found. result_ok found ≡ names_of grammar (words_behind (option_copied rest.entry))) }
+{
+    let mut items = Vec::new(alloc);
+    let mut rest = rest;
+    while rest.is_some() {
+        match name(grammar, rest) {
+            Ok((word, more)) => {
+                items.push(Text::from_slice(alloc, word)?)?;
+                rest = more;
+            }
+            Err(fault) => return Ok(Err(fault)),
+        }
+    }
+    Ok(Ok(Texts { items }))
+}
+
+/// The call of an `open` or a `strict` line.
+fn opening_call(
+    alloc: Global,
+    grammar: Grammar,
+    is_strict: bool,
+    line: &[u8],
+    rest: Option<&[u8]>,
+) -> Result<Result<Call, LineFault>, AllocError>
+    ensures { IfOk result (λ found. result_ok found ≡ opening_call grammar is_strict (words_behind (option_copied rest.entry))) }
+{
+    let opening = match opening_words(grammar, is_strict, rest) {
+        Ok(opening) => opening,
+        Err(fault) => return Ok(Err(fault)),
+    };
+    let most = u64::from(u32::MAX);
+    if opening.start > most || opening.play > most || opening.strikes > most {
+        return Ok(Err(LineFault::at(line, FaultKind::NoCall)));
+    }
+    let players = match names(alloc, grammar, opening.players)? {
+        Ok(players) => players,
+        Err(fault) => return Ok(Err(fault)),
+    };
+    Ok(Ok(Call::Open {
+        id: Text::from_slice(alloc, opening.id)?,
+        game: opening.game as usize,
+        start: opening.start as u32,
+        play: opening.play as u32,
+        strikes: opening.strikes as u32,
+        players,
     }))
 }
 
-fn open_call(alloc: Global, words: &[&[u8]]) -> Result<Option<Call>, AllocError>
-    ensures { IfOk result (λ o. o ≡ open_call (map (λ w. w.now) words.now)) }
+/// The words of a `next` line: its id and its role.
+fn next_words(grammar: Grammar, rest: Option<&[u8]>) -> Result<(&[u8], u64), LineFault>
+    ensures { option_map (λ r. (r.0.now, r.1)) (result_ok result) ≡ next_words grammar (words_behind (option_copied rest.entry)) }
 {
-    let [id, game, start, play, players @ ..] = words else {
-        return Ok(None);
-    };
-    opening_call(alloc, id, game, start, play, Some(0), players)
+    let (id, rest) = name(grammar, rest)?;
+    let (role, rest) = number(grammar, rest)?;
+    end(rest)?;
+    Ok((id, role))
 }
 
-fn strict_call(alloc: Global, words: &[&[u8]]) -> Result<Option<Call>, AllocError>
-    ensures { IfOk result (λ o. o ≡ strict_call (map (λ w. w.now) words.now)) }
+fn next_call(
+    alloc: Global,
+    grammar: Grammar,
+    rest: Option<&[u8]>,
+) -> Result<Result<Call, LineFault>, AllocError>
+    ensures { IfOk result (λ found. result_ok found ≡ next_call grammar (words_behind (option_copied rest.entry))) }
 {
-    let [id, game, start, play, strikes, players @ ..] = words else {
-        return Ok(None);
-    };
-    opening_call(alloc, id, game, start, play, small_number(strikes), players)
-}
-
-fn next_call(alloc: Global, words: &[&[u8]]) -> Result<Option<Call>, AllocError>
-    ensures { IfOk result (λ o. o ≡ next_call (map (λ w. w.now) words.now)) }
-{
-    let [id, role] = words else {
-        return Ok(None);
-    };
-    let Some(role) = number(role) else {
-        return Ok(None);
-    };
-    let id = Text::from_slice(alloc, id)?;
-    Ok(Some(Call::Next {
-        id,
-        role: role as usize,
-    }))
+    match next_words(grammar, rest) {
+        Ok((id, role)) => Ok(Ok(Call::Next {
+            id: Text::from_slice(alloc, id)?,
+            role: role as usize,
+        })),
+        Err(fault) => Ok(Err(fault)),
+    }
 }
 
 /// The call of a `submit` line. Its text is the rest of the line as it stands, or empty if the line
 /// ends at the round.
-fn submit_call(alloc: Global, rest: &[u8]) -> Result<Option<Call>, AllocError>
-    ensures { IfOk result (λ o. o ≡ submit_call (words rest.now)) }
+fn submit_call(
+    alloc: Global,
+    grammar: Grammar,
+    rest: Option<&[u8]>,
+) -> Result<Result<Call, LineFault>, AllocError>
+    ensures { IfOk result (λ found. result_ok found ≡ submit_call grammar (words_behind (option_copied rest.entry))) }
 {
-    let (id, Some(rest)) = first_word(rest) else {
-        return Ok(None);
-    };
-    let (role, Some(rest)) = first_word(rest) else {
-        return Ok(None);
-    };
-    let (round, text) = first_word(rest);
-    let (Some(role), Some(round)) = (number(role), number(round)) else {
-        return Ok(None);
-    };
-    let id = Text::from_slice(alloc, id)?;
-    let text = Text::from_slice(alloc, text.unwrap_or(b""))?;
-    Ok(Some(Call::Submit {
-        id,
-        role: role as usize,
-        round,
-        text,
-    }))
+    match round_words(grammar, rest) {
+        Ok((id, role, round, text)) => {
+            let id = Text::from_slice(alloc, id)?;
+            let text = Text::from_slice(alloc, text.unwrap_or(b""))?;
+            Ok(Ok(Call::Submit {
+                id,
+                role: role as usize,
+                round,
+                text,
+            }))
+        }
+        Err(fault) => Ok(Err(fault)),
+    }
 }
 
-fn is_broken(word: &[u8]) -> Option<bool>
-    ensures { result ≡ is_broken word.now }
+/// The words of a `miss` line: its id, its role, its round, and whether its last word is `broken`.
+fn miss_words(grammar: Grammar, rest: Option<&[u8]>) -> Result<(&[u8], u64, u64, bool), LineFault>
+    ensures { option_map (λ r. (r.0.now, r.1, r.2, r.3)) (result_ok result) ≡ miss_words grammar (words_behind (option_copied rest.entry)) }
 {
-    if word == b"silent".as_slice() {
-        Some(false)
-    } else if word == b"broken".as_slice() {
-        Some(true)
+    let (id, role, round, rest) = round_words(grammar, rest)?;
+    let (broken, rest) = reason(rest)?;
+    end(rest)?;
+    Ok((id, role, round, broken))
+}
+
+fn miss_call(
+    alloc: Global,
+    grammar: Grammar,
+    rest: Option<&[u8]>,
+) -> Result<Result<Call, LineFault>, AllocError>
+    ensures { IfOk result (λ found. result_ok found ≡ miss_call grammar (words_behind (option_copied rest.entry))) }
+{
+    match miss_words(grammar, rest) {
+        Ok((id, role, round, broken)) => Ok(Ok(Call::Miss {
+            id: Text::from_slice(alloc, id)?,
+            role: role as usize,
+            round,
+            broken,
+        })),
+        Err(fault) => Ok(Err(fault)),
+    }
+}
+
+/// The only word of a `query` or an `abort` line: its id.
+fn only_id(grammar: Grammar, rest: Option<&[u8]>) -> Result<&[u8], LineFault>
+    ensures { option_map (λ id. id.now) (result_ok result) ≡ only_id grammar (words_behind (option_copied rest.entry)) }
+{
+    let (id, rest) = name(grammar, rest)?;
+    end(rest)?;
+    Ok(id)
+}
+
+/// The call of a `query` or an `abort` line.
+fn id_call(
+    alloc: Global,
+    grammar: Grammar,
+    is_abort: bool,
+    rest: Option<&[u8]>,
+) -> Result<Result<Call, LineFault>, AllocError>
+    ensures { IfOk result (λ found. result_ok found ≡ id_call grammar is_abort (words_behind (option_copied rest.entry))) }
+{
+    let id = match only_id(grammar, rest) {
+        Ok(id) => Text::from_slice(alloc, id)?,
+        Err(fault) => return Ok(Err(fault)),
+    };
+    if is_abort {
+        Ok(Ok(Call::Abort { id }))
     } else {
-        None
+        Ok(Ok(Call::Query { id }))
     }
 }
 
-fn miss_call(alloc: Global, words: &[&[u8]]) -> Result<Option<Call>, AllocError>
-    ensures { IfOk result (λ o. o ≡ miss_call (map (λ w. w.now) words.now)) }
+/// The call of a line's words, by this grammar, or the first fault of the line.
+pub(crate) fn call_in(
+    alloc: Global,
+    grammar: Grammar,
+    line: &[u8],
+) -> Result<Result<Call, LineFault>, AllocError>
+    ensures { IfOk result (λ found. result_ok found ≡ call_of_words grammar (words line.now)) }
 {
-    let [id, role, round, why] = words else {
-        return Ok(None);
-    };
-    let (Some(role), Some(round), Some(broken)) = (number(role), number(round), is_broken(why))
-    else {
-        return Ok(None);
-    };
-    let id = Text::from_slice(alloc, id)?;
-    Ok(Some(Call::Miss {
-        id,
-        role: role as usize,
-        round,
-        broken,
-    }))
-}
-
-fn query_call(alloc: Global, words: &[&[u8]]) -> Result<Option<Call>, AllocError>
-    ensures { IfOk result (λ o. o ≡ query_call (map (λ w. w.now) words.now)) }
-{
-    match words {
-        [id] => {
-            let id = Text::from_slice(alloc, id)?;
-            Ok(Some(Call::Query { id }))
-        }
-        _ => Ok(None),
-    }
-}
-
-fn abort_call(alloc: Global, words: &[&[u8]]) -> Result<Option<Call>, AllocError>
-    ensures { IfOk result (λ o. o ≡ abort_call (map (λ w. w.now) words.now)) }
-{
-    match words {
-        [id] => {
-            let id = Text::from_slice(alloc, id)?;
-            Ok(Some(Call::Abort { id }))
-        }
-        _ => Ok(None),
-    }
-}
-
-/// The call of a keyword other than `submit`, and the words after it.
-fn call_of_words(alloc: Global, keyword: &[u8], words: &[&[u8]]) -> Result<Option<Call>, AllocError>
-    requires { keyword.now ≢ codes "submit" }
-    ensures { IfOk result (λ o. o ≡ call_of_words (keyword.now ∷ map (λ w. w.now) words.now)) }
-{
+    let (keyword, rest) = first_piece(line, b' ');
     if keyword == b"open".as_slice() {
-        open_call(alloc, words)
-    } else if keyword == b"next".as_slice() {
-        next_call(alloc, words)
-    } else if keyword == b"miss".as_slice() {
-        miss_call(alloc, words)
-    } else if keyword == b"query".as_slice() {
-        query_call(alloc, words)
-    } else if keyword == b"abort".as_slice() {
-        abort_call(alloc, words)
+        opening_call(alloc, grammar, false, line, rest)
     } else if keyword == b"strict".as_slice() {
-        strict_call(alloc, words)
+        opening_call(alloc, grammar, true, line, rest)
+    } else if keyword == b"next".as_slice() {
+        next_call(alloc, grammar, rest)
+    } else if keyword == b"submit".as_slice() {
+        submit_call(alloc, grammar, rest)
+    } else if keyword == b"miss".as_slice() {
+        miss_call(alloc, grammar, rest)
+    } else if keyword == b"query".as_slice() {
+        id_call(alloc, grammar, false, rest)
+    } else if keyword == b"abort".as_slice() {
+        id_call(alloc, grammar, true, rest)
     } else {
-        Ok(None)
+        Ok(Err(LineFault::at(line, FaultKind::NoKeyword)))
     }
 }
 
-/// The call of a line's words. Its names may be empty, and its numbers as large as a call's can be. `None` if there is no call.
-pub(crate) fn worded_call(alloc: Global, line: &[u8]) -> Result<Option<Call>, AllocError>
-    ensures { IfOk result (λ o. o ≡ call_of_words (words line.now)) }
+/// The call of a script's line. A bad line has none, but a fault: that of its keyword or of its first wrong word.
+pub fn call_of(alloc: Global, line: &[u8]) -> Result<Result<Call, LineFault>, AllocError>
+    ensures { IfOk result (λ found. result_ok found ≡ call_of line.now) }
 {
-    let (keyword, Some(rest)) = first_word(line) else {
-        return Ok(None);
-    };
-    if keyword == b"submit".as_slice() {
-        return submit_call(alloc, rest);
-    }
-    let words = words(alloc, rest)?;
-    call_of_words(alloc, keyword, words.as_slice())
-}
-
-/// The largest number in a script.
-pub const MAX_NUMBER: u64 = 1_000_000_000;
-
-fn are_numbers(numbers: &[u64]) -> bool
-    ensures { result ≡ list_all (λ number. nat_le number max_number) numbers.now }
-{
-    for number in numbers {
-        let is_small = *number <= MAX_NUMBER;
-        if !is_small {
-            return false;
-        }
-    }
-    true
-}
-
-fn has_numbers(call: &Call) -> bool
-    ensures { result ≡ list_all (λ number. nat_le number max_number) (numbers_in call.now) }
-{
-    match call {
-        Call::Open {
-            game,
-            start,
-            play,
-            strikes,
-            ..
-        } => are_numbers(&[
-            *game as u64,
-            u64::from(*start),
-            u64::from(*play),
-            u64::from(*strikes),
-        ]),
-        Call::Next { role, .. } => are_numbers(&[*role as u64]),
-        Call::Submit { role, round, .. } | Call::Miss { role, round, .. } => {
-            are_numbers(&[*role as u64, *round])
-        }
-        Call::Query { .. } | Call::Abort { .. } => true,
-    }
-}
-
-fn is_named(name: &Text) -> bool
-    ensures { result ≡ is_named name.now }
-{
-    !name.as_slice().is_empty()
-}
-
-fn are_named(names: &[Text]) -> bool
-    ensures { result ≡ list_all is_named names.now }
-{
-    for name in names {
-        if !is_named(name) {
-            return false;
-        }
-    }
-    true
-}
-
-fn has_names(call: &Call) -> bool
-    ensures { result ≡ list_all is_named (names_in call.now) }
-{
-    match call {
-        Call::Open { id, players, .. } => is_named(id) && are_named(players.as_slice()),
-        Call::Next { id, .. }
-        | Call::Submit { id, .. }
-        | Call::Miss { id, .. }
-        | Call::Query { id }
-        | Call::Abort { id } => is_named(id),
-    }
-}
-
-/// The call of a script's line. `None` if it is a bad line: one with no call, an empty name, or a number above `MAX_NUMBER`.
-pub fn call_of(alloc: Global, line: &[u8]) -> Result<Option<Call>, AllocError>
-    ensures { IfOk result (λ o. o ≡ call_of line.now) }
-{
-    match worded_call(alloc, line)? {
-        Some(call) if has_names(&call) && has_numbers(&call) => Ok(Some(call)),
-        _ => Ok(None),
-    }
+    call_in(alloc, SCRIPT, line)
 }

@@ -1,18 +1,10 @@
 //! The words of a line, and the numbers in them.
-ghost use Rattle.std.specs.Prelude.{◌≡◌, ◌^◌, ◌≤◌, ◌==◌, ◌∷◌, IfOk, IsTrue, MatchOption, map, option_copied, position};
+ghost use Rattle.std.specs.Prelude.{◌≡◌, ◌^◌, ◌≤◌, ◌==◌, ◌∷◌, IsTrue, MatchOption, option_copied, position};
 ghost use Rattle.std.specs.Str.Parse.{digits_value};
 ghost use Rattle.game_core.specs.Numerals.{are_digits, plain_number};
-ghost use Rattle.desk_text.specs.Words.{pieces, pieces_behind, words, words_behind, max_in_32_bits};
+ghost use Rattle.desk_text.specs.Words.{pieces, pieces_behind};
 
 use game_core::numeral::is_plain_numeral;
-use std::alloc::{AllocError, Global};
-
-/// The words of a text: the pieces between its spaces. A doubled space gives an empty word.
-pub fn words<'a>(alloc: Global, text: &'a [u8]) -> Result<Vec<&'a [u8]>, AllocError>
-    ensures { IfOk result (λ v. map (λ w. w.now) v.items ≡ words text.now) }
-{
-    text.split(|b| *b == b' ').collect(alloc)
-}
 
 /// The place of the first separator.
 pub fn piece_end(text: &[u8], separator: u8) -> Option<usize>
@@ -29,13 +21,6 @@ pub fn first_piece(text: &[u8], separator: u8) -> (&[u8], Option<&[u8]>)
         Some(end) => (&text[..end], Some(&text[end + 1..])),
         None => (text, None),
     }
-}
-
-/// The first word of a text, and the text after the space that ends the word.
-pub fn first_word(text: &[u8]) -> (&[u8], Option<&[u8]>)
-    ensures { words text.now ≡ result.0.now ∷ words_behind (option_copied result.1) }
-{
-    first_piece(text, b' ')
 }
 
 /// The number of these digits. `None` if 64 bits don't hold it.
@@ -63,12 +48,4 @@ pub fn plain_number_up_to(word: &[u8], limit: u64) -> Option<u64>
     }
     let number = digits_value(word)?;
     if number <= limit { Some(number) } else { None }
-}
-
-/// The number of a word, if 32 bits hold it.
-pub fn small_number(word: &[u8]) -> Option<u32>
-    ensures { result ≡ plain_number word.now max_in_32_bits }
-{
-    let number = plain_number_up_to(word, u64::from(u32::MAX))?;
-    Some(number as u32)
 }

@@ -1,30 +1,14 @@
 //! The explanation of an account's line whose call can't be made again.
 
-use crate::bad_lines::{BadLine, Source, push_bad_line};
-use desk_text::{ReplayFault, first_line, first_piece, plain_number_up_to};
+use crate::bad_lines::{BadLine, FEWER_FIELDS, push_bad_line};
+use desk_text::{LineFault, ReplayFault, first_line, first_piece};
 use std::alloc::AllocError;
 
-/// The words for an entry's text that lacks a field of its form.
-const FEWER: &str = "fewer fields than in ";
-
-/// The form of an entry's text.
-const FORM: &str = "LINE CALL REPLY, with a tab between each two";
-
-/// The largest number of a line of a desk.
-const MAX_DESK_LINE: u64 = 4_294_967_295;
-
-/// What is wrong with an entry's text that holds no call.
-fn fault_of(entry: &[u8]) -> BadLine {
-    let (number, Some(rest)) = first_piece(entry, b'\t') else {
-        return BadLine::new(entry.len(), FEWER, FORM);
-    };
-    if plain_number_up_to(number, MAX_DESK_LINE).is_none() {
-        return BadLine::new(0, "no number of a line", "");
-    }
-    let (call, _) = first_piece(rest, b'\t');
-    let fault = BadLine::of(call, Source::Account);
-    let at = number.len().saturating_add(1).saturating_add(fault.at);
-    BadLine { at, ..fault }
+/// What is wrong with an entry's text that has no call.
+fn fault_of(entry: &[u8], fault: LineFault) -> BadLine {
+    let (_, fields) = first_piece(entry, b'\t');
+    let (call, _) = first_piece(fields.unwrap_or(b""), b'\t');
+    BadLine::of(entry, call, fault)
 }
 
 /// Where an entry's text differs from the right one, and whether it does in its reply.
@@ -37,24 +21,28 @@ fn difference(entry: &[u8], right: &[u8]) -> BadLine {
         }
         at += 1;
     }
-    if tabs < 2 && at == entry.len() {
-        return BadLine::new(at, FEWER, FORM);
-    }
-    let words = if tabs == 2 {
+    let words = if tabs < 2 && at == entry.len() {
+        FEWER_FIELDS
+    } else if tabs == 2 {
         "the call gets another reply"
     } else {
         "the call is written in another way"
     };
-    BadLine::new(at, words, "")
+    BadLine::new(at, words)
 }
 
-/// The first line of a text, and the text after it. The line is empty if the text is.
-fn next_line(text: &[u8]) -> (&[u8], &[u8]) {
-    if text.is_empty() {
-        (text, text)
-    } else {
-        first_line(text)
+/// The line of this number, from 1 on. The text has as many lines.
+fn line_at(text: &[u8], number: u64) -> &[u8] {
+    let mut line = text;
+    let mut rest = text;
+    for _ in 0..number {
+        if !rest.is_empty() {
+            let (first, more) = first_line(rest);
+            line = first;
+            rest = more;
+        }
     }
+    line
 }
 
 /// Appends to `out` what is wrong with the first wrong line of an account, as a line of standard error. Lines are numbered from 1, those of
@@ -65,18 +53,17 @@ pub fn push_bad_entry(
     fault: &ReplayFault,
     out: &mut String,
 ) -> Result<(), AllocError> {
-    let place = match fault {
-        ReplayFault::NoEntry(place) | ReplayFault::Differs(place, _) => *place,
-        ReplayFault::Memory => return Ok(()),
-    };
-    let mut rest = account;
-    for _ in 1..place {
-        rest = next_line(rest).1;
+    match fault {
+        ReplayFault::Memory => Ok(()),
+        ReplayFault::NoEntry(place, why) => {
+            let entry = line_at(account, *place);
+            let wrong = fault_of(entry, *why);
+            push_bad_line(out, before.saturating_add(*place), entry, wrong)
+        }
+        ReplayFault::Differs(place, right) => {
+            let entry = line_at(account, *place);
+            let wrong = difference(entry, right);
+            push_bad_line(out, before.saturating_add(*place), entry, wrong)
+        }
     }
-    let entry = next_line(rest).0;
-    let wrong = match fault {
-        ReplayFault::Differs(_, right) => difference(entry, right),
-        _ => fault_of(entry),
-    };
-    push_bad_line(out, before.saturating_add(place), entry, wrong)
 }

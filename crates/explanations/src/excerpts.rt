@@ -6,14 +6,6 @@ use std::alloc::AllocError;
 /// The number of bytes of an expression that are shown.
 const SHOWN: usize = 80;
 
-fn shown_byte(byte: u8) -> char {
-    if byte.is_ascii_graphic() {
-        char::from(byte)
-    } else {
-        '?'
-    }
-}
-
 /// Appends to `out` the expression with which a text begins, in one line: without comments, with one space for white space, and `?` for
 /// a byte outside 0x21 to 0x7E. Of a longer expression the first 80 bytes are shown, followed by two dots.
 pub fn push_excerpt(out: &mut String, text: &[u8]) -> Result<(), AllocError> {
@@ -39,7 +31,11 @@ pub fn push_excerpt(out: &mut String, text: &[u8]) -> Result<(), AllocError> {
         if shown >= SHOWN {
             return out.push_str("..");
         }
-        out.push(shown_byte(*byte))?;
+        out.push(if byte.is_ascii_graphic() {
+            char::from(*byte)
+        } else {
+            '?'
+        })?;
         shown = shown.saturating_add(1);
         if *byte == b')' && scan.depth == 0 {
             break;

@@ -1,7 +1,7 @@
 //! Explains in words what is wrong with a text that describes no game, and where.
 
 use crate::links::{Way, sentences_of_way};
-use crate::members::{FaultyPart, Part, faulty_part, rules_in};
+use crate::members::{FaultyPart, Part, faulty_part, first_word, form_of, rules_in};
 use crate::places::sentence_start;
 use crate::shared_faults::{Excess, excess_of, second_role};
 use crate::spots::{Spot, Words};
@@ -47,15 +47,6 @@ fn push_together(
     Ok(())
 }
 
-/// The words about a part that does not have its form, if its first word names no form.
-fn form_words(part: Part) -> &'static str {
-    match part {
-        Part::Fact | Part::Rule => "neither a fact nor a rule",
-        Part::Head => "a head that is no atomic sentence",
-        Part::Condition => "a condition that is no literal",
-    }
-}
-
 /// The words about a part with an atomic sentence at a place where it may not stand.
 fn place_words(part: Part) -> &'static str {
     match part {
@@ -65,12 +56,21 @@ fn place_words(part: Part) -> &'static str {
     }
 }
 
-/// The words about a part with this fault.
+/// The words about a part with this fault: the form that it must have, if its first word names one.
 fn words_of(folded: &[u8], faulty: FaultyPart, fault: LoadFault) -> Words {
-    match (fault, faulty.form(folded)) {
-        (LoadFault::Misplaced(_), _) => Words::Plain(place_words(faulty.part)),
-        (_, Some(form)) => Words::NoForm(form),
-        (_, None) => Words::Plain(form_words(faulty.part)),
+    if let LoadFault::Misplaced(_) = fault {
+        return Words::Plain(place_words(faulty.part));
+    }
+    let word = first_word(folded, faulty.at);
+    let (form, others) = match faulty.part {
+        Part::Rule => return Words::NoForm("(<= HEAD CONDITION ..)"),
+        Part::Fact => (form_of(word, false), "neither a fact nor a rule"),
+        Part::Head => (form_of(word, false), "a head that is no atomic sentence"),
+        Part::Condition => (form_of(word, true), "a condition that is no literal"),
+    };
+    match form {
+        Some(form) => Words::NoForm(form),
+        None => Words::Plain(others),
     }
 }
 
@@ -122,15 +122,16 @@ fn push_whole(
 /// The spot of the part that has this fault, in the sentence of this number. The fault is one that names a first sentence.
 fn part_spot(
     alloc: Global,
-    folded: &[u8],
+    text: &[u8],
     number: usize,
     fault: LoadFault,
 ) -> Result<Spot, DescriptionFault> {
-    let start = start_of(folded, number);
-    let faulty = faulty_part(alloc, folded, start, fault)?;
+    let folded = text.to_ascii_lowercase(alloc)?;
+    let start = start_of(&folded, number);
+    let faulty = faulty_part(alloc, &folded, start, fault)?;
     Ok(Spot {
         at: faulty.at,
-        words: words_of(folded, faulty, fault),
+        words: words_of(&folded, faulty, fault),
         start,
     })
 }
@@ -143,15 +144,12 @@ fn push_unfit(
     fault: LoadFault,
     out: &mut String,
 ) -> Result<(), DescriptionFault> {
-    let folded = text.to_ascii_lowercase(alloc)?;
     let spot = match fault {
         LoadFault::Variable(number) => Spot::variable(text, start_of(text, number)),
-        LoadFault::BadForm(number) => part_spot(alloc, &folded, number, LoadFault::BadForm(0))?,
-        LoadFault::Misplaced(number) => {
-            part_spot(alloc, &folded, number, LoadFault::Misplaced(0))?
-        }
+        LoadFault::BadForm(number) => part_spot(alloc, text, number, LoadFault::BadForm(0))?,
+        LoadFault::Misplaced(number) => part_spot(alloc, text, number, LoadFault::Misplaced(0))?,
         _ => {
-            let rules = rules_in(alloc, &folded)?;
+            let rules = rules_in(alloc, &text.to_ascii_lowercase(alloc)?)?;
             return Ok(push_whole(alloc, limits, text, &rules, fault, out)?);
         }
     };
@@ -177,17 +175,17 @@ fn push_fault(
     Ok(())
 }
 
-/// What helps against the fault of a text, in words, if something does. A text without a list may be the name of a file, but an empty
+/// What helps against the fault of a text, as a line, if something does. A text without a list may be the name of a file, but an empty
 /// one can't be.
-fn remedy(text: &[u8], fault: DescriptionFault) -> Option<&'static str> {
+fn remedy(text: &[u8], fault: DescriptionFault) -> &'static str {
     match fault {
         DescriptionFault::Unfit(LoadFault::NoRole) if !text.is_empty() && !text.contains(&b'(') => {
-            Some("--rules takes the rules themselves, and --rules-file the name of their file")
+            "ggp_manager: --rules takes the rules themselves, and --rules-file the name of their file\n"
         }
         DescriptionFault::Unfit(LoadFault::Variable(_)) => {
-            Some("ggp-instantiate makes ground rules of rules with variables")
+            "ggp_manager: ggp-instantiate makes ground rules of rules with variables\n"
         }
-        _ => None,
+        _ => "",
     }
 }
 
@@ -200,9 +198,7 @@ pub fn push_description(
     fault: DescriptionFault,
     out: &mut String,
 ) -> Result<(), DescriptionFault> {
-    if let Some(remedy) = remedy(text, fault) {
-        write!(out, "ggp_manager: {remedy}\n")?;
-    }
+    out.push_str(remedy(text, fault))?;
     out.push_str("ggp_manager: ")?;
     push_fault(alloc, limits, text, fault, out)?;
     Ok(out.push('\n')?)

@@ -8,7 +8,7 @@ use std::alloc::{AllocError, Global};
 pub type Heads<'r> = IndexSet<&'r Derived>;
 
 /// The kind of way to look for.
-#[derive(Clone, Copy, PartialEq, Eq)]
+#[derive(Clone, Copy)]
 pub enum Way {
     /// From an atom back to itself.
     Cycle,
@@ -21,19 +21,22 @@ pub enum Way {
 impl Way {
     /// Whether such a way may begin with this head.
     fn begins_with(self, head: &Derived) -> bool {
-        match head {
-            Derived::Legal(_, _) | Derived::Goal(_, _) | Derived::Terminal => self != Way::ToState,
-            Derived::Init(_) => self != Way::ToMoves,
-            Derived::Role(_) | Derived::Next(_) | Derived::Other(_) => self == Way::Cycle,
+        match self {
+            Way::Cycle => true,
+            Way::ToMoves => matches!(
+                head,
+                Derived::Legal(_, _) | Derived::Goal(_, _) | Derived::Terminal
+            ),
+            Way::ToState => matches!(head, Derived::Init(_)),
         }
     }
 
     /// Whether such a way ends with a sentence that mentions this.
     fn ends_with(self, atomic: &Atomic) -> bool {
-        match atomic {
-            Atomic::Does(_, _) => self != Way::Cycle,
-            Atomic::InState(_) => self == Way::ToState,
-            Atomic::Derived(_) => false,
+        match self {
+            Way::Cycle => false,
+            Way::ToMoves => matches!(atomic, Atomic::Does(_, _)),
+            Way::ToState => matches!(atomic, Atomic::Does(_, _) | Atomic::InState(_)),
         }
     }
 }

@@ -35,7 +35,7 @@ pub struct FaultyPart {
 
 /// A reserved word of GDL, whether only conditions may begin with it, and the form of an expression that begins with it, or of the word
 /// alone.
-const FORMS: [(&[u8], bool, &str); 11] = [
+static FORMS: [(&[u8], bool, &str); 11] = [
     (b"role", false, "(role NAME)"),
     (b"init", false, "(init TERM)"),
     (b"true", false, "(true TERM)"),
@@ -54,35 +54,23 @@ const FORMS: [(&[u8], bool, &str); 11] = [
 ];
 
 /// The form of an expression that begins with this word, or of the word alone. `None` if GDL does not reserve the word.
-fn form_of(word: &[u8], is_condition: bool) -> Option<&'static str> {
-    for (name, is_of_conditions, form) in FORMS {
-        if word == name && (is_condition || !is_of_conditions) {
-            return Some(form);
+pub fn form_of(word: &[u8], is_condition: bool) -> Option<&'static str> {
+    for (name, is_of_conditions, form) in &FORMS {
+        if word == *name && (is_condition || !*is_of_conditions) {
+            return Some(*form);
         }
     }
     None
 }
 
 /// The first word of the list at this byte, or the atom there. It is empty if the list is empty or begins with a list.
-fn first_word(folded: &[u8], at: usize) -> &[u8] {
+pub fn first_word(folded: &[u8], at: usize) -> &[u8] {
     match folded.get(at) {
         Some(b'(') => match next_start(folded, at.saturating_add(1)) {
             Some(first) => atom_at(folded, first),
             None => b"",
         },
         _ => atom_at(folded, at),
-    }
-}
-
-impl FaultyPart {
-    /// The form that the part must have, if its first word names one.
-    pub fn form(self, folded: &[u8]) -> Option<&'static str> {
-        let word = first_word(folded, self.at);
-        match self.part {
-            Part::Rule => Some("(<= HEAD CONDITION ..)"),
-            Part::Fact | Part::Head => form_of(word, false),
-            Part::Condition => form_of(word, true),
-        }
     }
 }
 

@@ -36,9 +36,9 @@ impl Place {
 /// The atom at this byte. It is empty if there is none.
 pub fn atom_at(text: &[u8], at: usize) -> &[u8] {
     let rest = text.get(at..).unwrap_or(b"");
-    for (end, byte) in rest.iter().enumerate() {
-        if !is_atom_byte(*byte) {
-            return rest.get(..end).unwrap_or(rest);
+    for end in 0..rest.len() {
+        if !is_atom_byte(rest[end]) {
+            return &rest[..end];
         }
     }
     rest
@@ -47,9 +47,9 @@ pub fn atom_at(text: &[u8], at: usize) -> &[u8] {
 /// The byte at which the next expression begins, from this byte on. `None` if a list or the text ends before it.
 pub fn next_start(text: &[u8], from: usize) -> Option<usize> {
     let mut scan = Scan::new();
-    for (at, byte) in text.iter().enumerate().skip(from) {
-        let is_hidden = scan.is_hidden(*byte);
-        if scan.pass(*byte) {
+    for at in from..text.len() {
+        let is_hidden = scan.is_hidden(text[at]);
+        if scan.pass(text[at]) {
             return Some(at);
         }
         if !is_hidden {
@@ -65,10 +65,10 @@ pub fn end_of(text: &[u8], start: usize) -> usize {
         return start.saturating_add(atom_at(text, start).len());
     }
     let mut scan = Scan::new();
-    for (at, byte) in text.iter().enumerate().skip(start) {
-        scan.pass(*byte);
+    for at in start..text.len() {
+        scan.pass(text[at]);
         if scan.depth == 0 {
-            return at.saturating_add(1);
+            return at + 1;
         }
     }
     text.len()
@@ -87,9 +87,9 @@ pub fn sentence_start(text: &[u8], number: usize) -> Option<usize> {
 pub fn sentence_before(text: &[u8], end: usize) -> Option<(usize, bool)> {
     let mut scan = Scan::new();
     let mut last = None;
-    for (at, byte) in text.iter().enumerate().take(end) {
+    for at in 0..end.min(text.len()) {
         let is_outside = scan.depth == 0;
-        if scan.pass(*byte) && is_outside {
+        if scan.pass(text[at]) && is_outside {
             last = Some(at);
         }
     }
@@ -99,8 +99,8 @@ pub fn sentence_before(text: &[u8], end: usize) -> Option<(usize, bool)> {
 /// The byte at which the first variable begins, from this byte on.
 pub fn variable_start(text: &[u8], start: usize) -> Option<usize> {
     let mut scan = Scan::new();
-    for (at, byte) in text.iter().enumerate().skip(start) {
-        if scan.pass(*byte) && *byte == b'?' {
+    for at in start..text.len() {
+        if scan.pass(text[at]) && text[at] == b'?' {
             return Some(at);
         }
     }

@@ -1,25 +1,18 @@
 //! The lines about records that are checked.
 
+use desk_text::first_piece;
 use std::alloc::AllocError;
 
 /// What helps against a text of several lines where one record was expected.
 const LINES: &str =
     "ggp_manager: the text has several lines: with --lines each line is checked as a record\n";
 
-/// Whether the text has more than one line.
-fn has_lines(text: &[u8]) -> bool {
-    match text.iter().position(|byte| *byte == b'\n') {
-        Some(end) => end.saturating_add(1) < text.len(),
-        None => false,
-    }
-}
-
 /// Appends to `out` what helps against a text that is no record, if it has several lines.
 pub fn push_several_lines(text: &[u8], out: &mut String) -> Result<(), AllocError> {
-    if has_lines(text) {
-        out.push_str(LINES)?;
+    match first_piece(text, b'\n') {
+        (_, Some(more)) if !more.is_empty() => out.push_str(LINES),
+        _ => Ok(()),
     }
-    Ok(())
 }
 
 /// Appends to `out` how many lines of accounts were skipped, if there were any.

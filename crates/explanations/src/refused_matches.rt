@@ -1,17 +1,23 @@
-//! The lines about the matches of a schedule that break a rule of openings.
+//! The lines about matches that break a rule of openings.
 
 use crate::bad_lines::{BadLine, push_bad_line};
 use desk_calls::{MAX_CLOCK, is_name};
-use desk_text::plain_number_up_to;
+use desk_text::{first_piece, plain_number_up_to};
 use game_core::lines::without_return;
 use std::alloc::AllocError;
+
+/// The word of the refusal of an id, and the rule.
+const BAD_ID: &str = "badid: an id has 1 to 64 letters, digits, -, _ and .";
+
+/// The word of the refusal of a clock, and the rule.
+const BAD_CLOCK: &str = "badclock: a clock has 1 to 86400 seconds";
 
 /// What is wrong with the word at a place of a match's line: the word of the refusal, and the rule. The id's place is 0.
 fn broken_rule(place: usize, word: &[u8]) -> Option<&'static str> {
     match place {
-        0 if !is_name(word) => Some("badid: an id has 1 to 64 letters, digits, -, _ and ."),
+        0 if !is_name(word) => Some(BAD_ID),
         1 | 2 => match plain_number_up_to(word, u64::from(MAX_CLOCK)) {
-            None | Some(0) => Some("badclock: a clock has 1 to 86400 seconds"),
+            None | Some(0) => Some(BAD_CLOCK),
             Some(_) => None,
         },
         _ => None,
@@ -20,19 +26,22 @@ fn broken_rule(place: usize, word: &[u8]) -> Option<&'static str> {
 
 /// What is wrong with a line of a schedule that has a match, if it breaks a rule.
 fn refused_match(line: &[u8]) -> Option<BadLine> {
-    let mut at: usize = 0;
+    let mut start: usize = 0;
     let mut place: usize = 0;
-    for word in line.split(|byte| *byte == b' ' || *byte == b'\t') {
-        if !word.is_empty() {
+    for end in 0..=line.len() {
+        if let Some(b' ' | b'\t') | None = line.get(end) {
+            let word = line.get(start..end).unwrap_or(b"");
             if place == 0 && word.starts_with(b"#") {
                 return None;
             }
-            if let Some(words) = broken_rule(place, word) {
-                return Some(BadLine::new(at, words, ""));
+            if !word.is_empty() {
+                if let Some(words) = broken_rule(place, word) {
+                    return Some(BadLine::new(start, words));
+                }
+                place = place.saturating_add(1);
             }
-            place = place.saturating_add(1);
+            start = end.saturating_add(1);
         }
-        at = at.saturating_add(word.len()).saturating_add(1);
     }
     None
 }
@@ -40,12 +49,42 @@ fn refused_match(line: &[u8]) -> Option<BadLine> {
 /// Appends to `out` what is wrong with each match of a schedule that breaks a rule of openings, as lines of standard error. Lines are
 /// numbered from 1.
 pub fn push_refused_matches(schedule: &[u8], out: &mut String) -> Result<(), AllocError> {
-    let mut number: u64 = 0;
-    for line in schedule.split(|byte| *byte == b'\n') {
+    let mut rest = Some(schedule);
+    for number in 1..u64::MAX {
+        let Some(text) = rest else {
+            break;
+        };
+        let (line, more) = first_piece(text, b'\n');
         let line = without_return(line);
-        number = number.saturating_add(1);
         if let Some(fault) = refused_match(line) {
             push_bad_line(out, number, line, fault)?;
+        }
+        rest = more;
+    }
+    Ok(())
+}
+
+/// Appends to `out` which rules of openings a match of this id, with these clocks and so many players, breaks in a game of `roles` roles, as
+/// lines of standard error.
+pub fn push_broken_rules(
+    id: &str,
+    clocks: [u32; 2],
+    players: usize,
+    roles: usize,
+    out: &mut String,
+) -> Result<(), AllocError> {
+    if !is_name(id.as_bytes()) {
+        write!(out, "ggp_manager: {BAD_ID}: {id}\n")?;
+    }
+    if players != roles {
+        write!(
+            out,
+            "ggp_manager: wrongplayers: a match has one player for each role: roles {roles}, players {players}\n"
+        )?;
+    }
+    for clock in clocks {
+        if clock == 0 || clock > MAX_CLOCK {
+            write!(out, "ggp_manager: {BAD_CLOCK}: {clock}\n")?;
         }
     }
     Ok(())

@@ -75,15 +75,15 @@ impl Spot {
     /// Appends the explanation of the place to `out`.
     pub fn push(self, text: &[u8], out: &mut String) -> Result<(), AllocError> {
         let Place { line, column } = Place::of(text, self.at);
-        write!(out, "line {line}, column {column}: ")?;
-        match self.words {
-            Words::Same => {}
-            Words::Plain(words) => write!(out, "{words}: ")?,
-            Words::NoForm(form) => write!(out, "not of the form {form}: ")?,
-            Words::BadByte(byte) => write!(
-                out,
-                "the byte 0x{byte:02X}, but it may stand in comments alone: "
-            )?,
+        let (before, words, behind) = match self.words {
+            Words::Same => ("", "", ""),
+            Words::Plain(words) => ("", words, ": "),
+            Words::NoForm(form) => ("not of the form ", form, ": "),
+            Words::BadByte(_) => ("the byte 0x", "", ""),
+        };
+        write!(out, "line {line}, column {column}: {before}{words}{behind}")?;
+        if let Words::BadByte(byte) = self.words {
+            write!(out, "{byte:02X}, but it may stand in comments alone: ")?;
         }
         push_excerpt(out, text.get(self.start..).unwrap_or(b""))
     }

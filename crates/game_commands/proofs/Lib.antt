@@ -4,3 +4,4 @@ mod DoneNames
 mod NotedNames
 mod OpenMatches
 mod AccountLines
+mod EntryLines

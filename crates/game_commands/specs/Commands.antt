@@ -24,9 +24,8 @@ use Rattle.match_plans.specs.declared.game_source.RulesSource.TheVariants.{Text,
 use Rattle.game_commands.specs.declared.fault.Fault.{Fault}
 use Rattle.game_commands.specs.declared.fault.Fault.TheVariants.{WrongUse, Memory, BadDescription, BadLines, UnlawfulRecords}
 use Rattle.game_commands.specs.declared.files.NamedFile.TheVariants.{Input, Rules as RulesFile}
-use Rattle.game_commands.specs.declared.script_fault.ScriptFault.{ScriptFault}
 use Rattle.game_commands.specs.declared.verdicts.Verdict.{Verdict}
-use Rattle.game_commands.specs.Faults.{IsFileFault, input_file_fault, script_fault}
+use Rattle.game_commands.specs.Faults.{IsFileFault, input_file_fault}
 use Rattle.game_commands.specs.ScriptFaults.{ScriptFails}
 use Rattle.game_commands.specs.Verdicts.{AreVerdicts, verdict_lines, count_unlawful}
 use Rattle.game_commands.specs.Replays.{accounts, AreReplayed, ReplayFails}
@@ -60,7 +59,7 @@ TellsNumber _ wrong fault = ⊥
 -- what a fault says that stopped the command
 abbrev pub Stops : {G S M R W : Type 0} → (R → Option (List ℕ)) → (W → Option (List ℕ)) → (G → Rules S M) → G → GameCommand → List ℕ → Fault → Counting R → Counting R → Counting W → Counting W → Type 0
 Stops remaining contents rules game Desk given fault reader reader' writer writer' =
-    (why : ScriptFault) × (fault ≡ script_fault why) × ScriptFails remaining contents (script_output rules (game ∷ []) given) why (length given) reader reader' writer writer'
+    ScriptFails remaining contents (script_output rules (game ∷ []) given) fault (length given) reader reader' writer writer'
 Stops remaining contents rules game Verify given fault reader reader' writer writer' = CheckFails remaining contents (rules game) fault given reader reader' writer writer'
 Stops remaining contents rules game VerifyLines given fault reader reader' writer writer' =
     (first : List (List ℕ)) × (left : List ℕ) × (verdicts : List Verdict) × BeginsWithLines given first left × AreVerdicts (rules game) first verdicts

@@ -6,29 +6,18 @@ use Rattle.record_reading.specs.declared.verify_fault.VerifyFault.{VerifyFault}
 use Rattle.record_reading.specs.declared.verify_fault.VerifyFault.TheVariants.{Memory as CheckMemory}
 use Rattle.whole_streams.specs.declared.whole.InputFault.{InputFault}
 use Rattle.whole_streams.specs.declared.whole.InputFault.TheVariants.{ReadFault as InputReadFault, TooLong, Memory as InputMemory}
-use Rattle.game_commands.specs.declared.script_fault.ScriptFault.{ScriptFault}
-use Rattle.game_commands.specs.declared.script_fault.ScriptFault.TheVariants.{ReadFault as ScriptReadFault, TooLong as ScriptTooLong, Memory as ScriptMemory, WriteFault as ScriptWriteFault}
 use Rattle.game_commands.specs.declared.fault.Fault.{Fault}
-use Rattle.game_commands.specs.declared.fault.Fault.TheVariants.{WrongUse, Memory, File, ReadFault, InputTooLong, WriteFault, BadSchedule, NotLawful}
+use Rattle.game_commands.specs.declared.fault.Fault.TheVariants.{WrongUse, Memory, File, ReadFault, InputTooLong, BadSchedule, NotLawful}
 use Rattle.game_commands.specs.declared.files.NamedFile.{NamedFile}
 use Rattle.game_commands.specs.declared.files.NamedFile.TheVariants.{Input}
 use Rattle.game_commands.specs.declared.files.FileFault.{FileFault}
 use Rattle.game_commands.specs.declared.files.FileFault.TheVariants.{Unread, TooLong as FileTooLong}
 
-abbrev pub script_input_fault : InputFault → ScriptFault
-script_input_fault InputReadFault = ScriptReadFault
-script_input_fault TooLong = ScriptTooLong
-script_input_fault InputMemory = ScriptMemory
-
-abbrev pub script_fault : ScriptFault → Fault
-script_fault ScriptReadFault = ReadFault
-script_fault ScriptTooLong = InputTooLong
-script_fault ScriptMemory = Memory
-script_fault ScriptWriteFault = WriteFault
-
--- any input fails as a script does
+-- an input that can't be read
 abbrev pub input_fault : InputFault → Fault
-input_fault fault = script_fault (script_input_fault fault)
+input_fault InputReadFault = ReadFault
+input_fault TooLong = InputTooLong
+input_fault InputMemory = Memory
 
 -- a file that can't be read
 abbrev pub reading_fault : NamedFile → InputFault → Fault

@@ -116,13 +116,13 @@ account_size account = sum_by (λ line. length line + 2) account
 -- the fault for lines that are refused, behind so many lines of other accounts
 abbrev pub replay_fault : ℕ → ReplayFault → Fault
 replay_fault before ReplayMemory = Memory
-replay_fault before (ReplayNoEntry place) = NoEntry (before + place)
+replay_fault before (ReplayNoEntry place why) = NoEntry (before + place)
 replay_fault before (ReplayDiffers place right) = Differs (before + place)
 
 -- the number of the fault's line has 64 bits
 abbrev pub IsNumbered : ℕ → ReplayFault → Type 0
 IsNumbered before ReplayMemory = Unit {0}
-IsNumbered before (ReplayNoEntry place) = before + place ≤ last_count
+IsNumbered before (ReplayNoEntry place why) = before + place ≤ last_count
 IsNumbered before (ReplayDiffers place right) = before + place ≤ last_count
 
 -- the output for lines that are refused: the right line in place of the first wrong one, if that holds a call

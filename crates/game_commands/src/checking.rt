@@ -9,7 +9,6 @@ ghost use Rattle.game_commands.specs.Checks.{lawful_line, CheckFails, BeginsWith
 
 use crate::evidence::Evidence;
 use crate::fault::Fault;
-use crate::script_fault::ScriptFault;
 use crate::verdicts::{Verdict, count_skipped, count_unlawful, verdict_line, verdict_on};
 use game_core::{Counted, Game};
 use match_record::VerifyFault;
@@ -17,24 +16,13 @@ use record_check::verify;
 use std::alloc::Global;
 use std::io::{Read, Write};
 use whole_streams::laws::lines_are_taken;
-use whole_streams::{InputFault, LineBuffer, NextLine, read_to_end, write_all};
+use whole_streams::{LineBuffer, NextLine, read_to_end, write_all};
 
 /// The limit of a record's bytes, if the input is one record: 16 MiB.
 const MAX_RECORD: usize = 16_777_216;
 
 /// The limit of a line's bytes: 64 GiB, which no record of a match has.
 pub const MAX_LINE: usize = 68_719_476_736;
-
-impl From<InputFault> for Fault {
-    ghost use Rattle.std.specs.Prelude.{◌≡◌};
-    ghost use Rattle.game_commands.specs.Faults.{input_fault};
-
-    ghost from_gives = { λ fault given. given ≡ input_fault fault };
-
-    fn from(fault: InputFault) -> Fault {
-        Fault::from(ScriptFault::from(fault))
-    }
-}
 
 impl From<VerifyFault> for Fault {
     ghost use Rattle.std.specs.Prelude.{◌≡◌};

@@ -9,7 +9,7 @@ use crate::fault::Fault;
 use crate::files::{NamedFile, input_file_fault, opened};
 use crate::replaying::replay_accounts;
 use crate::rules::{game_of, rules_text};
-use crate::script::run_script_with_evidence;
+use crate::script::run_script;
 use game_core::{Countdown, Counted, Game};
 use match_plans::{GameCommand, GameSource};
 use std::alloc::Global;
@@ -51,13 +51,7 @@ fn perform<G: Game + Drop, R: Read, W: Write>(
 {
     match command {
         GameCommand::Desk => {
-            let count = run_script_with_evidence(
-                alloc,
-                reader,
-                writer,
-                alone(alloc, game)?,
-                evidence,
-            )?;
+            let count = run_script(alloc, reader, writer, alone(alloc, game)?, evidence)?;
             fail_if_any(count, Fault::BadLines(count))
         }
         GameCommand::Verify => check_record(alloc, &game, reader, writer, evidence),

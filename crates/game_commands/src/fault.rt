@@ -1,17 +1,16 @@
 //! The faults of the program.
 ghost use Rattle.std.specs.Prelude.{◌≡◌};
-ghost use Rattle.game_commands.specs.Faults.{schedule_fault, script_fault, status_of};
+ghost use Rattle.game_commands.specs.Faults.{input_fault, schedule_fault, status_of};
 ghost use Rattle.game_commands.specs.declared.fault.Fault.TheVariants.{Memory, WriteFault};
 
 use crate::files::{FileFault, NamedFile};
-use crate::script_fault::ScriptFault;
 use desk_calls::Refusal;
 use desk_text::refusal_word;
 use match_plans::{LineFault, ScheduleFault, Shortage};
 use match_record::VerifyFault;
 use std::alloc::{AllocError, AllocFailed};
 use std::fmt;
-use whole_streams::WriteFault;
+use whole_streams::{InputFault, WriteFault};
 
 /// A fault of the program. Its text is what standard error shows after the program's name. `Evidence` says more about some.
 #[derive(Clone, Copy)]
@@ -149,15 +148,14 @@ impl From<ScheduleFault> for Fault {
     }
 }
 
-impl From<ScriptFault> for Fault {
-    ghost from_gives = { λ fault given. given ≡ script_fault fault };
+impl From<InputFault> for Fault {
+    ghost from_gives = { λ fault given. given ≡ input_fault fault };
 
-    fn from(fault: ScriptFault) -> Fault {
+    fn from(fault: InputFault) -> Fault {
         match fault {
-            ScriptFault::ReadFault => Fault::ReadFault,
-            ScriptFault::TooLong => Fault::InputTooLong,
-            ScriptFault::Memory => Fault::Memory,
-            ScriptFault::WriteFault => Fault::WriteFault,
+            InputFault::ReadFault => Fault::ReadFault,
+            InputFault::TooLong => Fault::InputTooLong,
+            InputFault::Memory => Fault::Memory,
         }
     }
 }

@@ -13,10 +13,10 @@ mod done;
 mod evidence;
 mod fault;
 mod files;
+pub mod laws;
 mod replaying;
 mod rules;
 mod script;
-mod script_fault;
 mod verdicts;
 
 pub use commands::for_game;
@@ -25,5 +25,4 @@ pub use evidence::Evidence;
 pub use fault::Fault;
 pub use files::{FileFault, MAX_PLAYER_RULES, NamedFile, file_text};
 pub use rules::{game_of, limits_of, player_rules_fault, rules_text, source_text};
-pub use script::{run_script, run_script_with_evidence};
-pub use script_fault::ScriptFault;
+pub use script::run_script;

@@ -76,7 +76,7 @@ fn refuse(
 {
     match fault {
         ReplayFault::Memory => Err(Fault::Memory),
-        ReplayFault::NoEntry(place) => {
+        ReplayFault::NoEntry(place, _) => {
             *evidence = Evidence::Account(account, before, fault);
             Err(Fault::NoEntry(before + place))
         }

@@ -6,7 +6,7 @@ ghost use Rattle.desk_scripts.specs.Script.{bad_lines, script_output};
 ghost use Rattle.game_commands.specs.ScriptFaults.{ScriptFails};
 
 use crate::evidence::Evidence;
-use crate::script_fault::ScriptFault;
+use crate::fault::Fault;
 use desk_scripts::answer_script;
 use game_core::{Counted, Game};
 use std::alloc::Global;
@@ -17,35 +17,14 @@ use whole_streams::{read_to_end, write_all};
 const MAX_SCRIPT: usize = 1_048_576;
 
 /// Reads a whole script, answers each line on a manager of these games, and writes the answers and then the record of each match in
-/// order of opening. Returns the number of bad lines.
+/// order of opening. Returns the number of bad lines. A script with a bad line is kept as evidence.
 pub fn run_script<R: Read, W: Write, G: Game + Drop>(
     alloc: Global,
     reader: &mut Counted<R>,
     writer: &mut Counted<W>,
     games: Vec<G>,
-) -> Result<u64, ScriptFault>
-    ensures output { IfOk result (λ bad. (input : List ℕ)
-        × Consumes (R.remaining reader.old.stream) (R.remaining reader.new.stream) input
-        × IsAtEnd (R.remaining reader.new.stream)
-        × Appends (W.contents writer.old.stream) (W.contents writer.new.stream) (script_output G.rules games.items input)
-        × (bad ≡ bad_lines (lines input))) }
-    ensures no_fault { OnOk result ((reader.new.faults ≡ reader.old.faults) × (writer.new.faults ≡ writer.old.faults)) }
-    ensures fails { IfErr result (λ fault. (given : List ℕ)
-        × Consumes (R.remaining reader.old.stream) (R.remaining reader.new.stream) given
-        × ScriptFails R.remaining W.contents (script_output G.rules games.items given) fault (length given) reader.old reader.new writer.old writer.new) }
-{
-    let mut unread = Evidence::Nothing;
-    run_script_with_evidence(alloc, reader, writer, games, &mut unread)
-}
-
-/// Runs a script as `run_script` does. One with a bad line is kept as evidence.
-pub fn run_script_with_evidence<R: Read, W: Write, G: Game + Drop>(
-    alloc: Global,
-    reader: &mut Counted<R>,
-    writer: &mut Counted<W>,
-    games: Vec<G>,
     evidence: &mut Evidence,
-) -> Result<u64, ScriptFault>
+) -> Result<u64, Fault>
     ensures output { IfOk result (λ bad. (input : List ℕ)
         × Consumes (R.remaining reader.old.stream) (R.remaining reader.new.stream) input
         × IsAtEnd (R.remaining reader.new.stream)

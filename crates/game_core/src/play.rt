@@ -23,7 +23,7 @@ pub enum PlayFault {
     #[error("the move of role {role} in turn {turn} is not legal")]
     Illegal { turn: usize, role: usize },
     /// Out of memory.
-    #[error("want of memory")]
+    #[error("out of memory")]
     Memory,
 }
 

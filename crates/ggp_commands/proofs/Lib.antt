@@ -1,4 +1,3 @@
 mod LargestNumbers
 mod SeasonEnds
 mod TaskEnds
-mod ToldPlayers

@@ -1,14 +1,14 @@
 -- The program's fault where a part of its work fails.
 use Rattle.std.specs.Prelude.{ℕ, Bool, true, false, if◌then◌else◌, Result, Ok, Err}
-use Rattle.match_plans.specs.declared.shortages.Shortage.TheVariants.{Memory as MemoryShortage}
 use Rattle.match_play.specs.declared.playing.MatchFault.{MatchFault}
 use Rattle.match_play.specs.declared.playing.MatchFault.TheVariants.{Refused as MatchRefused, NotEnded, Shortage as MatchShortage, Memory as MatchMemory}
 use Rattle.match_season.specs.declared.season_output.SeasonFault.{SeasonFault}
 use Rattle.match_season.specs.declared.season_output.SeasonFault.TheVariants.{WriteFault as SeasonWriteFault, Memory as SeasonMemory}
 use Rattle.player_check.specs.declared.check.CheckFault.{CheckFault}
 use Rattle.player_check.specs.declared.check.CheckFault.TheVariants.{Match as CheckMatch, WriteFault as CheckWriteFault, Memory as CheckMemory}
-use Rattle.network_players.specs.declared.contacting.ContactFault.{ContactFault}
-use Rattle.network_players.specs.declared.contacting.ContactFault.TheVariants.{Shortage as ContactShortage}
+use Rattle.desk_calls.specs.declared.call.Refusal.TheVariants.{BadId}
+use Rattle.player_commands.specs.declared.fault.CommandFault.{CommandFault}
+use Rattle.player_commands.specs.declared.fault.CommandFault.TheVariants.{BadId as CommandBadId, NoAnswer as CommandNoAnswer, NotSent as CommandNotSent, WriteFault as CommandWriteFault, Memory as CommandMemory}
 use Rattle.command_line.specs.declared.tasks.MatchTask.{MatchTask}
 use Rattle.command_line.specs.declared.tasks.MatchTask.TheVariants.{Check}
 use Rattle.command_line.specs.declared.arguments.ArgumentFault.{ArgumentFault}
@@ -53,11 +53,12 @@ check_fault (CheckMatch fault) = match_fault fault
 check_fault CheckWriteFault = WriteFault
 check_fault CheckMemory = Memory
 
--- a shortage is the referee's fault, everything else a missing answer
-abbrev pub contact_fault : ContactFault → Fault
-contact_fault (ContactShortage MemoryShortage) = Memory
-contact_fault (ContactShortage shortage) = NotSent shortage
-contact_fault fault = NoAnswer
+abbrev pub command_fault : CommandFault → Fault
+command_fault CommandBadId = Refused BadId
+command_fault CommandNoAnswer = NoAnswer
+command_fault (CommandNotSent shortage) = NotSent shortage
+command_fault CommandWriteFault = WriteFault
+command_fault CommandMemory = Memory
 
 -- the fault of a task with this number of matches without a record, or of bad answers, or of one that ended with a fault
 abbrev pub task_fault : MatchTask → Result ℕ Fault → Fault

@@ -1,6 +1,5 @@
 pub mod Faults
 pub mod Descriptors
-pub mod PlayerCommands
 pub mod LoadedGame
 pub mod Schedules
 pub mod Runs

@@ -1,9 +1,9 @@
 -- The game of a task, and the rules that players get.
-use Rattle.std.specs.Prelude.{◌≡◌, ◌⊎◌, ℕ, List, map, MatchOption, Option}
+use Rattle.std.specs.Prelude.{◌≡◌, ◌⊎◌, ℕ, List, MatchOption, Option}
 use Rattle.game_core.specs.Expression.{Expressions, all_folded}
 use Rattle.kif_text.specs.Spelling.{SpellsAll}
-use Rattle.kif_text.specs.View.{view, views}
-use Rattle.kif_text.specs.declared.expr.Expr.{Expr}
+use Rattle.kif_text.specs.View.{expressions}
+use Rattle.match_messages.specs.RulesText.{rules_text}
 use Rattle.described_games.specs.Games.{IsDescribed}
 use Rattle.packed_rules.specs.PackedGames.{sentences_of}
 use Rattle.packed_rules.specs.declared.packed_game.PackedGame.{PackedGame}
@@ -14,16 +14,16 @@ use Rattle.game_commands.specs.declared.fault.Fault.TheVariants.{BadPlayerRules,
 use Rattle.game_commands.specs.declared.files.NamedFile.TheVariants.{PlayerRules}
 use Rattle.game_commands.specs.Faults.{IsFileFault}
 
--- the rules are the sentences that this text spells, without capitals
-abbrev pub AreSpelled : List ℕ → List Expr → Type 0
-AreSpelled text rules = (sentences : Expressions) × SpellsAll text sentences × (views rules ≡ all_folded sentences)
+-- the rules are the sentences that this text spells, printed without capitals
+abbrev pub AreSpelled : List ℕ → List ℕ → Type 0
+AreSpelled text rules = (sentences : Expressions) × SpellsAll text sentences × (rules ≡ rules_text (all_folded sentences))
 
--- the game's own sentences, or if a file of other rules is given, those of a text
-abbrev pub AreRulesFor : {F : Type 0} → Option F → PackedGame → List Expr → Type 0
-AreRulesFor player_rules game rules = MatchOption player_rules (map view rules ≡ sentences_of game) (λ file. (text : List ℕ) × AreSpelled text rules)
+-- the game's own sentences in print, or if a file of other rules is given, those of a text
+abbrev pub AreRulesFor : {F : Type 0} → Option F → PackedGame → List ℕ → Type 0
+AreRulesFor player_rules game rules = MatchOption player_rules (rules ≡ rules_text (expressions (sentences_of game))) (λ file. (text : List ℕ) × AreSpelled text rules)
 
 -- The game is the one that the plan's text describes, of a file any text, and these are the rules for its players.
-abbrev pub IsLoadedGame : GameOptions → PackedGame → List Expr → Type 0
+abbrev pub IsLoadedGame : GameOptions → PackedGame → List ℕ → Type 0
 IsLoadedGame plan game rules = ((text : List ℕ) × IsSourceText plan.game text × IsDescribed (limits_of plan.game) text game) × AreRulesFor plan.player_rules game rules
 
 -- the fault for the players' rules in a file: it can't be read, or is not KIF

@@ -6,11 +6,11 @@ use Rattle.desk_calls.specs.declared.setup.Setup.{Setup}
 use Rattle.match_plans.specs.declared.addresses.PlayerAddress.{PlayerAddress}
 use Rattle.match_plans.specs.declared.plan.MatchPlan.{MatchPlan}
 use Rattle.match_plans.specs.declared.reach.RolePlace.{RolePlace}
-use Rattle.role_workers.specs.Handing.{Handed}
+use Rattle.match_messages.specs.Handing.{Handed}
 use Rattle.match_play.specs.EndedMatches.{match_text}
 use Rattle.match_play.specs.PlayedMatches.{IsPlannedMatch, IsSetupOf, packed_refusal}
 use Rattle.match_play.specs.declared.playable_game.PlayableGame.{PlayableGame}
-use Rattle.match_season.specs.Seasons.{AppendsPart}
+use Rattle.whole_streams.specs.Streams.{AppendsPart}
 use Rattle.command_line.specs.declared.tasks.RunPlan.{RunPlan}
 use Rattle.game_commands.specs.declared.fault.Fault.{Fault}
 use Rattle.game_commands.specs.declared.fault.Fault.TheVariants.{Refused, WriteFault}

@@ -20,7 +20,7 @@ use Rattle.match_plans.specs.declared.plan.MatchPlan.{MatchPlan}
 use Rattle.match_plans.specs.declared.reach.RolePlace.{RolePlace}
 use Rattle.match_plans.specs.declared.schedule_fault.ScheduleFault.{ScheduleFault}
 use Rattle.match_plans.specs.declared.season_form.SeasonForm.{SeasonForm}
-use Rattle.role_workers.specs.Handing.{Handed}
+use Rattle.match_messages.specs.Handing.{Handed}
 use Rattle.match_play.specs.declared.playable_game.PlayableGame.{PlayableGame}
 use Rattle.match_season.specs.Outputs.{IsOutputOf}
 use Rattle.match_season.specs.Seasons.{WritesAllBut, WritesUpTo}

@@ -5,7 +5,7 @@ use Rattle.game_core.specs.Counting.{Counting}
 use Rattle.match_plans.specs.declared.addresses.PlayerAddress.{PlayerAddress}
 use Rattle.match_plans.specs.declared.reach.RolePlace.{RolePlace}
 use Rattle.match_messages.specs.InfoReading.{info_reading}
-use Rattle.role_workers.specs.Handing.{Handed}
+use Rattle.match_messages.specs.Handing.{Handed}
 use Rattle.match_play.specs.declared.playable_game.PlayableGame.{PlayableGame}
 use Rattle.command_line.specs.declared.tasks.MatchTask.{MatchTask}
 use Rattle.command_line.specs.declared.tasks.MatchTask.TheVariants.{Run, Season, Check}
@@ -17,12 +17,12 @@ use Rattle.game_commands.specs.Faults.{IsFileFault, input_fault}
 use Rattle.game_commands.specs.declared.fault.Fault.{Fault}
 use Rattle.game_commands.specs.declared.fault.Fault.TheVariants.{Memory, NoAnswer, WriteFault}
 use Rattle.game_commands.specs.declared.files.NamedFile.TheVariants.{Input}
-use Rattle.match_season.specs.Seasons.{AppendsPart}
+use Rattle.whole_streams.specs.Streams.{AppendsPart}
 use Rattle.whole_streams.specs.Streams.{InputFails}
 use Rattle.whole_streams.specs.declared.whole.InputFault.{InputFault}
 use Rattle.player_check.specs.Checks.{EndsEarly, WritesCheck}
 use Rattle.player_check.specs.declared.check.CheckFault.{CheckFault}
-use Rattle.ggp_commands.specs.PlayerCommands.{TellsAnswers, aborted_lines, info_line}
+use Rattle.player_commands.specs.Lines.{TellsAnswers, aborted_lines, info_line}
 use Rattle.ggp_commands.specs.Faults.{check_fault, task_fault}
 use Rattle.ggp_commands.specs.LoadedGame.{IsNotLoadedGame, IsLoadedGame}
 use Rattle.ggp_commands.specs.Runs.{WritesRun, WritesRunUpTo}
@@ -71,7 +71,7 @@ IsNotBegun remaining plan task fault reader reader' = (IsNotLoadedGame plan faul
 -- The task was performed on the game of its plan and its input. The number is that of the missing matches, or of the bad answers.
 abbrev pub Plays : (H : Type 0) → {P R W : Type 0} → (RolePlace → PlayerAddress → P → Type 0) → (P → Option (List Handed)) → (R → Option (List ℕ)) → (W → Option (List ℕ)) → GameOptions → MatchTask → Counting R → Counting R → Counting W → Counting W → ℕ → Type 0
 Plays H is_reached handed remaining contents plan task reader reader' writer writer' count = (game : PlayableGame) × (input : List ℕ)
-    × IsLoadedGame plan game.game.now game.rules.now.items × ReadsInput remaining task input reader reader'
+    × IsLoadedGame plan game.game.now game.rules.now × ReadsInput remaining task input reader reader'
     × WritesTask H is_reached handed game task input count (contents writer.stream) (contents writer'.stream)
 
 -- Why the task was not performed, or not well: without its game or its input it was not begun, and nothing was written; otherwise matches are
@@ -79,7 +79,7 @@ Plays H is_reached handed remaining contents plan task reader reader' writer wri
 abbrev pub FailsToPlay : (H : Type 0) → {P R W : Type 0} → (RolePlace → PlayerAddress → P → Type 0) → (P → Option (List Handed)) → (R → Option (List ℕ)) → (W → Option (List ℕ)) → GameOptions → MatchTask → Counting R → Counting R → Counting W → Counting W → Fault → Type 0
 FailsToPlay H is_reached handed remaining contents plan task reader reader' writer writer' fault = (IsNotBegun remaining plan task fault reader reader' × (writer' ≡ writer))
     ⊎ (((count : ℕ) × (count ≢ 0) × (fault ≡ task_fault task (Ok count)) × Plays H is_reached handed remaining contents plan task reader reader' writer writer' count)
-    ⊎ ((game : PlayableGame) × (input : List ℕ) × IsLoadedGame plan game.game.now game.rules.now.items × ReadsInput remaining task input reader reader'
+    ⊎ ((game : PlayableGame) × (input : List ℕ) × IsLoadedGame plan game.game.now game.rules.now × ReadsInput remaining task input reader reader'
     × EndsTask H is_reached handed game task input (contents writer.stream) (contents writer'.stream) fault))
 
 -- What a task that ended well has read and written.

@@ -2,26 +2,28 @@
 ghost use Rattle.std.specs.Prelude.{◌≡◌, IfErr, IfOk, OnOk};
 ghost use Rattle.std.specs.Io.KnownBytes.{Appends};
 ghost use Rattle.match_log.specs.LoggedPlayers.{is_logged_reached, logged_handed};
-ghost use Rattle.match_season.specs.Seasons.{AppendsPart};
+ghost use Rattle.whole_streams.specs.Streams.{AppendsPart};
 ghost use Rattle.game_commands.specs.declared.fault.Fault.TheVariants.{WriteFault};
 ghost use Rattle.ggp_commands.specs.Faults.{status_of};
 ghost use Rattle.ggp_commands.specs.LoadedGame.{IsLoadedGame};
 ghost use Rattle.ggp_commands.specs.Tasks.{Fails, FailsToPlay, IsNotBegun, Performs, Plays, ReadsInput};
 
-use crate::explaining::explain;
-use crate::faults::{argument_fault, status_of, task_end};
+use crate::explaining::{Subject, explain};
+use crate::faults::{argument_fault, command_end, status_of, task_end};
 use crate::loaded_game::{LoadedGame, host};
-use crate::matches::{input_of, play_with_reports};
-use crate::player_commands::{abort, info};
-use crate::terminals::Terminals;
-use command_line::{GameOptions, MatchTask, Task, has_own_word, read_arguments, refusal};
+use crate::matches::{ReadyTask, input_of, play_with_reports};
+use crate::surroundings::{Surroundings, Terminals};
+use command_line::{
+    AbortPlan, GameOptions, MatchTask, Task, has_own_word, read_arguments, refusal,
+};
 use game_commands::{Evidence, Fault, for_game};
 use game_core::Counted;
 use match_log::WriterBrand;
+use match_messages::Player;
 use match_plans::{Reach, ReportsShortages};
 use network_players::Explains;
+use player_commands::{Reasons, abort, info};
 use process_streams::LockedFiles;
-use role_workers::Player;
 use std::alloc::{AllocError, Global};
 use std::fmt::Write as _;
 use std::io::{Read, Write};
@@ -33,43 +35,60 @@ use std::thread::Threads;
 use std::time::Clock;
 use whole_streams::{Pieces, write_all};
 
+/// The lines of a command on standard error, and what has to be explained there when it ends.
+#[derive(Drop)]
+struct Reports<E> {
+    errors: E,
+    evidence: Evidence,
+}
+
 /// Performs the command of the words after the program's name, and returns the program's status. A fault is one line on `errors`, after
 /// the lines that explain it. A failed write to `errors` is skipped. On a terminal `errors` also shows the progress of matches. `--why`
-/// counts only if `terminals` says that it is there.
+/// counts only if the terminals of `around` say that it is there.
 pub fn command<H, P, S, R: Read, W: Write, E: Write + Send>(
-    rt: &H,
-    alloc: Global,
-    reach: &S,
+    around: &Surroundings<'_, H, S>,
     words: &[String],
     reader: &mut Counted<R>,
     writer: &mut Counted<W>,
     errors: &mut E,
-    terminals: Terminals,
 ) -> u8
 where
     H: Net + Clock + LockedFiles + Threads + Wait + Sync,
     P: Player + Explains + Drop + Send,
     S: Reach<P> + ReportsShortages + Sync,
 {
-    let mut evidence = Evidence::Nothing;
-    let performed = match texts(alloc, words) {
-        Ok(words) => perform::<H, P, S, R, W, E>(
-            rt,
-            alloc,
-            reach,
-            &words,
-            reader,
-            writer,
-            errors,
-            terminals,
-            &mut evidence,
-        ),
+    let mut reports = Reports {
+        errors,
+        evidence: Evidence::Nothing,
+    };
+    let performed = match texts(around.alloc, words) {
+        Ok(words) => match task_of(around.alloc, &words, &mut reports.evidence) {
+            Ok(task) => {
+                let (performed, _writer) = perform_task::<Brand, H, P, S, R, W, &mut E>(
+                    around,
+                    &task,
+                    reader,
+                    writer,
+                    &mut reports,
+                );
+                performed
+            }
+            Err(fault) => Err(fault),
+        },
         Err(AllocError) => Err(Fault::Memory),
     };
-    if terminals.explain() || has_own_word(words) {
-        explain(alloc, &evidence, errors);
-    }
-    end(performed, terminals.why, errors)
+    let Reports {
+        mut errors,
+        evidence,
+    } = reports;
+    let are_wanted = around.terminals.explain() || has_own_word(words);
+    explain(
+        around.alloc,
+        are_wanted,
+        &Subject::Evidence(&evidence),
+        &mut errors,
+    );
+    end(performed, around.terminals.why, &mut errors)
 }
 
 /// The words as texts.
@@ -126,7 +145,7 @@ fn prepared<F: Files, R: Read>(
     reader: &mut Counted<R>,
     evidence: &mut Evidence,
 ) -> Result<(LoadedGame, Vec<u8>), Fault>
-    ensures playable { IfOk result (λ prepared. IsLoadedGame plan.now prepared.0.game prepared.0.rules.items) }
+    ensures playable { IfOk result (λ prepared. IsLoadedGame plan.now prepared.0.game prepared.0.rules) }
     ensures read { IfOk result (λ prepared. ReadsInput R.remaining task.now prepared.1.items reader.old reader.new) }
     ensures fault { IfErr result (λ fault. IsNotBegun R.remaining plan.now task.now fault reader.old reader.new) }
 {
@@ -137,16 +156,12 @@ fn prepared<F: Files, R: Read>(
 
 /// Plays the matches of a task. Hands the output back, so its content is known.
 fn play<'w, N: WriterBrand, H, P, S, R: Read, W: Write, E: Write + Send>(
-    rt: &H,
-    alloc: Global,
-    reach: &S,
+    around: &Surroundings<'_, H, S>,
     plan: &GameOptions<'_>,
     task: &MatchTask<'_>,
     reader: &mut Counted<R>,
     writer: &'w mut Counted<W>,
-    errors: &mut E,
-    terminals: Terminals,
-    evidence: &mut Evidence,
+    reports: &mut Reports<E>,
 ) -> (Result<(), Fault>, &'w mut Counted<W>)
 where
     H: Net + Clock + LockedFiles + Threads + Wait + Sync,
@@ -154,39 +169,43 @@ where
     S: Reach<P> + ReportsShortages + Sync,
     requires picked { N.name ≡ writer.ghost_name }
     ensures output { result.1.ghost_name ≡ writer.entry.ghost_name }
-    ensures played { OnOk result.0 (Plays H (is_logged_reached H (S.is_reached reach.now)) (logged_handed H P.handed) R.remaining W.contents plan.now task.now reader.old reader.new writer.entry.now result.1.now 0) }
-    ensures at_fault { IfErr result.0 (FailsToPlay H (is_logged_reached H (S.is_reached reach.now)) (logged_handed H P.handed) R.remaining W.contents plan.now task.now reader.old reader.new writer.entry.now result.1.now) }
+    ensures played { OnOk result.0 (Plays H (is_logged_reached H (S.is_reached around.now.reach.now)) (logged_handed H P.handed) R.remaining W.contents plan.now task.now reader.old reader.new writer.entry.now result.1.now 0) }
+    ensures at_fault { IfErr result.0 (FailsToPlay H (is_logged_reached H (S.is_reached around.now.reach.now)) (logged_handed H P.handed) R.remaining W.contents plan.now task.now reader.old reader.new writer.entry.now result.1.now) }
 {
-    let (loaded_game, input) = match prepared(rt, alloc, plan, task, reader, evidence) {
+    let evidence = &mut reports.evidence;
+    let (loaded_game, input) = match prepared(
+        around.rt,
+        around.alloc,
+        plan,
+        task,
+        reader,
+        evidence,
+    ) {
         Ok(prepared) => prepared,
         Err(fault) => return (Err(fault), writer),
     };
+    let ready = ReadyTask {
+        task: &*task,
+        game: loaded_game.playable(),
+        input: &input,
+    };
     let (held, writer) = play_with_reports::<N, H, P, S, W, E>(
-        rt,
-        alloc,
-        reach,
+        around,
+        ready,
         plan.is_logged,
-        task,
-        loaded_game.playable(),
-        &input,
         writer,
-        errors,
-        terminals,
+        &mut reports.errors,
     );
     (task_end(task, held), writer)
 }
 
 /// Performs a task. Hands the output back, so its content is known.
 fn perform_task<'w, N: WriterBrand, H, P, S, R: Read, W: Write, E: Write + Send>(
-    rt: &H,
-    alloc: Global,
-    reach: &S,
+    around: &Surroundings<'_, H, S>,
     task: &Task<'_>,
     reader: &mut Counted<R>,
     writer: &'w mut Counted<W>,
-    errors: &mut E,
-    terminals: Terminals,
-    evidence: &mut Evidence,
+    reports: &mut Reports<E>,
 ) -> (Result<(), Fault>, &'w mut Counted<W>)
 where
     H: Net + Clock + LockedFiles + Threads + Wait + Sync,
@@ -194,20 +213,38 @@ where
     S: Reach<P> + ReportsShortages + Sync,
     requires picked { N.name ≡ writer.ghost_name }
     ensures output { result.1.ghost_name ≡ writer.entry.ghost_name }
-    ensures performed { OnOk result.0 (Performs H (is_logged_reached H (S.is_reached reach.now)) (logged_handed H P.handed) R.remaining H.File.remaining W.contents task.now reader.old reader.new writer.entry.now result.1.now) }
-    ensures at_fault { IfErr result.0 (Fails H (is_logged_reached H (S.is_reached reach.now)) (logged_handed H P.handed) R.remaining H.File.remaining W.contents task.now reader.old reader.new writer.entry.now result.1.now) }
+    ensures performed { OnOk result.0 (Performs H (is_logged_reached H (S.is_reached around.now.reach.now)) (logged_handed H P.handed) R.remaining H.File.remaining W.contents task.now reader.old reader.new writer.entry.now result.1.now) }
+    ensures at_fault { IfErr result.0 (Fails H (is_logged_reached H (S.is_reached around.now.reach.now)) (logged_handed H P.handed) R.remaining H.File.remaining W.contents task.now reader.old reader.new writer.entry.now result.1.now) }
 {
+    let Surroundings { rt, alloc, .. } = *around;
     match task {
         Task::Show(text) => (show(text.as_str(), writer), writer),
         Task::Game(command, game, file) => {
+            let evidence = &mut reports.evidence;
             let performed = for_game(rt, alloc, *command, *game, *file, reader, writer, evidence);
             (performed, writer)
         }
-        Task::Info(player) => (info(rt, alloc, player, writer, errors, terminals), writer),
-        Task::Abort(plan) => (abort(rt, alloc, plan, writer, errors, terminals), writer),
-        Task::Host(plan, task) => play::<N, H, P, S, R, W, E>(
-            rt, alloc, reach, plan, task, reader, writer, errors, terminals, evidence,
-        ),
+        Task::Info(player) => {
+            let reasons = Reasons {
+                errors: &mut reports.errors,
+                are_wanted: around.terminals.explain(),
+            };
+            let performed = info(rt, alloc, player, writer, reasons);
+            (command_end(performed), writer)
+        }
+        Task::Abort(AbortPlan { id, players }) => {
+            let are_wanted = around.terminals.explain();
+            explain(alloc, are_wanted, &Subject::Id(id), &mut reports.errors);
+            let reasons = Reasons {
+                errors: &mut reports.errors,
+                are_wanted,
+            };
+            let performed = abort(rt, alloc, id, players, writer, reasons);
+            (command_end(performed), writer)
+        }
+        Task::Host(plan, task) => {
+            play::<N, H, P, S, R, W, E>(around, plan, task, reader, writer, reports)
+        }
     }
 }
 
@@ -217,28 +254,4 @@ fn show<W: Write>(text: &str, writer: &mut Counted<W>) -> Result<(), Fault>
     ensures at_fault { IfErr result (λ fault. (fault ≡ WriteFault) × AppendsPart (W.contents writer.old.stream) (W.contents writer.new.stream) text.now) }
 {
     Ok(write_all(writer, text.as_bytes())?)
-}
-
-/// Performs the command of the words.
-fn perform<H, P, S, R: Read, W: Write, E: Write + Send>(
-    rt: &H,
-    alloc: Global,
-    reach: &S,
-    words: &[&str],
-    reader: &mut Counted<R>,
-    writer: &mut Counted<W>,
-    errors: &mut E,
-    terminals: Terminals,
-    evidence: &mut Evidence,
-) -> Result<(), Fault>
-where
-    H: Net + Clock + LockedFiles + Threads + Wait + Sync,
-    P: Player + Explains + Drop + Send,
-    S: Reach<P> + ReportsShortages + Sync,
-{
-    let task = task_of(alloc, words, evidence)?;
-    let (performed, _writer) = perform_task::<Brand, H, P, S, R, W, E>(
-        rt, alloc, reach, &task, reader, writer, errors, terminals, evidence,
-    );
-    performed
 }

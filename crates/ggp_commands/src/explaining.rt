@@ -1,19 +1,35 @@
-//! The lines that explain a command's fault, or say what it skipped.
+//! The lines that explain a command's fault, or say what it skipped or who was missing.
 
-use crate::terminals::Terminals;
+use command_line::{MatchTask, RunPlan};
 use described_games::DescriptionFault;
 use explanations::{
-    push_bad_entry, push_description, push_first_bad_line, push_refused_matches,
-    push_several_lines, push_skipped_lines,
+    push_absent_players, push_bad_entry, push_broken_rules, push_description, push_first_bad_line,
+    push_refused_matches, push_several_lines, push_skipped_lines,
 };
 use game_commands::Evidence;
+use game_core::Text;
 use std::alloc::Global;
 use std::fmt::Write as _;
 use std::io::Write;
 use whole_streams::Pieces;
 
+/// What lines are about.
+#[derive(Drop)]
+pub enum Subject<'a> {
+    /// The evidence of a fault.
+    Evidence(&'a Evidence),
+    /// Each match of a schedule that breaks a rule of openings.
+    Schedule(&'a [u8]),
+    /// The rules of openings that the match of a run or of a check breaks, in a game of so many roles.
+    Opening(&'a MatchTask<'a>, usize),
+    /// The rule of a match's id, if this id breaks it.
+    Id(&'a str),
+    /// The players of which every message failed, in a match with this record.
+    Record(&'a Text),
+}
+
 /// Appends the lines about this evidence to `lines`. The error means that memory was refused.
-fn push_lines(
+fn push_evidence(
     alloc: Global,
     evidence: &Evidence,
     lines: &mut String,
@@ -34,24 +50,36 @@ fn push_lines(
     Ok(())
 }
 
-/// Writes the lines about this evidence, as far as the stream takes them, or nothing if they are out of memory.
-pub fn explain<E: Write>(alloc: Global, evidence: &Evidence, errors: &mut E) {
-    let mut lines = String::new(alloc);
-    if push_lines(alloc, evidence, &mut lines).is_ok() {
-        let mut pieces = Pieces { stream: errors };
-        let _ = pieces.write_str(lines.as_str());
+/// Appends the lines about this subject to `lines`. The error means that memory was refused.
+fn push_lines(
+    alloc: Global,
+    subject: &Subject<'_>,
+    lines: &mut String,
+) -> Result<(), DescriptionFault> {
+    match subject {
+        Subject::Evidence(evidence) => return push_evidence(alloc, *evidence, lines),
+        Subject::Schedule(schedule) => push_refused_matches(*schedule, lines)?,
+        Subject::Opening(MatchTask::Run(RunPlan { plan, .. }), roles) => push_broken_rules(
+            plan.id,
+            [plan.start, plan.play],
+            plan.players.len(),
+            *roles,
+            lines,
+        )?,
+        Subject::Opening(MatchTask::Check(plan), roles) => {
+            push_broken_rules("check", [plan.start, plan.play], *roles, *roles, lines)?
+        }
+        Subject::Opening(MatchTask::Season(_), _) => {}
+        Subject::Id(id) => push_broken_rules(*id, [1, 1], 1, 1, lines)?,
+        Subject::Record(record) => push_absent_players(record.as_slice(), lines)?,
     }
+    Ok(())
 }
 
-/// Writes which matches of a schedule break a rule of openings, where faults are explained, as far as the stream takes it.
-pub fn explain_refused<E: Write>(
-    alloc: Global,
-    terminals: Terminals,
-    schedule: &[u8],
-    errors: &mut E,
-) {
+/// Writes the lines about this subject if they are wanted, as far as the stream takes them, or nothing if they are out of memory.
+pub fn explain<E: Write>(alloc: Global, are_wanted: bool, subject: &Subject<'_>, errors: &mut E) {
     let mut lines = String::new(alloc);
-    if terminals.explain() && push_refused_matches(schedule, &mut lines).is_ok() {
+    if are_wanted && push_lines(alloc, subject, &mut lines).is_ok() {
         let mut pieces = Pieces { stream: errors };
         let _ = pieces.write_str(lines.as_str());
     }

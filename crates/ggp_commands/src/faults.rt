@@ -1,16 +1,16 @@
 //! The program's fault where a part of its work fails.
-ghost use Rattle.std.specs.Prelude.{◌≡◌, ◌≢◌, IfErr, Ok, OnErr, OnOk};
+ghost use Rattle.std.specs.Prelude.{◌≡◌, ◌≢◌, Err, IfErr, IsOk, MatchResult, Ok, OnErr, OnOk};
 ghost use Rattle.game_commands.specs.Faults.{IsFileFault};
 ghost use Rattle.game_commands.specs.declared.files.NamedFile.TheVariants.{Records};
-ghost use Rattle.ggp_commands.specs.Faults.{argument_fault, check_fault, contact_fault, match_fault, season_fault, status_of, task_fault};
+ghost use Rattle.ggp_commands.specs.Faults.{argument_fault, check_fault, command_fault, match_fault, season_fault, status_of, task_fault};
 
 use command_line::{ArgumentFault, MatchTask};
+use desk_calls::Refusal;
 use game_commands::{Fault, FileFault, NamedFile};
-use match_plans::Shortage;
 use match_play::MatchFault;
 use match_season::SeasonFault;
-use network_players::ContactFault;
 use player_check::CheckFault;
+use player_commands::CommandFault;
 use process_streams::RecordsFault;
 
 /// The program's status for a fault. With `--why` it is 1 if the answer is no, and 2 if it could not be told.
@@ -88,24 +88,17 @@ pub fn check_fault(fault: CheckFault) -> Fault
     }
 }
 
-/// The program's fault where a message to a player fails.
-pub fn contact_fault(fault: ContactFault) -> Fault
-    ensures { result ≡ contact_fault fault }
+/// The end of a command to players.
+pub fn command_end(performed: Result<(), CommandFault>) -> Result<(), Fault>
+    ensures { MatchResult performed (λ _. IsOk result) (λ why. result ≡ Err (command_fault why)) }
 {
-    match fault {
-        ContactFault::Shortage(Shortage::Memory) => Fault::Memory,
-        ContactFault::Shortage(shortage) => Fault::NotSent(shortage),
-        _ => Fault::NoAnswer,
-    }
-}
-
-/// The program's fault where so many matches of a task have no record, or so many answers in its check are bad.
-fn lacking_fault(task: &MatchTask<'_>, count: u64) -> Fault
-    ensures { result ≡ task_fault task.now (Ok count) }
-{
-    match task {
-        MatchTask::Run(_) | MatchTask::Season(_) => Fault::NoRecords(count),
-        MatchTask::Check(_) => Fault::BadAnswers(count),
+    match performed {
+        Ok(()) => Ok(()),
+        Err(CommandFault::BadId) => Err(Fault::Refused(Refusal::BadId)),
+        Err(CommandFault::NoAnswer) => Err(Fault::NoAnswer),
+        Err(CommandFault::NotSent(shortage)) => Err(Fault::NotSent(shortage)),
+        Err(CommandFault::WriteFault) => Err(Fault::WriteFault),
+        Err(CommandFault::Memory) => Err(Fault::Memory),
     }
 }
 
@@ -117,7 +110,10 @@ pub fn task_end(task: &MatchTask<'_>, held: Result<u64, Fault>) -> Result<(), Fa
 {
     match held {
         Ok(0) => Ok(()),
-        Ok(count) => Err(lacking_fault(task, count)),
+        Ok(count) => match task {
+            MatchTask::Run(_) | MatchTask::Season(_) => Err(Fault::NoRecords(count)),
+            MatchTask::Check(_) => Err(Fault::BadAnswers(count)),
+        },
         Err(fault) => Err(fault),
     }
 }

@@ -14,14 +14,11 @@ mod explaining;
 mod faults;
 mod loaded_game;
 mod matches;
-mod player_commands;
 mod records_file;
 mod schedules;
-mod terminals;
+mod surroundings;
 
-pub use command_line::{AbortPlan, asks_why};
+pub use command_line::asks_why;
 pub use commands::{command, report};
-pub use faults::contact_fault;
-pub use game_commands::{Fault, FileFault, NamedFile, ScriptFault};
-pub use player_commands::{abort, info};
-pub use terminals::Terminals;
+pub use game_commands::{Fault, FileFault, NamedFile};
+pub use surroundings::{Surroundings, Terminals};

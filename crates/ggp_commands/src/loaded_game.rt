@@ -40,7 +40,7 @@ fn rules_in<F: Files>(
     path: &str,
     evidence: &mut Evidence,
 ) -> Result<PrintedRules, Fault>
-    ensures spelled { IfOk result (λ rules. (text : List ℕ) × AreSpelled text rules.items) }
+    ensures spelled { IfOk result (λ rules. (text : List ℕ) × AreSpelled text rules) }
     ensures fault { IfErr result IsPlayerRulesFault }
 {
     let text = file_text(files, alloc, NamedFile::PlayerRules, path, MAX_PLAYER_RULES)?;
@@ -58,7 +58,7 @@ fn rules_for<F: Files>(
     player_rules: Option<&str>,
     evidence: &mut Evidence,
 ) -> Result<PrintedRules, Fault>
-    ensures rules { IfOk result (λ rules. AreRulesFor player_rules.entry game.now rules.items) }
+    ensures rules { IfOk result (λ rules. AreRulesFor player_rules.entry game.now rules) }
     ensures fault { IfErr result (HasNoRules player_rules.entry) }
 {
     match player_rules {
@@ -77,7 +77,7 @@ fn loaded_game_of<F: Files>(
     evidence: &mut Evidence,
 ) -> Result<LoadedGame, Fault>
     ensures game { IfOk result (λ loaded_game. IsDescribed limits text.now loaded_game.game) }
-    ensures rules { IfOk result (λ loaded_game. AreRulesFor player_rules.entry loaded_game.game loaded_game.rules.items) }
+    ensures rules { IfOk result (λ loaded_game. AreRulesFor player_rules.entry loaded_game.game loaded_game.rules) }
     ensures fault { IfErr result (λ fault. IsRefused limits text.now fault ⊎ HasNoRules player_rules.entry fault) }
 {
     let game = game_of(alloc, limits, text, evidence)?;
@@ -92,7 +92,7 @@ pub fn host<F: Files>(
     plan: GameOptions<'_>,
     evidence: &mut Evidence,
 ) -> Result<LoadedGame, Fault>
-    ensures playable { IfOk result (λ loaded_game. IsLoadedGame plan.entry loaded_game.game loaded_game.rules.items) }
+    ensures playable { IfOk result (λ loaded_game. IsLoadedGame plan.entry loaded_game.game loaded_game.rules) }
     ensures fault { IfErr result (IsNotLoadedGame plan.entry) }
 {
     let text = source_text(files, alloc, plan.game)?;

@@ -14,11 +14,11 @@ ghost use Rattle.ggp_commands.specs.Schedules.{AreLeft, WritesPlans, WritesPlans
 ghost use Rattle.ggp_commands.specs.Tasks.{EndsTask, HasNoInput, ReadsInput, WritesTask, WritesTaskUpTo};
 
 use crate::descriptors::allowed_form;
-use crate::explaining::explain_refused;
+use crate::explaining::{Subject, explain};
 use crate::faults::{check_fault, match_fault, season_fault};
 use crate::records_file::{records_file, tell_of_file};
 use crate::schedules::{plans_of, undone};
-use crate::terminals::Terminals;
+use crate::surroundings::{Surroundings, Terminals};
 use command_line::{MatchTask, RunPlan, SeasonPlan};
 use game_commands::{Fault, NamedFile, file_text};
 use game_core::{Counted, Game};
@@ -26,13 +26,13 @@ use match_log::{
     ClearedOutput, LoggedPlayer, Logging, Notices, Progress, ReportStream, Reporting, StatusStream,
     WriterBrand,
 };
+use match_messages::Player;
 use match_plans::{CheckPlan, MatchPlan, Reach, ReportsShortages, SeasonForm};
 use match_play::{PlayableGame, PreparedMatch, ended_match, prepared_match};
-use match_season::play_season;
+use match_season::{SeasonSurroundings, play_season};
 use network_players::Explains;
 use player_check::check_player;
 use process_streams::{LockedFiles, RecordsFile};
-use role_workers::Player;
 use std::alloc::Global;
 use std::io::{Read, Write};
 use std::marker::PhantomData;
@@ -75,28 +75,47 @@ impl Console {
     }
 }
 
-/// Plays a match, and writes its record, and its account if the plan wants it.
+/// A task with matches, its game and its input.
+#[derive(Clone, Copy)]
+pub struct ReadyTask<'t> {
+    pub task: &'t MatchTask<'t>,
+    pub game: PlayableGame<'t>,
+    pub input: &'t [u8],
+}
+
+/// Plays a match, and writes its record, and its account if the plan wants it. Reports which players were not there.
 fn run<H, P, S, W: Write>(
-    rt: &H,
-    alloc: Global,
-    reach: &S,
+    around: &Surroundings<'_, H, S>,
     run: &RunPlan<'_>,
     game: PlayableGame<'_>,
     writer: &mut Counted<W>,
+    console: &Console,
 ) -> Result<(), Fault>
 where
     H: Threads + Wait + Sync,
     P: Player + Drop + Send,
     S: Reach<P> + ReportsShortages,
-    ensures clear { OnOk result (S.is_clear reach.now 0) }
-    ensures written { OnOk result (WritesRun (S.is_reached reach.now) P.handed game.entry run.now (W.contents writer.old.stream) (W.contents writer.new.stream)) }
-    ensures at_fault { IfErr result (WritesRunUpTo (S.is_reached reach.now) P.handed game.entry run.now (W.contents writer.old.stream) (W.contents writer.new.stream)) }
+    ensures clear { OnOk result (S.is_clear around.now.reach.now 0) }
+    ensures written { OnOk result (WritesRun (S.is_reached around.now.reach.now) P.handed game.entry run.now (W.contents writer.old.stream) (W.contents writer.new.stream)) }
+    ensures at_fault { IfErr result (WritesRunUpTo (S.is_reached around.now.reach.now) P.handed game.entry run.now (W.contents writer.old.stream) (W.contents writer.new.stream)) }
 {
+    let Surroundings {
+        rt,
+        alloc,
+        reach,
+        ..
+    } = *around;
     let prepared: PreparedMatch<P> = prepared_match(alloc, reach, game, 0, &run.plan)?;
     let ended = match ended_match(rt, alloc, reach, prepared, game, run.has_history) {
         Ok(ended) => ended,
         Err(fault) => return Err(match_fault(fault)),
     };
+    explain(
+        alloc,
+        console.terminals.explain(),
+        &Subject::Record(&ended.text),
+        &mut ReportStream::new(rt, &console.notices),
+    );
     Ok(write_all(writer, ended.text.as_slice())?)
 }
 
@@ -125,30 +144,39 @@ pub fn input_of<F: Files, R: Read>(
 
 /// Plays matches of a season, and writes their records. Returns the number of those without a record.
 #[tactic(auto, using(crate::proofs::SeasonEnds::same_output))]
-fn play_plans<H, P, S, W: Write>(
-    rt: &H,
-    alloc: Global,
-    reach: &S,
+fn play_plans<'s, H, P, S, W: Write>(
+    around: &Surroundings<'s, H, S>,
     form: SeasonForm,
     game: PlayableGame<'_>,
     plans: &[MatchPlan<'_>],
     writer: &mut Counted<W>,
-    console: &Console,
+    console: &'s Console,
 ) -> Result<u64, Fault>
 where
     H: Files + Threads + Wait + Sync,
     P: Player + Drop + Send,
     S: Reach<P> + ReportsShortages + Sync,
-    ensures written { IfOk result (λ missing. WritesPlans (S.is_reached reach.now) P.handed game.entry form plans.now missing (W.contents writer.old.stream) (W.contents writer.new.stream)) }
-    ensures at_fault { IfErr result (λ fault. WritesPlansUpTo (S.is_reached reach.now) P.handed game.entry form plans.now fault (W.contents writer.old.stream) (W.contents writer.new.stream)) }
+    ensures written { IfOk result (λ missing. WritesPlans (S.is_reached around.now.reach.now) P.handed game.entry form plans.now missing (W.contents writer.old.stream) (W.contents writer.new.stream)) }
+    ensures at_fault { IfErr result (λ fault. WritesPlansUpTo (S.is_reached around.now.reach.now) P.handed game.entry form plans.now fault (W.contents writer.old.stream) (W.contents writer.new.stream)) }
 {
+    let Surroundings {
+        rt,
+        alloc,
+        reach,
+        ..
+    } = *around;
     console.plan(rt, plans.len());
     let mut errors = ReportStream::new(rt, &console.notices);
     let form = allowed_form(rt, alloc, form, game.game.roles(), plans.len(), &mut errors);
     let errors = Mutex::new(errors);
-    let played = play_season::<H, P, S, W, ReportStream<'_, H>>(
-        rt, alloc, reach, game, plans, form, writer, &errors,
-    );
+    let surroundings = SeasonSurroundings {
+        rt,
+        alloc,
+        reach,
+        errors: &errors,
+    };
+    let around = &surroundings;
+    let played = play_season::<H, P, S, W, ReportStream<'_, H>>(around, game, plans, form, writer);
     match played {
         Ok(missing) => Ok(missing),
         Err(fault) => Err(season_fault(fault)),
@@ -158,9 +186,7 @@ where
 /// Plays the matches of a season that the file at this path has no records of, and adds theirs to it. Returns the number of those without a
 /// record.
 fn play_into_file<H, P, S>(
-    rt: &H,
-    alloc: Global,
-    reach: &S,
+    around: &Surroundings<'_, H, S>,
     form: SeasonForm,
     game: PlayableGame<'_>,
     plans: Vec<MatchPlan<'_>>,
@@ -172,18 +198,19 @@ where
     P: Player + Drop + Send,
     S: Reach<P> + ReportsShortages + Sync,
     ensures written { IfOk result (λ missing. (left : List MatchPlan) × AreLeft game.entry.game.now (Some path.entry) plans.entry.items left
-        × ((before : Option (List ℕ)) × (after : Option (List ℕ)) × WritesPlans (S.is_reached reach.now) P.handed game.entry form left missing before after)) }
+        × ((before : Option (List ℕ)) × (after : Option (List ℕ)) × WritesPlans (S.is_reached around.now.reach.now) P.handed game.entry form left missing before after)) }
     ensures at_fault { IfErr result (λ fault. (IsFileFault Records fault
         ⊎ ((fault ≡ WriteFault) × ((missing : ℕ) × (left : List MatchPlan) × AreLeft game.entry.game.now (Some path.entry) plans.entry.items left
-        × ((before : Option (List ℕ)) × (after : Option (List ℕ)) × WritesPlans (S.is_reached reach.now) P.handed game.entry form left missing before after))))
+        × ((before : Option (List ℕ)) × (after : Option (List ℕ)) × WritesPlans (S.is_reached around.now.reach.now) P.handed game.entry form left missing before after))))
         ⊎ ((left : List MatchPlan) × AreLeft game.entry.game.now (Some path.entry) plans.entry.items left
-        × ((before : Option (List ℕ)) × (after : Option (List ℕ)) × WritesPlansUpTo (S.is_reached reach.now) P.handed game.entry form left fault before after))) }
+        × ((before : Option (List ℕ)) × (after : Option (List ℕ)) × WritesPlansUpTo (S.is_reached around.now.reach.now) P.handed game.entry form left fault before after))) }
 {
+    let Surroundings { rt, alloc, .. } = *around;
     let mut errors = ReportStream::new(rt, &console.notices);
     let mut file = Counted::new(records_file(rt, alloc, path, &mut errors)?);
     let left = undone(rt, alloc, game.game, Some(path), plans, &mut errors)?;
     let played = play_plans::<H, P, S, RecordsFile<'_, H, <H as Files>::File>>(
-        rt, alloc, reach, form, game, &left, &mut file, console,
+        around, form, game, &left, &mut file, console,
     );
     if file.end().is_kept() {
         return played;
@@ -201,9 +228,7 @@ where
 
 /// Plays the matches of a schedule, and writes their records. Returns the number of those without a record.
 fn season<H, P, S, W: Write>(
-    rt: &H,
-    alloc: Global,
-    reach: &S,
+    around: &Surroundings<'_, H, S>,
     season: SeasonPlan<'_>,
     game: PlayableGame<'_>,
     schedule: &[u8],
@@ -214,41 +239,23 @@ where
     H: LockedFiles + Threads + Wait + Sync,
     P: Player + Drop + Send,
     S: Reach<P> + ReportsShortages + Sync,
-    ensures written { IfOk result (λ missing. WritesSeason (S.is_reached reach.now) P.handed game.entry season.entry schedule.now missing (W.contents writer.old.stream) (W.contents writer.new.stream)) }
-    ensures at_fault { IfErr result (WritesSeasonUpTo (S.is_reached reach.now) P.handed game.entry season.entry schedule.now (W.contents writer.old.stream) (W.contents writer.new.stream)) }
+    ensures written { IfOk result (λ missing. WritesSeason (S.is_reached around.now.reach.now) P.handed game.entry season.entry schedule.now missing (W.contents writer.old.stream) (W.contents writer.new.stream)) }
+    ensures at_fault { IfErr result (WritesSeasonUpTo (S.is_reached around.now.reach.now) P.handed game.entry season.entry schedule.now (W.contents writer.old.stream) (W.contents writer.new.stream)) }
 {
+    let Surroundings { rt, alloc, .. } = *around;
     let mut errors = ReportStream::new(rt, &console.notices);
     let plans = plans_of(rt, alloc, game.game, season, schedule, &mut errors)?;
-    explain_refused(alloc, console.terminals, schedule, &mut errors);
+    let are_wanted = console.terminals.explain();
+    explain(alloc, are_wanted, &Subject::Schedule(schedule), &mut errors);
     match season.records {
-        None => play_plans::<H, P, S, W>(
-            rt,
-            alloc,
-            reach,
-            season.form,
-            game,
-            &plans,
-            writer,
-            console,
-        ),
-        Some(path) => play_into_file::<H, P, S>(
-            rt,
-            alloc,
-            reach,
-            season.form,
-            game,
-            plans,
-            path,
-            console,
-        ),
+        None => { play_plans::<H, P, S, W>(around, season.form, game, &plans, writer, console) }
+        Some(path) => { play_into_file::<H, P, S>(around, season.form, game, plans, path, console) }
     }
 }
 
 /// Checks a player, and writes its table. Returns the number of bad answers.
 fn check<H, P, S, W: Write>(
-    rt: &H,
-    alloc: Global,
-    reach: &S,
+    around: &Surroundings<'_, H, S>,
     plan: &CheckPlan<'_>,
     game: PlayableGame<'_>,
     writer: &mut Counted<W>,
@@ -257,10 +264,16 @@ where
     H: Clock + Threads + Wait + Sync,
     P: Player + Explains + Drop + Send,
     S: Reach<P> + ReportsShortages,
-    ensures clear { OnOk result (S.is_clear reach.now 0) }
-    ensures written { IfOk result (λ bad. WritesCheck H (S.is_reached reach.now) P.handed game.entry plan.now bad (W.contents writer.old.stream) (W.contents writer.new.stream)) }
-    ensures at_fault { IfErr result (λ fault. (why : CheckFault) × (fault ≡ check_fault why) × EndsEarly H (S.is_reached reach.now) P.handed game.entry plan.now why (W.contents writer.old.stream) (W.contents writer.new.stream)) }
+    ensures clear { OnOk result (S.is_clear around.now.reach.now 0) }
+    ensures written { IfOk result (λ bad. WritesCheck H (S.is_reached around.now.reach.now) P.handed game.entry plan.now bad (W.contents writer.old.stream) (W.contents writer.new.stream)) }
+    ensures at_fault { IfErr result (λ fault. (why : CheckFault) × (fault ≡ check_fault why) × EndsEarly H (S.is_reached around.now.reach.now) P.handed game.entry plan.now why (W.contents writer.old.stream) (W.contents writer.new.stream)) }
 {
+    let Surroundings {
+        rt,
+        alloc,
+        reach,
+        ..
+    } = *around;
     match check_player::<H, P, S, W>(rt, alloc, reach, plan, game, writer) {
         Ok(bad) => Ok(bad),
         Err(fault) => Err(check_fault(fault)),
@@ -269,12 +282,8 @@ where
 
 /// Performs a task on a game, and reports on its matches. Returns the number of matches without a record, or of bad answers.
 fn perform_match_task<H, P, S, W: Write>(
-    rt: &H,
-    alloc: Global,
-    reach: &S,
-    task: &MatchTask<'_>,
-    game: PlayableGame<'_>,
-    input: &[u8],
+    around: &Surroundings<'_, H, S>,
+    ready: ReadyTask<'_>,
     writer: &mut Counted<W>,
     console: &Console,
 ) -> Result<u64, Fault>
@@ -282,40 +291,50 @@ where
     H: Clock + LockedFiles + Threads + Wait + Sync,
     P: Player + Explains + Drop + Send,
     S: Reach<P> + ReportsShortages + Sync,
-    ensures written { IfOk result (λ count. WritesTask H (is_logged_reached H (S.is_reached reach.now)) (logged_handed H P.handed) game.entry task.now input.now count (W.contents writer.old.stream) (W.contents writer.new.stream)) }
-    ensures at_fault { IfErr result (WritesTaskUpTo H (is_logged_reached H (S.is_reached reach.now)) (logged_handed H P.handed) game.entry task.now input.now (W.contents writer.old.stream) (W.contents writer.new.stream)) }
+    ensures written { IfOk result (λ count. WritesTask H (is_logged_reached H (S.is_reached around.now.reach.now)) (logged_handed H P.handed) ready.entry.game ready.entry.task.now ready.entry.input.now count (W.contents writer.old.stream) (W.contents writer.new.stream)) }
+    ensures at_fault { IfErr result (WritesTaskUpTo H (is_logged_reached H (S.is_reached around.now.reach.now)) (logged_handed H P.handed) ready.entry.game ready.entry.task.now ready.entry.input.now (W.contents writer.old.stream) (W.contents writer.new.stream)) }
 {
+    let ReadyTask { task, game, input } = ready;
+    let rt = around.rt;
+    explain(
+        around.alloc,
+        around.terminals.explain(),
+        &Subject::Opening(task, game.game.roles()),
+        &mut ReportStream::new(rt, &console.notices),
+    );
     let logging = Logging {
         rt,
-        reach,
+        reach: around.reach,
         reporting: console.reporting(),
         notices: &console.notices,
         is_alone: matches!(task, MatchTask::Check(_)),
     };
+    let logged = Surroundings {
+        rt,
+        alloc: around.alloc,
+        reach: &logging,
+        terminals: around.terminals,
+    };
     match task {
         MatchTask::Run(plan) => {
             console.plan(rt, 1);
-            run::<H, LoggedPlayer<'_, H, P>, _, W>(rt, alloc, &logging, plan, game, writer)?;
+            run::<H, LoggedPlayer<'_, H, P>, _, W>(&logged, plan, game, writer, console)?;
             Ok(0)
         }
         MatchTask::Season(plan) => season::<H, LoggedPlayer<'_, H, P>, _, W>(
-            rt, alloc, &logging, *plan, game, input, writer, console,
+            &logged, *plan, game, input, writer, console,
         ),
         MatchTask::Check(plan) => {
             console.plan(rt, game.game.roles());
-            check::<H, LoggedPlayer<'_, H, P>, _, W>(rt, alloc, &logging, plan, game, writer)
+            check::<H, LoggedPlayer<'_, H, P>, _, W>(&logged, plan, game, writer)
         }
     }
 }
 
 /// Performs the task while a thread writes the reports. Returns what the task returns.
 fn perform_beside_notices<H, P, S, W: Write, E: Write + Send>(
-    rt: &H,
-    alloc: Global,
-    reach: &S,
-    task: &MatchTask<'_>,
-    game: PlayableGame<'_>,
-    input: &[u8],
+    around: &Surroundings<'_, H, S>,
+    ready: ReadyTask<'_>,
     writer: &mut Counted<W>,
     console: &Console,
     stream: &Mutex<StatusStream<&mut E>>,
@@ -324,9 +343,10 @@ where
     H: Clock + LockedFiles + Threads + Wait + Sync,
     P: Player + Explains + Drop + Send,
     S: Reach<P> + ReportsShortages + Sync,
-    ensures written { IfOk result (λ count. WritesTask H (is_logged_reached H (S.is_reached reach.now)) (logged_handed H P.handed) game.entry task.now input.now count (W.contents writer.old.stream) (W.contents writer.new.stream)) }
-    ensures at_fault { IfErr result (EndsTask H (is_logged_reached H (S.is_reached reach.now)) (logged_handed H P.handed) game.entry task.now input.now (W.contents writer.old.stream) (W.contents writer.new.stream)) }
+    ensures written { IfOk result (λ count. WritesTask H (is_logged_reached H (S.is_reached around.now.reach.now)) (logged_handed H P.handed) ready.entry.game ready.entry.task.now ready.entry.input.now count (W.contents writer.old.stream) (W.contents writer.new.stream)) }
+    ensures at_fault { IfErr result (EndsTask H (is_logged_reached H (S.is_reached around.now.reach.now)) (logged_handed H P.handed) ready.entry.game ready.entry.task.now ready.entry.input.now (W.contents writer.old.stream) (W.contents writer.new.stream)) }
 {
+    let rt = around.rt;
     // The closure returns the output, so its content is known behind the scope.
     let (performed, _writer) = thread::scope(
         thread::scope_env(),
@@ -334,8 +354,8 @@ where
         move |scope| -> (Result<u64, Fault>, &mut Counted<W>)
             requires sent { IsSync H.row × IsSend E.row }
             ensures stream { result.1.ghost_name ≡ writer.entry.ghost_name }
-            ensures written { IfOk result.0 (λ count. WritesTask H (is_logged_reached H (S.is_reached reach.entry.now)) (logged_handed H P.handed) game.entry task.entry.now input.entry.now count (W.contents writer.entry.now.stream) (W.contents result.1.now.stream)) }
-            ensures at_fault { IfErr result.0 (EndsTask H (is_logged_reached H (S.is_reached reach.entry.now)) (logged_handed H P.handed) game.entry task.entry.now input.entry.now (W.contents writer.entry.now.stream) (W.contents result.1.now.stream)) }
+            ensures written { IfOk result.0 (λ count. WritesTask H (is_logged_reached H (S.is_reached around.entry.now.reach.now)) (logged_handed H P.handed) ready.entry.game ready.entry.task.now ready.entry.input.now count (W.contents writer.entry.now.stream) (W.contents result.1.now.stream)) }
+            ensures at_fault { IfErr result.0 (EndsTask H (is_logged_reached H (S.is_reached around.entry.now.reach.now)) (logged_handed H P.handed) ready.entry.game ready.entry.task.now ready.entry.input.now (W.contents writer.entry.now.stream) (W.contents result.1.now.stream)) }
         {
             let writing = move || console
                 .notices
@@ -343,9 +363,7 @@ where
             if scope.spawn(writing).is_err() {
                 return (Err(Fault::Memory), writer);
             }
-            let performed = perform_match_task::<H, P, S, W>(
-                rt, alloc, reach, task, game, input, writer, console,
-            );
+            let performed = perform_match_task::<H, P, S, W>(around, ready, writer, console);
             console.notices.close(rt);
             (performed, writer)
         },
@@ -357,16 +375,11 @@ where
 /// waits for a reader of the reports. Returns the number of matches without a record, or of bad answers. Hands the output back, so its
 /// content is known.
 pub fn play_with_reports<'w, N: WriterBrand, H, P, S, W: Write, E: Write + Send>(
-    rt: &H,
-    alloc: Global,
-    reach: &S,
+    around: &Surroundings<'_, H, S>,
+    ready: ReadyTask<'_>,
     is_logged: bool,
-    task: &MatchTask<'_>,
-    game: PlayableGame<'_>,
-    input: &[u8],
     writer: &'w mut Counted<W>,
     errors: &mut E,
-    terminals: Terminals,
 ) -> (Result<u64, Fault>, &'w mut Counted<W>)
 where
     H: Clock + LockedFiles + Threads + Wait + Sync,
@@ -374,9 +387,15 @@ where
     S: Reach<P> + ReportsShortages + Sync,
     requires picked { N.name ≡ writer.ghost_name }
     ensures output { result.1.ghost_name ≡ writer.entry.ghost_name }
-    ensures written { IfOk result.0 (λ count. WritesTask H (is_logged_reached H (S.is_reached reach.now)) (logged_handed H P.handed) game.entry task.now input.now count (W.contents writer.entry.now.stream) (W.contents result.1.now.stream)) }
-    ensures at_fault { IfErr result.0 (EndsTask H (is_logged_reached H (S.is_reached reach.now)) (logged_handed H P.handed) game.entry task.now input.now (W.contents writer.entry.now.stream) (W.contents result.1.now.stream)) }
+    ensures written { IfOk result.0 (λ count. WritesTask H (is_logged_reached H (S.is_reached around.now.reach.now)) (logged_handed H P.handed) ready.entry.game ready.entry.task.now ready.entry.input.now count (W.contents writer.entry.now.stream) (W.contents result.1.now.stream)) }
+    ensures at_fault { IfErr result.0 (EndsTask H (is_logged_reached H (S.is_reached around.now.reach.now)) (logged_handed H P.handed) ready.entry.game ready.entry.task.now ready.entry.input.now (W.contents writer.entry.now.stream) (W.contents result.1.now.stream)) }
 {
+    let Surroundings {
+        rt,
+        alloc,
+        terminals,
+        ..
+    } = *around;
     let console = Console {
         notices: Notices::new(alloc),
         progress: Progress::new(),
@@ -392,12 +411,8 @@ where
         brand: PhantomData,
     });
     let performed = perform_beside_notices::<H, P, S, ClearedOutput<'_, 'w, N, H, W, &mut E>, E>(
-        rt,
-        alloc,
-        reach,
-        task,
-        game,
-        input,
+        around,
+        ready,
         &mut output,
         &console,
         &stream,

@@ -4,7 +4,7 @@
 ghost use Rattle.std.specs.Prelude.{◌<◌};
 
 use game_core::Counted;
-use ggp_commands::{Fault, Terminals, asks_why, command, report};
+use ggp_commands::{Fault, Surroundings, Terminals, asks_why, command, report};
 use match_plans::MAX_SCHEDULED;
 use network_players::{RoundSignal, SocketPlayer, Sockets};
 use process_streams::{ERRORS, FILE_SIZE, INPUT, OUTPUT, Standard, hold_closed, limit_of};
@@ -70,15 +70,18 @@ fn main(rt: HostRuntime) -> ExitCode {
     let mut reader = Counted::new(Standard::new(host, input, INPUT, None));
     let mut writer = Counted::new(Standard::new(host, output, OUTPUT, limit));
     let mut errors = Standard::new(host, errors, ERRORS, limit);
+    let around = Surroundings {
+        rt: host,
+        alloc: rt.alloc(),
+        reach: &reach,
+        terminals,
+    };
     let status = command::<_, SocketPlayer<'_, HostRuntime>, _, _, _, _>(
-        host,
-        rt.alloc(),
-        &reach,
+        &around,
         &words,
         &mut reader,
         &mut writer,
         &mut errors,
-        terminals,
     );
     ExitCode::from(status)
 }

@@ -3,7 +3,7 @@ use Rattle.std.proofs.Common.{◌≡◌, ℕ, ◌+◌, ◌-◌, ◌≤◌, Bool,
 use Rattle.std.specs.Prelude.{◌⊎◌, nat_lt, nat_le, slice_range}
 use Rattle.std.proofs.lemmas.List.{take-append-drop, take_all}
 use Rattle.std.proofs.lemmas.Bool.Decides.{nat_tests}
-use Rattle.http_exchange.specs.BodyLength.{BodyLength, unsaid, said, wrong, body_length}
+use Rattle.http_exchange.specs.BodyLength.{BodyLength, unsaid, said, wrong, body_length, length_fault}
 use Rattle.http_exchange.specs.HttpHead.{Parts, Reads, framed, framed_by, unless_refused, front, max_head, max_body}
 use Rattle.http_exchange.specs.Looks.{Looks, look_from, look_past}
 use Rattle.http_exchange.specs.Carried.{Carried, Follows}
@@ -17,37 +17,37 @@ use Rattle.http_exchange.specs.declared.head.Head.TheVariants.{Unfinished, Whole
 use Rattle.http_exchange.specs.declared.look.Look.{Look}
 use Rattle.http_exchange.specs.declared.look.Look.TheVariants as looks
 use Rattle.http_exchange.specs.declared.wire_fault.FrameFault.{FrameFault}
-use Rattle.http_exchange.specs.declared.wire_fault.FrameFault.TheVariants.{BadHead, BadLength, TooLong, CutShort}
+use Rattle.http_exchange.specs.declared.wire_fault.FrameFault.TheVariants.{BadHead, NoLength, TooLong, CutShort}
 use Rattle.http_exchange.specs.declared.wire_fault.WireFault.TheVariants.{WriteFault, ReadFault, TooManyReads, Memory}
 use Rattle.http_exchange.specs.declared.wire_fault.WireFault.TheVariants as faults
 use Rattle.http_exchange.proofs.Heads.{placed, none_in_nothing, reads_on, reads_cut, framed_alone}
 
 -- ---- carried, so found
 
-found_said : (kind : HttpKind) (n size : ℕ) (given rest body : List ℕ) (ended : Bool) → (n ≤ max_body kind) × (n ≤ length rest) × (body ≡ take n rest)
-    → length given ≡ size + length rest → rest ≡ drop size given → IsFound (look_past (framed_by kind size (said n)) (length given) ended) given body
-found_said kind n size given rest body ended follows whole at =
+found_said : (kind : HttpKind) (n size : ℕ) (fault : FrameFault) (given rest body : List ℕ) (ended : Bool) → (n ≤ max_body kind) × (n ≤ length rest) × (body ≡ take n rest)
+    → length given ≡ size + length rest → rest ≡ drop size given → IsFound (look_past (framed_by kind size fault (said n)) (length given) ended) given body
+found_said kind n size fault given rest body ended follows whole at =
     let within = follows.1 in
     let small : nat_le n (max_body kind) ≡ true = grind (arith, nat_tests, follows.0) in
     let inside : nat_le (size + n) (length given) ≡ true = grind (arith, nat_tests) in
     let count : (size + n) - size ≡ n = omega arith in
     rw (small, inside) (follows.2 ∙ ap (take n) at ∙ ap (λ k. take k (drop size given)) (sym count))
 
-found_unsaid : (size : ℕ) (given rest body : List ℕ) (ended : Bool) → (ended ≡ true) × (length rest ≤ max_body Reply) × (body ≡ rest)
-    → length given ≡ size + length rest → rest ≡ drop size given → IsFound (look_past (framed_by Reply size unsaid) (length given) ended) given body
-found_unsaid size given rest body ended follows whole at =
+found_unsaid : (size : ℕ) (fault : FrameFault) (given rest body : List ℕ) (ended : Bool) → (ended ≡ true) × (length rest ≤ max_body Reply) × (body ≡ rest)
+    → length given ≡ size + length rest → rest ≡ drop size given → IsFound (look_past (framed_by Reply size fault unsaid) (length given) ended) given body
+found_unsaid size fault given rest body ended follows whole at =
     let short = follows.1 in
     let at_end = follows.0 in
     let fits : nat_lt (size + max_body Reply) (length given) ≡ false = grind (arith, nat_tests) in
     let all : length rest ≤ length given - size = omega arith in
     rw (fits, at_end) (follows.2 ∙ sym (take_all (length given - size) rest all) ∙ ap (take (length given - size)) at)
 
-found_by : (kind : HttpKind) (l : BodyLength) (size : ℕ) (given rest body : List ℕ) (ended : Bool) → Follows kind l rest ended body
-    → length given ≡ size + length rest → rest ≡ drop size given → IsFound (look_past (framed_by kind size l) (length given) ended) given body
-found_by kind wrong size given rest body ended follows whole at = follows
-found_by kind (said n) size given rest body ended follows whole at = found_said kind n size given rest body ended follows whole at
-found_by Reply unsaid size given rest body ended follows whole at = found_unsaid size given rest body ended follows whole at
-found_by Request unsaid size given rest body ended follows whole at = follows
+found_by : (kind : HttpKind) (l : BodyLength) (size : ℕ) (fault : FrameFault) (given rest body : List ℕ) (ended : Bool) → Follows kind l rest ended body
+    → length given ≡ size + length rest → rest ≡ drop size given → IsFound (look_past (framed_by kind size fault l) (length given) ended) given body
+found_by kind wrong size fault given rest body ended follows whole at = follows
+found_by kind (said n) size fault given rest body ended follows whole at = found_said kind n size fault given rest body ended follows whole at
+found_by Reply unsaid size fault given rest body ended follows whole at = found_unsaid size fault given rest body ended follows whole at
+found_by Request unsaid size fault given rest body ended follows whole at = follows
 
 carried_reads : (kind : HttpKind) (given : List ℕ) (ended : Bool) (body : List ℕ) (c : Carried kind given ended body)
     → Reads kind (front given) c.head (take (max_head - c.head.size) c.rest)
@@ -56,12 +56,12 @@ carried_reads kind given ended body c = reads_cut kind max_head given c.head c.r
 pub carried_is_found : CarriedIsFound
 carried_is_found kind given ended body look c is =
     let parts = c.head in
-    let head : is.0 ≡ framed_by kind parts.size (body_length parts.fields) =
+    let head : is.0 ≡ framed_by kind parts.size (length_fault parts.fields) (body_length parts.fields) =
     framed_alone kind given parts (take (max_head - parts.size) c.rest) is.0 (carried_reads kind given ended body c) c.few is.1
-    ∙ ap (λ r. unless_refused r (framed_by kind parts.size (body_length parts.fields))) c.taken in
+    ∙ ap (λ r. unless_refused r (framed_by kind parts.size (length_fault parts.fields) (body_length parts.fields))) c.taken in
     let at = placed kind given parts c.rest c.reads in
     subst (λ (l : Look). IsFound l given body) (sym (is.2 ∙ ap (λ (h : Head). look_past h (length given) ended) head))
-    (found_by kind (body_length parts.fields) parts.size given c.rest body ended c.follows at.1 at.0)
+    (found_by kind (body_length parts.fields) parts.size (length_fault parts.fields) given c.rest body ended c.follows at.1 at.0)
 
 -- ---- found, so carried
 
@@ -118,17 +118,17 @@ allowed : (b : Bool) (frame : Frame) (have : ℕ) (ended : Bool) (s e : ℕ) →
 allowed true frame have ended s e h = (refl, h)
 allowed false frame have ended s e h = absurd (not_refused TooLong s e h)
 
-stands_at : (kind : HttpKind) (l : BodyLength) (size have s e : ℕ) (ended : Bool) → looks.Body s e ≡ look_past (framed_by kind size l) have ended
+stands_at : (kind : HttpKind) (l : BodyLength) (fault : FrameFault) (size have s e : ℕ) (ended : Bool) → looks.Body s e ≡ look_past (framed_by kind size fault l) have ended
     → StandsAt kind l size have ended s e
 unfolding StandsAt
-stands_at kind wrong size have s e ended h = absurd (not_refused BadLength s e h)
-stands_at kind (said n) size have s e ended h =
+stands_at kind wrong fault size have s e ended h = absurd (not_refused fault s e h)
+stands_at kind (said n) fault size have s e ended h =
     let taken = allowed (nat_le n (max_body kind)) (record { start = size; length = Some n }) have ended s e h in
     let test = taken.0 in
     let stands = stands_said n size have s e ended taken.1 in
     (grind (arith, nat_tests), stands.0, stands.1, stands.2)
-stands_at Reply unsaid size have s e ended h = stands_unsaid size have s e ended h
-stands_at Request unsaid size have s e ended h = absurd (not_refused BadLength s e h)
+stands_at Reply unsaid fault size have s e ended h = stands_unsaid size have s e ended h
+stands_at Request unsaid fault size have s e ended h = absurd (not_refused NoLength s e h)
 
 follows_from : (kind : HttpKind) (l : BodyLength) (size s e : ℕ) (given rest : List ℕ) (ended : Bool) → StandsAt kind l size (length given) ended s e
     → rest ≡ drop size given → length given ≡ size + length rest → Follows kind l rest ended (slice_range given s e)
@@ -163,8 +163,8 @@ carried_from kind given ended s e parts rest reads few h =
     let whole = reads_all kind given parts rest reads in
     let at = placed kind given parts all whole in
     let in_front = (placed kind (front given) parts rest reads).1 in
-    let taken = first_line_taken parts.refusal (framed_by kind parts.size (body_length parts.fields)) (length given) ended s e h in
-    let stands = stands_at kind (body_length parts.fields) parts.size (length given) s e ended taken.1 in
+    let taken = first_line_taken parts.refusal (framed_by kind parts.size (length_fault parts.fields) (body_length parts.fields)) (length given) ended s e h in
+    let stands = stands_at kind (body_length parts.fields) (length_fault parts.fields) parts.size (length given) s e ended taken.1 in
     record {
       head = parts;
       rest = all;

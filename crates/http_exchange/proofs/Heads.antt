@@ -4,7 +4,7 @@ use Rattle.std.specs.Prelude.{nat_le}
 use Rattle.std.proofs.lemmas.List.{append-nil, drop_at, take_all}
 use Rattle.httparse.specs.Grammar.{ResponseHead, RequestHead, print_response, print_request}
 use Rattle.httparse.proofs.GrammarLemmas.{response_unique, request_unique}
-use Rattle.http_exchange.specs.BodyLength.{BodyLength, unsaid, said, wrong, body_length}
+use Rattle.http_exchange.specs.BodyLength.{BodyLength, unsaid, said, wrong, body_length, length_fault}
 use Rattle.http_exchange.specs.HttpHead.{Parts, Reads, IsHopeless, HeadIs, framed, framed_by, unless_refused, reply_parts, request_parts, front, max_head, max_body, max_fields}
 use Rattle.http_exchange.specs.Internal.Heads.{IsKnown, StartsWithin}
 use Rattle.http_exchange.specs.declared.head.HttpKind.{HttpKind}
@@ -103,11 +103,11 @@ starts_by : (b : Bool) (size n m : ℕ) → size ≤ n → StartsWithin n (cond 
 starts_by true size n m h = h
 starts_by false size n m h = tt
 
-starts_framed_by : (kind : HttpKind) (size n : ℕ) (l : BodyLength) → size ≤ n → StartsWithin n (framed_by kind size l)
-starts_framed_by kind size n wrong h = tt
-starts_framed_by kind size n (said m) h = starts_by (nat_le m (max_body kind)) size n m h
-starts_framed_by Reply size n unsaid h = h
-starts_framed_by Request size n unsaid h = tt
+starts_framed_by : (kind : HttpKind) (size n : ℕ) (fault : FrameFault) (l : BodyLength) → size ≤ n → StartsWithin n (framed_by kind size fault l)
+starts_framed_by kind size n fault wrong h = tt
+starts_framed_by kind size n fault (said m) h = starts_by (nat_le m (max_body kind)) size n m h
+starts_framed_by Reply size n fault unsaid h = h
+starts_framed_by Request size n fault unsaid h = tt
 
 starts_unless : (r : Option FrameFault) (n : ℕ) (head : Head) → StartsWithin n head → StartsWithin n (unless_refused r head)
 starts_unless None n head h = h
@@ -120,7 +120,7 @@ starts kind bytes head is =
           let parts = whole.0 in
           let size = (placed kind (front bytes) parts whole.1 whole.2).1 in
           let inside : parts.size ≤ length bytes = omega (arith, size, length-take max_head bytes) in
-          subst (StartsWithin (length bytes)) (sym whole.4) (starts_unless parts.refusal (length bytes) (framed_by kind parts.size (body_length parts.fields)) (starts_framed_by kind parts.size (length bytes) (body_length parts.fields) inside))
+          subst (StartsWithin (length bytes)) (sym whole.4) (starts_unless parts.refusal (length bytes) (framed_by kind parts.size (length_fault parts.fields) (body_length parts.fields)) (starts_framed_by kind parts.size (length bytes) (length_fault parts.fields) (body_length parts.fields) inside))
       | inr other ↦
           elim other [
             | inl hopeless ↦ subst (StartsWithin (length bytes)) (sym hopeless.1) tt

@@ -50,8 +50,11 @@ read_stops kind TooManyReads a b c held first before after h wants kept fails = 
 refused_as : {S : Type 0} (kind : HttpKind) (refusal : FrameFault) (given : List ℕ) (ended : Bool) (old new : Counting S) → Looks kind given ended (looks.Refused refusal)
     → ReadStops kind (fault_of refusal) given ended old new
 refused_as kind refusals.BadHead given ended old new h = (refusals.BadHead, refl, h)
-refused_as kind refusals.BadStatus given ended old new h = (refusals.BadStatus, refl, h)
-refused_as kind refusals.BadLength given ended old new h = (refusals.BadLength, refl, h)
+refused_as kind (refusals.BadStatus status) given ended old new h = (refusals.BadStatus status, refl, h)
+refused_as kind refusals.TransferEncoding given ended old new h = (refusals.TransferEncoding, refl, h)
+refused_as kind refusals.NoNumber given ended old new h = (refusals.NoNumber, refl, h)
+refused_as kind refusals.TwoLengths given ended old new h = (refusals.TwoLengths, refl, h)
+refused_as kind refusals.NoLength given ended old new h = (refusals.NoLength, refl, h)
 refused_as kind refusals.TooLong given ended old new h = (refusals.TooLong, refl, h)
 refused_as kind refusals.CutShort given ended old new h = (refusals.CutShort, refl, h)
 

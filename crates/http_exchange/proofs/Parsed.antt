@@ -9,7 +9,7 @@ use Rattle.httparse.specs.declared.spans.ResponseSpans.{ResponseSpans}
 use Rattle.httparse.specs.declared.spans.RequestSpans.{RequestSpans}
 use Rattle.httparse.specs.Grammar.{Field, HasNoResponse, MayBecomeResponse, HasNoRequest, MayBecomeRequest}
 use Rattle.httparse.specs.Spans.{IsResponseOf, IsRequestOf, ResponseOverflows, RequestOverflows, AreFieldsAt, header_bytes, name_and_value, span_bytes}
-use Rattle.http_exchange.specs.BodyLength.{body_length}
+use Rattle.http_exchange.specs.BodyLength.{body_length, length_fault}
 use Rattle.http_exchange.specs.HttpHead.{Parts, Reads, HeadIs, IsHopeless, MayBecomeHead, HasNoHead, reply_parts, request_parts, unless_refused, framed_by, front, good_status, post, max_fields}
 use Rattle.http_exchange.specs.declared.head.HttpKind.{HttpKind}
 use Rattle.http_exchange.specs.declared.head.HttpKind.TheVariants.{Reply, Request}
@@ -26,7 +26,7 @@ few_fields text headers count fields are room =
 
 pub reply_whole : (bytes text : List ℕ) (headers : List HeaderSpan) (spans : ResponseSpans) (head : Head) → text ≡ front bytes
     → length headers ≤ 64 → IsResponseOf text headers spans
-    → head ≡ unless_refused (cond (spans.code == good_status) None (Some BadStatus)) (framed_by Reply spans.len (body_length (map (header_bytes text) (take spans.headers headers))))
+    → head ≡ unless_refused (cond (spans.code == good_status) None (Some (BadStatus spans.code))) (framed_by Reply spans.len (length_fault (map (header_bytes text) (take spans.headers headers))) (body_length (map (header_bytes text) (take spans.headers headers))))
     → HeadIs Reply bytes head
 reply_whole bytes text headers spans head is_front room of is =
     let h = of.0 in
@@ -36,12 +36,12 @@ reply_whole bytes text headers spans head is_front room of is =
       drop spans.len text,
       subst (λ (l : List ℕ). Reads Reply l (reply_parts h) (drop spans.len text)) is_front (h, at.reads, refl),
       few_fields text headers spans.headers h.fields at.fields room,
-      is ∙ (λ i. unless_refused (cond (at.code i == good_status) None (Some BadStatus)) (framed_by Reply (at.len i) (body_length (at.fields i)))),
+      is ∙ (λ i. unless_refused (cond (at.code i == good_status) None (Some (BadStatus (at.code i)))) (framed_by Reply (at.len i) (length_fault (at.fields i)) (body_length (at.fields i)))),
     )
 
 pub request_whole : (bytes text : List ℕ) (headers : List HeaderSpan) (spans : RequestSpans) (head : Head) → text ≡ front bytes
     → length headers ≤ 64 → IsRequestOf text headers spans
-    → head ≡ unless_refused (cond (bytes_eq (span_bytes text spans.method) post) None (Some BadHead)) (framed_by Request spans.len (body_length (map (header_bytes text) (take spans.headers headers))))
+    → head ≡ unless_refused (cond (bytes_eq (span_bytes text spans.method) post) None (Some BadHead)) (framed_by Request spans.len (length_fault (map (header_bytes text) (take spans.headers headers))) (body_length (map (header_bytes text) (take spans.headers headers))))
     → HeadIs Request bytes head
 request_whole bytes text headers spans head is_front room of is =
     let h = of.0 in
@@ -51,7 +51,7 @@ request_whole bytes text headers spans head is_front room of is =
       drop spans.len text,
       subst (λ (l : List ℕ). Reads Request l (request_parts h) (drop spans.len text)) is_front (h, at.reads, refl),
       few_fields text headers spans.headers h.fields at.fields room,
-      is ∙ (λ i. unless_refused (cond (bytes_eq (at.method i) post) None (Some BadHead)) (framed_by Request (at.len i) (body_length (at.fields i)))),
+      is ∙ (λ i. unless_refused (cond (bytes_eq (at.method i) post) None (Some BadHead)) (framed_by Request (at.len i) (length_fault (at.fields i)) (body_length (at.fields i)))),
     )
 
 head_unfinished : (kind : HttpKind) (bytes text : List ℕ) → text ≡ front bytes → HasNoHead kind text → MayBecomeHead kind text
@@ -85,12 +85,12 @@ request_hopeless bytes text is_front over =
 
 -- ---- the first line
 
-pub bad_status : (code : ℕ) (head : Head) → code ≢ good_status → Refused BadStatus ≡ unless_refused (cond (code == good_status) None (Some BadStatus)) head
+pub bad_status : (code : ℕ) (head : Head) → code ≢ good_status → Refused (BadStatus code) ≡ unless_refused (cond (code == good_status) None (Some (BadStatus code))) head
 bad_status code head differs =
     let test : (code == 200) ≡ false = grind (arith, nat_tests) in
     rw test refl
 
-pub status_is_good : (code : ℕ) (result head : Head) → code ≡ good_status → result ≡ head → result ≡ unless_refused (cond (code == good_status) None (Some BadStatus)) head
+pub status_is_good : (code : ℕ) (result head : Head) → code ≡ good_status → result ≡ head → result ≡ unless_refused (cond (code == good_status) None (Some (BadStatus code))) head
 status_is_good code result head good same =
     let test : (code == 200) ≡ true = grind (arith, nat_tests) in
     rw test same

@@ -1,10 +1,12 @@
 -- The length of the body, by the fields of a head.
-use Rattle.std.specs.Prelude.{ℕ, Bool, ◌&&◌, ◌==◌, if◌then◌else◌, List, [], ◌∷◌, map, filter, codes}
+use Rattle.std.specs.Prelude.{ℕ, Bool, true, false, ◌&&◌, ◌==◌, if◌then◌else◌, List, [], ◌∷◌, ◌++◌, map, filter, codes}
 use Rattle.std.specs.List.{list_all, list_any}
 use Rattle.std.specs.Char.{to_ascii_lowercase}
 use Rattle.std.specs.Str.{bytes_eq}
 use Rattle.std.specs.Str.Parse.{digits_value}
 use Rattle.game_core.specs.Numerals.{are_digits}
+use Rattle.http_exchange.specs.declared.wire_fault.FrameFault.{FrameFault}
+use Rattle.http_exchange.specs.declared.wire_fault.FrameFault.TheVariants.{TransferEncoding, NoNumber, TwoLengths, NoLength}
 
 -- a name, and a value without the white space around it
 abbrev pub Header : Type 0
@@ -43,3 +45,25 @@ agreed (value ∷ values) =
 abbrev pub body_length : List Header → BodyLength
 body_length fields =
     if list_any (λ (field : Header). has_name transfer_encoding field.0) fields then wrong else agreed (lengths fields)
+
+-- why a length does not agree with those before it
+abbrev pub value_fault : List ℕ → FrameFault
+value_fault value = if are_digits value then TwoLengths else NoNumber
+
+abbrev pub field_fault : Header → FrameFault
+field_fault field = if has_name transfer_encoding field.0 then TransferEncoding else value_fault field.1
+
+abbrev pub is_wrong : BodyLength → Bool
+is_wrong unsaid = false
+is_wrong (said n) = false
+is_wrong wrong = true
+
+-- why fields behind these ones give no length rightly
+abbrev pub fault_behind : List Header → List Header → FrameFault
+fault_behind before [] = NoLength
+fault_behind before (field ∷ fields) =
+    if is_wrong (body_length (before ++ (field ∷ []))) then field_fault field else fault_behind (before ++ (field ∷ [])) fields
+
+-- Why the fields give no length rightly: the first of them with which they give none any more says it.
+abbrev pub length_fault : List Header → FrameFault
+length_fault fields = fault_behind [] fields

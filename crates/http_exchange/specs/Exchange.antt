@@ -3,9 +3,16 @@ use Rattle.std.specs.Prelude.{◌≡◌, ◌⊎◌, ℕ, ◌<◌, ◌≤◌, Boo
 use Rattle.std.specs.Io.KnownBytes.{Consumes, Appends, IsAtEnd}
 use Rattle.game_core.specs.Counting.{Counting}
 use Rattle.http_exchange.specs.Carried.{Carried}
-use Rattle.http_exchange.specs.WireFaults.{ReadStops, WriteStops}
+use Rattle.http_exchange.specs.HttpHead.{HeadIs}
+use Rattle.http_exchange.specs.Looks.{look_past}
+use Rattle.http_exchange.specs.Receipts.{receipt}
+use Rattle.http_exchange.specs.WireFaults.{ReadStops, WriteStops, fault_of}
 use Rattle.http_exchange.specs.declared.head.HttpKind.{HttpKind}
 use Rattle.http_exchange.specs.declared.head.HttpKind.TheVariants.{Reply}
+use Rattle.http_exchange.specs.declared.head.Head.{Head}
+use Rattle.http_exchange.specs.declared.look.Look.TheVariants.{Refused}
+use Rattle.http_exchange.specs.declared.received.Received.{Received}
+use Rattle.http_exchange.specs.declared.wire_fault.FrameFault.{FrameFault}
 use Rattle.http_exchange.specs.declared.wire_fault.WireFault.{WireFault}
 use Rattle.http_exchange.specs.declared.wire_fault.WireFault.TheVariants.{Memory}
 
@@ -37,10 +44,23 @@ TakesNone kind remaining old new fault =
     (given : List ℕ) × (ended : Bool) × Gives (remaining old.stream) (remaining new.stream) given ended
     × ReadStops kind fault given ended old new
 
+-- The bytes that the stream gave are refused with this fault, and this was received, both by what they say of the head. So a status is
+-- exactly that of the head.
+abbrev pub TellsRefusal : {S : Type 0} → HttpKind → (S → Option (List ℕ)) → Counting S → Counting S → WireFault → Received → Type 0
+TellsRefusal kind remaining old new fault received =
+    (given : List ℕ) × (ended : Bool) × Gives (remaining old.stream) (remaining new.stream) given ended
+    × (head : Head) × HeadIs kind given head × (received ≡ receipt head (length given))
+    × (refusal : FrameFault) × (Refused refusal ≡ look_past head (length given) ended) × (fault ≡ fault_of refusal)
+
 -- the request was written, and the bytes that came back carry this body
 abbrev pub BringsReply : {S : Type 0} → (S → Option (List ℕ)) → (S → Option (List ℕ)) → Counting S → Counting S → List ℕ → List ℕ → Type 0
 BringsReply {S} contents remaining old new request reply =
     (sent : Counting S) × WritesText contents old sent request × TakesBody Reply remaining sent new reply
+
+-- the request was written, and the bytes that came back are refused with this fault
+abbrev pub BringsRefusal : {S : Type 0} → (S → Option (List ℕ)) → (S → Option (List ℕ)) → Counting S → Counting S → List ℕ → WireFault → Received → Type 0
+BringsRefusal {S} contents remaining old new request fault received =
+    (sent : Counting S) × WritesText contents old sent request × TellsRefusal Reply remaining sent new fault received
 
 -- The exchange failed: there was no memory and nothing was done, or a part of the request was written, or all of it, and the bytes that came
 -- back explain the fault.

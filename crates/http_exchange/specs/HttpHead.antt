@@ -3,13 +3,13 @@ use Rattle.std.specs.Prelude.{◌≡◌, ℕ, ◌<◌, ◌≤◌, ◌⊎◌, ◌
 use Rattle.std.specs.Str.{bytes_eq}
 use Rattle.httparse.specs.Grammar.{ResponseHead, ReadsResponse, MayBecomeResponse, print_response, status_code, RequestHead, ReadsRequest, MayBecomeRequest, print_request}
 use Rattle.httparse.specs.Spans.{name_and_value}
-use Rattle.http_exchange.specs.BodyLength.{Header, BodyLength, unsaid, said, wrong, body_length}
+use Rattle.http_exchange.specs.BodyLength.{Header, BodyLength, unsaid, said, wrong, body_length, length_fault}
 use Rattle.http_exchange.specs.declared.head.HttpKind.{HttpKind}
 use Rattle.http_exchange.specs.declared.head.HttpKind.TheVariants.{Reply, Request}
 use Rattle.http_exchange.specs.declared.head.Head.{Head}
 use Rattle.http_exchange.specs.declared.head.Head.TheVariants.{Unfinished, Whole, Refused}
 use Rattle.http_exchange.specs.declared.wire_fault.FrameFault.{FrameFault}
-use Rattle.http_exchange.specs.declared.wire_fault.FrameFault.TheVariants.{BadHead, BadStatus, BadLength, TooLong}
+use Rattle.http_exchange.specs.declared.wire_fault.FrameFault.TheVariants.{BadHead, BadStatus, NoLength, TooLong}
 
 -- the limit of bytes in a head
 abbrev pub max_head : ℕ
@@ -41,7 +41,7 @@ pub record Parts : Type 0 where
 abbrev pub reply_parts : ResponseHead → Parts
 reply_parts head = record {
   size = length (print_response head);
-  refusal = if status_code head == good_status then None else Some BadStatus;
+  refusal = if status_code head == good_status then None else Some (BadStatus (status_code head));
   fields = map name_and_value head.fields;
 }
 
@@ -73,14 +73,14 @@ IsHopeless kind bytes =
     (more : List ℕ) (parts : Parts) (rest : List ℕ) → Reads kind (bytes ++ more) parts rest
     → max_fields < length parts.fields
 
--- The body after a head of this size, by the length that the fields give. Without a length, a reply's
+-- The body after a head of this size, by the length that the fields give, or by the fault that they have. Without a length, a reply's
 -- body runs to the end of the stream.
-abbrev pub framed_by : HttpKind → ℕ → BodyLength → Head
-framed_by kind size wrong = Refused BadLength
-framed_by kind size (said n) =
+abbrev pub framed_by : HttpKind → ℕ → FrameFault → BodyLength → Head
+framed_by kind size fault wrong = Refused fault
+framed_by kind size fault (said n) =
     if nat_le n (max_body kind) then Whole (record { start = size; length = Some n }) else Refused TooLong
-framed_by Reply size unsaid = Whole (record { start = size; length = None })
-framed_by Request size unsaid = Refused BadLength
+framed_by Reply size fault unsaid = Whole (record { start = size; length = None })
+framed_by Request size fault unsaid = Refused NoLength
 
 abbrev pub unless_refused : Option FrameFault → Head → Head
 unless_refused None head = head
@@ -88,7 +88,7 @@ unless_refused (Some refusal) head = Refused refusal
 
 -- what a whole head says: its first line is tested first, then its fields
 abbrev pub framed : HttpKind → Parts → Head
-framed kind parts = unless_refused parts.refusal (framed_by kind parts.size (body_length parts.fields))
+framed kind parts = unless_refused parts.refusal (framed_by kind parts.size (length_fault parts.fields) (body_length parts.fields))
 
 -- the part of the bytes in which a head may stand
 abbrev pub front : List ℕ → List ℕ

@@ -1,15 +1,10 @@
 -- What was received of a reply that brought no body.
-use Rattle.std.specs.Prelude.{◌≡◌, ℕ, ◌-◌, ◌==◌, if◌then◌else◌, min, List, Option, Some, None, ⊤}
-use Rattle.game_core.specs.Numerals.{are_digits}
+use Rattle.std.specs.Prelude.{ℕ, ◌-◌, ◌==◌, if◌then◌else◌, min, Option, Some, None}
 use Rattle.http_exchange.specs.declared.head.Head.{Head}
 use Rattle.http_exchange.specs.declared.head.Head.TheVariants as heads
 use Rattle.http_exchange.specs.declared.received.Received.{Received}
 use Rattle.http_exchange.specs.declared.received.Received.TheVariants as receipts
-use Rattle.http_exchange.specs.declared.wire_fault.FrameFault.TheVariants.{BadHead, BadStatus, BadLength, TooLong, CutShort}
-
--- a length that does not agree with the one before it
-abbrev pub length_refusal : List ℕ → Received
-length_refusal value = if are_digits value then receipts.TwoLengths else receipts.NoNumber
+use Rattle.http_exchange.specs.declared.wire_fault.FrameFault.TheVariants.{BadStatus, TransferEncoding, NoNumber, TwoLengths, TooLong}
 
 -- bytes without a whole head
 abbrev pub head_receipt : ℕ → Received
@@ -20,10 +15,13 @@ abbrev pub body_receipt : Option ℕ → ℕ → Received
 body_receipt (Some n) come = receipts.Body (min n come) n
 body_receipt None come = receipts.OpenBody come
 
--- This was received, by what the bytes say of the head, and by their number. Why the length is not given rightly is not said here.
-abbrev pub IsReceived : Head → ℕ → Received → Type 0
-IsReceived heads.Unfinished have received = received ≡ head_receipt have
-IsReceived (heads.Whole frame) have received = received ≡ body_receipt frame.length (have - frame.start)
-IsReceived (heads.Refused BadLength) have received = ⊤
-IsReceived (heads.Refused TooLong) have received = received ≡ receipts.LongLength
-IsReceived (heads.Refused refusal) have received = received ≡ receipts.Refused have
+-- what was received, by what the bytes say of the head, and by their number
+abbrev pub receipt : Head → ℕ → Received
+receipt heads.Unfinished have = head_receipt have
+receipt (heads.Whole frame) have = body_receipt frame.length (have - frame.start)
+receipt (heads.Refused (BadStatus status)) have = receipts.Status status have
+receipt (heads.Refused TransferEncoding) have = receipts.TransferEncoding
+receipt (heads.Refused NoNumber) have = receipts.NoNumber
+receipt (heads.Refused TwoLengths) have = receipts.TwoLengths
+receipt (heads.Refused TooLong) have = receipts.LongLength
+receipt (heads.Refused refusal) have = receipts.Refused have

@@ -13,10 +13,21 @@ use Rattle.http_exchange.specs.declared.wire_fault.WireFault.TheVariants.{WriteF
 -- the fault of a message that is refused
 abbrev pub fault_of : FrameFault → WireFault
 fault_of refusals.BadHead = BadHead
-fault_of refusals.BadStatus = BadStatus
-fault_of refusals.BadLength = BadLength
+fault_of (refusals.BadStatus status) = BadStatus
+fault_of refusals.TransferEncoding = BadLength
+fault_of refusals.NoNumber = BadLength
+fault_of refusals.TwoLengths = BadLength
+fault_of refusals.NoLength = BadLength
 fault_of refusals.TooLong = TooLong
 fault_of refusals.CutShort = CutShort
+
+-- the fault is that of bytes that are refused
+abbrev pub IsRefusal : WireFault → Type 0
+IsRefusal WriteFault = ⊥
+IsRefusal (ReadFault cause) = ⊥
+IsRefusal TooManyReads = ⊥
+IsRefusal Memory = ⊥
+IsRefusal fault = ⊤
 
 -- a failure was counted, unless the count was at its limit
 abbrev pub HasFailed : ℕ → ℕ → Type 0

@@ -1,15 +1,14 @@
 //! The length of the body, by the fields of a head.
-ghost use Rattle.std.specs.Prelude.{◌≡◌, All, IsTrue, IfOk, IfSome, MatchResult, map, length};
+ghost use Rattle.std.specs.Prelude.{◌≡◌, All, IsTrue, IfErr, IfOk, IfSome, MatchResult, map, length};
 ghost use Rattle.std.specs.Char.{to_ascii_lowercase};
 ghost use Rattle.std.specs.Option.{option_copied};
 ghost use Rattle.httparse.specs.Spans.{IsHeaderWithin, header_bytes};
 ghost use Rattle.game_core.specs.Numerals.{are_digits};
-ghost use Rattle.http_exchange.specs.BodyLength.{body_length, has_name, wrong};
+ghost use Rattle.http_exchange.specs.BodyLength.{body_length, has_name, length_fault, value_fault, wrong};
 ghost use Rattle.http_exchange.specs.Internal.Heads.{agrees, length_of};
-ghost use Rattle.http_exchange.specs.Receipts.{length_refusal};
 
 use crate::numeral::is_same_number;
-use crate::received::Received;
+use crate::wire_fault::FrameFault;
 use game_core::numeral::are_digits;
 use httparse::spans::HeaderSpan;
 
@@ -37,13 +36,13 @@ fn agrees(before: Option<&[u8]>, value: &[u8]) -> bool
 }
 
 /// What is wrong with a value that does not agree with the one before it.
-fn length_refusal(value: &[u8]) -> Received
-    ensures { result ≡ length_refusal value.now }
+fn value_fault(value: &[u8]) -> FrameFault
+    ensures { result ≡ value_fault value.now }
 {
     if are_digits(value) {
-        Received::TwoLengths
+        FrameFault::TwoLengths
     } else {
-        Received::NoNumber
+        FrameFault::NoNumber
     }
 }
 
@@ -51,25 +50,26 @@ fn length_refusal(value: &[u8]) -> Received
 pub(crate) fn said_length<'b>(
     buf: &'b [u8],
     headers: &[HeaderSpan],
-) -> Result<Option<&'b [u8]>, Received>
+) -> Result<Option<&'b [u8]>, FrameFault>
     requires { All (IsHeaderWithin (length buf.now)) headers.now }
     ensures value { MatchResult result
         (λ said. body_length (map (header_bytes buf.now) headers.now) ≡ length_of (option_copied said))
         (λ _. body_length (map (header_bytes buf.now) headers.now) ≡ wrong) }
+    ensures fault { IfErr result (λ fault. fault ≡ length_fault (map (header_bytes buf.now) headers.now)) }
     ensures numeral { IfOk result (λ said. IfSome (option_copied said) (λ digits. IsTrue (are_digits digits))) }
 {
     let mut said = None;
     for header in headers {
         let name = header.name.of(buf);
         if has_name(name, TRANSFER_ENCODING) {
-            return Err(Received::TransferEncoding);
+            return Err(FrameFault::TransferEncoding);
         }
         if !has_name(name, CONTENT_LENGTH) {
             continue;
         }
         let value = header.value.of(buf);
         if !agrees(said, value) {
-            return Err(length_refusal(value));
+            return Err(value_fault(value));
         }
         said = Some(value);
     }

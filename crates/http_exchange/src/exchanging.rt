@@ -1,7 +1,8 @@
 //! An exchange with a player, and a player's side of it.
 ghost use Rattle.std.specs.Prelude.{◌≡◌, ◌⊎◌, IfOk, OnOk, IfErr};
-ghost use Rattle.http_exchange.specs.Exchange.{BreaksOff, BringsNone, BringsReply, TakesBody, TakesNone, WritesText};
+ghost use Rattle.http_exchange.specs.Exchange.{BreaksOff, BringsNone, BringsRefusal, BringsReply, TakesBody, TakesNone, WritesText};
 ghost use Rattle.http_exchange.specs.HttpText.{reply_text, request_text};
+ghost use Rattle.http_exchange.specs.WireFaults.{IsRefusal};
 
 use crate::head::HttpKind;
 use crate::http_text::{reply_text, request_text};
@@ -28,6 +29,7 @@ pub fn exchange_shared<S: Read + Write>(
 ) -> Result<Text, WireFault>
     ensures carries { IfOk result (BringsReply S.contents S.remaining stream.old stream.new (request_text player.now body.now)) }
     ensures fails { IfErr result (BringsNone S.contents S.remaining stream.old stream.new (request_text player.now body.now)) }
+    ensures received { IfErr result (λ fault. IsRefusal fault → BringsRefusal S.contents S.remaining stream.old stream.new (request_text player.now body.now) fault received.new) }
 {
     *received = Received::Unsent;
     let text = request_text(alloc, player, body)?;

@@ -1,12 +1,11 @@
 //! The head of a message, and what it says of the body.
 ghost use Rattle.std.specs.Prelude.{◌≡◌, ◌<◌, ◌^◌, All, map, length};
 ghost use Rattle.httparse.specs.Spans.{IsHeaderWithin, header_bytes};
-ghost use Rattle.http_exchange.specs.BodyLength.{body_length};
+ghost use Rattle.http_exchange.specs.BodyLength.{body_length, length_fault};
 ghost use Rattle.http_exchange.specs.HttpHead.{HeadIs, framed_by, front, max_body};
 ghost use Rattle.http_exchange.specs.Internal.Heads.{IsKnown, StartsWithin};
 
 use crate::body_length::said_length;
-use crate::received::Received;
 use crate::wire_fault::FrameFault;
 use game_core::numeral::number_up_to;
 use httparse::Status;
@@ -67,16 +66,16 @@ fn max_body(kind: HttpKind) -> usize
 /// What the fields of a head of this size say of the body.
 fn framed(kind: HttpKind, size: usize, buf: &[u8], headers: &[HeaderSpan]) -> Head
     requires { All (IsHeaderWithin (length buf.now)) headers.now }
-    ensures { result ≡ framed_by kind size (body_length (map (header_bytes buf.now) headers.now)) }
+    ensures { result ≡ framed_by kind size (length_fault (map (header_bytes buf.now) headers.now)) (body_length (map (header_bytes buf.now) headers.now)) }
 {
     match said_length(buf, headers) {
-        Err(_) => Head::Refused(FrameFault::BadLength),
+        Err(refusal) => Head::Refused(refusal),
         Ok(None) => match kind {
             HttpKind::Reply => Head::Whole(Frame {
                 start: size,
                 length: None,
             }),
-            HttpKind::Request => Head::Refused(FrameFault::BadLength),
+            HttpKind::Request => Head::Refused(FrameFault::NoLength),
         },
         Ok(Some(digits)) => match number_up_to(digits, max_body(kind)) {
             Some(length) => Head::Whole(Frame {
@@ -103,7 +102,7 @@ fn reply_head(bytes: &[u8]) -> Head
     match parse_response(text, &mut headers) {
         Ok(Status::Complete(head)) => {
             if head.code != GOOD_STATUS {
-                return Head::Refused(FrameFault::BadStatus);
+                return Head::Refused(FrameFault::BadStatus(head.code));
             }
             framed(HttpKind::Reply, head.len, text, &headers[..head.headers])
         }
@@ -126,16 +125,6 @@ fn request_head(bytes: &[u8]) -> Head
         }
         Ok(Status::Partial) => Head::Unfinished,
         Err(_) => Head::Refused(FrameFault::BadHead),
-    }
-}
-
-/// Why the fields of a reply's head give no length rightly. `None` if the bytes have no whole head, or the length is given rightly.
-pub(crate) fn length_fault(bytes: &[u8]) -> Option<Received> {
-    let text = front_of(bytes);
-    let mut headers = [EMPTY_HEADER_SPAN; MAX_FIELDS];
-    match parse_response(text, &mut headers) {
-        Ok(Status::Complete(head)) => said_length(text, &headers[..head.headers]).err(),
-        _ => None,
     }
 }
 

@@ -1,50 +1,78 @@
 //! What was received of a reply that brought no body. Only words are made of it.
-ghost use Rattle.std.specs.Prelude.{length};
+ghost use Rattle.std.specs.Prelude.{◌≡◌};
 ghost use Rattle.http_exchange.specs.Internal.Heads.{StartsWithin};
-ghost use Rattle.http_exchange.specs.Receipts.{IsReceived};
+ghost use Rattle.http_exchange.specs.Receipts.{receipt};
 
-use crate::head::{Head, MAX_REPLY_BODY, length_fault};
+use crate::head::{Head, MAX_REPLY_BODY};
 use crate::wire_fault::FrameFault;
-use thiserror::Error;
+use std::fmt;
 
 /// How far an exchange came that brought no body.
-#[derive(Clone, Copy, Debug, PartialEq, Eq, Error)]
+#[derive(Clone, Copy, PartialEq, Eq)]
 pub enum Received {
     /// There was no connection for the exchange.
-    #[error("no connection was made")]
     Unconnected,
-    #[error("the request was not written whole")]
+    /// The request was not written whole.
     Unsent,
-    #[error("nothing received")]
     Nothing,
     /// So many bytes, and the end of the head is not among them.
-    #[error("{0} of the head's bytes received")]
     Head(usize),
     /// The first of these numbers of bytes, of the second one.
-    #[error("{0} of the body's {1} bytes received")]
     Body(usize, usize),
     /// So many bytes of a body that runs to the end of the stream.
-    #[error("{0} of the body's bytes received, and no Content-Length")]
     OpenBody(usize),
-    #[error("a Transfer-Encoding, which is not taken")]
     TransferEncoding,
-    #[error("a Content-Length that is no number")]
+    /// A `Content-Length` that is no number.
     NoNumber,
-    #[error("two lengths that differ")]
+    /// Two lengths that differ.
     TwoLengths,
-    #[error("a Content-Length above {max}", max = MAX_REPLY_BODY)]
+    /// A `Content-Length` above the limit of a body.
     LongLength,
+    /// A whole head with this status, which is not 200, among so many bytes.
+    Status(u16, usize),
     /// So many bytes, whose head is refused.
-    #[error("{0} of the reply's bytes received")]
     Refused(usize),
 }
 
-/// What was received, by the bytes and by what they say of the head.
-pub(crate) fn received_of(head: Head, bytes: &[u8]) -> Received
-    requires { StartsWithin (length bytes.now) head }
-    ensures { IsReceived head (length bytes.now) result }
+impl fmt::Display for Received {
+    fn fmt<W: fmt::Write>(&self, f: &mut fmt::Formatter<W>) -> fmt::Result {
+        match *self {
+            Received::Head(count)
+            | Received::Body(count, _)
+            | Received::OpenBody(count)
+            | Received::Status(_, count)
+            | Received::Refused(count) => write!(f, "{count} of ")?,
+            _ => {}
+        }
+        let words = match *self {
+            Received::Unconnected => "no connection was made",
+            Received::Unsent => "the request was not written whole",
+            Received::Nothing => "nothing received",
+            Received::Head(_) => "the head's bytes received",
+            Received::Body(_, length) => return write!(f, "the body's {length} bytes received"),
+            Received::OpenBody(_) => "the body's bytes received, and no Content-Length",
+            Received::TransferEncoding => "a Transfer-Encoding, which is not taken",
+            Received::NoNumber => "a Content-Length that is no number",
+            Received::TwoLengths => "two lengths that differ",
+            Received::LongLength => return write!(f, "a Content-Length above {MAX_REPLY_BODY}"),
+            Received::Status(..) | Received::Refused(_) => "the reply's bytes received",
+        };
+        f.write_str(words)
+    }
+}
+
+/// The same words.
+impl fmt::Debug for Received {
+    fn fmt<W: fmt::Write>(&self, f: &mut fmt::Formatter<W>) -> fmt::Result {
+        fmt::Display::fmt(self, f)
+    }
+}
+
+/// What was received, by what the bytes say of the head and by their number.
+pub(crate) fn received_of(head: Head, have: usize) -> Received
+    requires { StartsWithin have head }
+    ensures { result ≡ receipt head have }
 {
-    let have = bytes.len();
     match head {
         Head::Unfinished => {
             if have == 0 {
@@ -57,10 +85,13 @@ pub(crate) fn received_of(head: Head, bytes: &[u8]) -> Received
             Some(length) => Received::Body(length.min(have - frame.start), length),
             None => Received::OpenBody(have - frame.start),
         },
-        Head::Refused(FrameFault::BadLength) => {
-            length_fault(bytes).unwrap_or(Received::Refused(have))
-        }
-        Head::Refused(FrameFault::TooLong) => Received::LongLength,
-        Head::Refused(_) => Received::Refused(have),
+        Head::Refused(refusal) => match refusal {
+            FrameFault::BadStatus(status) => Received::Status(status, have),
+            FrameFault::TransferEncoding => Received::TransferEncoding,
+            FrameFault::NoNumber => Received::NoNumber,
+            FrameFault::TwoLengths => Received::TwoLengths,
+            FrameFault::TooLong => Received::LongLength,
+            _ => Received::Refused(have),
+        },
     }
 }

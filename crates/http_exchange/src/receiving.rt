@@ -1,8 +1,8 @@
 //! How a message is read, by one read after another.
 ghost use Rattle.std.specs.Prelude.{◌≡◌, ◌<◌, ◌≤◌, ◌⊎◌, false, length, slice_range, IfOk, IfErr};
-ghost use Rattle.http_exchange.specs.Exchange.{TakesBody, TakesNone};
+ghost use Rattle.http_exchange.specs.Exchange.{TakesBody, TakesNone, TellsRefusal};
 ghost use Rattle.http_exchange.specs.Internal.Reads.{ReadsOnce, ReadOnceFails};
-ghost use Rattle.http_exchange.specs.WireFaults.{HasFailed};
+ghost use Rattle.http_exchange.specs.WireFaults.{HasFailed, IsRefusal};
 
 use crate::head::{Head, HttpKind, head_after};
 use crate::look::{Look, look_past};
@@ -60,6 +60,7 @@ pub(crate) fn receive<S: Read>(
 ) -> Result<Text, WireFault>
     ensures body { IfOk result (λ body. TakesBody kind S.remaining stream.old stream.new body) }
     ensures fails { IfErr result (λ fault. TakesNone kind S.remaining stream.old stream.new fault) }
+    ensures received { IfErr result (λ fault. IsRefusal fault → TellsRefusal kind S.remaining stream.old stream.new fault received.new) }
 {
     let mut bytes = Vec::new(alloc);
     let mut chunk = [0; READ_SIZE];
@@ -68,8 +69,9 @@ pub(crate) fn receive<S: Read>(
     for call in 0..MAX_STREAM_CALLS {
         let ended = read_once(stream, &mut bytes, &mut chunk)?;
         head = head_after(kind, head, &bytes);
-        *received = received_of(head, &bytes);
-        match look_past(head, bytes.len(), ended) {
+        let have = bytes.len();
+        *received = received_of(head, have);
+        match look_past(head, have, ended) {
             Look::More => {}
             Look::Body(start, end) => return Ok(body_of(alloc, &bytes, start, end)?),
             Look::Refused(refusal) => return Err(WireFault::from(refusal)),

@@ -4,44 +4,62 @@ ghost use Rattle.http_exchange.specs.WireFaults.{fault_of};
 ghost use Rattle.http_exchange.specs.declared.wire_fault.WireFault.TheVariants.{Memory};
 
 use std::alloc::AllocError;
+use std::error::Error;
+use std::fmt;
 use std::io::ErrorKind;
-use thiserror::Error;
 
 /// Why an exchange returned no body, or a reply was not written. The stream can't be used after it:
 /// the bytes that it gave are not put back, and the bytes that it took stay written.
-#[derive(Clone, Copy, Debug, PartialEq, Eq, Error)]
+#[derive(Clone, Copy, PartialEq, Eq)]
 pub enum WireFault {
     /// A write failed, except by an interruption, or took none of some bytes.
-    #[error("a write failed")]
     WriteFault,
     /// A read failed, except by an interruption.
-    #[error("a read failed: {0:?}")]
     ReadFault(ErrorKind),
     /// No further bytes can make the bytes a head, or the head has more than 64 fields, or a
     /// request's method is not `POST`.
-    #[error("the head is not of HTTP")]
     BadHead,
     /// A reply's status is not 200.
-    #[error("the status is not 200")]
     BadStatus,
     /// The fields don't give one length: there is a `Transfer-Encoding`, a length is no number, two
     /// lengths differ, or a request has no length.
-    #[error("the length of the body is not given rightly")]
     BadLength,
     /// The head takes more than 16,384 bytes. Or the body takes more than 65,536 in a reply or
     /// 2,097,152 in a request, by its length or as it came.
-    #[error("the head or the body is too long")]
     TooLong,
     /// The stream ended inside the head, or before all bytes of the body's length had come.
-    #[error("the stream ended too early")]
     CutShort,
     /// 200,000 reads were made and more are needed, or 200,000 writes were made and bytes are left.
-    #[error("too many reads or writes")]
     TooManyReads,
     /// Out of memory.
-    #[error("want of memory")]
     Memory,
 }
+
+impl fmt::Display for WireFault {
+    fn fmt<W: fmt::Write>(&self, f: &mut fmt::Formatter<W>) -> fmt::Result {
+        let words = match *self {
+            WireFault::WriteFault => "a write failed",
+            WireFault::ReadFault(kind) => return write!(f, "a read failed: {kind:?}"),
+            WireFault::BadHead => "the head is not of HTTP",
+            WireFault::BadStatus => "the status is not 200",
+            WireFault::BadLength => "the length of the body is not given rightly",
+            WireFault::TooLong => "the head or the body is too long",
+            WireFault::CutShort => "the stream ended too early",
+            WireFault::TooManyReads => "too many reads or writes",
+            WireFault::Memory => "out of memory",
+        };
+        f.write_str(words)
+    }
+}
+
+/// The same words.
+impl fmt::Debug for WireFault {
+    fn fmt<W: fmt::Write>(&self, f: &mut fmt::Formatter<W>) -> fmt::Result {
+        fmt::Display::fmt(self, f)
+    }
+}
+
+impl Error for WireFault {}
 
 impl From<AllocError> for WireFault {
     ghost from_gives = { λ _ fault. fault ≡ Memory };
@@ -55,8 +73,15 @@ impl From<AllocError> for WireFault {
 #[derive(Clone, Copy)]
 pub enum FrameFault {
     BadHead,
-    BadStatus,
-    BadLength,
+    /// A reply has this status.
+    BadStatus(u16),
+    TransferEncoding,
+    /// A length is no number.
+    NoNumber,
+    /// Two lengths differ.
+    TwoLengths,
+    /// A request has no length.
+    NoLength,
     TooLong,
     CutShort,
 }
@@ -67,8 +92,11 @@ impl From<FrameFault> for WireFault {
     fn from(refusal: FrameFault) -> WireFault {
         match refusal {
             FrameFault::BadHead => WireFault::BadHead,
-            FrameFault::BadStatus => WireFault::BadStatus,
-            FrameFault::BadLength => WireFault::BadLength,
+            FrameFault::BadStatus(_) => WireFault::BadStatus,
+            FrameFault::TransferEncoding
+            | FrameFault::NoNumber
+            | FrameFault::TwoLengths
+            | FrameFault::NoLength => WireFault::BadLength,
             FrameFault::TooLong => WireFault::TooLong,
             FrameFault::CutShort => WireFault::CutShort,
         }

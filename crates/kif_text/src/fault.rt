@@ -34,7 +34,7 @@ pub enum KifFault {
     #[error("the text is too long")]
     TooLong,
     /// Out of memory.
-    #[error("want of memory")]
+    #[error("out of memory")]
     Memory,
 }
 

@@ -11,10 +11,13 @@ use Rattle.match_book.specs.Judgement.{judgement, substitute, error_text, move_n
 use Rattle.match_book.specs.MatchValue.{MatchValue, state_after, joint_moves}
 use Rattle.match_book.specs.Phase.{stage, is_over, still_answers, answered_in, has_answered, round, is_live}
 use Rattle.match_book.specs.Lawful.{AreLawful, IsLawfulMatch}
+use Rattle.match_book.specs.Due.{owed_in, last_move_texts}
 use Rattle.match_book.specs.Steps.{refusal, turn_of, parts, with_answer_in, with_answer, with_open_answer, with_abort, after_answer}
-use Rattle.match_book.specs.Laws.{NewMatchIsLawful, AnswersKeepLawful, AbortKeepsLawful, RecordedMovesAreLegal, NoErrorMeansNamed, IsPlayed, AnswersInPlay, AnswersOutOfPlay, TakenForTheRound, ReadingsAreFolded}
+use Rattle.match_book.specs.Laws.{NewMatchIsLawful, AnswersKeepLawful, AbortKeepsLawful, RecordedMovesAreLegal, NoErrorMeansNamed, IsPlayed, AnswersInPlay, AnswersOutOfPlay, TakenForTheRound, OwedAnswersAreTaken, ReadingsAreFolded}
 use Rattle.desk_calls.specs.declared.answer.Answer.{Answer}
 use Rattle.desk_calls.specs.declared.answer.Answer.TheVariants.{Text, Silent, Broken}
+use Rattle.desk_calls.specs.declared.due.Owed.{Owed}
+use Rattle.desk_calls.specs.declared.due.Due.TheVariants.{Owe, Hold, Over as IsOver}
 use Rattle.match_book.specs.declared.answer.AnswerRefusal.{AnswerRefusal}
 use Rattle.match_book.specs.declared.answer.AnswerRefusal.TheVariants.{NoRole, Over, Stale, Twice}
 use Rattle.match_book.specs.declared.judgement.Judgement.{Judgement}
@@ -62,6 +65,22 @@ taken g m role n e = not_refused role g.roles n (round g m) (is_over g m) (has_a
 
 pub taken_for_the_round : {S M : Type 0} (g : Rules S M) → TakenForTheRound g
 taken_for_the_round g m role n e = let parts = taken g m role n e in (parts.0, parts.1)
+
+pub less_is : (a b : ℕ) → a < b → nat_lt a b ≡ true
+less_is a b lt = grind (arith, nat_tests)
+
+pub same_is : (a b : ℕ) → a ≡ b → (a == b) ≡ true
+same_is a b same = grind (arith, nat_tests)
+
+-- what is owed is for the present round, and nothing refuses it
+owed_as : (role roles n present : ℕ) (over answered : Bool) (message owed : Owed) → role < roles → (if over then IsOver else (if answered then Hold present else Owe present message)) ≡ Owe n owed
+    → (if nat_lt role roles then (if over then Some Over else (if n == present then (if answered then Some Twice else None) else Some (Stale present))) else Some NoRole) ≡ None
+owed_as role roles n present true answered message owed lt is = absurd cc
+owed_as role roles n present false true message owed lt is = absurd cc
+owed_as role roles n present false false message owed lt is = let same : n ≡ present = cc in rw (less_is role roles lt, same_is n present same) refl
+
+pub owed_answers_are_taken : {S M : Type 0} (g : Rules S M) → OwedAnswersAreTaken g
+owed_answers_are_taken g m role n owed lt is = owed_as role g.roles n (round g m) (is_over g m) (has_answered g m role) (owed_in (stage g m) (last_move_texts g m.turns)) owed lt is
 
 -- a role that has not answered in play still answers
 still-answers : {S M : Type 0} (g : Rules S M) (m : MatchValue M) (role : ℕ) → has_answered g m role ≡ false → stage g m ≡ Playing → still_answers m role ≡ true

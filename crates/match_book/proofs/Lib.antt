@@ -10,4 +10,5 @@ pub mod LawfulMatches
 pub mod KeptMatches
 pub mod AnswerLaws
 pub mod Progress
+pub mod AnsweredMessages
 mod StrictMatches

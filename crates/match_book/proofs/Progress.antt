@@ -1,10 +1,11 @@
 -- A match comes to its end, round by round.
 use Rattle.std.proofs.Common.{◌≡◌, ◌≢◌, ℕ, zero, suc, ◌+◌, ◌-◌, ◌<◌, ◌≤◌, Bool, true, false, Option, Some, None, List, [], ◌∷◌, ◌++◌, length, set, refl, arith, ap, sym, ◌∙◌, subst, inl, inr, length-append}
-use Rattle.std.proofs.lemmas.Bool.Decides.{nat_tests}
-use Rattle.std.specs.Prelude.{◌⊎◌, ◌==◌, nat_lt, is_none, is_some, if◌then◌else◌}
+use Rattle.std.specs.Prelude.{◌⊎◌, is_none, is_some, if◌then◌else◌}
 use Rattle.game_core.specs.Play.{Rules, IsLawful}
 use Rattle.desk_calls.specs.Phases.{is_last}
 use Rattle.desk_calls.specs.declared.answer.Answer.{Answer}
+use Rattle.desk_calls.specs.declared.due.Due.{Due}
+use Rattle.desk_calls.specs.declared.due.Due.TheVariants.{Owe, Hold, Over}
 use Rattle.match_book.specs.Roles.{every_role, is_there, blank}
 use Rattle.match_book.specs.Marks.{mark_of}
 use Rattle.match_book.specs.MatchValue.{MatchValue, state_after}
@@ -12,7 +13,8 @@ use Rattle.match_book.specs.Phase.{stage, settled, still_answers, answered_in, h
 use Rattle.match_book.specs.Retirement.{are_all_retired}
 use Rattle.match_book.specs.Lawful.{IsLawfulMatch}
 use Rattle.match_book.specs.Steps.{refusal, turn_of, parts, with_start_mark, with_end_mark, with_answer_in, with_answer, after_answer}
-use Rattle.match_book.specs.Rounds.{after_roles, after_rounds}
+use Rattle.match_book.specs.Due.{due, owed_in, last_move_texts}
+use Rattle.match_book.specs.Rounds.{IsAfterAnswer, IsAfterDue, HaveAnswered, AreRounds}
 use Rattle.match_book.specs.Laws.{HasPart, IsPlayed, RoundsEnd, ReadingsAreFolded}
 use Rattle.match_book.specs.declared.answer.AnswerRefusal.{AnswerRefusal}
 use Rattle.match_book.specs.declared.answer.AnswerRefusal.TheVariants.{Twice}
@@ -22,7 +24,7 @@ use Rattle.match_book.specs.declared.phase.Stage.{Stage}
 use Rattle.match_book.specs.declared.phase.Stage.TheVariants.{Starting, Playing, Stopping, Aborting}
 use Rattle.match_book.proofs.RoleTests.{same_or_other, at_role-set, at_role-other, every_role-all, below_or_at}
 use Rattle.match_book.proofs.Stages.{stage-by, stage-starting, stage-settled, settled-not_starting, starting-missing, live-not_asked, playing_means}
-use Rattle.match_book.proofs.AnswerLaws.{taken, answers_keep_lawful, answers_in_play}
+use Rattle.match_book.proofs.AnswerLaws.{taken, less_is, same_is, answers_keep_lawful, answers_in_play}
 
 -- ---- how many rounds are left at most, at a stage, after t turns
 
@@ -225,12 +227,6 @@ module _ {S M : Type 0} (g : Rules S M) (m : MatchValue M) (lawful : IsLawfulMat
       step (inl is_open) = subst (λ (x : MatchValue M). GoesOn g m x r) (sym is_open) stays_open
       step (inr is_recorded) = subst (λ (x : MatchValue M). GoesOn g m x r) (sym is_recorded.0) (recorded _)
 
-less_is : (a b : ℕ) → a < b → nat_lt a b ≡ true
-less_is a b lt = grind (arith, nat_tests)
-
-same_is : (a b : ℕ) → a ≡ b → (a == b) ≡ true
-same_is a b same = grind (arith, nat_tests)
-
 module _ {S M : Type 0} (g : Rules S M) (laws : IsLawful g) (folded : ReadingsAreFolded) where
   -- an answer that is taken
   taken_step : (m : MatchValue M) (r n : ℕ) (answer : Answer) → IsLawfulMatch g m → refusal g m r n ≡ None → GoesOn g m (after_answer g m r n answer) r
@@ -248,6 +244,10 @@ module _ {S M : Type 0} (g : Rules S M) (laws : IsLawful g) (folded : ReadingsAr
       step Stopping is = subst (λ (x : MatchValue M). GoesOn g m x r) (sym (now Stopping is)) (end_step g m lawful r facts.0 (mark_of answer) Stopping is refl facts.2)
       step (Aborting c) is = subst (λ (x : MatchValue M). GoesOn g m x r) (sym (now (Aborting c) is)) (end_step g m lawful r facts.0 (mark_of answer) (Aborting c) is refl facts.2)
 
+  -- a match that stays as it is, with a role that has answered
+  stays_open : (m : MatchValue M) (r : ℕ) → is_over g m ≡ false → has_answered g m r ≡ true → GoesOn g m m r
+  stays_open m r going has = inr (record { left_is = refl; round_is = refl; goes_on = going; kept = λ k given. given; here = has })
+
   -- an answer of a role for the present round
   round_step : (m : MatchValue M) (r n : ℕ) (answer : Answer) → IsLawfulMatch g m → r < g.roles → n ≡ round g m → is_over g m ≡ false → GoesOn g m (after_answer g m r n answer) r
   round_step m r n answer lawful lt same going = step (has_answered g m r) refl
@@ -260,7 +260,7 @@ module _ {S M : Type 0} (g : Rules S M) (laws : IsLawful g) (folded : ReadingsAr
       step true is =
           let twice : refusal g m r n ≡ Some Twice = refused_if ∙ ap (λ b. if b then Some Twice else None) is in
           let now : after_answer g m r n answer ≡ m = ap (λ o. if is_none o then with_answer g m r answer else m) twice in
-          subst (λ (x : MatchValue M). GoesOn g m x r) (sym now) (inr (record { left_is = refl; round_is = refl; goes_on = going; kept = λ k given. given; here = is }))
+          subst (λ (x : MatchValue M). GoesOn g m x r) (sym now) (stays_open m r going is)
 
   -- no answer makes more rounds of those that are left
   never_more : (m : MatchValue M) (r n : ℕ) (answer : Answer) → IsLawfulMatch g m → left g (after_answer g m r n answer) ≤ left g m
@@ -290,83 +290,128 @@ module _ {S M : Type 0} (g : Rules S M) (laws : IsLawful g) (folded : ReadingsAr
       step Stopping is = subst (λ (x : Stage). every_role g.roles (answered_in x m) ≡ false) (sym is) (not_all_ended Stopping (all_ended g m) refl (going_at Stopping is))
       step (Aborting c) is = subst (λ (x : Stage). every_role g.roles (answered_in x m) ≡ false) (sym is) (not_all_ended (Aborting c) (all_ended g m) refl (going_at (Aborting c) is))
 
+  -- a role that has answered what was due to it
+  due_step : (m n : MatchValue M) (r : ℕ) → IsLawfulMatch g m → r < g.roles → is_over g m ≡ false → IsAfterDue g m r (due g m r) n → GoesOn g m n r
+  due_step m n r lawful lt going is = step (has_answered g m r) refl
+    where
+      in_round : (b : Bool) → has_answered g m r ≡ b → IsAfterDue g m r (if b then Hold (round g m) else Owe (round g m) (owed_in (stage g m) (last_move_texts g m.turns))) n
+      in_round b has =
+          let at_round = ap (λ o. if o then Over else (if has_answered g m r then Hold (round g m) else Owe (round g m) (owed_in (stage g m) (last_move_texts g m.turns)))) going in
+          let at_role = ap (λ h. if h then Hold (round g m) else Owe (round g m) (owed_in (stage g m) (last_move_texts g m.turns))) has in
+          subst (λ (d : Due). IsAfterDue g m r d n) (at_round ∙ at_role) is
+
+      step : (b : Bool) → has_answered g m r ≡ b → GoesOn g m n r
+      step true has = subst (λ (x : MatchValue M). GoesOn g m x r) (sym (in_round true has)) (stays_open m r going has)
+      step false has = let said = in_round false has in subst (λ (x : MatchValue M). GoesOn g m x r) (sym said.1) (round_step m r (round g m) said.0 lawful lt refl going)
+
+  -- what holds of the match and after any answer of the role holds after the role has answered what was due
+  after_due : (P : MatchValue M → Type 0) (m n : MatchValue M) (r : ℕ) → P m → ((round : ℕ) (answer : Answer) → P (after_answer g m r round answer)) → (d : Due) → IsAfterDue g m r d n → P n
+  after_due P m n r here answered (Owe round owed) is = subst P (sym is.1) (answered round is.0)
+  after_due P m n r here answered (Hold round) is = subst P (sym is) here
+  after_due P m n r here answered Over is = subst P (sym is) here
+
+  -- a lawful match in which no more rounds are left
+  record HasNoMoreLeft (rounds : ℕ) (n : MatchValue M) : Type 0 where
+    lawful : IsLawfulMatch g n
+    no_more : left g n ≤ rounds
+
+  answer_keeps : (m : MatchValue M) → IsLawfulMatch g m → (r n : ℕ) (answer : Answer) → HasNoMoreLeft (left g m) (after_answer g m r n answer)
+  answer_keeps m lawful r n answer = record { lawful = answers_keep_lawful g laws folded m r n answer lawful; no_more = never_more m r n answer lawful }
+
+  step_keeps : (m after : MatchValue M) (r n : ℕ) → IsLawfulMatch g m → IsAfterAnswer g n m r after ⊎ IsAfterDue g m r (due g m r) after → HasNoMoreLeft (left g m) after
+  step_keeps m after r n lawful (inl is) = subst (λ (x : MatchValue M). HasNoMoreLeft (left g m) x) (sym is.1) (answer_keeps m lawful r n is.0)
+  step_keeps m after r n lawful (inr is) =
+      after_due (λ (x : MatchValue M). HasNoMoreLeft (left g m) x) m after r (record { lawful = lawful; no_more = omega arith }) (answer_keeps m lawful r) (due g m r) is
+
   -- ---- a round
 
-  module _ (m : MatchValue M) (lawful : IsLawfulMatch g m) (answers : ℕ → Answer) (n : ℕ) where
-    lawful_after : (k : ℕ) → IsLawfulMatch g (after_roles g m n answers k)
-    lawful_after zero = lawful
-    lawful_after (suc k) = answers_keep_lawful g laws folded (after_roles g m n answers k) k n (answers k) (lawful_after k)
+  module _ (m : MatchValue M) (lawful : IsLawfulMatch g m) (n : ℕ) where
+    round_keeps : (k : ℕ) (after : MatchValue M) → HaveAnswered g n m k after → HasNoMoreLeft (left g m) after
+    round_keeps zero after is = subst (λ (x : MatchValue M). HasNoMoreLeft (left g m) x) (sym is) (record { lawful = lawful; no_more = omega arith })
+    round_keeps (suc k) after is =
+        let before = round_keeps k is.0 is.1 in
+        let now = step_keeps is.0 after k n before.lawful is.2 in
+        record { lawful = now.lawful; no_more = omega arith }
 
-    never_more_after : (k : ℕ) → left g (after_roles g m n answers k) ≤ left g m
-    never_more_after zero = let w : left g m ≤ left g m = omega arith in w
-    never_more_after (suc k) =
-        let before = never_more_after k in
-        let now = never_more (after_roles g m n answers k) k n (answers k) (lawful_after k) in
-        omega (arith, before, now)
+    record AreOpenWith (k : ℕ) (after : MatchValue M) : Type 0 where
+      left_is : left g after ≡ left g m
+      round_is : n ≡ round g after
+      goes_on : is_over g after ≡ false
+      all : (j : ℕ) → j < k → has_answered g after j ≡ true
 
-    record AreOpenWith (k : ℕ) : Type 0 where
-      left_is : left g (after_roles g m n answers k) ≡ left g m
-      round_is : n ≡ round g (after_roles g m n answers k)
-      goes_on : is_over g (after_roles g m n answers k) ≡ false
-      all : (j : ℕ) → j < k → has_answered g (after_roles g m n answers k) j ≡ true
-
-    one_more : (k : ℕ) → AreOpenWith k → IsOpenWith g (after_roles g m n answers k) (after_roles g m n answers (suc k)) k → AreOpenWith (suc k)
-    one_more k were is = record {
+    one_more : (k : ℕ) (before after : MatchValue M) → AreOpenWith k before → IsOpenWith g before after k → AreOpenWith (suc k) after
+    one_more k before after were is = record {
       left_is = is.left_is ∙ were.left_is;
       round_is = were.round_is ∙ sym is.round_is;
       goes_on = is.goes_on;
       all = λ j lt. step j (below_or_at j k lt);
     }
       where
-        step : (j : ℕ) → (j ≡ k) ⊎ (j < k) → has_answered g (after_roles g m n answers (suc k)) j ≡ true
-        step j (inl same) = subst (λ i. has_answered g (after_roles g m n answers (suc k)) i ≡ true) (sym same) is.here
+        step : (j : ℕ) → (j ≡ k) ⊎ (j < k) → has_answered g after j ≡ true
+        step j (inl same) = subst (λ i. has_answered g after i ≡ true) (sym same) is.here
         step j (inr below) = is.kept j (were.all j below)
 
-    roles_step : n ≡ round g m → is_over g m ≡ false → (k : ℕ) → k ≤ g.roles → (left g (after_roles g m n answers k) < left g m) ⊎ AreOpenWith k
-    roles_step same going zero le = inr (record { left_is = refl; round_is = same; goes_on = going; all = λ j lt. absurd (omega (arith, lt)) })
-    roles_step same going (suc k) le = step (roles_step same going k (omega (arith, le)))
-      where
-        step : (left g (after_roles g m n answers k) < left g m) ⊎ AreOpenWith k → (left g (after_roles g m n answers (suc k)) < left g m) ⊎ AreOpenWith (suc k)
-        step (inl less) = let now = never_more (after_roles g m n answers k) k n (answers k) (lawful_after k) in inl (omega (arith, less, now))
-        step (inr were) = turn (round_step (after_roles g m n answers k) k n (answers k) (lawful_after k) (omega (arith, le)) were.round_is were.goes_on)
-          where
-            turn : GoesOn g (after_roles g m n answers k) (after_roles g m n answers (suc k)) k → (left g (after_roles g m n answers (suc k)) < left g m) ⊎ AreOpenWith (suc k)
-            turn (inl less) = let was = were.left_is in inl (omega (arith, less, was))
-            turn (inr is) = inr (one_more k were is)
+    role_step : (k : ℕ) (before after : MatchValue M) → k < g.roles → IsLawfulMatch g before → AreOpenWith k before → IsAfterAnswer g n before k after ⊎ IsAfterDue g before k (due g before k) after → GoesOn g before after k
+    role_step k before after lt lawful were (inl is) = subst (λ (x : MatchValue M). GoesOn g before x k) (sym is.1) (round_step before k n is.0 lawful lt were.round_is were.goes_on)
+    role_step k before after lt lawful were (inr is) = due_step before after k lawful lt were.goes_on is
 
-    round_less : n ≡ round g m → is_over g m ≡ false → left g (after_roles g m n answers g.roles) < left g m
-    round_less same going = step (roles_step same going g.roles (omega arith))
+    roles_step : n ≡ round g m → is_over g m ≡ false → (k : ℕ) (after : MatchValue M) → k ≤ g.roles → HaveAnswered g n m k after → (left g after < left g m) ⊎ AreOpenWith k after
+    roles_step same going zero after le is = subst (λ (x : MatchValue M). (left g x < left g m) ⊎ AreOpenWith zero x) (sym is) (inr (record { left_is = refl; round_is = same; goes_on = going; all = λ j lt. absurd (omega (arith, lt)) }))
+    roles_step same going (suc k) after le is = step (roles_step same going k before (omega (arith, le)) is.1)
       where
-        step : (left g (after_roles g m n answers g.roles) < left g m) ⊎ AreOpenWith g.roles → left g (after_roles g m n answers g.roles) < left g m
+        before : MatchValue M
+        before = is.0
+
+        lawful_before : IsLawfulMatch g before
+        lawful_before = (round_keeps k before is.1).lawful
+
+        step : (left g before < left g m) ⊎ AreOpenWith k before → (left g after < left g m) ⊎ AreOpenWith (suc k) after
+        step (inl less) = let now = (step_keeps before after k n lawful_before is.2).no_more in inl (omega (arith, less, now))
+        step (inr were) = turn (role_step k before after (omega (arith, le)) lawful_before were is.2)
+          where
+            turn : GoesOn g before after k → (left g after < left g m) ⊎ AreOpenWith (suc k) after
+            turn (inl less) = let was = were.left_is in inl (omega (arith, less, was))
+            turn (inr is) = inr (one_more k before after were is)
+
+    round_less : n ≡ round g m → is_over g m ≡ false → (after : MatchValue M) → HaveAnswered g n m g.roles after → left g after < left g m
+    round_less same going after is = step (roles_step same going g.roles after (omega arith) is)
+      where
+        step : (left g after < left g m) ⊎ AreOpenWith g.roles after → left g after < left g m
         step (inl less) = less
         step (inr were) =
-            let all = every_role-all g.roles (has_answered g (after_roles g m n answers g.roles)) were.all in
-            let some = some_missing (after_roles g m n answers g.roles) (lawful_after g.roles) were.goes_on in
+            let all = every_role-all g.roles (has_answered g after) were.all in
+            let some = some_missing after (round_keeps g.roles after is).lawful were.goes_on in
             let w : true ≡ false = sym all ∙ some in
             absurd cc
 
   -- ---- all rounds
 
-  module _ (m : MatchValue M) (lawful : IsLawfulMatch g m) (answers : ℕ → ℕ → Answer) where
-    lawful_rounds : (k : ℕ) → IsLawfulMatch g (after_rounds g m answers k)
-    lawful_rounds zero = lawful
-    lawful_rounds (suc k) = lawful_after (after_rounds g m answers k) (lawful_rounds k) (answers k) (round g (after_rounds g m answers k)) g.roles
+  module _ (m after : MatchValue M) (lawful : IsLawfulMatch g m) (is : HaveAnswered g (round g m) m g.roles after) where
+    now : HasNoMoreLeft (left g m) after
+    now = round_keeps m lawful (round g m) g.roles after is
 
-    rounds_left : (k : ℕ) → left g (after_rounds g m answers k) ≤ (max_turns + 2) - k
-    rounds_left zero = let w : left g m ≤ max_turns + 2 = most_left (stage g m) (all_ended g m) (length m.turns) in omega (arith, w)
-    rounds_left (suc k) = step (rounds_left k) (is_over g (after_rounds g m answers k)) refl
+    one_less : (k : ℕ) → left g m ≤ (max_turns + 2) - k → left g after ≤ (max_turns + 2) - suc k
+    one_less k most = step (is_over g m) refl
       where
-        step : left g (after_rounds g m answers k) ≤ (max_turns + 2) - k → (over : Bool) → is_over g (after_rounds g m answers k) ≡ over → left g (after_rounds g m answers (suc k)) ≤ (max_turns + 2) - suc k
-        step before true over =
-            let none : left g (after_rounds g m answers k) ≡ 0 = over_left (stage g (after_rounds g m answers k)) (all_ended g (after_rounds g m answers k)) (length (after_rounds g m answers k).turns) over in
-            let now = never_more_after (after_rounds g m answers k) (lawful_rounds k) (answers k) (round g (after_rounds g m answers k)) g.roles in
-            omega (arith, none, now)
-        step before false going =
-            let less = round_less (after_rounds g m answers k) (lawful_rounds k) (answers k) (round g (after_rounds g m answers k)) refl going in
-            omega (arith, before, less)
+        step : (over : Bool) → is_over g m ≡ over → left g after ≤ (max_turns + 2) - suc k
+        step true over =
+            let none : left g m ≡ 0 = over_left (stage g m) (all_ended g m) (length m.turns) over in
+            let no_more = now.no_more in
+            omega (arith, none, no_more)
+        step false going =
+            let less = round_less m lawful (round g m) refl going after is in
+            omega (arith, most, less)
+
+  rounds_left : (m : MatchValue M) → IsLawfulMatch g m → (k : ℕ) (after : MatchValue M) → AreRounds g m k after → HasNoMoreLeft ((max_turns + 2) - k) after
+  rounds_left m lawful zero after is =
+      let most : left g m ≤ max_turns + 2 = most_left (stage g m) (all_ended g m) (length m.turns) in
+      subst (λ (x : MatchValue M). HasNoMoreLeft ((max_turns + 2) - zero) x) (sym is) (record { lawful = lawful; no_more = omega (arith, most) })
+  rounds_left m lawful (suc k) after is =
+      let before = rounds_left m lawful k is.0 is.1 in
+      record { lawful = (now is.0 after before.lawful is.2).lawful; no_more = one_less is.0 after before.lawful is.2 k before.no_more }
 
 pub rounds_end : {S M : Type 0} (g : Rules S M) → IsLawful g → ReadingsAreFolded → RoundsEnd g
-rounds_end g laws folded m answers rounds lawful enough =
-    let few = rounds_left g laws folded m lawful answers rounds in
-    let none : left g (after_rounds g m answers rounds) ≡ 0 = omega (arith, few, enough) in
-    none_left (stage g (after_rounds g m answers rounds)) (all_ended g (after_rounds g m answers rounds)) (length (after_rounds g m answers rounds).turns) none
+rounds_end g laws folded m after rounds lawful are enough =
+    let few = (rounds_left g laws folded m lawful rounds after are).no_more in
+    let none : left g after ≡ 0 = omega (arith, few, enough) in
+    none_left (stage g after) (all_ended g after) (length after.turns) none

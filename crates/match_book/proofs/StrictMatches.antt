@@ -1,5 +1,5 @@
 -- Worked matches of Countdown with strikes; the rest of their setup does not matter.
-use Rattle.std.specs.Prelude.{◌≡◌, ℕ, List, [], ◌∷◌, Some, codes, refl, map}
+use Rattle.std.specs.Prelude.{◌≡◌, ℕ, List, [], ◌∷◌, Some, None, codes, refl, map}
 use Rattle.game_core.specs.Play.{Rules}
 use Rattle.game_core.specs.Countdown.{countdown}
 use Rattle.game_core.specs.declared.countdown.Take.{Take}
@@ -11,6 +11,7 @@ use Rattle.match_book.specs.AnswerReading.{answer_reading}
 use Rattle.match_book.specs.Judgement.{judgement}
 use Rattle.match_book.specs.Retirement.{retired_by}
 use Rattle.match_book.specs.Due.{due}
+use Rattle.match_book.specs.RoleMessages.{role_messages, answered_messages}
 use Rattle.match_book.specs.Steps.{new_match, after_answer, refusal}
 use Rattle.desk_calls.specs.declared.setup.Setup.{Setup}
 use Rattle.desk_calls.specs.declared.answer.Answer.{Answer}
@@ -18,7 +19,7 @@ use Rattle.desk_calls.specs.declared.answer.Answer.TheVariants.{Text, Silent, Br
 use Rattle.match_book.specs.declared.answer.AnswerRefusal.TheVariants.{Twice}
 use Rattle.match_book.specs.declared.phase.Cause.TheVariants.{AllRetired}
 use Rattle.desk_calls.specs.declared.phase.Phase.TheVariants.{Playing, Aborting}
-use Rattle.desk_calls.specs.declared.due.Owed.TheVariants.{Play, Stop, Abort}
+use Rattle.desk_calls.specs.declared.due.Owed.TheVariants.{Start, Play, Stop, Abort}
 use Rattle.desk_calls.specs.declared.due.Due.TheVariants.{Owe, Hold}
 
 -- the match after these answers, each with its role, for the round in which it comes
@@ -91,3 +92,30 @@ end_comes_first setup = refl
 pub red_is_still_asked : (setup : Setup) → (due (countdown 10) (not_in_a_row setup) 0 ≡ Owe 4 (Play (Some (codes "(take 1)" ∷ (codes "noop" ∷ []))))) × (due (countdown 10) (never_out setup) 0 ≡ Owe 4 (Play (Some (codes "(take 1)" ∷ (codes "noop" ∷ [])))))
 unfolding stage settled judgement retired_by answer_reading reading run
 red_is_still_asked setup = (refl, refl)
+
+abbrev texts : List ℕ → List ℕ → List (List ℕ)
+texts red blue = red ∷ (blue ∷ [])
+
+-- red gets no PLAY once it is retired, but ABORT; blue gets each PLAY
+pub messages_of_retired : (setup : Setup) → role_messages (countdown 10) (both_are_out setup) 0 ≡ Start ∷ (Play None ∷ (Play (Some (texts (codes "(take 1)") (codes "noop"))) ∷ (Abort ∷ [])))
+unfolding stage settled judgement retired_by answer_reading reading run
+messages_of_retired setup = refl
+
+pub messages_of_other : (setup : Setup) → role_messages (countdown 10) (both_are_out setup) 1 ≡ Start ∷ (Play None ∷ (Play (Some (texts (codes "(take 1)") (codes "noop")))
+    ∷ (Play (Some (texts (codes "noop") (codes "(take 1)"))) ∷ (Play (Some (texts (codes "(take 1)") (codes "noop"))) ∷ (Play (Some (texts (codes "noop") (codes "(take 1)"))) ∷ (Abort ∷ []))))))
+unfolding stage settled judgement retired_by answer_reading reading run
+messages_of_other setup = refl
+
+-- so far it has answered all but ABORT
+pub messages_so_far : (setup : Setup) → answered_messages (countdown 10) (both_are_out setup) 0 ≡ Start ∷ (Play None ∷ (Play (Some (texts (codes "(take 1)") (codes "noop"))) ∷ []))
+unfolding stage settled judgement retired_by answer_reading reading run
+messages_so_far setup = refl
+
+-- a game that ends with its first turn, and one that has none
+pub messages_of_one_turn : (setup : Setup) → role_messages (countdown 1) (out_at_the_end setup) 1 ≡ Start ∷ (Play None ∷ (Stop (Some (texts (codes "(take 1)") (codes "noop"))) ∷ []))
+unfolding stage settled judgement retired_by answer_reading reading run
+messages_of_one_turn setup = refl
+
+pub messages_of_no_turn : (setup : Setup) → role_messages (countdown 0) (ready 0 0 setup) 0 ≡ Start ∷ (Stop None ∷ [])
+unfolding stage settled judgement retired_by answer_reading reading run
+messages_of_no_turn setup = refl

@@ -11,10 +11,14 @@ use Rattle.match_book.specs.RoleStrikes.{AreStrikes, after_turn, unstruck}
 use Rattle.match_book.specs.Phase.{stage, round, has_answered, has_no_goal, has_no_move, is_over, is_playing, max_turns}
 use Rattle.match_book.specs.Lawful.{IsLawfulTurn, AreLawful, IsLawfulMatch}
 use Rattle.match_book.specs.Steps.{new_match, refusal, turn_of, part, parts, after_answer, after_abort}
-use Rattle.match_book.specs.Rounds.{after_rounds}
+use Rattle.match_book.specs.Due.{due}
+use Rattle.match_book.specs.RoleMessages.{role_messages, answered_messages}
+use Rattle.match_book.specs.Rounds.{AreRounds}
 use Rattle.desk_calls.specs.declared.setup.Setup.{Setup}
 use Rattle.desk_calls.specs.declared.answer.Answer.{Answer}
 use Rattle.desk_calls.specs.declared.answer.Answer.TheVariants.{Text, Silent, Broken}
+use Rattle.desk_calls.specs.declared.due.Owed.{Owed}
+use Rattle.desk_calls.specs.declared.due.Due.TheVariants.{Owe}
 use Rattle.match_book.specs.declared.judgement.Judgement.{Judgement}
 use Rattle.match_book.specs.declared.retirement.RoleStrikes.{RoleStrikes}
 use Rattle.match_book.specs.declared.turn.Turn.{Turn}
@@ -71,6 +75,35 @@ AnswersOutOfPlay {S} {M} g = (m : MatchValue M) (role round : ℕ) (answer : Ans
 -- an answer is taken only for the present round, and only from a role of the game
 abbrev pub TakenForTheRound : {S M : Type 0} → Rules S M → Type 0
 TakenForTheRound {S} {M} g = (m : MatchValue M) (role n : ℕ) → refusal g m role n ≡ None → (role < g.roles) × (n ≡ round g m)
+
+-- nothing refuses the answer that a role owes
+abbrev pub OwedAnswersAreTaken : {S M : Type 0} → Rules S M → Type 0
+OwedAnswersAreTaken {S} {M} g = (m : MatchValue M) (role n : ℕ) (owed : Owed) → role < g.roles → due g m role ≡ Owe n owed → refusal g m role n ≡ None
+
+-- no role has answered a message of a match with nothing in it
+abbrev pub NoneIsAnswered : {S M : Type 0} → Rules S M → Type 0
+NoneIsAnswered {S} {M} g = (setup : Setup) (role : ℕ) → role < g.roles → answered_messages g (new_match {M = M} g setup) role ≡ []
+
+-- a role's answer to what it owes adds this to the messages that it has answered
+abbrev pub OwedIsAnswered : {S M : Type 0} → Rules S M → Type 0
+OwedIsAnswered {S} {M} g = (m : MatchValue M) (role n : ℕ) (owed : Owed) (answer : Answer) → IsLawfulMatch g m → role < g.roles → due g m role ≡ Owe n owed
+    → answered_messages g (after_answer g m role n answer) role ≡ answered_messages g m role ++ owed ∷ []
+
+-- the answers of others change neither the messages that a role has answered nor what it owes
+pub record IsUntouched {S M : Type 0} (g : Rules S M) (m after : MatchValue M) (role : ℕ) : Type 0 where
+  pub answered : answered_messages g after role ≡ answered_messages g m role
+  pub owed : (n : ℕ) (owed : Owed) → due g m role ≡ Owe n owed → due g after role ≡ Owe n owed
+
+abbrev pub OthersAreUntouched : {S M : Type 0} → Rules S M → Type 0
+OthersAreUntouched {S} {M} g = (m : MatchValue M) (role other n : ℕ) (answer : Answer) → IsLawfulMatch g m → role < g.roles → role ≢ other → IsUntouched g m (after_answer g m other n answer) role
+
+-- once a match is over, each role has answered its messages, and no answer changes the match
+pub record IsAllAnswered {S M : Type 0} (g : Rules S M) (m : MatchValue M) : Type 0 where
+  pub answered : (role : ℕ) → role < g.roles → answered_messages g m role ≡ role_messages g m role
+  pub stays : (role n : ℕ) (answer : Answer) → after_answer g m role n answer ≡ m
+
+abbrev pub AllAreAnswered : {S M : Type 0} → Rules S M → Type 0
+AllAreAnswered {S} {M} g = (m : MatchValue M) → is_over g m ≡ true → IsAllAnswered g m
 
 -- lawful turns lead to a state of the game
 abbrev pub TurnsLeadToStates : {S M : Type 0} → Rules S M → Type 0
@@ -133,7 +166,7 @@ BegunRoundsAreOpen {S} {M} g = (m : MatchValue M) → is_playing (stage g m) ≡
 -- A lawful match is over once every role has answered in as many rounds as there may be turns, and in two more: for START, and for STOP
 -- or ABORT. An answer that is refused counts as one that is given.
 abbrev pub RoundsEnd : {S M : Type 0} → Rules S M → Type 0
-RoundsEnd {S} {M} g = (m : MatchValue M) (answers : ℕ → ℕ → Answer) (rounds : ℕ) → IsLawfulMatch g m → max_turns + 2 ≤ rounds → is_over g (after_rounds g m answers rounds) ≡ true
+RoundsEnd {S} {M} g = (m after : MatchValue M) (rounds : ℕ) → IsLawfulMatch g m → AreRounds g m rounds after → max_turns + 2 ≤ rounds → is_over g after ≡ true
 
 -- what is read of an answer is a folded text within the limit
 abbrev pub ReadingsAreFolded : Type 0

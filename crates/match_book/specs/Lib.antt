@@ -1,3 +1,4 @@
+pub use Rattle.desk_calls.specs.Answers
 pub mod Roles
 pub mod Marks
 pub mod AnswerReading
@@ -8,6 +9,7 @@ pub mod RoleStrikes
 pub mod Phase
 pub mod LegalMoves
 pub mod Due
+pub mod RoleMessages
 pub mod Lawful
 pub mod Steps
 pub mod Rounds

@@ -1,21 +1,30 @@
 -- Rounds in which every role answers.
-use Rattle.std.specs.Prelude.{ℕ, zero, suc}
+use Rattle.std.specs.Prelude.{◌≡◌, ◌⊎◌, ℕ, zero, suc}
 use Rattle.game_core.specs.Play.{Rules}
 use Rattle.match_book.specs.MatchValue.{MatchValue}
 use Rattle.match_book.specs.Phase.{round}
+use Rattle.match_book.specs.Due.{due}
 use Rattle.match_book.specs.Steps.{after_answer}
 use Rattle.desk_calls.specs.declared.answer.Answer.{Answer}
+use Rattle.desk_calls.specs.declared.due.Due.{Due}
+use Rattle.desk_calls.specs.declared.due.Due.TheVariants.{Owe, Hold, Over}
 
--- the match after the roles below this number have answered for the round n, one after another, each in its way
-abbrev pub after_roles : {S M : Type 0} → Rules S M → MatchValue M → ℕ → (ℕ → Answer) → ℕ → MatchValue M
-after_roles g m n answers zero = m
-after_roles g m n answers (suc role) = after_answer g (after_roles g m n answers role) role n (answers role)
+-- the match after some answer of the role for the round n
+abbrev pub IsAfterAnswer : {S M : Type 0} → Rules S M → ℕ → MatchValue M → ℕ → MatchValue M → Type 0
+IsAfterAnswer g n m role after = (answer : Answer) × (after ≡ after_answer g m role n answer)
 
--- the match after every role has answered for the present round
-abbrev pub after_round : {S M : Type 0} → Rules S M → MatchValue M → (ℕ → Answer) → MatchValue M
-after_round g m answers = after_roles g m (round g m) answers g.roles
+-- the match after the role, to which this is due, has answered for the round in which it owes an answer; the same match if it owes none
+abbrev pub IsAfterDue : {S M : Type 0} → Rules S M → MatchValue M → ℕ → Due → MatchValue M → Type 0
+IsAfterDue g m role (Owe n owed) after = IsAfterAnswer g n m role after
+IsAfterDue g m role (Hold n) after = after ≡ m
+IsAfterDue g m role Over after = after ≡ m
 
--- the match after so many such rounds, by the roles' answers in each
-abbrev pub after_rounds : {S M : Type 0} → Rules S M → MatchValue M → (ℕ → ℕ → Answer) → ℕ → MatchValue M
-after_rounds g m answers zero = m
-after_rounds g m answers (suc rounds) = after_round g (after_rounds g m answers rounds) (answers rounds)
+-- The roles below this number have answered, one after another: each for the round n, or as it owes by then.
+abbrev pub HaveAnswered : {S M : Type 0} → Rules S M → ℕ → MatchValue M → ℕ → MatchValue M → Type 0
+HaveAnswered g n m zero after = after ≡ m
+HaveAnswered {S} {M} g n m (suc role) after = (before : MatchValue M) × HaveAnswered g n m role before × (IsAfterAnswer g n before role after ⊎ IsAfterDue g before role (due g before role) after)
+
+-- so many rounds, in each of which every role has answered
+abbrev pub AreRounds : {S M : Type 0} → Rules S M → MatchValue M → ℕ → MatchValue M → Type 0
+AreRounds g m zero after = after ≡ m
+AreRounds {S} {M} g m (suc rounds) after = (before : MatchValue M) × AreRounds g m rounds before × HaveAnswered g (round g before) before g.roles after

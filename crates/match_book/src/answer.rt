@@ -53,7 +53,7 @@ impl fmt::Display for AnswerFault {
             AnswerFault::NoRole => "there is no such role",
             AnswerFault::Over => "the match is over",
             AnswerFault::Twice => "the role has answered this round",
-            AnswerFault::Memory => "want of memory",
+            AnswerFault::Memory => "out of memory",
             AnswerFault::Stale(round) => return write!(f, "the present round is {round}"),
         };
         f.write_str(words)

@@ -19,7 +19,7 @@ impl fmt::Display for OwedFault {
     fn fmt<W: fmt::Write>(&self, f: &mut fmt::Formatter<W>) -> fmt::Result {
         f.write_str(match *self {
             OwedFault::NoRole => "there is no such role",
-            OwedFault::Memory => "want of memory",
+            OwedFault::Memory => "out of memory",
         })
     }
 }

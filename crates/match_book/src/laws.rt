@@ -1,7 +1,7 @@
 //! What holds of the definitions, for every game.
 //!
 //! Laws without arguments speak of every game of a type: call them with that type.
-ghost use Rattle.match_book.specs.Laws.{NewMatchIsLawful, AnswersKeepLawful, AbortKeepsLawful, RecordedMovesAreLegal, NoErrorMeansNamed, AnswersInPlay, AnswersOutOfPlay, TakenForTheRound, TurnsLeadToStates, TurnsHaveMoves, OneMoreTurn, StrikesBegin, StrikesOfOneMore, FewStrikes, StartingMeans, PlayingMeans, StoppingMeans, BegunRoundsAreOpen, RoundsEnd, ReadingsAreFolded};
+ghost use Rattle.match_book.specs.Laws.{NewMatchIsLawful, AnswersKeepLawful, AbortKeepsLawful, RecordedMovesAreLegal, NoErrorMeansNamed, AnswersInPlay, AnswersOutOfPlay, TakenForTheRound, OwedAnswersAreTaken, TurnsLeadToStates, TurnsHaveMoves, OneMoreTurn, StrikesBegin, StrikesOfOneMore, FewStrikes, StartingMeans, PlayingMeans, StoppingMeans, BegunRoundsAreOpen, RoundsEnd, NoneIsAnswered, OwedIsAnswered, OthersAreUntouched, AllAreAnswered, ReadingsAreFolded};
 ghost use Rattle.match_book.specs.Lawful.{IsLawfulMatch};
 
 use crate::matches::Match;
@@ -53,6 +53,11 @@ pub fn taken_for_the_round<G: Game>()
     ensures { (game : G) → TakenForTheRound (G.rules game) }
 {}
 
+/// An answer that a role owes is taken, unless memory runs out.
+pub fn owed_answers_are_taken<G: Game>()
+    ensures { (game : G) → OwedAnswersAreTaken (G.rules game) }
+{}
+
 /// Lawful turns lead to a state of the game, and have moves of the game alone.
 pub fn lawful_turns_are_of_the_game<G: Game>()
     ensures states { (game : G) → TurnsLeadToStates (G.rules game) }
@@ -88,6 +93,18 @@ pub fn begun_rounds_are_open<G: Game>()
 /// ABORT.
 pub fn rounds_come_to_an_end<G: Game>()
     ensures { (game : G) → RoundsEnd (G.rules game) }
+{
+    readings_are_folded();
+}
+
+/// How a role's messages are answered, one after another: none when a match begins, with the role's own answer the one that it owes, and
+/// none with the answers of others, which change nothing of what it owes. Once a match is over, these are all its messages: START, PLAY
+/// before each turn that the role is not retired by then, and STOP or ABORT.
+pub fn messages_are_answered<G: Game>()
+    ensures begin { (game : G) → NoneIsAnswered (G.rules game) }
+    ensures own { (game : G) → OwedIsAnswered (G.rules game) }
+    ensures others { (game : G) → OthersAreUntouched (G.rules game) }
+    ensures over { (game : G) → AllAreAnswered (G.rules game) }
 {
     readings_are_folded();
 }

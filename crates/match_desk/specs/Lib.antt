@@ -1,3 +1,12 @@
+pub use Rattle.call_history.specs.History
+pub use Rattle.call_history.specs.Lines
+pub use Rattle.call_history.specs.RingLines
+pub use Rattle.call_history.specs.RingClosing
+pub use Rattle.desk_calls.specs.Names
+pub use Rattle.desk_calls.specs.declared.call.Call
+pub use Rattle.desk_calls.specs.declared.call.Refusal
+pub use Rattle.desk_calls.specs.declared.call.Reply
+pub use Rattle.desk_calls.specs.declared.setup.Setup
 pub mod ManagerValue
 pub mod Open
 pub mod Steps

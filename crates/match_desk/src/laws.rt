@@ -41,9 +41,18 @@ pub fn answers_are_accounted<G: Game>(opening: &Manager<G>, history: &[Entry<Cal
     match_laws::<G>();
 }
 
-/// A legal history from an opening leaves a lawful manager: each match is a lawful match of its game, with a setup that can be
-/// opened and an id of its own.
-pub fn matches_are_lawful<G: Game>(opening: &Manager<G>, history: &[Entry<Call, Reply>])
+/// Each manager is lawful: each match is a lawful match of its game, with a setup that can be opened and an id of its own.
+pub fn managers_are_lawful<G: Game>(manager: &Manager<G>)
+    ensures { IsLawfulManager G.rules manager.now }
+{
+    manager.matches();
+}
+
+/// A legal history from an opening leaves a lawful manager.
+pub fn histories_leave_lawful_managers<G: Game>(
+    opening: &Manager<G>,
+    history: &[Entry<Call, Reply>],
+)
     requires opening { opening.now.matches ≡ [] }
     requires legal { IsLegalHistory (reply G.rules) (after G.rules) opening.now history.now }
     ensures { IsLawfulManager G.rules (run (after G.rules) opening.now history.now) }

@@ -2,7 +2,7 @@
 use Rattle.std.specs.Prelude.{List, Option}
 use Rattle.match_plans.specs.declared.addresses.PlayerAddress.{PlayerAddress}
 use Rattle.match_plans.specs.declared.reach.RolePlace.{RolePlace}
-use Rattle.role_workers.specs.Handing.{Handed}
+use Rattle.match_messages.specs.Handing.{Handed}
 use Rattle.match_log.specs.declared.logging.LoggedPlayer.{LoggedPlayer}
 
 -- a logged player was handed what the player was handed that it is around

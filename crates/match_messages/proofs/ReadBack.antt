@@ -8,7 +8,7 @@ use Rattle.kif_text.specs.Reading.{reading}
 use Rattle.desk_calls.specs.Laws.{NamesAreAtoms}
 use Rattle.desk_calls.specs.declared.due.Owed.{Owed}
 use Rattle.desk_calls.specs.declared.due.Owed.TheVariants.{Start, Play, Stop, Abort}
-use Rattle.match_messages.specs.declared.brief.Brief.{Brief}
+use Rattle.match_messages.specs.BriefValue.{BriefValue}
 use Rattle.match_messages.specs.MessageValue.{MessageValue, info, start, play, stop, abort, message_form, moves_form, folded_message}
 use Rattle.match_messages.specs.MessageText.{as_printed, message_text}
 use Rattle.match_messages.specs.MessageReading.{message_in, message_reading, in_expression}
@@ -79,7 +79,7 @@ members_printed none (t ∷ ts) have = absurd have
 members_printed (more x xs) [] have = absurd have
 members_printed (more x xs) (t ∷ ts) have = rw (have.0, later_printed xs ts have.1) refl
 
-text_is : (b : Brief) (role : ℕ) (owed : Owed) (m : MessageValue) → Says b role owed m → message_text b role owed ≡ canonical (message_form m)
+text_is : (b : BriefValue) (role : ℕ) (owed : Owed) (m : MessageValue) → Says b role owed m → message_text b role owed ≡ canonical (message_form m)
 text_is b role Start (start id name rules s p) says = rw (says.0, says.1, says.2, says.3, says.4) refl
 text_is b role (Play None) (play id None) says = rw (says.0) refl
 text_is b role (Play (Some texts)) (play id (Some moves)) says = rw (says.0, members_printed moves texts says.1) refl

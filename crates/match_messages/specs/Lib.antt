@@ -1,4 +1,6 @@
 pub mod Clock
+pub mod RulesText
+pub mod BriefValue
 pub mod MessageValue
 pub mod MessageText
 pub mod MessageKinds
@@ -6,4 +8,5 @@ pub mod StartRules
 pub mod MessageReading
 pub mod InfoReading
 pub mod MessageLaws
+pub mod Handing
 pub mod Internal

@@ -3,11 +3,11 @@ use Rattle.std.specs.Prelude.{◌≡◌, ℕ, ◌≤◌, true, List, [], ◌∷�
 use Rattle.game_core.specs.Expression.{Expressions, none, more, HasAtoms, AllHaveAtoms, depth, max_depth}
 use Rattle.game_core.specs.Canonical.{canonical}
 use Rattle.kif_text.specs.Spelling.{max_length}
-use Rattle.kif_text.specs.View.{views}
 use Rattle.desk_calls.specs.Names.{is_name, is_clock}
 use Rattle.desk_calls.specs.declared.due.Owed.{Owed}
 use Rattle.desk_calls.specs.declared.due.Owed.TheVariants.{Start, Play, Stop, Abort}
-use Rattle.match_messages.specs.declared.brief.Brief.{Brief}
+use Rattle.match_messages.specs.RulesText.{rules_text}
+use Rattle.match_messages.specs.BriefValue.{BriefValue}
 use Rattle.match_messages.specs.MessageValue.{MessageValue, info, start, play, stop, abort, message_form, folded_message}
 use Rattle.match_messages.specs.MessageText.{message_text}
 use Rattle.match_messages.specs.MessageReading.{message_reading}
@@ -50,9 +50,9 @@ MovesHaveTexts None (Some texts) = ⊥
 MovesHaveTexts (Some moves) None = ⊥
 MovesHaveTexts (Some moves) (Some texts) = HaveTexts moves texts
 
--- The owed message says this to the role. Expressions stand for the role's name and for the texts of the moves.
-abbrev pub Says : Brief → ℕ → Owed → MessageValue → Type 0
-Says b role Start (start id name rules s p) = (id ≡ b.id) × (slice_index_or b.roles role [] ≡ canonical name) × (rules ≡ views b.rules.items) × (s ≡ b.start) × (p ≡ b.play)
+-- The owed message says this to the role. Expressions stand for the role's name and for the texts of the rules and of the moves.
+abbrev pub Says : BriefValue → ℕ → Owed → MessageValue → Type 0
+Says b role Start (start id name rules s p) = (id ≡ b.id) × (slice_index_or b.roles role [] ≡ canonical name) × (b.rules ≡ rules_text rules) × (s ≡ b.start) × (p ≡ b.play)
 Says b role (Play texts) (play id moves) = (id ≡ b.id) × MovesHaveTexts moves texts
 Says b role (Stop texts) (stop id moves) = (id ≡ b.id) × MovesHaveTexts moves texts
 Says b role Abort (abort id) = id ≡ b.id
@@ -60,4 +60,4 @@ Says b role owed m = ⊥
 
 -- the text of an owed message is read back as what it says, with role, rules and moves folded
 abbrev pub OwedMessagesReadBack : Type 0
-OwedMessagesReadBack = (b : Brief) (role : ℕ) (owed : Owed) (m : MessageValue) → Says b role owed m → IsSayable m → message_reading (message_text b role owed) ≡ Ok (folded_message m)
+OwedMessagesReadBack = (b : BriefValue) (role : ℕ) (owed : Owed) (m : MessageValue) → Says b role owed m → IsSayable m → message_reading (message_text b role owed) ≡ Ok (folded_message m)

@@ -27,10 +27,14 @@ abbrev pub moves_form : Option Expressions → Expression
 moves_form None = atom (codes "NIL")
 moves_form (Some moves) = list moves
 
+-- the expression of START with these parts
+abbrev pub start_form : List ℕ → Expression → Expression → ℕ → ℕ → Expression
+start_form id role rules s p = list (more (atom (codes "START")) (more (atom id) (more role (more rules (more (atom (decimal s)) (more (atom (decimal p)) none))))))
+
 -- the expression of a message
 abbrev pub message_form : MessageValue → Expression
 message_form info = list (more (atom (codes "INFO")) none)
-message_form (start id role rules s p) = list (more (atom (codes "START")) (more (atom id) (more role (more (list rules) (more (atom (decimal s)) (more (atom (decimal p)) none))))))
+message_form (start id role rules s p) = start_form id role (list rules) s p
 message_form (play id moves) = list (more (atom (codes "PLAY")) (more (atom id) (more (moves_form moves) none)))
 message_form (stop id moves) = list (more (atom (codes "STOP")) (more (atom id) (more (moves_form moves) none)))
 message_form (abort id) = list (more (atom (codes "ABORT")) (more (atom id) none))

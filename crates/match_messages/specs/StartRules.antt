@@ -1,10 +1,10 @@
--- The sentences that START carries.
-use Rattle.std.specs.Prelude.{Vec}
-use Rattle.std.specs.Global.{Global}
-use Rattle.kif_text.specs.declared.expr.Expr.{Expr}
+-- The text of the rules that START carries.
+use Rattle.std.specs.Prelude.{ℕ, List}
+use Rattle.kif_text.specs.View.{views}
+use Rattle.match_messages.specs.RulesText.{rules_text}
 use Rattle.match_messages.specs.declared.start_rules.StartRules.{StartRules}
 use Rattle.match_messages.specs.declared.start_rules.StartRules.TheVariants.{Sentences, Printed}
 
-abbrev pub sentences_of : StartRules → Vec Expr Global
-sentences_of (Sentences sentences) = sentences.now
-sentences_of (Printed printed) = printed.now
+abbrev pub start_rules_text : StartRules → List ℕ
+start_rules_text (Sentences sentences) = rules_text (views sentences.now)
+start_rules_text (Printed printed) = printed.now

@@ -1,5 +1,6 @@
 //! The data that the messages of a match are made from.
 ghost use Rattle.std.specs.Prelude.{◌≡◌};
+ghost use Rattle.match_messages.specs.BriefValue.{brief_value};
 
 use crate::shared_brief::SharedBrief;
 use crate::start_rules::StartRules;
@@ -20,7 +21,7 @@ pub struct Brief {
 impl Brief {
     /// Lends the same data.
     pub fn shared(&self) -> SharedBrief<'_>
-        ensures { result ≡ self.now }
+        ensures { result ≡ brief_value self.now }
     {
         SharedBrief {
             id: &self.id,

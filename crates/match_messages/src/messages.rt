@@ -52,7 +52,7 @@ impl fmt::Display for MessageFault {
             MessageFault::Unreadable => "the text is not one expression",
             MessageFault::BadMessage => "the expression is no message",
             MessageFault::BadClock => "a clock is out of range",
-            MessageFault::Memory => "want of memory",
+            MessageFault::Memory => "out of memory",
         })
     }
 }

@@ -6,7 +6,7 @@ use game_core::{Text, Texts};
 use std::alloc::{AllocError, Global};
 use std::marker::Model;
 
-/// The data of a match that its players get, lent. Contracts see the `Brief` with that data.
+/// The data of a match that its players get, lent. Contracts see the data alone.
 #[derive(Drop)]
 pub struct SharedBrief<'r> {
     pub id: &'r Text,
@@ -17,16 +17,12 @@ pub struct SharedBrief<'r> {
 }
 
 impl<'r> Model for SharedBrief<'r> {
-    ghost use Rattle.std.specs.Coded.{codes};
-    ghost use Rattle.kif_text.specs.contracts.expr.Expr as expr;
-    ghost use Rattle.match_messages.specs.declared.brief.Brief.{Brief};
-    ghost use Rattle.match_messages.specs.StartRules.{sentences_of};
+    ghost use Rattle.match_messages.specs.BriefValue.{BriefValue};
+    ghost use Rattle.match_messages.specs.StartRules.{start_rules_text};
 
-    ghost Value = { Brief };
+    ghost Value = { BriefValue };
 
-    ghost coded = { Prim.hlevel (codes, expr.the_row.coded) };
-
-    ghost view = { λ b. record { id = b.id.now; roles = b.roles.now; rules = sentences_of b.rules; start = b.start; play = b.play } };
+    ghost view = { λ b. record { id = b.id.now; roles = b.roles.now; rules = start_rules_text b.rules; start = b.start; play = b.play } };
 }
 
 impl SharedBrief<'_> {

@@ -6,8 +6,9 @@ ghost use Rattle.game_core.specs.Canonical.{canonical};
 ghost use Rattle.game_core.specs.Expression.{atom, list, more, none};
 ghost use Rattle.kif_text.specs.View.{views};
 ghost use Rattle.match_messages.specs.MessageValue.{abort, info, message_form, moves_form};
+ghost use Rattle.match_messages.specs.BriefValue.{brief_value};
 ghost use Rattle.match_messages.specs.MessageText.{as_printed, message_text};
-ghost use Rattle.match_messages.specs.StartRules.{sentences_of};
+ghost use Rattle.match_messages.specs.StartRules.{start_rules_text};
 
 use crate::brief::Brief;
 use crate::shared_brief::SharedBrief;
@@ -107,12 +108,12 @@ fn around_rules<'r>(
     rules: StartRules<'r>,
     end: &[u8],
 ) -> Result<SharedText<'r>, AllocError>
-    ensures { IfOk result (λ text. text ≡ front.items ++ (canonical (list (views (sentences_of rules.entry).items)) ++ end.now)) }
+    ensures { IfOk result (λ text. text ≡ front.items ++ (start_rules_text rules.entry ++ end.now)) }
 {
     match rules {
         StartRules::Sentences(sentences) => {
             let mut text = front;
-            push_sentences(alloc, &mut text, sentences.as_slice())?;
+            push_sentences(alloc, &mut text, sentences)?;
             text.extend_from_slice(end)?;
             Ok(SharedText::of(text))
         }
@@ -181,7 +182,7 @@ pub fn shared_message<'r>(
 /// The text of the message that is owed to a role of the match.
 pub fn message(alloc: Global, brief: &Brief, role: usize, owed: &Owed) -> Result<Text, AllocError>
     requires { role < length brief.now.roles }
-    ensures { IfOk result (λ t. t ≡ message_text brief.now role owed.now) }
+    ensures { IfOk result (λ t. t ≡ message_text (brief_value brief.now) role owed.now) }
 {
     let bytes = shared_message(alloc, &brief.shared(), role, owed)?.into_vec(alloc)?;
     Ok(Text { bytes })

@@ -1,3 +1,2 @@
 mod EndedMatches
 pub mod LongestMoves
-mod Places

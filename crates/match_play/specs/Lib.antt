@@ -3,4 +3,3 @@ pub mod Limits
 pub mod LongestMoves
 pub mod Matches
 pub mod PlayedMatches
-pub mod RoleTurns

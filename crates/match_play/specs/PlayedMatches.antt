@@ -1,12 +1,13 @@
 -- The result of a match between players, with the promises of its referee.
 use Rattle.std.specs.Prelude.{◌≡◌, ℕ, List, length, map, slice_get, Option, IfSome, Result}
 use Rattle.ground_rules.specs.LoadedGame.{loaded_game}
+use Rattle.ground_rules.specs.declared.state.GroundMove.{GroundMove}
 use Rattle.packed_rules.specs.PackedGames.{tables_of}
 use Rattle.packed_rules.specs.declared.packed_game.PackedGame.{PackedGame}
-use Rattle.kif_text.specs.declared.expr.Expr.{Expr}
 use Rattle.call_history.specs.declared.journal.Entry.{Entry}
 use Rattle.desk_calls.specs.declared.setup.Setup.{Setup}
 use Rattle.desk_calls.specs.declared.call.Refusal.{Refusal}
+use Rattle.match_book.specs.MatchValue.{GameMatch}
 use Rattle.match_desk.specs.ManagerValue.{ManagerValue}
 use Rattle.desk_calls.specs.declared.call.Call.{Call}
 use Rattle.desk_calls.specs.declared.call.Reply.{Reply}
@@ -14,15 +15,13 @@ use Rattle.match_plans.specs.declared.addresses.PlayerAddress.{PlayerAddress}
 use Rattle.match_plans.specs.declared.plan.MatchPlan.{MatchPlan}
 use Rattle.match_plans.specs.declared.reach.RolePlace.{RolePlace}
 use Rattle.role_workers.specs.declared.attend_fault.AttendFault.{AttendFault}
-use Rattle.role_workers.specs.Handing.{Handed}
+use Rattle.match_messages.specs.Handing.{Handed}
 use Rattle.role_workers.specs.Places.{EachAt}
 use Rattle.match_workers.specs.Refereeing.{IsRefereed}
 use Rattle.match_workers.specs.Refusals.{match_refusal}
 use Rattle.match_play.specs.Limits.{max_tries}
-use Rattle.match_play.specs.Matches.{IsEndedRecord}
-use Rattle.match_play.specs.RoleTurns.{AreEndedTurns}
+use Rattle.match_play.specs.Matches.{HasEndedMatch, IsEndedRecord}
 use Rattle.match_play.specs.declared.playable_game.PlayableGame.{PlayableGame}
-use Rattle.match_play.specs.declared.role_turns.RoleTurn.{RoleTurn}
 
 -- the setup has the plan's id, clocks, strikes and names
 pub record IsSetupOf (plan : MatchPlan) (setup : Setup) : Type 0 where
@@ -45,11 +44,25 @@ pub record AreReached {P : Type 0} (is_reached : RolePlace → PlayerAddress →
 abbrev pub packed_refusal : PackedGame → Setup → Option Refusal
 packed_refusal game setup = match_refusal (λ g. loaded_game (tables_of g)) game setup
 
--- A match of this game was opened with this setup and played by these players, who got these rules. Its record is this text, and its
--- desk has this history.
-pub record IsPlayedMatch {P : Type 0} (handed : P → Option (List Handed)) (game : PackedGame) (rules : List Expr) (tries : ℕ) (setup : Setup) (players : List P) (text : List ℕ) (history : List (Entry Call Reply)) : Type 0 where
+-- A match of this game was opened with this setup and played by these players, who got these rules in print. Its record is this text, and
+-- its desk has this history.
+pub record IsPlayedMatch {P : Type 0} (handed : P → Option (List Handed)) (game : PackedGame) (rules : List ℕ) (tries : ℕ) (setup : Setup) (players : List P) (text : List ℕ) (history : List (Entry Call Reply)) : Type 0 where
   pub desk : ManagerValue PackedGame _
   pub ended : IsEndedRecord (λ g. loaded_game (tables_of g)) desk text
+  pub made_by_line : List ℕ
+  -- how attending each of its players ended, and the players afterwards
+  pub ends : List (Result ℕ AttendFault)
+  pub left : List P
+  pub refereed : IsRefereed (λ g. loaded_game (tables_of g)) handed game setup rules tries players left desk history made_by_line ends
+
+-- A match of this game was opened with this setup and played by these players, who got these rules in print. It is over, and this is so
+-- of it.
+pub record IsEndedWith {P : Type 0} (handed : P → Option (List Handed)) (game : PackedGame) (rules : List ℕ) (tries : ℕ) (setup : Setup) (players : List P) (IsSo : GameMatch PackedGame GroundMove → Type 0) : Type 0 where
+  pub desk : ManagerValue PackedGame GroundMove
+  pub held : GameMatch PackedGame GroundMove
+  pub ended : HasEndedMatch (λ g. loaded_game (tables_of g)) desk held
+  pub is_so : IsSo held
+  pub history : List (Entry Call Reply)
   pub made_by_line : List ℕ
   -- how attending each of its players ended, and the players afterwards
   pub ends : List (Result ℕ AttendFault)
@@ -60,15 +73,4 @@ pub record IsPlayedMatch {P : Type 0} (handed : P → Option (List Handed)) (gam
 -- their roles, and they got the game's rules. Its record is this text, and its desk has this history.
 abbrev pub IsPlannedMatch : {P : Type 0} → (RolePlace → PlayerAddress → P → Type 0) → (P → Option (List Handed)) → PlayableGame → ℕ → MatchPlan → List ℕ → List (Entry Call Reply) → Type 0
 IsPlannedMatch {P} is_reached handed game place plan text history = (setup : _) × IsSetupOf plan setup × (players : List P) × AreReached is_reached game.longest_move place plan players
-    × IsPlayedMatch handed game.game.now game.rules.now.items max_tries setup players text history
-
--- A match of this game was opened with this setup and played by these players, who got these rules. These are the role's turns in it.
-pub record ArePlayedTurns {P : Type 0} (handed : P → Option (List Handed)) (game : PackedGame) (rules : List Expr) (tries : ℕ) (setup : Setup) (players : List P) (role : ℕ) (told : List RoleTurn) : Type 0 where
-  pub desk : ManagerValue PackedGame _
-  pub ended : AreEndedTurns (λ g. loaded_game (tables_of g)) desk role told
-  pub history : List (Entry Call Reply)
-  pub made_by_line : List ℕ
-  -- how attending each of its players ended, and the players afterwards
-  pub ends : List (Result ℕ AttendFault)
-  pub left : List P
-  pub refereed : IsRefereed (λ g. loaded_game (tables_of g)) handed game setup rules tries players left desk history made_by_line ends
+    × IsPlayedMatch handed game.game.now game.rules.now max_tries setup players text history

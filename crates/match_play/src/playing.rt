@@ -1,6 +1,9 @@
 //! A match between players on the network, from its plan to its record.
 ghost use Rattle.std.specs.Prelude.{◌≡◌, ◌≢◌, ℕ, List, None, Err, All, IfOk, IfErr, IfSome, IsFalse, IsTrue, ◌↔◌, OnOk, MatchOption, length, vec_len};
 ghost use Rattle.call_history.specs.declared.journal.Entry.{Entry};
+ghost use Rattle.ground_rules.specs.declared.state.GroundMove.{GroundMove};
+ghost use Rattle.packed_rules.specs.declared.packed_game.PackedGame.{PackedGame};
+ghost use Rattle.match_book.specs.MatchValue.{GameMatch};
 ghost use Rattle.desk_calls.specs.Names.{IsLawfulSetup};
 ghost use Rattle.desk_calls.specs.declared.call.Call.{Call as DeskCall};
 ghost use Rattle.desk_calls.specs.declared.call.Reply.{Reply as DeskReply};
@@ -8,7 +11,7 @@ ghost use Rattle.match_workers.specs.Refereeing.{IsRefereed};
 ghost use Rattle.match_play.specs.Matches.{IsEndedRecord, HasEndedMatch, HasNoEndedMatch, reason_of};
 ghost use Rattle.match_play.specs.EndedMatches.{IsEndedMatch, match_text};
 ghost use Rattle.match_play.specs.Limits.{max_tries};
-ghost use Rattle.match_play.specs.PlayedMatches.{AreReached, IsSetupOf, IsPlayedMatch, packed_refusal};
+ghost use Rattle.match_play.specs.PlayedMatches.{AreReached, IsEndedWith, IsSetupOf, IsPlayedMatch, packed_refusal};
 
 use crate::playable_game::PlayableGame;
 use call_history::Entry;
@@ -16,12 +19,12 @@ use desk_calls::{Call, Phase, Refusal, Reply, Setup};
 use desk_text::{push_history, refusal_word};
 use game_core::{Game, Lent, Text, Texts};
 use match_book::Match;
-use match_messages::StartRules;
+use match_messages::{Player, StartRules};
 use match_plans::{MatchPlan, Reach, ReportsShortages, RolePlace, Shortage};
 use match_record::record_json;
 use match_workers::{RefereeFault, Refereed, referee_shared};
 use packed_rules::PackedGame;
-use role_workers::{AttendFault, Player};
+use role_workers::AttendFault;
 use std::alloc::{AllocError, AllocFailed, Global};
 use std::sync::Wait;
 use std::thread::Threads;
@@ -43,7 +46,7 @@ pub enum MatchFault {
     /// The referee was short of this in the match, so an answer in it is not the player's.
     #[error("{0}")]
     Shortage(Shortage),
-    #[error("want of memory")]
+    #[error("out of memory")]
     Memory,
 }
 
@@ -133,7 +136,7 @@ pub struct PreparedMatch<P> {
     ghost one_each: { vec_len players ≡ length setup.players },
 }
 
-/// Makes the prepared of the match of this game at this place of its season. The error is out of memory.
+/// Prepares a match of this game at this place of its season. The error is out of memory.
 pub fn prepared_match<P: Drop, S: Reach<P>>(
     alloc: Global,
     reach: &S,
@@ -155,7 +158,7 @@ pub fn prepared_match<P: Drop, S: Reach<P>>(
 }
 
 /// The refereed match and its game. `None` if the match is not over.
-pub(crate) fn ended_match_of<G: Game>(refereed: &Refereed<G>) -> Option<(&G, &Match<G>)>
+fn ended_match_of<G: Game>(refereed: &Refereed<G>) -> Option<(&G, &Match<G>)>
     ensures ended { MatchOption result (HasNoEndedMatch G.rules refereed.now.closed.object) (λ r. HasEndedMatch G.rules refereed.now.closed.object r.1.now) }
     ensures game { IfSome result (λ r. r.1.now.game ≡ r.0.now) }
     ensures setup { IfSome result (λ r. IsLawfulSetup r.1.now.value.setup) }
@@ -177,14 +180,6 @@ fn ended_record<G: Game>(alloc: Global, refereed: &Refereed<G>) -> Result<Text, 
     };
     let record = record_json(alloc, game, held)?;
     Ok(record)
-}
-
-/// A match that was played to its end.
-#[derive(Drop)]
-pub struct PlayedMatch {
-    pub record: Text,
-    /// All calls on the desk of the match, each with its reply, in their order.
-    pub history: Vec<Entry<Call, Reply>>,
 }
 
 /// The output of a match that was played to its end: its record as a line, then the account of its desk if it is wanted.
@@ -210,9 +205,9 @@ fn ran_out_of_memory<G: Game>(refereed: &Refereed<G>) -> bool
     ended_match_of(refereed).is_none() && !had_memory(&refereed.ends)
 }
 
-/// Referees a match of this game between its prepared. Returns the closed desk. The error is `Shortage` if the referee was short of
-/// something in the match, and `Memory` also if the match did not end since a role's worker was.
-pub(crate) fn refereed_match<'g, R, P, S: ReportsShortages>(
+/// Referees a prepared match of this game. Returns the closed desk. The error is `Shortage` if the referee was short of something in
+/// the match, and `Memory` also if the match did not end because a role's worker ran out of memory.
+fn refereed_match<'g, R, P, S: ReportsShortages>(
     rt: &R,
     alloc: Global,
     reach: &S,
@@ -223,10 +218,10 @@ where
     R: Threads + Wait + Sync,
     P: Player + Drop + Send,
     ensures clear { IfOk result (λ r. S.is_clear reach.now prepared.place) }
-    ensures refereed { IfOk result (λ r. (left : List _) × IsRefereed ⟦<PackedGame as Game>⟧.rules P.handed game.entry.game.now prepared.setup game.entry.rules.now.items max_tries prepared.players.items left
+    ensures refereed { IfOk result (λ r. (left : List _) × IsRefereed ⟦<PackedGame as Game>⟧.rules P.handed game.entry.game.now prepared.setup game.entry.rules.now max_tries prepared.players.items left
         r.closed.object r.closed.history.items r.closed.made_by_line.items r.ends.items) }
 
-    // A match that did not end for want of memory is told as such.
+    // If a role's worker ran out of memory, the match has ended.
     ensures whole { IfOk result (λ r. HasNoEndedMatch ⟦<PackedGame as Game>⟧.rules r.closed.object → All (λ end. end ≢ Err AttendFault.Memory) r.ends.items) }
 
     // If the match is refused, so is this call, for the same reason, unless memory runs out. No other fault is a refusal.
@@ -254,31 +249,63 @@ where
     }
 }
 
-/// Referees a match of this game between its prepared. Returns its record and history. There is no record if the opening is refused, if
-/// the match does not end, or if `reach` reports a shortage.
-pub fn played_match<R, P, S: ReportsShortages>(
+/// Reads a match that was played to its end.
+pub trait MatchReader {
+    /// What it tells of the match.
+    type Told: Drop;
+
+    /// This is told of the match.
+    ghost is_told: { Self → GameMatch PackedGame GroundMove → Self.Told → Type 0 };
+
+    /// Reads a match of this game. No fault is a refusal.
+    fn read<'g>(
+        &self,
+        alloc: Global,
+        game: &Lent<'g, PackedGame>,
+        held: &Match<Lent<'g, PackedGame>>,
+    ) -> Result<Self::Told, MatchFault>
+        requires { held.now.game ≡ game.now }
+        ensures told { IfOk result (is_told self.now held.now) }
+        ensures fault { IfErr result (λ fault. reason_of fault ≡ None) };
+}
+
+/// What `reader` tells of a refereed match. The error is `NotEnded` if the match is not over.
+fn told_of<T: MatchReader>(
+    alloc: Global,
+    refereed: &Refereed<Lent<'_, PackedGame>>,
+    reader: &T,
+) -> Result<T::Told, MatchFault>
+    ensures told { IfOk result (λ told. (held : GameMatch PackedGame GroundMove) × HasEndedMatch ⟦<PackedGame as Game>⟧.rules refereed.now.closed.object held × T.is_told reader.now held told) }
+    ensures fault { IfErr result (λ fault. reason_of fault ≡ None) }
+{
+    let Some((game, held)) = ended_match_of(refereed) else {
+        return Err(MatchFault::NotEnded);
+    };
+    reader.read(alloc, game, held)
+}
+
+/// Referees a prepared match of this game. Returns what `reader` tells of the match, once it is over. There is nothing if the opening is
+/// refused, if the match does not end, or if `reach` reports a shortage.
+pub fn told_match<R, P, S: ReportsShortages, T: MatchReader>(
     rt: &R,
     alloc: Global,
     reach: &S,
     prepared: PreparedMatch<P>,
     game: PlayableGame<'_>,
-) -> Result<PlayedMatch, MatchFault>
+    reader: &T,
+) -> Result<T::Told, MatchFault>
 where
     R: Threads + Wait + Sync,
     P: Player + Drop + Send,
-    ensures clear { IfOk result (λ played. S.is_clear reach.now prepared.place) }
-    ensures played { IfOk result (λ played. IsPlayedMatch P.handed game.entry.game.now game.entry.rules.now.items max_tries prepared.setup prepared.players.items played.record played.history.items) }
+    ensures clear { IfOk result (λ told. S.is_clear reach.now prepared.place) }
+    ensures told { IfOk result (λ told. IsEndedWith P.handed game.entry.game.now game.entry.rules.now max_tries prepared.setup prepared.players.items (λ held. T.is_told reader.now held told)) }
 
     // If the match is refused, so is this call, for the same reason, unless memory runs out. No other fault is a refusal.
     ensures opens { OnOk result (packed_refusal game.entry.game.now prepared.setup ≡ None) }
     ensures refused { IfErr result (λ fault. fault ≢ MatchFault.Memory → reason_of fault ≡ packed_refusal game.entry.game.now prepared.setup) }
 {
-    let refereed = refereed_match(rt, alloc, reach, prepared, game)?;
-    let record = ended_record(alloc, &refereed)?;
-    Ok(PlayedMatch {
-        record,
-        history: refereed.closed.history,
-    })
+    let played = refereed_match(rt, alloc, reach, prepared, game)?;
+    told_of(alloc, &played, reader)
 }
 
 /// The record as a line, then the history as text if it is wanted.
@@ -298,7 +325,8 @@ fn match_text(
     Ok(Text { bytes })
 }
 
-/// Referees a match as `played_match` does, with the same errors. Returns its output.
+/// Referees a prepared match of this game. Returns its output. There is none if the opening is refused, if the match does not end, or
+/// if `reach` reports a shortage.
 pub fn ended_match<R, P, S: ReportsShortages>(
     rt: &R,
     alloc: Global,
@@ -311,13 +339,14 @@ where
     R: Threads + Wait + Sync,
     P: Player + Drop + Send,
     ensures clear { IfOk result (λ e. S.is_clear reach.now prepared.place) }
-    ensures played { IfOk result (λ e. (line : List ℕ) × (history : List (Entry DeskCall DeskReply)) × IsPlayedMatch P.handed game.entry.game.now game.entry.rules.now.items max_tries prepared.setup prepared.players.items line history × (e.text ≡ match_text line history has_account)) }
+    ensures played { IfOk result (λ e. (line : List ℕ) × (history : List (Entry DeskCall DeskReply)) × IsPlayedMatch P.handed game.entry.game.now game.entry.rules.now max_tries prepared.setup prepared.players.items line history × (e.text ≡ match_text line history has_account)) }
 
     // If the match is refused, so is this call, for the same reason, unless memory runs out. No other fault is a refusal.
     ensures opens { OnOk result (packed_refusal game.entry.game.now prepared.setup ≡ None) }
     ensures refused { IfErr result (λ fault. fault ≢ MatchFault.Memory → reason_of fault ≡ packed_refusal game.entry.game.now prepared.setup) }
 {
-    let PlayedMatch { record, history } = played_match(rt, alloc, reach, prepared, game)?;
-    let text = match_text(alloc, record, &history, has_account)?;
+    let refereed = refereed_match(rt, alloc, reach, prepared, game)?;
+    let record = ended_record(alloc, &refereed)?;
+    let text = match_text(alloc, record, &refereed.closed.history, has_account)?;
     Ok(EndedMatch { text })
 }

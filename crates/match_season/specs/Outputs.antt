@@ -3,7 +3,7 @@ use Rattle.std.specs.Prelude.{◌≡◌, ℕ, Bool, List, Option, Some, slice_ge
 use Rattle.match_plans.specs.declared.addresses.PlayerAddress.{PlayerAddress}
 use Rattle.match_plans.specs.declared.plan.MatchPlan.{MatchPlan}
 use Rattle.match_plans.specs.declared.reach.RolePlace.{RolePlace}
-use Rattle.role_workers.specs.Handing.{Handed}
+use Rattle.match_messages.specs.Handing.{Handed}
 use Rattle.match_play.specs.EndedMatches.{match_text}
 use Rattle.match_play.specs.PlayedMatches.{IsPlannedMatch}
 use Rattle.match_play.specs.declared.playable_game.PlayableGame.{PlayableGame}

@@ -1,10 +1,11 @@
 -- The output of a season.
-use Rattle.std.specs.Prelude.{◌≡◌, ◌≤◌, ◌<◌, ◌+◌, ◌^◌, ◌&&◌, ◌∷◌, ◌++◌, ◌⊎◌, ℕ, zero, suc, Bool, true, false, List, [], Option, None, Some, Result, Ok, Err, All, count_by, get_or, if◌then◌else◌, is_ok, length, not, slice_set, take}
+use Rattle.std.specs.Prelude.{◌≡◌, ◌≤◌, ◌<◌, ◌+◌, ◌^◌, ◌&&◌, ◌∷◌, ◌++◌, ◌⊎◌, ℕ, zero, suc, Bool, true, false, List, [], Option, None, Some, Result, Ok, Err, All, count_by, get_or, if◌then◌else◌, is_ok, length, not, slice_set}
 use Rattle.std.specs.List.{AllZip, concat}
 use Rattle.std.specs.Io.KnownBytes.{Appends}
 use Rattle.game_core.specs.Counting.{one_more}
 use Rattle.match_plans.specs.declared.season_form.RecordOrder.{RecordOrder}
 use Rattle.match_plans.specs.declared.season_form.RecordOrder.TheVariants.{OfSchedule}
+use Rattle.whole_streams.specs.Streams.{AppendsPart}
 use Rattle.match_season.specs.Queues.{times}
 use Rattle.match_season.specs.declared.season_output.SeasonFault.{SeasonFault}
 use Rattle.match_season.specs.declared.season_output.SeasonFault.TheVariants.{WriteFault, Memory}
@@ -15,10 +16,6 @@ pub record WritesMatches (IsOutput : ℕ → List ℕ → Type 0) (places : List
   pub texts : List (List ℕ)
   pub are_outputs : AllZip (λ place text. ∥ IsOutput place text ∥₁) places texts
   pub appended : Appends old new (concat texts)
-
--- Known bytes grow by a prefix of the text.
-abbrev pub AppendsPart : Option (List ℕ) → Option (List ℕ) → List ℕ → Type 0
-AppendsPart old new text = (taken : ℕ) × (taken ≤ length text) × Appends old new (take taken text)
 
 -- Between the two contents of a stream a prefix of the output of the match at this place was written.
 pub record WritesPart (IsOutput : ℕ → List ℕ → Type 0) (place : ℕ) (old new : Option (List ℕ)) : Type 0 where

@@ -13,5 +13,5 @@ mod season;
 mod season_output;
 mod written;
 
-pub use season::play_season;
+pub use season::{SeasonSurroundings, play_season};
 pub use season_output::SeasonFault;

@@ -14,15 +14,24 @@ use crate::season_output::{Reports, SeasonFault, write_season};
 use crate::written::Written;
 use crossbeam_channel::{Receiver, Sender, bounded};
 use game_core::Counted;
-use match_plans::{MatchPlan, Reach, RecordOrder, ReportsShortages, SeasonForm};
+use match_messages::Player;
+use match_plans::{MatchPlan, Reach, ReportsShortages, SeasonForm};
 use match_play::{EndedMatch, MatchFault, PlayableGame, ended_match, prepared_match};
-use role_workers::Player;
 use std::alloc::Global;
 use std::io::Write;
 use std::marker::{Brand, PhantomData};
 use std::sync::{Mutex, Wait};
 use std::thread;
 use std::thread::Threads;
+
+/// What surrounds a season: the runtime, how players are reached, and where matches without a record are reported.
+#[derive(Drop)]
+pub struct SeasonSurroundings<'s, 'e, R, S, E> {
+    pub rt: &'s R,
+    pub alloc: Global,
+    pub reach: &'s S,
+    pub errors: &'e Mutex<E>,
+}
 
 /// Whether a match has no record because memory or threads were short.
 fn was_short(outcome: &Result<EndedMatch, MatchFault>) -> bool
@@ -38,12 +47,12 @@ struct Season<'f, 'a, P: Player, S: Reach<P>, N: OutputBrand> {
     reach: &'f S,
     game: PlayableGame<'f>,
     plans: &'f [MatchPlan<'a>],
-    has_history: bool,
+    form: SeasonForm,
     scheduler: Scheduler,
     /// The type of the players. A player is made when its match begins.
     players: PhantomData<Mutex<P>>,
     of: PhantomData<N>,
-    ghost named: { (place : ℕ) (text : List ℕ) → IsOutputOf (S.is_reached reach.now) P.handed game plans.now has_history place text → ∥ N.is_output place text ∥₁ },
+    ghost named: { (place : ℕ) (text : List ℕ) → IsOutputOf (S.is_reached reach.now) P.handed game plans.now form.has_history place text → ∥ N.is_output place text ∥₁ },
 }
 
 impl<P: Player, S: Reach<P>, N: OutputBrand> Season<'_, '_, P, S, N> {
@@ -54,7 +63,7 @@ impl<P: Player, S: Reach<P>, N: OutputBrand> Season<'_, '_, P, S, N> {
         P: Player + Drop + Send,
         S: Reach<P> + ReportsShortages,
         ensures clear { IfOk result (λ ended. S.is_clear self.now.reach.now place) }
-        ensures played { IfOk result (λ ended. IsOutputOf (S.is_reached self.now.reach.now) P.handed self.now.game self.now.plans.now self.now.has_history place ended.text) }
+        ensures played { IfOk result (λ ended. IsOutputOf (S.is_reached self.now.reach.now) P.handed self.now.game self.now.plans.now self.now.form.has_history place ended.text) }
     {
         let Some(plan) = self.plans.get(place) else {
             return Err(MatchFault::NotEnded);
@@ -66,7 +75,7 @@ impl<P: Player, S: Reach<P>, N: OutputBrand> Season<'_, '_, P, S, N> {
             self.reach,
             prepared,
             self.game,
-            self.has_history,
+            self.form.has_history,
         )
     }
 
@@ -98,54 +107,62 @@ impl<P: Player, S: Reach<P>, N: OutputBrand> Season<'_, '_, P, S, N> {
             }
         }
     }
+
+    /// Writes the results of the season's matches. If a write fails, no further match begins. The missing records are reported. Returns
+    /// the number of missing records.
+    fn write_played<R: Wait, W: Write, E: Write>(
+        &self,
+        around: &SeasonSurroundings<'_, '_, R, S, E>,
+        has_thread: bool,
+        nothing: Written,
+        receiver: &Receiver<MatchResult<N>>,
+        writer: &mut Counted<W>,
+    ) -> Result<u64, SeasonFault>
+        requires fresh { (nothing.records ≡ 0) × (nothing.is_settled.items ≡ replicate (length self.now.plans.now) false) }
+        ensures written { IfOk result (λ missing. WritesAllBut N.is_output self.now.form.order missing (length self.now.plans.now) (W.contents writer.old.stream) (W.contents writer.new.stream)) }
+        ensures at_fault { IfErr result (WritesUpTo N.is_output self.now.form.order (length self.now.plans.now) (W.contents writer.old.stream) (W.contents writer.new.stream)) }
+        ensures thread { OnOk result (has_thread ≡ true) }
+        ensures faults { writer.new.faults ≡ faults_after result writer.old.faults }
+    {
+        if !has_thread {
+            return Err(SeasonFault::Memory);
+        }
+        let reports = Reports {
+            rt: around.rt,
+            plans: self.plans,
+            errors: around.errors,
+        };
+        let mut results = Results {
+            receiver,
+            is_closed: false,
+        };
+        let mut written = nothing;
+        let order = self.form.order;
+        match write_season(
+            around.alloc,
+            order,
+            &reports,
+            &mut results,
+            &mut written,
+            writer,
+        ) {
+            Ok(()) => {
+                reports.report_rest(&written);
+                Ok(written.missing())
+            }
+            Err(fault) => {
+                self.scheduler.close(around.rt);
+                reports.report_rest(&written);
+                Err(fault)
+            }
+        }
+    }
 }
 
 /// States as a fact what the bound says: threads may share the value. The contract of a closure requires this fact.
 fn is_shared<T: Sync>(_value: &T)
     ensures { IsSync T.row }
 {}
-
-/// Writes the results of a season's matches. If a write fails, no further match begins. The missing records are reported. Returns the
-/// number of missing records.
-fn write_played<N: OutputBrand, R: Wait, W: Write, E: Write>(
-    rt: &R,
-    alloc: Global,
-    plans: &[MatchPlan<'_>],
-    scheduler: &Scheduler,
-    has_thread: bool,
-    order: RecordOrder,
-    nothing: Written,
-    receiver: &Receiver<MatchResult<N>>,
-    writer: &mut Counted<W>,
-    errors: &Mutex<E>,
-) -> Result<u64, SeasonFault>
-    requires fresh { (nothing.records ≡ 0) × (nothing.is_settled.items ≡ replicate (length plans.now) false) }
-    ensures written { IfOk result (λ missing. WritesAllBut N.is_output order missing (length plans.now) (W.contents writer.old.stream) (W.contents writer.new.stream)) }
-    ensures at_fault { IfErr result (WritesUpTo N.is_output order (length plans.now) (W.contents writer.old.stream) (W.contents writer.new.stream)) }
-    ensures thread { OnOk result (has_thread ≡ true) }
-    ensures faults { writer.new.faults ≡ faults_after result writer.old.faults }
-{
-    if !has_thread {
-        return Err(SeasonFault::Memory);
-    }
-    let reports = Reports { rt, plans, errors };
-    let mut results = Results {
-        receiver,
-        is_closed: false,
-    };
-    let mut written = nothing;
-    match write_season(alloc, order, &reports, &mut results, &mut written, writer) {
-        Ok(()) => {
-            reports.report_rest(&written);
-            Ok(written.missing())
-        }
-        Err(fault) => {
-            scheduler.close(rt);
-            reports.report_rest(&written);
-            Err(fault)
-        }
-    }
-}
 
 /// The number of threads for this number of matches.
 fn threads_for(form: SeasonForm, matches: usize) -> usize
@@ -156,26 +173,24 @@ fn threads_for(form: SeasonForm, matches: usize) -> usize
 
 /// Plays the matches of a season in threads, and writes their results.
 fn play_in_threads<N, R, P, S, W: Write, E: Write + Send>(
-    rt: &R,
-    alloc: Global,
+    around: &SeasonSurroundings<'_, '_, R, S, E>,
     season: &Season<'_, '_, P, S, N>,
     sender: &Sender<MatchResult<N>>,
     receiver: &Receiver<MatchResult<N>>,
-    form: SeasonForm,
     writer: &mut Counted<W>,
-    errors: &Mutex<E>,
 ) -> Result<u64, SeasonFault>
 where
     N: OutputBrand + Send + Sync,
     R: Threads + Wait + Sync,
     P: Player + Drop + Send,
     S: Reach<P> + ReportsShortages + Sync,
-    ensures written { IfOk result (λ missing. WritesAllBut N.is_output form.order missing (length season.now.plans.now) (W.contents writer.old.stream) (W.contents writer.new.stream)) }
-    ensures at_fault { IfErr result (WritesUpTo N.is_output form.order (length season.now.plans.now) (W.contents writer.old.stream) (W.contents writer.new.stream)) }
+    ensures written { IfOk result (λ missing. WritesAllBut N.is_output season.now.form.order missing (length season.now.plans.now) (W.contents writer.old.stream) (W.contents writer.new.stream)) }
+    ensures at_fault { IfErr result (WritesUpTo N.is_output season.now.form.order (length season.now.plans.now) (W.contents writer.old.stream) (W.contents writer.new.stream)) }
     ensures faults { writer.new.faults ≡ faults_after result writer.old.faults }
 {
     is_shared(season.game.game);
     is_shared(season.game.rules);
+    let rt = around.rt;
     // The closure returns the stream, so its content is known behind the scope.
     let (played, _stream) = thread::scope(
         thread::scope_env(),
@@ -183,35 +198,23 @@ where
         move |scope| -> (Result<u64, SeasonFault>, &mut Counted<W>)
             requires sent { IsSend N.row × IsSync N.row × IsSync R.row × IsSync S.row × IsSync game_row × IsSync rules_row }
             ensures stream { result.1.ghost_name ≡ writer.entry.ghost_name }
-            ensures written { IfOk result.0 (λ missing. WritesAllBut N.is_output form.order missing (length season.entry.now.plans.now) (W.contents writer.entry.now.stream) (W.contents result.1.now.stream)) }
-            ensures at_fault { IfErr result.0 (WritesUpTo N.is_output form.order (length season.entry.now.plans.now) (W.contents writer.entry.now.stream) (W.contents result.1.now.stream)) }
+            ensures written { IfOk result.0 (λ missing. WritesAllBut N.is_output season.entry.now.form.order missing (length season.entry.now.plans.now) (W.contents writer.entry.now.stream) (W.contents result.1.now.stream)) }
+            ensures at_fault { IfErr result.0 (WritesUpTo N.is_output season.entry.now.form.order (length season.entry.now.plans.now) (W.contents writer.entry.now.stream) (W.contents result.1.now.stream)) }
             ensures faults { result.1.now.faults ≡ faults_after result.0 writer.entry.now.faults }
         {
             // Before any match begins, since without it no result could be written.
-            let Ok(nothing) = Written::nothing(alloc, season.plans.len()) else {
+            let Ok(nothing) = Written::nothing(season.alloc, season.plans.len()) else {
                 return (Err(SeasonFault::Memory), writer);
             };
             let mut has_thread = false;
-            for _ in 0..threads_for(form, season.plans.len()) {
+            for _ in 0..threads_for(season.form, season.plans.len()) {
                 let work = move || season.play_matches(rt, sender);
                 if scope.spawn(work).is_err() {
                     break;
                 }
                 has_thread = true;
             }
-            let scheduler = &season.scheduler;
-            let played = write_played(
-                rt,
-                alloc,
-                season.plans,
-                scheduler,
-                has_thread,
-                form.order,
-                nothing,
-                receiver,
-                writer,
-                errors,
-            );
+            let played = season.write_played(around, has_thread, nothing, receiver, writer);
             (played, writer)
         },
     );
@@ -220,39 +223,36 @@ where
 
 /// Plays the matches of a season whose outputs are picked.
 fn play_named<'f, 'a, N, R, P, S, W: Write, E: Write + Send>(
-    rt: &R,
-    alloc: Global,
-    reach: &'f S,
+    around: &SeasonSurroundings<'f, '_, R, S, E>,
     game: PlayableGame<'f>,
     plans: &'f [MatchPlan<'a>],
     form: SeasonForm,
     writer: &mut Counted<W>,
-    errors: &Mutex<E>,
 ) -> Result<u64, SeasonFault>
 where
     N: OutputBrand + Send + Sync,
     R: Threads + Wait + Sync,
     P: Player + Drop + Send,
     S: Reach<P> + ReportsShortages + Sync,
-    requires named { (place : ℕ) (text : List ℕ) → IsOutputOf (S.is_reached reach.now) P.handed game plans.now form.has_history place text → N.is_output place text }
+    requires named { (place : ℕ) (text : List ℕ) → IsOutputOf (S.is_reached around.now.reach.now) P.handed game plans.now form.has_history place text → N.is_output place text }
     ensures written { IfOk result (λ missing. WritesAllBut N.is_output form.order missing (length plans.now) (W.contents writer.old.stream) (W.contents writer.new.stream)) }
     ensures at_fault { IfErr result (WritesUpTo N.is_output form.order (length plans.now) (W.contents writer.old.stream) (W.contents writer.new.stream)) }
     ensures faults { writer.new.faults ≡ faults_after result writer.old.faults }
 {
-    let scheduler = Scheduler::of(MatchQueue::of(alloc, plans, form)?);
+    let scheduler = Scheduler::of(MatchQueue::of(around.alloc, plans, form)?);
     // All results find room, so no thread waits for a reader of the records.
-    let (sender, receiver) = bounded(alloc, plans.len())?;
+    let (sender, receiver) = bounded(around.alloc, plans.len())?;
     let season: Season<'f, 'a, P, S, N> = Season {
-        alloc,
-        reach,
+        alloc: around.alloc,
+        reach: around.reach,
         game,
         plans,
-        has_history: form.has_history,
+        form,
         scheduler,
         players: PhantomData,
         of: PhantomData,
     };
-    play_in_threads(rt, alloc, &season, &sender, &receiver, form, writer, errors)
+    play_in_threads(around, &season, &sender, &receiver, writer)
 }
 
 /// Plays the matches of a season, all of the same game, in threads. Writes the record of each, followed by its account if the form asks
@@ -267,25 +267,22 @@ where
 /// Otherwise each match without a record is reported. After a failed write no further match begins, and the output ends with a part, maybe
 /// none or all, of the output of one match. Whenever the result is out of memory, nothing was written.
 pub fn play_season<'f, 'a, R, P, S, W: Write, E: Write + Send>(
-    rt: &R,
-    alloc: Global,
-    reach: &'f S,
+    around: &SeasonSurroundings<'f, '_, R, S, E>,
     game: PlayableGame<'f>,
     plans: &'f [MatchPlan<'a>],
     form: SeasonForm,
     writer: &mut Counted<W>,
-    errors: &Mutex<E>,
 ) -> Result<u64, SeasonFault>
 where
     R: Threads + Wait + Sync,
     P: Player + Drop + Send,
     S: Reach<P> + ReportsShortages + Sync,
-    ensures written { IfOk result (λ missing. WritesAllBut (IsOutputOf (S.is_reached reach.now) P.handed game.entry plans.now form.has_history) form.order missing (length plans.now) (W.contents writer.old.stream) (W.contents writer.new.stream)) }
-    ensures at_fault { IfErr result (WritesUpTo (IsOutputOf (S.is_reached reach.now) P.handed game.entry plans.now form.has_history) form.order (length plans.now) (W.contents writer.old.stream) (W.contents writer.new.stream)) }
+    ensures written { IfOk result (λ missing. WritesAllBut (IsOutputOf (S.is_reached around.now.reach.now) P.handed game.entry plans.now form.has_history) form.order missing (length plans.now) (W.contents writer.old.stream) (W.contents writer.new.stream)) }
+    ensures at_fault { IfErr result (WritesUpTo (IsOutputOf (S.is_reached around.now.reach.now) P.handed game.entry plans.now form.has_history) form.order (length plans.now) (W.contents writer.old.stream) (W.contents writer.new.stream)) }
     ensures faults { writer.new.faults ≡ faults_after result writer.old.faults }
 {
     if plans.is_empty() {
         return Ok(0);
     }
-    play_named::<Brand, R, P, S, W, E>(rt, alloc, reach, game, plans, form, writer, errors)
+    play_named::<Brand, R, P, S, W, E>(around, game, plans, form, writer)
 }

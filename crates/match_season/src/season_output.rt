@@ -3,7 +3,8 @@ ghost use Rattle.std.specs.Prelude.{◌≡◌, ◌<◌, ◌≤◌, ◌+◌, ◌-
 ghost use Rattle.std.specs.Io.KnownBytes.{Appends};
 ghost use Rattle.std.specs.List.{AllWithin, HoldsAt};
 ghost use Rattle.match_plans.specs.declared.season_form.RecordOrder.TheVariants.{OfSchedule};
-ghost use Rattle.match_season.specs.Seasons.{AppendsPart, ArePlaced, Settles, HasAll, Rises, WritesMatches, WritesMore, WritesMoreAndPart, WritesPart, WritesUpTo, faults_after, is_open, places_of, settled_on};
+ghost use Rattle.whole_streams.specs.Streams.{AppendsPart};
+ghost use Rattle.match_season.specs.Seasons.{ArePlaced, Settles, HasAll, Rises, WritesMatches, WritesMore, WritesMoreAndPart, WritesPart, WritesUpTo, faults_after, is_open, places_of, settled_on};
 ghost use Rattle.match_season.specs.declared.season_output.SeasonFault.TheVariants.{WriteFault as write_fault};
 
 use crate::results::{MatchResult, OutputBrand, Results};

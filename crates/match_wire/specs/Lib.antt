@@ -1,4 +1,5 @@
 pub use Rattle.match_messages.specs.Clock
+pub use Rattle.match_messages.specs.BriefValue
 pub use Rattle.match_messages.specs.MessageValue
 pub use Rattle.match_messages.specs.MessageText
 pub use Rattle.match_messages.specs.MessageReading

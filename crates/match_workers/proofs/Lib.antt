@@ -2,5 +2,6 @@ mod NewLines
 mod HeldGames
 mod LineParts
 mod OneMatch
+mod OwedMessages
 mod RefereeFaults
 mod Sent

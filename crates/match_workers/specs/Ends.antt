@@ -5,9 +5,9 @@ use Rattle.call_history.specs.declared.journal.Entry.{Entry}
 use Rattle.call_history.specs.Parts.{part, calls_of, replies_of}
 use Rattle.desk_calls.specs.declared.call.Call.{Call}
 use Rattle.desk_calls.specs.declared.call.Reply.{Reply}
-use Rattle.match_messages.specs.declared.brief.Brief.{Brief}
+use Rattle.match_messages.specs.BriefValue.{BriefValue}
 use Rattle.role_workers.specs.declared.attend_fault.AttendFault.{AttendFault}
-use Rattle.role_workers.specs.Handing.{Handed}
+use Rattle.match_messages.specs.Handing.{Handed}
 use Rattle.role_workers.specs.Attendances.{HasEnded}
 use Rattle.role_workers.specs.Events.{telling}
 use Rattle.role_workers.specs.RoleLines.{line_of}
@@ -15,7 +15,7 @@ use Rattle.role_workers.specs.Places.{EachAt}
 
 -- The role was attended with this player, who was left in this state, over a line that has these entries of the history, and this was
 -- its end.
-pub record IsEndOf {P : Type 0} (handed : P → Option (List Handed)) (brief : Brief) (tries role : ℕ) (player player_left : P) (entries : List (Entry Call Reply)) (end : Result ℕ AttendFault) : Type 0 where
+pub record IsEndOf {P : Type 0} (handed : P → Option (List Handed)) (brief : BriefValue) (tries role : ℕ) (player player_left : P) (entries : List (Entry Call Reply)) (end : Result ℕ AttendFault) : Type 0 where
   -- the replies that came to the worker: the first replies to its calls, and all of them if it found the end of the match
   pub replies : List Reply
   pub are_first : IsPrefix replies (replies_of entries)
@@ -25,7 +25,7 @@ pub record IsEndOf {P : Type 0} (handed : P → Option (List Handed)) (brief : B
       (telling (Some (calls_of entries)) (Some replies) (handed player_left)) end
 
 -- the end at this place is that of the role, with the player at its place, over the role's line
-pub record IsEndAt {P : Type 0} (handed : P → Option (List Handed)) (brief : Brief) (tries : ℕ) (players left : List P) (history : List (Entry Call Reply)) (role : ℕ) (end : Result ℕ AttendFault) : Type 0 where
+pub record IsEndAt {P : Type 0} (handed : P → Option (List Handed)) (brief : BriefValue) (tries : ℕ) (players left : List P) (history : List (Entry Call Reply)) (role : ℕ) (end : Result ℕ AttendFault) : Type 0 where
   pub player : P
   pub is_player : slice_get players role ≡ Some player
   pub player_left : P
@@ -34,6 +34,6 @@ pub record IsEndAt {P : Type 0} (handed : P → Option (List Handed)) (brief : B
 
 -- Each role was attended with the player at its place, over the role's line. The ends, and the players as they were left, stand in the
 -- order of the roles.
-pub record AreEndsOf {P : Type 0} (handed : P → Option (List Handed)) (brief : Brief) (tries : ℕ) (players left : List P) (history : List (Entry Call Reply)) (ends : List (Result ℕ AttendFault)) : Type 0 where
+pub record AreEndsOf {P : Type 0} (handed : P → Option (List Handed)) (brief : BriefValue) (tries : ℕ) (players left : List P) (history : List (Entry Call Reply)) (ends : List (Result ℕ AttendFault)) : Type 0 where
   pub one_each : length left ≡ length ends
   pub each : EachAt (IsEndAt handed brief tries players left history) ends

@@ -5,4 +5,5 @@ pub mod LineParts
 pub mod Ends
 pub mod OneMatch
 pub mod Refereeing
+pub mod Laws
 pub mod Internal

@@ -2,7 +2,7 @@
 ghost use Rattle.std.specs.Prelude.{◌≡◌, ◌<◌, None, IfOk, IfErr, length, All};
 ghost use Rattle.call_history.specs.Lines.{HasAll};
 ghost use Rattle.call_history.specs.RingLines.{AreEndsOf};
-ghost use Rattle.call_history.specs.RingClosing.{end_numbers, IsServed, TakesPrefix};
+ghost use Rattle.call_history.specs.RingClosing.{end_numbers, HaveOwnCalls, HaveOwnReplies};
 ghost use Rattle.match_desk.specs.Headline.{HasHeadline};
 ghost use Rattle.match_workers.specs.Internal.Closings.{WasIdle};
 ghost use Rattle.match_workers.specs.declared.refereeing.RefereeFault.TheVariants.{Unclosed as IsUnclosed};
@@ -25,8 +25,8 @@ pub fn close_match<G: Game + Drop>(
     ensures games { IfOk result (λ c. c.object.games ≡ desk.journal.object.games) }
     ensures all { IfOk result (λ _. HasAll (end_numbers lines.items) (length desk.ports)) }
     ensures lines { IfOk result (λ c. All (λ e. e.line < length desk.ports) c.history.items) }
-    ensures served { IfOk result (λ c. All (IsServed c.history.items) lines.items) }
-    ensures replies { IfOk result (λ c. All (TakesPrefix c.history.items) lines.items) }
+    ensures calls { IfOk result (λ c. HaveOwnCalls c.history.items lines.items) }
+    ensures replies { IfOk result (λ c. HaveOwnReplies c.history.items lines.items) }
     ensures made { IfOk result (λ c. AreCounts c.history.items c.made_by_line.items) }
 
     ensures no_refusal { IfErr result (λ fault. reason_of fault ≡ None) }

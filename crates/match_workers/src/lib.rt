@@ -4,9 +4,11 @@
 #![tactic(auto)]
 
 mod closing;
+pub mod laws;
 mod refereed;
 mod refereeing;
 
+pub use match_messages::Player;
 pub use refereed::Refereed;
 pub use refereeing::{RefereeFault, referee, referee_shared};
-pub use role_workers::{AttendFault, Player, attend, attend_shared};
+pub use role_workers::{AttendFault, attend, attend_shared};

@@ -7,6 +7,7 @@ use call_history::Closed;
 use game_core::Game;
 use match_book::Match;
 use match_desk::Manager;
+use match_desk::laws::managers_are_lawful;
 use role_workers::AttendFault;
 
 /// The result of a refereed match.
@@ -29,8 +30,7 @@ impl<G: Game> Refereed<G> {
         ensures setup { IsLawfulSetup result.1.now.value.setup }
     {
         let manager = &self.closed.object;
-        // Its clause says that the match is lawful, and of a game that the manager has.
-        let _ = manager.matches();
+        managers_are_lawful(manager);
         let game = manager.game_of_match(0).unwrap();
         let held = manager.match_at(0).unwrap();
         (game, held)

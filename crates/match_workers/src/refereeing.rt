@@ -5,7 +5,9 @@ ghost use Rattle.call_history.specs.Limits.{max_entries};
 ghost use Rattle.call_history.specs.RingLines.{posted_calls, taken_replies, SameLine, SamePorts, IsNewLine};
 ghost use Rattle.desk_calls.specs.declared.call.Reply.TheVariants.{Opened as IsOpened};
 ghost use Rattle.match_desk.specs.Open.{open_refusal};
-ghost use Rattle.match_messages.specs.StartRules.{sentences_of};
+ghost use Rattle.kif_text.specs.View.{views};
+ghost use Rattle.match_messages.specs.RulesText.{rules_text};
+ghost use Rattle.match_messages.specs.StartRules.{start_rules_text};
 ghost use Rattle.match_workers.specs.Briefs.{AreRoleNames};
 ghost use Rattle.match_workers.specs.LineParts.{open_call};
 ghost use Rattle.match_workers.specs.Refereeing.{IsRefereed};
@@ -22,11 +24,9 @@ use desk_calls::{Call, Refusal, Reply, Setup};
 use game_core::{Game, Text, Texts};
 use kif_text::Expr;
 use match_desk::{Manager, open_call};
-use match_messages::{SharedBrief, StartRules};
+use match_messages::{Player, SharedBrief, StartRules};
 use role_workers::laws::{calls_are_of_the_role, calls_have_replies};
-use role_workers::{
-    AttendancePlan, AttendedMatch, DeskHolder, Player, ROOM, ask_own, attend_match,
-};
+use role_workers::{AttendancePlan, AttendedMatch, DeskHolder, ROOM, ask_own, attend_match};
 use std::alloc::{AllocError, AllocFailed, Global};
 use std::marker::Brand;
 use std::sync::Wait;
@@ -46,7 +46,7 @@ pub enum RefereeFault {
     #[error("the history is full")]
     Full,
     /// Out of memory, or a thread can't be made.
-    #[error("want of memory")]
+    #[error("out of memory")]
     Memory,
 }
 
@@ -108,7 +108,7 @@ fn brief_of<'r>(
     start: u32,
     play: u32,
 ) -> SharedBrief<'r>
-    ensures { result ≡ record { id = id.now; roles = roles.now; rules = sentences_of rules.entry; start = start; play = play } }
+    ensures { result ≡ record { id = id.now; roles = roles.now; rules = start_rules_text rules.entry; start = start; play = play } }
 {
     SharedBrief {
         id,
@@ -203,7 +203,7 @@ where
     R: Threads + Wait + Sync,
     requires { vec_len players ≡ length setup.players }
 
-    ensures refereed { IfOk result (λ r. IsRefereed G.rules P.handed game setup (sentences_of rules.entry).items tries players.items r.1.items
+    ensures refereed { IfOk result (λ r. IsRefereed G.rules P.handed game setup (start_rules_text rules.entry) tries players.items r.1.items
         r.0.closed.object r.0.closed.history.items r.0.closed.made_by_line.items r.0.ends.items) }
 
     // If the match is refused, so is this call, for the same reason, unless memory runs out. No other fault is a refusal.
@@ -264,7 +264,7 @@ where
     R: Threads + Wait + Sync,
     requires { vec_len players ≡ length setup.players }
 
-    ensures refereed { IfOk result (λ r. (left : List _) × IsRefereed G.rules P.handed game setup rules.items tries players.items left
+    ensures refereed { IfOk result (λ r. (left : List _) × IsRefereed G.rules P.handed game setup (rules_text (views rules.items)) tries players.items left
         r.closed.object r.closed.history.items r.closed.made_by_line.items r.ends.items) }
 
     // If the match is refused, so is this call, for the same reason, unless memory runs out. No other fault is a refusal.

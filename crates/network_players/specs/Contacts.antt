@@ -5,7 +5,7 @@ use Rattle.std.specs.declared.io.ErrorKind.TheVariants.{WouldBlock, TimedOut}
 use Rattle.desk_calls.specs.declared.answer.Answer.{Answer}
 use Rattle.desk_calls.specs.declared.answer.Answer.TheVariants.{Text, Silent, Broken}
 use Rattle.http_exchange.specs.declared.received.Received.{Received}
-use Rattle.http_exchange.specs.declared.received.Received.TheVariants.{Unconnected}
+use Rattle.http_exchange.specs.declared.received.Received.TheVariants.{Unconnected, Status}
 use Rattle.http_exchange.specs.declared.wire_fault.WireFault.{WireFault}
 use Rattle.http_exchange.specs.declared.wire_fault.WireFault.TheVariants as exchange_faults
 use Rattle.match_plans.specs.declared.shortages.Shortage.{Shortage}
@@ -84,14 +84,14 @@ abbrev pub fault_after : Option Shortage → ContactFault → ContactFault
 fault_after (Some shortage) (faults.Late received) = faults.Shortage shortage
 fault_after waited fault = fault
 
-abbrev pub exchange_fault : Option ℕ → Received → WireFault → ContactFault
-exchange_fault status received exchange_faults.Memory = faults.Shortage Memory
-exchange_fault (Some status) received exchange_faults.BadStatus = faults.Status status
-exchange_fault status received fault = faults.Exchange fault received
+abbrev pub exchange_fault : Received → WireFault → ContactFault
+exchange_fault received exchange_faults.Memory = faults.Shortage Memory
+exchange_fault (Status status have) exchange_faults.BadStatus = faults.Status status
+exchange_fault received fault = faults.Exchange fault received
 
 -- The outcome of an exchange: the halt of the last read or write, if it does not count; otherwise the body, or the exchange's own fault
--- with the status that the reply has. Without a body the fault says how far the exchange came.
-abbrev pub outcome_of : Option Halt → Option ℕ → Received → Result (List ℕ) WireFault → Result (List ℕ) ContactFault
-outcome_of (Some halt) status received exchanged = Err (halt_fault halt received)
-outcome_of None status received (Ok text) = Ok text
-outcome_of None status received (Err fault) = Err (exchange_fault status received fault)
+-- with the status that was received. Without a body the fault says how far the exchange came.
+abbrev pub outcome_of : Option Halt → Received → Result (List ℕ) WireFault → Result (List ℕ) ContactFault
+outcome_of (Some halt) received exchanged = Err (halt_fault halt received)
+outcome_of None received (Ok text) = Ok text
+outcome_of None received (Err fault) = Err (exchange_fault received fault)

@@ -1,6 +1,5 @@
 pub mod Shortages
 pub mod Contacts
-pub mod Fronts
 pub mod Budgets
 pub mod Players
 pub mod Paces

@@ -14,46 +14,61 @@ use http_exchange::{Received, WireFault, exchange_shared};
 use match_plans::{PlayerAddress, Shortage};
 use shared_text::SharedText;
 use std::alloc::Global;
+use std::error::Error;
 use std::io::ErrorKind;
 use std::net::{IpAddr, Ipv4Addr, Ipv6Addr, Net, SocketAddr, TcpStream, UdpSocket};
 use std::time::{Clock, Duration};
-use std::{io, thread};
-use thiserror::Error;
+use std::{fmt, io, thread};
 
 /// Why a message brought no answer.
-#[derive(Clone, Copy, Debug, PartialEq, Eq, Error)]
+#[derive(Clone, Copy, PartialEq, Eq)]
 pub enum ContactFault {
     /// The resolver says that there is no such host.
-    #[error("the host has no address")]
     NoAddress,
     /// None of the host's addresses takes a connection. The system may also have given it up before the seconds were over.
-    #[error("no connection")]
     NoConnection,
     /// The seconds were over before the connection was made, the request written or the reply read.
-    #[error("no answer in time: {0}")]
     Late(Received),
     /// The referee was short of this. The message was not sent, or it was sent too late for an answer in time, or its answer was lost.
-    #[error("{0}")]
     Shortage(Shortage),
     /// The player's answers of the match have more bytes than they may have together.
-    #[error("the answers of the match are too long")]
     OverBudget,
     /// The reply has this status, which is not 200.
-    #[error("the status is {0}{note}", note = status_note(*.0))]
     Status(u16),
     /// The exchange on the connection failed with this fault.
-    #[error("{0}: {1}")]
     Exchange(WireFault, Received),
 }
 
-/// The words about a status other than 200.
-fn status_note(status: u16) -> &'static str {
-    if status < 200 {
-        ", which announces an answer and is none"
-    } else {
-        ", not 200"
+impl fmt::Display for ContactFault {
+    fn fmt<W: fmt::Write>(&self, f: &mut fmt::Formatter<W>) -> fmt::Result {
+        let words = match *self {
+            ContactFault::NoAddress => "the host has no address",
+            ContactFault::NoConnection => "no connection",
+            ContactFault::OverBudget => "the answers of the match are too long",
+            ContactFault::Late(received) => return write!(f, "no answer in time: {received}"),
+            ContactFault::Shortage(shortage) => return write!(f, "{shortage}"),
+            ContactFault::Status(status) => {
+                let note = if status < 200 {
+                    "which announces an answer and is none"
+                } else {
+                    "not 200"
+                };
+                return write!(f, "the status is {status}, {note}");
+            }
+            ContactFault::Exchange(fault, received) => return write!(f, "{fault}: {received}"),
+        };
+        f.write_str(words)
     }
 }
+
+/// The same words.
+impl fmt::Debug for ContactFault {
+    fn fmt<W: fmt::Write>(&self, f: &mut fmt::Formatter<W>) -> fmt::Result {
+        fmt::Display::fmt(self, f)
+    }
+}
+
+impl Error for ContactFault {}
 
 /// Explains why the last message brought no answer.
 pub trait Explains {
@@ -170,22 +185,23 @@ fn fault_after(waited: Option<Shortage>, fault: ContactFault) -> ContactFault
     }
 }
 
-/// The outcome of an exchange, by the halt of the last read or write, if there was one, the reply's status, if there is one, and how far it came.
+/// The outcome of an exchange, by the halt of the last read or write, if there was one, and by how far it came.
 fn outcome_of(
     halt: Option<Halt>,
-    status: Option<u16>,
     received: Received,
     exchanged: Result<Text, WireFault>,
 ) -> Result<Text, ContactFault>
-    ensures { result ≡ outcome_of halt status received exchanged }
+    ensures { result ≡ outcome_of halt received exchanged }
 {
     if let Some(halt) = halt {
         return Err(halt_fault(halt, received));
     }
-    match (exchanged, status) {
+    match (exchanged, received) {
         (Ok(text), _) => Ok(text),
         (Err(WireFault::Memory), _) => Err(ContactFault::Shortage(Shortage::Memory)),
-        (Err(WireFault::BadStatus), Some(status)) => Err(ContactFault::Status(status)),
+        (Err(WireFault::BadStatus), Received::Status(status, _)) => {
+            Err(ContactFault::Status(status))
+        }
         (Err(fault), _) => Err(ContactFault::Exchange(fault, received)),
     }
 }
@@ -327,8 +343,7 @@ fn exchange_over<N: Net + Clock>(
         message,
         &mut received,
     );
-    let stream = stream.end();
-    outcome_of(stream.halt(), stream.status(), received, exchanged)
+    outcome_of(stream.end().halt(), received, exchanged)
 }
 
 /// Hands a player a message and returns the body of its answer. Looking up the host, connecting, writing and reading have `seconds`

@@ -1,15 +1,13 @@
 //! One deadline for all steps of a message.
-ghost use Rattle.std.specs.Prelude.{◌≡◌, ◌+◌, ◌-◌, ◌*◌, ◌<◌, ◌≤◌, ◌↔◌, ◌⊎◌, ◌++◌, Err, IfErr, IfOk, IfSome, IsOkAnd, IsSome, IsTrue, MatchResult, None, OnErr, OnOk, take};
+ghost use Rattle.std.specs.Prelude.{◌≡◌, ◌+◌, ◌*◌, ◌<◌, ◌≤◌, ◌↔◌, ◌⊎◌, Err, IfErr, IfOk, IfSome, IsOkAnd, IsSome, IsTrue, MatchResult, None, OnErr, OnOk};
 ghost use Rattle.std.specs.Duration.{as_nanos};
 ghost use Rattle.std.specs.Io.{ReadsAtMost, WritesAtMost};
 ghost use Rattle.std.specs.Io.KnownBytes.{ReadConsumes, WriteAppends};
 ghost use Rattle.std.specs.IoError.{error_kind, raw_os_error};
 ghost use Rattle.match_plans.specs.declared.shortages.Shortage.TheVariants.{Clock, NotRunning};
-ghost use Rattle.network_players.specs.Fronts.{reply_status};
 ghost use Rattle.network_players.specs.Shortages.{IsTimeOut, failed_halt, given_halt, late_halt, read_limit};
 ghost use Rattle.network_players.specs.declared.deadline.Halt.TheVariants.{Late, Short};
 
-use crate::reply_front::ReplyFront;
 use crate::shortage::system_shortage;
 use match_plans::Shortage;
 use std::io;
@@ -45,7 +43,7 @@ fn is_long_over(limit: Duration, passed: Duration) -> bool
 }
 
 /// Why a step of a message does not count, whatever its result is.
-#[derive(Clone, Copy, PartialEq, Eq)]
+#[derive(Clone, Copy)]
 pub enum Halt {
     /// The message's seconds are over.
     Late,
@@ -167,27 +165,24 @@ pub struct TimedStream<'a, C, S> {
     deadline: Deadline,
     stream: S,
     halt: Option<Halt>,
-    front: ReplyFront,
 }
 
 impl<'a, C: Clock, S: OpenStream> TimedStream<'a, C, S> {
     pub fn new(clock: &'a C, deadline: Deadline, stream: S) -> TimedStream<'a, C, S>
         ensures deadline { result.deadline ≡ deadline }
         ensures halt { result.halt ≡ None }
-        ensures front { result.front.count ≡ 0 }
     {
         TimedStream {
             clock,
             deadline,
             stream,
             halt: None,
-            front: ReplyFront::new(),
         }
     }
 
     /// The limit of a read or a write. Without any the error is `TimedOut`, and the halt is noted.
     fn limit(&mut self, limit: Result<Duration, Halt>) -> io::Result<Duration>
-        ensures kept { (self.new.stream ≡ self.old.stream) × (self.new.front ≡ self.old.front) }
+        ensures kept { self.new.stream ≡ self.old.stream }
         ensures halted { OnErr result (IsSome self.new.halt) }
     {
         match limit {
@@ -205,13 +200,6 @@ impl<'a, C: Clock, S: OpenStream> TimedStream<'a, C, S> {
     {
         self.halt
     }
-
-    /// The status of the reply. `None` if the bytes so far do not begin with one.
-    pub fn status(&self) -> Option<u16>
-        ensures { result ≡ reply_status (take self.now.front.count self.now.front.bytes) }
-    {
-        self.front.status()
-    }
 }
 
 impl<C: Clock, S: Read + OpenStream> Read for TimedStream<'_, C, S> {
@@ -220,7 +208,6 @@ impl<C: Clock, S: Read + OpenStream> Read for TimedStream<'_, C, S> {
     fn read(&mut self, buf: &mut [u8]) -> io::Result<usize>
         ensures bound { ReadsAtMost result buf.new }
         ensures bytes { ReadConsumes (S.remaining self.old.stream) (S.remaining self.new.stream) result buf.new }
-        ensures front { IfOk result (λ count. take self.new.front.count self.new.front.bytes ≡ take self.old.front.count self.old.front.bytes ++ take (64 - self.old.front.count) (take count buf.new)) }
         ensures late { IfErr result (λ error. IsTimeOut (error_kind error) (raw_os_error error) → IsSome self.new.halt) }
     {
         let left = self.deadline.left(self.clock);
@@ -229,15 +216,10 @@ impl<C: Clock, S: Read + OpenStream> Read for TimedStream<'_, C, S> {
             Ok(()) => self.stream.read(buf),
             Err(error) => Err(error),
         };
-        match &given {
-            Ok(count) => {
-                self.halt = given_halt(self.deadline.left(self.clock));
-                self.front.note(&buf[..*count]);
-            }
-            Err(error) => {
-                self.halt = failed_halt(late_halt(left), error.kind(), error.raw_os_error());
-            }
-        }
+        self.halt = match &given {
+            Ok(_) => given_halt(self.deadline.left(self.clock)),
+            Err(error) => failed_halt(late_halt(left), error.kind(), error.raw_os_error()),
+        };
         given
     }
 }

@@ -9,7 +9,6 @@ mod answer_budget;
 mod contacting;
 mod deadline;
 mod lookup;
-mod reply_front;
 mod shortage;
 mod signal;
 mod socket_player;

@@ -1,3 +1,4 @@
+mod Places
 mod TableRows
 mod PlayedRoles
 mod RoleTables

@@ -2,7 +2,7 @@
 use Rattle.std.proofs.Common.{◌≡◌, ℕ, List, subst}
 use Rattle.match_plans.specs.declared.plan.CheckPlan.{CheckPlan}
 use Rattle.match_plans.specs.declared.plan.MatchPlan.{MatchPlan}
-use Rattle.match_play.specs.declared.role_turns.RoleTurn.{RoleTurn}
+use Rattle.player_check.specs.declared.role_turns.RoleTurn.{RoleTurn}
 use Rattle.player_check.specs.Checks.{IsToldOf}
 use Rattle.player_check.specs.Rows.{bad_answers}
 use Rattle.player_check.specs.Seats.{IsPlanFor}

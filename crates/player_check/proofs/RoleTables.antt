@@ -1,5 +1,5 @@
 -- What was written of the roles so far.
-use Rattle.std.proofs.Common.{◌≡◌, ◌≢◌, ◌∙◌, ◌+◌, ◌<◌, ◌≤◌, ◌++◌, [], ◌∷◌, ℕ, zero, suc, List, Option, ap, arith, length, min, refl, subst, sym, take}
+use Rattle.std.proofs.Common.{◌≡◌, ◌≢◌, ◌∙◌, ◌+◌, ◌<◌, ◌≤◌, ◌++◌, [], ◌∷◌, ℕ, List, Option, ap, arith, length, min, refl, subst, sym, take}
 use Rattle.std.specs.Prelude.{Result, Ok, Err, IfErr, IsErrAnd}
 use Rattle.std.specs.Io.KnownBytes.{Appends}
 use Rattle.std.proofs.KnownBytes.{Appends-nil, Appends-trans}
@@ -11,10 +11,11 @@ use Rattle.game_core.specs.Play.{Rules}
 use Rattle.match_plans.specs.declared.addresses.PlayerAddress.{PlayerAddress}
 use Rattle.match_plans.specs.declared.plan.CheckPlan.{CheckPlan}
 use Rattle.match_plans.specs.declared.reach.RolePlace.{RolePlace}
-use Rattle.role_workers.specs.Handing.{Handed}
+use Rattle.match_messages.specs.Handing.{Handed}
 use Rattle.role_workers.specs.Places.{EachAt}
 use Rattle.match_play.specs.declared.playable_game.PlayableGame.{PlayableGame}
-use Rattle.match_play.specs.declared.role_turns.RoleTurn.{RoleTurn}
+use Rattle.player_check.specs.declared.role_turns.RoleTurn.{RoleTurn}
+use Rattle.player_check.proofs.Places.{EachAt-push}
 use Rattle.player_check.specs.Checks.{EndsEarly, IsTable, IsToldOf, Told, WritesEarlier, all_bad, all_rows, table_text}
 use Rattle.player_check.specs.Tables.{header}
 use Rattle.player_check.specs.declared.check.CheckFault.{CheckFault}
@@ -31,13 +32,6 @@ pub record AreTold {S M : Type 0} (AreTurns : ℕ → List RoleTurn → Type 0) 
   pub table : IsTable AreTurns g count bad written
   pub appended : Appends old new written
   pub waits : text ≡ waiting table.roles
-
--- a list with one more at its end, place by place
-each-next : {A : Type 0} (Q : ℕ → A → Type 0) (xs : List A) (x : A) → EachAt Q xs → Q (length xs) x → EachAt Q (xs ++ x ∷ [])
-each-next Q [] x each here zero a is = let same : x ≡ a = cc in subst (Q 0) same here
-each-next Q [] x each here (suc k) a is = absurd cc
-each-next Q (y ∷ ys) x each here zero a is = each 0 a is
-each-next Q (y ∷ ys) x each here (suc k) a is = each-next (λ n. Q (suc n)) ys x (λ n b e. each (suc n) b e) here k a is
 
 rows-next : (roles : List Told) (told : Told) → all_rows (roles ++ told ∷ []) ≡ all_rows roles ++ told.rows
 rows-next [] told = append-nil told.rows
@@ -73,7 +67,7 @@ more-table T g count before now more written rows out table told added is =
     record {
       roles = table.roles ++ one ∷ [];
       so_many = length-append table.roles (one ∷ []) ∙ ap (λ (n : ℕ). n + 1) table.so_many;
-      each = each-next (λ role told. IsToldOf (T role) (g.role_name role) told.rows told.bad) table.roles one table.each
+      each = EachAt-push (λ role told. IsToldOf (T role) (g.role_name role) told.rows told.bad) table.roles _ one refl table.each
           (subst (λ (role : ℕ). IsToldOf (T role) (g.role_name role) rows more) (sym table.so_many) told);
       is_bad = bad-next table.roles one before now table.is_bad added;
       is_text = ap (λ (it : List ℕ). it ++ out) table.is_text ∙ ap (λ (it : List ℕ). table_text table.roles ++ it) is ∙ sym (table-next table.roles one);

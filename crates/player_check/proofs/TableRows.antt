@@ -1,7 +1,7 @@
 -- The rows of a table, one after another.
 use Rattle.std.proofs.Common.{◌≡◌, ◌∙◌, ◌<◌, ◌≤◌, ◌+◌, ◌++◌, [], ◌∷◌, ℕ, List, ap, drop, get_or, length, refl, subst, sym}
 use Rattle.std.proofs.lemmas.List.{append-nil, append_assoc, drop_all, drop_more}
-use Rattle.match_play.specs.declared.role_turns.RoleTurn.{RoleTurn}
+use Rattle.player_check.specs.declared.role_turns.RoleTurn.{RoleTurn}
 use Rattle.player_check.specs.Rows.{later_turns, next_turn}
 use Rattle.player_check.specs.Tables.{AreRows, IsRow}
 use Rattle.player_check.specs.declared.watched.Exchange.{Exchange}

@@ -12,12 +12,13 @@ use Rattle.match_plans.specs.declared.addresses.PlayerAddress.{PlayerAddress}
 use Rattle.match_plans.specs.declared.plan.CheckPlan.{CheckPlan}
 use Rattle.match_plans.specs.declared.plan.MatchPlan.{MatchPlan}
 use Rattle.match_plans.specs.declared.reach.RolePlace.{RolePlace}
-use Rattle.role_workers.specs.Handing.{Handed}
+use Rattle.match_messages.specs.Handing.{Handed}
 use Rattle.role_workers.specs.Places.{EachAt}
 use Rattle.match_play.specs.Limits.{max_tries}
-use Rattle.match_play.specs.PlayedMatches.{ArePlayedTurns, AreReached, IsSetupOf}
+use Rattle.match_play.specs.PlayedMatches.{AreReached, IsSetupOf}
 use Rattle.match_play.specs.declared.playable_game.PlayableGame.{PlayableGame}
-use Rattle.match_play.specs.declared.role_turns.RoleTurn.{RoleTurn}
+use Rattle.player_check.specs.RoleTurns.{ArePlayedTurns}
+use Rattle.player_check.specs.declared.role_turns.RoleTurn.{RoleTurn}
 use Rattle.player_check.specs.Rows.{bad_answers}
 use Rattle.player_check.specs.Seats.{IsPlanFor}
 use Rattle.player_check.specs.Tables.{AreRows, header}
@@ -46,7 +47,7 @@ pub record AreTurnsIn (H : Type 0) {P : Type 0} (is_reached : RolePlace → Play
   pub is_setup : IsSetupOf made setup
   pub participants : List (CheckedPlayer H P)
   pub reached : AreReached (is_watched H is_reached role) game.longest_move 0 made participants
-  pub played : ArePlayedTurns (watched_handed H handed) game.game.now game.rules.now.items max_tries setup participants role turns
+  pub played : ArePlayedTurns (watched_handed H handed) game.game.now game.rules.now max_tries setup participants role turns
 
 -- These are the rows, and this is the number of bad answers, of some exchanges and turns of a role. Which exchanges there were is not
 -- said.

@@ -1,5 +1,6 @@
 pub mod Verdicts
 pub mod Answers
+pub mod RoleTurns
 pub mod Rows
 pub mod Seats
 pub mod Tables

@@ -1,6 +1,6 @@
 -- The verdicts in the rows of a table.
 use Rattle.std.specs.Prelude.{ℕ, Bool, true, not, List, [], ◌∷◌, Option, Some, None, option_map, count_by}
-use Rattle.match_play.specs.declared.role_turns.RoleTurn.{RoleTurn}
+use Rattle.player_check.specs.declared.role_turns.RoleTurn.{RoleTurn}
 use Rattle.player_check.specs.Verdicts.{verdict_of, is_good}
 use Rattle.player_check.specs.declared.table.Verdict.{Verdict}
 use Rattle.player_check.specs.declared.watched.Exchange.{Exchange}

@@ -1,11 +1,11 @@
 -- The table of a check.
-use Rattle.std.specs.Prelude.{◌≡◌, ℕ, List, [], ◌∷◌, ◌++◌, Option, Some, None, codes, string_bytes}
+use Rattle.std.specs.Prelude.{◌≡◌, ℕ, false, List, [], ◌∷◌, ◌++◌, Option, Some, None, codes, string_bytes}
 use Rattle.std.specs.Fmt.{decimal}
 use Rattle.game_core.specs.Bytes.{tab, line_feed}
 use Rattle.match_log.specs.ShownTexts.{shown_text}
-use Rattle.match_play.specs.declared.role_turns.RoleTurn.{RoleTurn}
+use Rattle.player_check.specs.declared.role_turns.RoleTurn.{RoleTurn}
 use Rattle.player_check.specs.Rows.{later_turns, next_turn, row_verdict}
-use Rattle.player_check.specs.Verdicts.{verdict_text}
+use Rattle.player_check.specs.Verdicts.{is_refused, verdict_text}
 use Rattle.player_check.specs.declared.watched.Exchange.{Exchange}
 
 -- the text of the move in a turn; it is empty without a turn
@@ -17,7 +17,7 @@ played_text (Some turn) = turn.played
 abbrev pub column : List ℕ → List ℕ → List ℕ
 column text columns = text ++ tab ∷ columns
 
--- a row, with the words of a fault
+-- a row, with the words on what was wrong
 abbrev pub row_text : List ℕ → Exchange → Option RoleTurn → List ℕ → List ℕ
 row_text role exchange turn words =
     column (shown_text role)
@@ -27,10 +27,11 @@ row_text role exchange turn words =
     (column (shown_text (played_text turn))
     (column (decimal exchange.millis) (words ++ line_feed ∷ []))))))
 
--- The text is the row of an exchange with this turn. The words of a fault are not said here. Without a fault there are none.
+-- The text is the row of an exchange with this turn. Its words are not said here. There are none without a fault, unless an answer was
+-- refused as a move.
 pub record IsRow (role : List ℕ) (exchange : Exchange) (turn : Option RoleTurn) (text : List ℕ) : Type 0 where
   pub words : List ℕ
-  pub no_words : exchange.fault ≡ None → words ≡ []
+  pub no_words : exchange.fault ≡ None → is_refused (row_verdict exchange turn) ≡ false → words ≡ []
   pub is_text : text ≡ row_text role exchange turn words
 
 -- The text is the rows of exchanges, one after another. The exchanges that ask for a move have these turns, in their order.

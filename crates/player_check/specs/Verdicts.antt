@@ -30,6 +30,12 @@ is_good Legal = true
 is_good Dropped = true
 is_good verdict = false
 
+-- the answer came for a move, and another move was played
+abbrev pub is_refused : Verdict → Bool
+is_refused Illegal = true
+is_refused NoMove = true
+is_refused verdict = false
+
 abbrev pub verdict_text : Verdict → List ℕ
 verdict_text Taken = codes "taken"
 verdict_text Legal = codes "legal"

@@ -7,14 +7,15 @@ ghost use Rattle.player_check.specs.Seats.{IsPlanFor, nobody};
 ghost use Rattle.player_check.specs.Tables.{AreRows};
 ghost use Rattle.player_check.specs.declared.check.CheckFault.TheVariants as faults;
 
-use crate::table::{HEADER, Row, fault_words};
+use crate::role_turns::RoleTurn;
+use crate::table::{HEADER, Row, fault_words, row_verdict};
 use crate::watched::{CheckReach, CheckedPlayer, Exchanges};
 use game_core::{Counted, Game};
+use match_messages::Player;
 use match_plans::{CheckPlan, MatchPlan, PlayerAddress, Reach, ReportsShortages};
-use match_play::{MatchFault, PlayableGame, PreparedMatch, RoleTurn, played_turns, prepared_match};
+use match_play::{MatchFault, PlayableGame, PreparedMatch, prepared_match, told_match};
 use network_players::{Explains, RoundSignal};
 use packed_rules::PackedGame;
-use role_workers::Player;
 use std::alloc::{AllocError, AllocFailed, Global};
 use std::io::Write;
 use std::sync::{Mutex, Wait};
@@ -141,14 +142,15 @@ fn push_rows<'a>(
     for exchange in &exchanges.items {
         let (turn, later) = next_turn(exchange.is_play, left);
         left = later;
-        let words = fault_words(alloc, exchange)?;
+        let verdict = row_verdict(exchange, turn);
+        let words = fault_words(alloc, exchange, turn, verdict)?;
         let row = Row {
             role,
             exchange,
             turn,
             words: words.as_str(),
         };
-        bad = bad.saturating_add(u64::from(!row.verdict().is_good()));
+        bad = bad.saturating_add(u64::from(!verdict.is_good()));
         table.extend_from_slice(format!(in alloc; "{row}")?.as_bytes())?;
     }
     Ok(bad)
@@ -156,43 +158,38 @@ fn push_rows<'a>(
 
 /// Plays the match in which the player has this role, and appends its rows to the table. Returns the number of bad answers.
 fn check_role<H, P, S>(
-    rt: &H,
     alloc: Global,
-    reach: &S,
+    watching: &CheckReach<'_, H, S>,
     plan: &CheckPlan<'_>,
     game: PlayableGame<'_>,
-    role: usize,
     table: &mut Vec<u8>,
 ) -> Result<u64, CheckFault>
 where
     H: Clock + Threads + Wait + Sync,
     P: Player + Explains + Drop + Send,
     S: Reach<P> + ReportsShortages,
-    requires { role < (⟦<PackedGame as Game>⟧.rules game.game.now).roles }
-    ensures told { IfOk result (λ bad. (rows : List ℕ) × IsToldOf (AreTurnsIn H (S.is_reached reach.now) P.handed game.entry plan.now role) ((⟦<PackedGame as Game>⟧.rules game.entry.game.now).role_name role) rows bad
+    requires { watching.now.role < (⟦<PackedGame as Game>⟧.rules game.game.now).roles }
+    ensures told { IfOk result (λ bad. (rows : List ℕ) × IsToldOf (AreTurnsIn H (S.is_reached watching.now.reach.now) P.handed game.entry plan.now watching.now.role) ((⟦<PackedGame as Game>⟧.rules game.entry.game.now).role_name watching.now.role) rows bad
         × (table.new.items ≡ table.old.items ++ rows)) }
-    ensures clear { OnOk result (S.is_clear reach.now 0) }
+    ensures clear { OnOk result (S.is_clear watching.now.reach.now 0) }
     ensures others { IfErr result (λ fault. fault ≢ faults.WriteFault) }
 {
-    let id = format!(in alloc; "check-{role}")?;
-    let signal = RoundSignal::new();
-    let exchanges = Mutex::new(Exchanges::new(alloc));
-    let watching = CheckReach {
+    let CheckReach {
         rt,
-        reach,
         role,
-        signal: &signal,
-        exchanges: &exchanges,
-    };
+        exchanges,
+        ..
+    } = *watching;
+    let id = format!(in alloc; "check-{role}")?;
     let match_plan = match_plan(alloc, plan, id.as_str(), role, game.game.roles())?;
     let prepared: PreparedMatch<CheckedPlayer<'_, H, P>> = prepared_match(
         alloc,
-        &watching,
+        watching,
         game,
         0,
         &match_plan,
     )?;
-    let turns = played_turns(rt, alloc, &watching, prepared, game, role)?;
+    let turns = told_match(rt, alloc, watching, prepared, game, watching)?;
     let exchanges = exchanges.lock(rt);
     Ok(push_rows(alloc, table, game.game.role_name(role), &exchanges, &turns)?)
 }
@@ -222,7 +219,16 @@ where
     table.extend_from_slice(HEADER)?;
     let mut bad: u64 = 0;
     for role in 0..game.game.roles() {
-        let more = check_role::<H, P, S>(rt, alloc, reach, plan, game, role, &mut table)?;
+        let signal = RoundSignal::new();
+        let exchanges = Mutex::new(Exchanges::new(alloc));
+        let watching = CheckReach {
+            rt,
+            reach,
+            role,
+            signal: &signal,
+            exchanges: &exchanges,
+        };
+        let more = check_role::<H, P, S>(alloc, &watching, plan, game, &mut table)?;
         bad = bad.saturating_add(more);
         write_all(writer, &table)?;
         table.clear();

@@ -7,6 +7,8 @@
 #![tactic(auto)]
 
 mod check;
+mod move_words;
+mod role_turns;
 mod table;
 mod watched;
 

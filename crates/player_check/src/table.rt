@@ -1,13 +1,14 @@
 //! The table of the messages to a player, with its answers and what these counted as.
-ghost use Rattle.std.specs.Prelude.{◌≡◌, [], IfOk, None, option_copied, string_bytes};
+ghost use Rattle.std.specs.Prelude.{◌≡◌, [], IfOk, None, false, option_copied, string_bytes};
 ghost use Rattle.player_check.specs.Rows.{row_verdict};
 ghost use Rattle.player_check.specs.Tables.{played_text};
-ghost use Rattle.player_check.specs.Verdicts.{verdict_of};
+ghost use Rattle.player_check.specs.Verdicts.{is_refused, verdict_of};
 
+use crate::role_turns::RoleTurn;
 use crate::watched::{AnswerKind, Exchange};
-use match_book::UNREADABLE;
+use kif_text::KifFault;
+use match_book::{MAX_ANSWER, UNREADABLE};
 use match_log::Shown;
-use match_play::RoleTurn;
 use std::alloc::{AllocError, Global};
 use std::fmt;
 
@@ -78,13 +79,38 @@ pub fn verdict_of(is_play: bool, brought: AnswerKind, error: Option<&[u8]>) -> V
     }
 }
 
-/// The words of an exchange's fault. They are empty without a fault.
-pub fn fault_words(alloc: Global, exchange: &Exchange) -> Result<String, AllocError>
-    ensures { exchange.now.fault ≡ None → IfOk result (λ words. string_bytes words ≡ []) }
+/// What an exchange's answer counted as.
+pub fn row_verdict(exchange: &Exchange, turn: Option<&RoleTurn>) -> Verdict
+    ensures { result ≡ row_verdict exchange.now (option_copied turn.entry) }
 {
-    match exchange.fault {
-        Some(fault) => format!(in alloc; "{fault}"),
-        None => Ok(String::new(alloc)),
+    let error = match turn {
+        Some(turn) => Some(turn.error.as_slice()),
+        None => None,
+    };
+    verdict_of(exchange.is_play, exchange.brought, error)
+}
+
+/// What was wrong with an exchange with this turn and verdict: its fault, or else why the answer is no move, or no legal one.
+pub fn fault_words(
+    alloc: Global,
+    exchange: &Exchange,
+    turn: Option<&RoleTurn>,
+    verdict: Verdict,
+) -> Result<String, AllocError>
+    ensures { exchange.now.fault ≡ None → is_refused verdict ≡ false → IfOk result (λ words. string_bytes words ≡ []) }
+{
+    if let Some(fault) = exchange.fault {
+        return format!(in alloc; "{fault}");
+    }
+    match (verdict, exchange.unread, turn) {
+        (Verdict::NoMove, Some(KifFault::TooLong), _) => {
+            format!(in alloc; "the text has more than {MAX_ANSWER} bytes")
+        }
+        (Verdict::NoMove, Some(fault), _) => format!(in alloc; "{fault}"),
+        (Verdict::NoMove | Verdict::Illegal, _, Some(turn)) => {
+            String::from_str(alloc, turn.words.as_str())
+        }
+        _ => Ok(String::new(alloc)),
     }
 }
 
@@ -95,21 +121,8 @@ pub struct Row<'a> {
     pub exchange: &'a Exchange,
     /// The turn for which the answer was given, if that was recorded.
     pub turn: Option<&'a RoleTurn>,
-    /// The words of the exchange's fault.
+    /// What was wrong with the exchange.
     pub words: &'a str,
-}
-
-impl Row<'_> {
-    /// What the row's answer counted as.
-    pub fn verdict(&self) -> Verdict
-        ensures { result ≡ row_verdict self.now.exchange.now (option_copied self.now.turn) }
-    {
-        let error = match self.turn {
-            Some(turn) => Some(turn.error.as_slice()),
-            None => None,
-        };
-        verdict_of(self.exchange.is_play, self.exchange.brought, error)
-    }
 }
 
 /// The text of the move in a turn. It is empty without a turn.
@@ -134,11 +147,13 @@ impl fmt::Display for Row<'_> {
             is_play: _,
             answer,
             brought: _,
+            unread: _,
             fault: _,
             millis,
         } = self.exchange;
         let (role, played) = (Shown::text(self.role), Shown::text(played_text(self.turn)));
-        let (verdict, words) = (self.verdict(), self.words);
+        let verdict = row_verdict(self.exchange, self.turn);
+        let words = self.words;
         writeln!(
             f,
             "{role}\t{message}\t{answer}\t{verdict}\t{played}\t{millis}\t{words}"

@@ -7,14 +7,15 @@ ghost use Rattle.match_messages.specs.MessageKinds.{kind_word};
 ghost use Rattle.match_messages.specs.declared.kind.MessageKind.TheVariants.{Play};
 ghost use Rattle.network_players.specs.Paces.{HasAnswered, HasRested};
 ghost use Rattle.player_check.specs.Answers.{AreOfMessage, answer_text, brought_by};
-ghost use Rattle.role_workers.specs.Handing.{MayKeep};
+ghost use Rattle.match_messages.specs.Handing.{MayKeep};
 
 use desk_calls::Answer;
+use kif_text::{KifFault, read_one};
+use match_book::MAX_ANSWER;
 use match_log::Shown;
-use match_messages::MessageKind;
+use match_messages::{MessageKind, Player};
 use match_plans::{PlayerAddress, Reach, ReportsShortages, RolePlace, Shortage};
 use network_players::{ContactFault, Explains, Pace, RoundSignal, time_since};
-use role_workers::Player;
 use shared_text::SharedText;
 use std::alloc::{AllocError, Global};
 use std::sync::{Mutex, Wait};
@@ -40,6 +41,8 @@ pub struct Exchange {
     /// The beginning of the answer's text. It is empty without an answer.
     pub answer: String,
     pub brought: AnswerKind,
+    /// Why the answer's text is no move, if a move was asked for.
+    pub unread: Option<KifFault>,
     /// Why there is no answer, if that is known.
     pub fault: Option<ContactFault>,
     /// The time that the message took, in milliseconds.
@@ -102,6 +105,18 @@ fn brought_of(answer: &Answer) -> (AnswerKind, &[u8])
     }
 }
 
+/// Why this text is no move. `None` if it spells one expression.
+fn unread_fault(alloc: Global, text: &[u8]) -> Result<Option<KifFault>, AllocError> {
+    if text.len() > MAX_ANSWER {
+        return Ok(Some(KifFault::TooLong));
+    }
+    match read_one(alloc, text) {
+        Ok(_) => Ok(None),
+        Err(KifFault::Memory) => Err(AllocError),
+        Err(fault) => Ok(Some(fault)),
+    }
+}
+
 /// The exchange of a message, with the time that it took and the reason if there is no answer.
 fn exchange_of(
     alloc: Global,
@@ -116,11 +131,17 @@ fn exchange_of(
     ensures given { IfOk result (λ exchange. (exchange.fault ≡ fault) × (exchange.millis ≡ as_nanos took / 1_000_000)) }
 {
     let (brought, text) = brought_of(answer);
+    let is_play = asks_for_move(message);
+    let unread = match brought {
+        AnswerKind::Text if is_play => unread_fault(alloc, text)?,
+        _ => None,
+    };
     Ok(Exchange {
         message: format!(in alloc; "{}", Shown::message(message))?,
-        is_play: asks_for_move(message),
+        is_play,
         answer: format!(in alloc; "{}", Shown::text(text))?,
         brought,
+        unread,
         fault,
         millis: took.as_millis(),
     })

@@ -1,3 +1,6 @@
+pub use Rattle.serde_json.specs.Data
+pub use Rattle.serde_json.specs.Read
+pub use Rattle.record_reading.specs.declared.verify_fault.VerifyFault
 pub use Rattle.record_reading.specs.RecordTree
 pub use Rattle.record_reading.specs.LawfulRecord
 pub use Rattle.record_reading.specs.RecordParts

@@ -12,4 +12,5 @@ mod recorded_turn;
 mod replaying;
 mod verifying;
 
+pub use record_reading::{RecordParts, VerifyFault};
 pub use verifying::{lawful_parts, verify};

@@ -1,3 +1,7 @@
+pub use Rattle.serde_json.specs.Data
+pub use Rattle.serde_json.specs.Read
+pub use Rattle.desk_calls.specs.Names
+pub use Rattle.desk_calls.specs.Phases
 pub mod RecordTree
 pub mod LawfulRecord
 pub mod RecordParts

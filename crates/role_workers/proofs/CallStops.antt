@@ -9,7 +9,7 @@ use Rattle.desk_calls.specs.declared.call.Reply.{Reply}
 use Rattle.desk_calls.specs.declared.call.Reply.TheVariants.{Opened, Due as IsDue, Taken, Status, Aborting, Refused}
 use Rattle.role_workers.specs.declared.attend_fault.AttendFault.{AttendFault}
 use Rattle.role_workers.specs.declared.attend_fault.AttendFault.TheVariants.{Stalled}
-use Rattle.role_workers.specs.Handing.{Handed}
+use Rattle.match_messages.specs.Handing.{Handed}
 use Rattle.role_workers.specs.Events.{Event, makes, takes, Telling, telling, Tells}
 use Rattle.role_workers.specs.AttendFaults.{attend_fault, next_fault}
 use Rattle.role_workers.specs.Attending.{CallStops, not_made, without_reply, at_reply, StopsAmid, at_the_last, at_a_call, for_memory}

@@ -7,11 +7,11 @@ use Rattle.desk_calls.specs.declared.due.Owed.{Owed}
 use Rattle.desk_calls.specs.declared.call.Call.{Call}
 use Rattle.desk_calls.specs.declared.call.Reply.{Reply}
 use Rattle.desk_calls.specs.declared.call.Reply.TheVariants.{Taken}
-use Rattle.match_messages.specs.declared.brief.Brief.{Brief}
+use Rattle.match_messages.specs.BriefValue.{BriefValue}
 use Rattle.match_messages.specs.MessageText.{message_text}
 use Rattle.role_workers.specs.declared.attend_fault.AttendFault.{AttendFault}
 use Rattle.role_workers.specs.declared.attend_fault.AttendFault.TheVariants.{Memory}
-use Rattle.role_workers.specs.Handing.{Handed, MayKeep, seconds_for}
+use Rattle.match_messages.specs.Handing.{Handed, MayKeep, seconds_for}
 use Rattle.role_workers.specs.Events.{Event, makes, takes, hands, Telling, telling, Tells}
 use Rattle.role_workers.specs.AttendFaults.{answer_fault}
 use Rattle.role_workers.specs.Steps.{answer_call, handing_over}
@@ -23,10 +23,10 @@ abbrev handed : ℕ → List ℕ → Answer → Handed
 handed seconds body answer = record { seconds = seconds; body = body; answer = answer }
 
 -- the message that is owed, with the seconds of its kind
-abbrev pub message_of : Brief → ℕ → Owed → Answer → Handed
+abbrev pub message_of : BriefValue → ℕ → Owed → Answer → Handed
 message_of brief role owed answer = handed (seconds_for brief owed) (message_text brief role owed) answer
 
-pub owed_message : (brief : Brief) (role : ℕ) (owed : Owed) (answer : Answer) (seconds : ℕ) (body : List ℕ) (ms ms' : Option (List Handed))
+pub owed_message : (brief : BriefValue) (role : ℕ) (owed : Owed) (answer : Answer) (seconds : ℕ) (body : List ℕ) (ms ms' : Option (List Handed))
     → seconds ≡ seconds_for brief owed → body ≡ message_text brief role owed → MayKeep ms ms' (record { seconds = seconds; body = body; answer = answer } ∷ [])
     → MayKeep ms ms' (message_of brief role owed answer ∷ [])
 owed_message brief role owed answer seconds body ms ms' s b m =
@@ -37,13 +37,13 @@ told_message : (message : Handed) (cs : Option (List Call)) (rs : Option (List R
 told_message message cs rs ms ms' m = record { calls = told_with-nil cs; replies = told_with-nil rs; messages = m }
 
 -- no memory for the message, or for it in one piece
-pub nothing_handed : (brief : Brief) (role round : ℕ) (owed : Owed) (fault : AttendFault) (before after : Telling) → fault ≡ Memory → after ≡ before
+pub nothing_handed : (brief : BriefValue) (role round : ℕ) (owed : Owed) (fault : AttendFault) (before after : Telling) → fault ≡ Memory → after ≡ before
     → (answer : Answer) × (reply : Reply) × (events : List Event) × StopsAmid (handing_over brief role round owed answer reply) (answer_fault reply) fault events × Tells before after events
 nothing_handed brief role round owed fault before after is same =
     (Silent, Taken, [], for_memory (hands (message_of brief role owed Silent)) (makes (answer_call brief.id role round Silent) ∷ takes Taken ∷ []) is refl, subst (λ t. Tells before t []) (sym same) (tells-nil before))
 
 -- the answer went back
-pub handed_over : {U : Type 0} (given : Result U AttendFault) (brief : Brief) (role round : ℕ) (owed : Owed) (answer : Answer) (cs cs' : Option (List Call)) (rs rs' : Option (List Reply)) (ms ms' : Option (List Handed))
+pub handed_over : {U : Type 0} (given : Result U AttendFault) (brief : BriefValue) (role round : ℕ) (owed : Owed) (answer : Answer) (cs cs' : Option (List Call)) (rs rs' : Option (List Reply)) (ms ms' : Option (List Handed))
     → MayKeep ms ms' (message_of brief role owed answer ∷ [])
     → OnOk given (cs' ≡ told_with cs (answer_call brief.id role round answer ∷ []))
     → OnOk given ((reply : Reply) × (answer_fault reply ≡ None) × (rs' ≡ told_with rs (reply ∷ [])))
@@ -58,7 +58,7 @@ handed_over (Ok done) brief role round owed answer cs cs' rs rs' ms ms' m call r
 handed_over (Err fault) brief role round owed answer cs cs' rs rs' ms ms' m call reply = tt
 
 -- the worker stopped as the answer went back
-pub handed_in_part : {U : Type 0} (given : Result U AttendFault) (brief : Brief) (role round : ℕ) (owed : Owed) (answer : Answer) (cs cs' : Option (List Call)) (rs rs' : Option (List Reply)) (ms ms' : Option (List Handed))
+pub handed_in_part : {U : Type 0} (given : Result U AttendFault) (brief : BriefValue) (role round : ℕ) (owed : Owed) (answer : Answer) (cs cs' : Option (List Call)) (rs rs' : Option (List Reply)) (ms ms' : Option (List Handed))
     → MayKeep ms ms' (message_of brief role owed answer ∷ [])
     → IfErr given (λ fault. CallStops (answer_call brief.id role round answer) answer_fault fault cs cs' rs rs')
     → IfErr given (λ fault. (answer : Answer) × (reply : Reply) × (events : List Event) × StopsAmid (handing_over brief role round owed answer reply) (answer_fault reply) fault events

@@ -7,9 +7,9 @@ use Rattle.desk_calls.specs.declared.answer.Answer.{Answer}
 use Rattle.desk_calls.specs.declared.due.Owed.{Owed}
 use Rattle.desk_calls.specs.declared.call.Reply.{Reply}
 use Rattle.desk_calls.specs.declared.call.Reply.TheVariants.{Opened, Due, Taken, Status, Aborting, Refused}
-use Rattle.match_messages.specs.declared.brief.Brief.{Brief}
+use Rattle.match_messages.specs.BriefValue.{BriefValue}
 use Rattle.match_messages.specs.MessageText.{message_text}
-use Rattle.role_workers.specs.Handing.{Handed, MayKeep, seconds_for}
+use Rattle.match_messages.specs.Handing.{Handed, MayKeep, seconds_for}
 use Rattle.role_workers.specs.Events.{Event, reply_in, message_in}
 use Rattle.role_workers.specs.AttendFaults.{answer_fault}
 use Rattle.role_workers.specs.Steps.{Step, rests, hands_over, finds_the_end, finds_no_due, events_of, goes_on}
@@ -36,7 +36,7 @@ owed_in-append : (xs ys : List Event) → owed_in (xs ++ ys) ≡ owed_in xs ++ o
 owed_in-append xs ys = ap (filter_map owed_of) (filter_map-append reply_in xs ys) ∙ filter_map-append owed_of (filter_map reply_in xs) (filter_map reply_in ys)
 
 -- what each message has in common with what was owed
-module _ {X : Type 0} (brief : Brief) (role : ℕ) (of_message : Handed → X) (of_owed : Owed → X) (same : (owed : Owed) (answer : Answer) → of_message (message_of brief role owed answer) ≡ of_owed owed) where
+module _ {X : Type 0} (brief : BriefValue) (role : ℕ) (of_message : Handed → X) (of_owed : Owed → X) (same : (owed : Owed) (answer : Answer) → of_message (message_of brief role owed answer) ≡ of_owed owed) where
   step_owed : (step : Step) → goes_on step ≡ true → map of_message (filter_map message_in (events_of brief role step)) ≡ map of_owed (owed_in (events_of brief role step))
   step_owed (rests round) goes = refl
   step_owed (hands_over round owed answer reply) goes =

@@ -7,9 +7,9 @@ use Rattle.desk_calls.specs.declared.answer.Answer.TheVariants.{Text, Silent, Br
 use Rattle.desk_calls.specs.declared.call.Call.{Call}
 use Rattle.desk_calls.specs.declared.call.Call.TheVariants.{Next}
 use Rattle.desk_calls.specs.declared.call.Reply.{Reply}
-use Rattle.match_messages.specs.declared.brief.Brief.{Brief}
+use Rattle.match_messages.specs.BriefValue.{BriefValue}
 use Rattle.role_workers.specs.declared.attend_fault.AttendFault.{AttendFault}
-use Rattle.role_workers.specs.Handing.{Handed}
+use Rattle.match_messages.specs.Handing.{Handed}
 use Rattle.role_workers.specs.Events.{Event, makes, takes, call_in, reply_in, telling, Tells}
 use Rattle.role_workers.specs.Steps.{answer_call, Step, rests, hands_over, finds_the_end, finds_no_due, events_of, fault_after}
 use Rattle.role_workers.specs.Attending.{events_of_all, StopsAmid, at_the_last, at_a_call, for_memory, StopsAfter, out_of_tries, in_a_step}
@@ -20,7 +20,7 @@ pub all_front : {X : Type 0} (P : X → Type 0) (xs ys : List X) → All P (xs +
 all_front P [] ys all = All-nil P
 all_front P (x ∷ xs) ys all = All-cons P x xs (All-head P x (xs ++ ys) all) (all_front P xs ys (All-tail P x (xs ++ ys) all))
 
-module _ (brief : Brief) (role : ℕ) where
+module _ (brief : BriefValue) (role : ℕ) where
   abbrev AreRoleEvents : List Event → Type 0
   AreRoleEvents events = All (IsRoleCall brief.id role) (filter_map call_in events)
 

@@ -4,18 +4,15 @@ use Rattle.std.specs.Prelude.{slice_get, Contains, All}
 use Rattle.std.proofs.lemmas.List.{length-map}
 use Rattle.std.proofs.lemmas.List.Elements.{All-push, Contains-append_left}
 use Rattle.std.proofs.lemmas.Option.{slice_get-map, slice_get_within, slice_get-get_or, get_or_from_slice_get}
-use Rattle.call_history.specs.declared.object.Object.{Ghosts}
 use Rattle.call_history.specs.declared.port.Port.{Port}
-use Rattle.call_history.specs.declared.ring_line.RingLine.{RingLine}
-use Rattle.call_history.specs.declared.ring_line.LineEnd.{LineEnd}
 use Rattle.call_history.specs.declared.wire.Wire as Wire
-use Rattle.call_history.specs.RingLines.{posted_calls, taken_replies, SameLine, SamePorts, IsLineOf, AreEndsOf, IsNewLine}
+use Rattle.call_history.specs.RingLines.{LineValue, posted_calls, taken_replies, SameLine, SamePorts, IsLineOf, AreEndsOf, IsNewLine}
 use Rattle.call_history.specs.RingLaws.{LinesStay, NewLinesAreLines}
 use Rattle.desk_calls.specs.declared.call.Call.{Call}
 use Rattle.desk_calls.specs.declared.call.Reply.{Reply}
-use Rattle.match_messages.specs.declared.brief.Brief.{Brief}
+use Rattle.match_messages.specs.BriefValue.{BriefValue}
 use Rattle.role_workers.specs.declared.attend_fault.AttendFault.{AttendFault}
-use Rattle.role_workers.specs.declared.player.Player as Player
+use Rattle.match_messages.specs.declared.player.Player as Player
 use Rattle.role_workers.specs.declared.seat.Attended.{Attended}
 use Rattle.role_workers.specs.declared.seat.Seat.{Seat}
 use Rattle.role_workers.specs.RoleLines.{line_of}
@@ -36,26 +33,26 @@ same_at xs k x y one other = sym (get_or_from_slice_get xs k x x one) ∙ get_or
 pub contains_at : {X : Type 0} (xs : List X) (k : ℕ) (x : X) → slice_get xs k ≡ Some x → Contains xs x
 contains_at xs k x is = (k, slice_get_within xs k x is, get_or_from_slice_get xs k x x is)
 
-module _ {O : Type 0} {G : Ghosts O Call Reply} {P W : Type 0} (w : Wire.Ghosts W Call Reply) (p : Player.Ghosts P) (wires : List W) (line_in : W → RingLine O Call Reply G)
+module _ {P W : Type 0} (w : Wire.Ghosts W Call Reply) (p : Player.Ghosts P) (wires : List W) (line_in : W → LineValue Call Reply)
     (calls : (x : W) → w.calls x ≡ Some (posted_calls (line_in x)))
     (replies : (x : W) → w.replies x ≡ Some (taken_replies (line_in x)))
     (on_line : (x y : W) → w.same_line x y → SameLine (line_in x) (line_in y))
-    (brief : Brief) (tries : ℕ) (players : List P)
+    (brief : BriefValue) (tries : ℕ) (players : List P)
     (seats : List (Seat P W)) (attended : List (Attended P W))
-    (others : List (RingLine O Call Reply G)) (lines : List (LineEnd O Call Reply G))
+    (others : List (LineValue Call Reply)) (lines : List (LineValue Call Reply))
     (seated : AreSeatsOf brief players wires seats) (left : AreLeftBy w p tries seats attended)
     (on : map line_in wires ≡ others)
     (finished : AreFinishedOf (map (λ (a : Attended P W). line_in a.wire) attended) lines)
     (ports : List (Port Call Reply)) (new : AreSeatLines ports others) where
   -- a worker's wire, and the end of its line
-  record IsKept (k : ℕ) (end : LineEnd O Call Reply G) (a : Attended P W) : Type 0 where
+  record IsKept (k : ℕ) (end : LineValue Call Reply) (a : Attended P W) : Type 0 where
     pub wire : W
     pub is_wire : slice_get wires k ≡ Some wire
     pub is_new : IsNewLine ports (line_of k) (line_in wire)
     pub line : SameLine (line_in wire) (line_in a.wire)
     pub of_line : IsFinishedOf (line_in a.wire) end
 
-  kept_at : (k : ℕ) (end : LineEnd O Call Reply G) (a : Attended P W) → slice_get lines k ≡ Some end → slice_get attended k ≡ Some a → IsKept k end a
+  kept_at : (k : ℕ) (end : LineValue Call Reply) (a : Attended P W) → slice_get lines k ≡ Some end → slice_get attended k ≡ Some a → IsKept k end a
   kept_at k end a at is =
       let here = left k a is in
       let sits = seated k here.seat here.is_seat in
@@ -76,29 +73,29 @@ module _ {O : Type 0} {G : Ghosts O Call Reply} {P W : Type 0} (w : Wire.Ghosts 
   line_count : length lines ≡ length attended
   line_count = finished.one_each ∙ length-map attended (λ (a : Attended P W). line_in a.wire)
 
-  worker_at : (k : ℕ) (end : LineEnd O Call Reply G) → slice_get lines k ≡ Some end → (a : Attended P W) × (slice_get attended k ≡ Some a)
+  worker_at : (k : ℕ) (end : LineValue Call Reply) → slice_get lines k ≡ Some end → (a : Attended P W) × (slice_get attended k ≡ Some a)
   worker_at k end at = place_of attended k (omega (arith, slice_get_within lines k end at, line_count))
 
-  same_line_trans : (a b c : RingLine O Call Reply G) → SameLine a b → SameLine b c → SameLine a c
+  same_line_trans : (a b c : LineValue Call Reply) → SameLine a b → SameLine b c → SameLine a c
   same_line_trans a b c one other = search rules
 
   -- each line is one of the desk
-  pub desk_line : LinesStay G → NewLinesAreLines G → (ports' : List (Port Call Reply)) → SamePorts ports ports' → length ports ≡ length others + 1 → (k : ℕ) (end : LineEnd O Call Reply G) → slice_get lines k ≡ Some end → IsLineOf ports' end.line
+  pub desk_line : LinesStay Call Reply → NewLinesAreLines Call Reply → (ports' : List (Port Call Reply)) → SamePorts ports ports' → length ports ≡ length others + 1 → (k : ℕ) (end : LineValue Call Reply) → slice_get lines k ≡ Some end → IsLineOf ports' end
   desk_line stay are_lines ports' same count k end at =
       let worker = worker_at k end at in
       let kept = kept_at k end worker.0 at worker.1 in
       let within = slice_get_within wires k kept.wire kept.is_wire in
       let below : line_of k < length ports = omega (arith, within, count, ap length on, length-map wires line_in) in
-      stay ports ports' (line_in kept.wire) end.line same (same_line_trans (line_in kept.wire) (line_in worker.0.wire) end.line kept.line kept.of_line.same)
+      stay ports ports' (line_in kept.wire) end same (same_line_trans (line_in kept.wire) (line_in worker.0.wire) end kept.line kept.of_line.same)
       (are_lines ports (line_of k) (line_in kept.wire) below kept.is_new)
 
-  pub desk_ends : LinesStay G → NewLinesAreLines G → (ports' : List (Port Call Reply)) → SamePorts ports ports' → length ports ≡ length others + 1 → AreEndsOf ports' lines
+  pub desk_ends : LinesStay Call Reply → NewLinesAreLines Call Reply → (ports' : List (Port Call Reply)) → SamePorts ports ports' → length ports ≡ length others + 1 → AreEndsOf ports' lines
   desk_ends stay are_lines ports' same count k end within = desk_line stay are_lines ports' same count k (get_or lines k end) (slice_get-get_or lines k end within)
 
   -- each end of a worker is shown with its line
-  left_line : (players_left : List P) → players_left ≡ map (λ (a : Attended P W). a.player) attended → (all : List (LineEnd O Call Reply G)) → ((end : LineEnd O Call Reply G) → Contains lines end → Contains all end) → (role : ℕ) (end : Result ℕ AttendFault)
+  left_line : (players_left : List P) → players_left ≡ map (λ (a : Attended P W). a.player) attended → (all : List (LineValue Call Reply)) → ((end : LineValue Call Reply) → Contains lines end → Contains all end) → (role : ℕ) (end : Result ℕ AttendFault)
       → slice_get (map (λ (a : Attended P W). a.end) attended) role ≡ Some end
-      → (line : LineEnd O Call Reply G) × Contains all line × IsLeftLine p.handed brief tries players players_left role line end
+      → (line : LineValue Call Reply) × Contains all line × IsLeftLine p.handed brief tries players players_left role line end
   left_line players_left come all among role end is =
       let found = map_at (λ (a : Attended P W). a.end) attended role end is in
       let a = found.0 in
@@ -110,7 +107,7 @@ module _ {O : Type 0} {G : Ghosts O Call Reply} {P W : Type 0} (w : Wire.Ghosts 
       let wire : seat.wire ≡ kept.wire = same_at wires role seat.wire kept.wire sits.wire_is kept.is_wire in
       let before : w.calls seat.wire ≡ Some [] = ap (λ x. w.calls x) wire ∙ calls kept.wire ∙ ap Some kept.is_new.posted in
       let untaken : w.replies seat.wire ≡ Some [] = ap (λ x. w.replies x) wire ∙ replies kept.wire ∙ ap Some kept.is_new.taken in
-      let after : w.calls a.wire ≡ Some (posted_calls at.0.line) = calls a.wire ∙ ap Some (sym kept.of_line.posted) in (
+      let after : w.calls a.wire ≡ Some (posted_calls at.0) = calls a.wire ∙ ap Some (sym kept.of_line.posted) in (
         at.0,
         among at.0 (contains_at lines role at.0 at.1),
         record {
@@ -127,18 +124,18 @@ module _ {O : Type 0} {G : Ghosts O Call Reply} {P W : Type 0} (w : Wire.Ghosts 
       )
 
   -- a worker's line has the number of a role that was attended
-  line_within : (k : ℕ) (end : LineEnd O Call Reply G) → slice_get lines k ≡ Some end → end.line.number ≤ length attended
+  line_within : (k : ℕ) (end : LineValue Call Reply) → slice_get lines k ≡ Some end → end.number ≤ length attended
   line_within k end at =
       let worker = worker_at k end at in
       let kept = kept_at k end worker.0 at worker.1 in
-      let number : end.line.number ≡ line_of k = kept.of_line.same.0 ∙ kept.line.0 ∙ kept.is_new.number_is in
+      let number : end.number ≡ line_of k = kept.of_line.same.0 ∙ kept.line.0 ∙ kept.is_new.number_is in
       omega (arith, number, slice_get_within lines k end at, line_count)
 
-  pub left_lines : (players_left : List P) → players_left ≡ map (λ (a : Attended P W). a.player) attended → (all : List (LineEnd O Call Reply G)) (last : LineEnd O Call Reply G) → all ≡ lines ++ last ∷ [] → last.line.number ≡ 0 → (ends : List (Result ℕ AttendFault))
+  pub left_lines : (players_left : List P) → players_left ≡ map (λ (a : Attended P W). a.player) attended → (all : List (LineValue Call Reply)) (last : LineValue Call Reply) → all ≡ lines ++ last ∷ [] → last.number ≡ 0 → (ends : List (Result ℕ AttendFault))
       → ends ≡ map (λ (a : Attended P W). a.end) attended → AreLeftLines p.handed brief tries players players_left all ends
   left_lines players_left come all last more zeroth ends is =
       let as_many : length ends ≡ length attended = ap length is ∙ length-map attended (λ (a : Attended P W). a.end) in
-      let Within : LineEnd O Call Reply G → Type 0 = λ e. e.line.number ≤ length ends in
+      let Within : LineValue Call Reply → Type 0 = λ e. e.number ≤ length ends in
       record {
         one_each = ap length come ∙ length-map attended (λ (a : Attended P W). a.player) ∙ sym as_many;
         each = λ role end at. left_line players_left come all (λ e among. subst (λ es. Contains es e) (sym more) (Contains-append_left lines (last ∷ []) e among)) role end (subst (λ es. slice_get es role ≡ Some end) is at);

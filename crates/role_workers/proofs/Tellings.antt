@@ -5,7 +5,7 @@ use Rattle.std.proofs.lemmas.List.Elements.{filter_map-append}
 use Rattle.call_history.specs.Told.{told_with}
 use Rattle.desk_calls.specs.declared.call.Call.{Call}
 use Rattle.desk_calls.specs.declared.call.Reply.{Reply}
-use Rattle.role_workers.specs.Handing.{Handed, MayKeep}
+use Rattle.match_messages.specs.Handing.{Handed, MayKeep}
 use Rattle.role_workers.specs.Events.{Event, call_in, reply_in, message_in, Telling, telling, Tells}
 
 pub told_with-nil : {A : Type 0} (told : Option (List A)) → told ≡ told_with told []

@@ -13,10 +13,10 @@ use Rattle.desk_calls.specs.declared.call.Call.{Call}
 use Rattle.desk_calls.specs.declared.call.Call.TheVariants.{Next}
 use Rattle.desk_calls.specs.declared.call.Reply.{Reply}
 use Rattle.desk_calls.specs.declared.call.Reply.TheVariants.{Due as IsDue}
-use Rattle.match_messages.specs.declared.brief.Brief.{Brief}
+use Rattle.match_messages.specs.BriefValue.{BriefValue}
 use Rattle.role_workers.specs.declared.attend_fault.AttendFault.{AttendFault}
 use Rattle.role_workers.specs.declared.attend_fault.AttendFault.TheVariants.{Stalled}
-use Rattle.role_workers.specs.Handing.{Handed}
+use Rattle.match_messages.specs.Handing.{Handed}
 use Rattle.role_workers.specs.Events.{Event, makes, takes, message_in, Telling, telling, Tells}
 use Rattle.role_workers.specs.AttendFaults.{next_fault, answer_fault}
 use Rattle.role_workers.specs.Steps.{asking, handing_over, Step, rests, hands_over, finds_the_end, finds_no_due, events_of, goes_on, fault_after}
@@ -25,22 +25,22 @@ use Rattle.role_workers.proofs.Tellings.{tells-nil, told_after, kept_all}
 use Rattle.role_workers.proofs.CallStops.{stops_in_call, told_reply}
 
 -- the worker still goes on after this many tries, and has handed this many messages over
-pub record Goes (brief : Brief) (role : ℕ) (tried : ℕ) (before now : Telling) (messages : ℕ) : Type 0 where
+pub record Goes (brief : BriefValue) (role : ℕ) (tried : ℕ) (before now : Telling) (messages : ℕ) : Type 0 where
   pub steps : List Step
   pub go_on : All (λ step. goes_on step ≡ true) steps
   pub tries : length steps ≡ tried
   pub told : Tells before now (events_of_all brief role steps)
   pub count : messages ≡ length (filter_map message_in (events_of_all brief role steps))
 
-pub goes-start : (brief : Brief) (role : ℕ) (before : Telling) → Goes brief role 0 before before 0
+pub goes-start : (brief : BriefValue) (role : ℕ) (before : Telling) → Goes brief role 0 before before 0
 goes-start brief role before = record { steps = []; go_on = grind (arith, common_steps); tries = refl; told = tells-nil before; count = refl }
 
-pub events_of_all-push : (brief : Brief) (role : ℕ) (steps : List Step) (last : Step) → events_of_all brief role (steps ++ last ∷ []) ≡ events_of_all brief role steps ++ events_of brief role last
+pub events_of_all-push : (brief : BriefValue) (role : ℕ) (steps : List Step) (last : Step) → events_of_all brief role (steps ++ last ∷ []) ≡ events_of_all brief role steps ++ events_of brief role last
 events_of_all-push brief role steps last =
     flat_map-append (events_of brief role) steps (last ∷ []) ∙ ap (λ events. events_of_all brief role steps ++ events) (append-nil (events_of brief role last))
 
 -- one more step is shown
-told_step : (brief : Brief) (role : ℕ) (before now next : Telling) (steps : List Step) (last : Step) → Tells before now (events_of_all brief role steps) → Tells now next (events_of brief role last)
+told_step : (brief : BriefValue) (role : ℕ) (before now next : Telling) (steps : List Step) (last : Step) → Tells before now (events_of_all brief role steps) → Tells now next (events_of brief role last)
     → Tells before next (events_of_all brief role (steps ++ last ∷ []))
 told_step brief role before now next steps last told more =
     subst (Tells before next) (sym (events_of_all-push brief role steps last)) (told_after before now next (events_of_all brief role steps) (events_of brief role last) told more)
@@ -48,7 +48,7 @@ told_step brief role before now next steps last told more =
 messages_in-append : (xs ys : List Event) → length (filter_map message_in (xs ++ ys)) ≡ length (filter_map message_in xs) + length (filter_map message_in ys)
 messages_in-append xs ys = ap length (filter_map-append message_in xs ys) ∙ length-append (filter_map message_in xs) (filter_map message_in ys)
 
-goes-more : (brief : Brief) (role tried : ℕ) (before now next : Telling) (messages more : ℕ) (last : Step) → Goes brief role tried before now messages → goes_on last ≡ true → Tells now next (events_of brief role last)
+goes-more : (brief : BriefValue) (role tried : ℕ) (before now next : Telling) (messages more : ℕ) (last : Step) → Goes brief role tried before now messages → goes_on last ≡ true → Tells now next (events_of brief role last)
     → more ≡ messages + length (filter_map message_in (events_of brief role last)) → Goes brief role (tried + 1) before next more
 goes-more brief role tried before now next messages more last goes on told count = record {
   steps = goes.steps ++ last ∷ [];
@@ -61,12 +61,12 @@ goes-more brief role tried before now next messages more last goes on told count
 }
 
 -- what is shown once the worker has asked what is due
-told_due : (brief : Brief) (role : ℕ) (due due' : Due) (cs cs' : Option (List Call)) (rs rs' : Option (List Reply)) (ms : Option (List Handed))
+told_due : (brief : BriefValue) (role : ℕ) (due due' : Due) (cs cs' : Option (List Call)) (rs rs' : Option (List Reply)) (ms : Option (List Handed))
     → due ≡ due' → cs' ≡ told_with cs (Next brief.id role ∷ []) → rs' ≡ told_with rs (IsDue due ∷ []) → Tells (telling cs rs ms) (telling cs' rs' ms) (asking brief role (IsDue due'))
 told_due brief role due due' cs cs' rs rs' ms is c r = told_reply (Next brief.id role) (IsDue due') cs cs' rs rs' ms c (r ∙ ap (λ x. told_with rs (IsDue x ∷ [])) is)
 
 -- the player rested
-pub goes-rests : (brief : Brief) (role tried round : ℕ) (due : Due) (before : Telling) (cs cs' : Option (List Call)) (rs rs' : Option (List Reply)) (ms ms' : Option (List Handed)) (messages : ℕ)
+pub goes-rests : (brief : BriefValue) (role tried round : ℕ) (due : Due) (before : Telling) (cs cs' : Option (List Call)) (rs rs' : Option (List Reply)) (ms ms' : Option (List Handed)) (messages : ℕ)
     → Goes brief role tried before (telling cs rs ms) messages → due ≡ Hold round → cs' ≡ told_with cs (Next brief.id role ∷ []) → rs' ≡ told_with rs (IsDue due ∷ []) → ms' ≡ ms
     → Goes brief role (tried + 1) before (telling cs' rs' ms') messages
 goes-rests brief role tried round due before cs cs' rs rs' ms ms' messages goes is c r m =
@@ -74,7 +74,7 @@ goes-rests brief role tried round due before cs cs' rs rs' ms ms' messages goes 
     (subst (λ x. Tells (telling cs rs ms) (telling cs' rs' x) (asking brief role (IsDue (Hold round)))) (sym m) (told_due brief role due (Hold round) cs cs' rs rs' ms is c r)) (omega arith)
 
 -- a message was handed over
-pub goes-hands_over : (brief : Brief) (role tried round : ℕ) (owed : Owed) (due : Due) (before : Telling) (cs cs' : Option (List Call)) (rs rs' : Option (List Reply)) (ms : Option (List Handed)) (next : Telling) (messages : ℕ)
+pub goes-hands_over : (brief : BriefValue) (role tried round : ℕ) (owed : Owed) (due : Due) (before : Telling) (cs cs' : Option (List Call)) (rs rs' : Option (List Reply)) (ms : Option (List Handed)) (next : Telling) (messages : ℕ)
     → Goes brief role tried before (telling cs rs ms) messages → due ≡ Owe round owed → cs' ≡ told_with cs (Next brief.id role ∷ []) → rs' ≡ told_with rs (IsDue due ∷ [])
     → ((answer : Answer) × (reply : Reply) × (answer_fault reply ≡ None) × Tells (telling cs' rs' ms) next (handing_over brief role round owed answer reply))
     → Goes brief role (tried + 1) before next (messages + 1)
@@ -85,7 +85,7 @@ goes-hands_over brief role tried round owed due before cs cs' rs rs' ms next mes
     refl
 
 -- the match is over
-pub attends-over : (brief : Brief) (role tried tries : ℕ) (due : Due) (before : Telling) (cs cs' : Option (List Call)) (rs rs' : Option (List Reply)) (ms : Option (List Handed)) (messages : ℕ)
+pub attends-over : (brief : BriefValue) (role tried tries : ℕ) (due : Due) (before : Telling) (cs cs' : Option (List Call)) (rs rs' : Option (List Reply)) (ms : Option (List Handed)) (messages : ℕ)
     → Goes brief role tried before (telling cs rs ms) messages → tried < tries → due ≡ Over → cs' ≡ told_with cs (Next brief.id role ∷ []) → rs' ≡ told_with rs (IsDue due ∷ [])
     → Attends brief role tries before (telling cs' rs' ms) messages
 attends-over brief role tried tries due before cs cs' rs rs' ms messages goes within is c r = record {
@@ -97,7 +97,7 @@ attends-over brief role tried tries due before cs cs' rs rs' ms messages goes wi
 }
 
 -- the worker stops in a step
-pub stops-in : (brief : Brief) (role tried tries : ℕ) (before now next : Telling) (messages : ℕ) (step : Step) (fault : AttendFault) (events : List Event) → Goes brief role tried before now messages → tried < tries
+pub stops-in : (brief : BriefValue) (role tried tries : ℕ) (before now next : Telling) (messages : ℕ) (step : Step) (fault : AttendFault) (events : List Event) → Goes brief role tried before now messages → tried < tries
     → StopsAmid (events_of brief role step) (fault_after step) fault events → Tells now next events → StopsEarly brief role tries before next fault
 stops-in brief role tried tries before now next messages step fault events goes within stops told = record {
   steps = goes.steps;
@@ -108,7 +108,7 @@ stops-in brief role tried tries before now next messages step fault events goes 
 }
 
 -- its tries are used up
-pub stops-out_of_tries : (brief : Brief) (role tried tries : ℕ) (before now : Telling) (messages : ℕ) → Goes brief role tried before now messages → tried ≡ tries → StopsEarly brief role tries before now Stalled
+pub stops-out_of_tries : (brief : BriefValue) (role tried tries : ℕ) (before now : Telling) (messages : ℕ) → Goes brief role tried before now messages → tried ≡ tries → StopsEarly brief role tries before now Stalled
 stops-out_of_tries brief role tried tries before now messages goes used = record {
   steps = goes.steps;
   go_on = goes.go_on;
@@ -127,14 +127,14 @@ stops_behind front whole last_fault fault events (for_memory next others is part
     for_memory next others is (append_assoc front events (next ∷ others) ∙ ap (λ xs. front ++ xs) part)
 
 -- the worker stops as it asks what is due
-pub stops-asking : (brief : Brief) (role tried tries : ℕ) (before : Telling) (cs cs' : Option (List Call)) (rs rs' : Option (List Reply)) (ms : Option (List Handed)) (messages : ℕ) (fault : AttendFault)
+pub stops-asking : (brief : BriefValue) (role tried tries : ℕ) (before : Telling) (cs cs' : Option (List Call)) (rs rs' : Option (List Reply)) (ms : Option (List Handed)) (messages : ℕ) (fault : AttendFault)
     → Goes brief role tried before (telling cs rs ms) messages → tried < tries → CallStops (Next brief.id role) next_fault fault cs cs' rs rs' → StopsEarly brief role tries before (telling cs' rs' ms) fault
 stops-asking brief role tried tries before cs cs' rs rs' ms messages fault goes within stops =
     let s = stops_in_call (Next brief.id role) next_fault fault cs cs' rs rs' ms [] (telling cs rs ms) (tells-nil (telling cs rs ms)) stops in
     stops-in brief role tried tries before (telling cs rs ms) (telling cs' rs' ms) messages (finds_no_due s.reply) fault s.events goes within s.stops s.told
 
 -- the worker stops as it hands a message over
-pub stops-handing : (brief : Brief) (role tried tries round : ℕ) (owed : Owed) (due : Due) (before : Telling) (cs cs' : Option (List Call)) (rs rs' : Option (List Reply)) (ms : Option (List Handed)) (next : Telling) (messages : ℕ) (fault : AttendFault)
+pub stops-handing : (brief : BriefValue) (role tried tries round : ℕ) (owed : Owed) (due : Due) (before : Telling) (cs cs' : Option (List Call)) (rs rs' : Option (List Reply)) (ms : Option (List Handed)) (next : Telling) (messages : ℕ) (fault : AttendFault)
     → Goes brief role tried before (telling cs rs ms) messages → tried < tries → due ≡ Owe round owed → cs' ≡ told_with cs (Next brief.id role ∷ []) → rs' ≡ told_with rs (IsDue due ∷ [])
     → ((answer : Answer) × (reply : Reply) × (events : List Event) × StopsAmid (handing_over brief role round owed answer reply) (answer_fault reply) fault events
     × Tells (telling cs' rs' ms) next events)

@@ -3,20 +3,20 @@ use Rattle.std.specs.Prelude.{ℕ, Result, Ok, Err}
 use Rattle.call_history.specs.declared.wire.Wire as Wire
 use Rattle.desk_calls.specs.declared.call.Call.{Call}
 use Rattle.desk_calls.specs.declared.call.Reply.{Reply}
-use Rattle.match_messages.specs.declared.brief.Brief.{Brief}
+use Rattle.match_messages.specs.BriefValue.{BriefValue}
 use Rattle.role_workers.specs.declared.attend_fault.AttendFault.{AttendFault}
-use Rattle.role_workers.specs.declared.player.Player as Player
+use Rattle.match_messages.specs.declared.player.Player as Player
 use Rattle.role_workers.specs.Events.{Telling, telling}
 use Rattle.role_workers.specs.Attending.{Attends, StopsEarly}
 
 -- with the end of the match, after this many messages, or with a fault
-abbrev pub HasEnded : Brief → ℕ → ℕ → Telling → Telling → Result ℕ AttendFault → Type 0
+abbrev pub HasEnded : BriefValue → ℕ → ℕ → Telling → Telling → Result ℕ AttendFault → Type 0
 HasEnded brief role tries before after (Ok messages) = Attends brief role tries before after messages
 HasEnded brief role tries before after (Err fault) = StopsEarly brief role tries before after fault
 
 -- The role was attended with this player over this wire, and this was its end: the wire stands for the same line as before, and wire
 -- and player show the events of attending.
-pub record IsAttended {P W : Type 0} (w : Wire.Ghosts W Call Reply) (p : Player.Ghosts P) (brief : Brief) (role tries : ℕ) (player player' : P) (wire wire' : W) (end : Result ℕ AttendFault) : Type 0 where
+pub record IsAttended {P W : Type 0} (w : Wire.Ghosts W Call Reply) (p : Player.Ghosts P) (brief : BriefValue) (role tries : ℕ) (player player' : P) (wire wire' : W) (end : Result ℕ AttendFault) : Type 0 where
   pub line : w.same_line wire wire'
   pub ended : HasEnded brief role tries
       (telling (w.calls wire) (w.replies wire) (p.handed player))

@@ -5,21 +5,21 @@ use Rattle.call_history.specs.Told.{told_with}
 use Rattle.call_history.specs.declared.wire.AskFault.{AskFault}
 use Rattle.desk_calls.specs.declared.call.Call.{Call}
 use Rattle.desk_calls.specs.declared.call.Reply.{Reply}
-use Rattle.match_messages.specs.declared.brief.Brief.{Brief}
+use Rattle.match_messages.specs.BriefValue.{BriefValue}
 use Rattle.role_workers.specs.declared.attend_fault.AttendFault.{AttendFault}
 use Rattle.role_workers.specs.declared.attend_fault.AttendFault.TheVariants.{Stalled, Memory}
-use Rattle.role_workers.specs.Handing.{Handed}
+use Rattle.match_messages.specs.Handing.{Handed}
 use Rattle.role_workers.specs.Events.{Event, makes, takes, message_in, Telling, Tells}
 use Rattle.role_workers.specs.AttendFaults.{attend_fault}
 use Rattle.role_workers.specs.Steps.{Step, finds_the_end, events_of, goes_on, fault_after}
 
 -- the events of these steps, one after another
-abbrev pub events_of_all : Brief → ℕ → List Step → List Event
+abbrev pub events_of_all : BriefValue → ℕ → List Step → List Event
 events_of_all brief role steps = flat_map (events_of brief role) steps
 
 -- The worker attended the role to the end of the match, in at most this many tries: some steps after which it goes on, and the step
 -- that finds the end. It handed over this many messages.
-pub record Attends (brief : Brief) (role tries : ℕ) (before after : Telling) (messages : ℕ) : Type 0 where
+pub record Attends (brief : BriefValue) (role tries : ℕ) (before after : Telling) (messages : ℕ) : Type 0 where
   pub steps : List Step
   pub go_on : All (λ step. goes_on step ≡ true) steps
   pub within : length steps < tries
@@ -28,7 +28,7 @@ pub record Attends (brief : Brief) (role tries : ℕ) (before after : Telling) (
 
 -- what a player that shows its messages shows: as many more as were counted
 abbrev pub MessagesAreCounted : Type 0
-MessagesAreCounted = (brief : Brief) (role tries : ℕ) (before after : Telling) (messages : ℕ) (old new : List Handed)
+MessagesAreCounted = (brief : BriefValue) (role tries : ℕ) (before after : Telling) (messages : ℕ) (old new : List Handed)
     → Attends brief role tries before after messages → before.messages ≡ Some old → after.messages ≡ Some new → length new ≡ length old + messages
 
 -- The events that happened, among these, when the worker stopped at a fault.
@@ -43,7 +43,7 @@ pub data StopsAmid (whole : List Event) (last_fault : Option AttendFault) (fault
   for_memory : (next : Event) (others : List Event) → fault ≡ Memory → events ++ next ∷ others ≡ whole → StopsAmid whole last_fault fault events
 
 -- Why the worker stopped after these steps, with these events of a further one.
-pub data StopsAfter (brief : Brief) (role tries : ℕ) (steps : List Step) (fault : AttendFault) (events : List Event) : Type 0 where
+pub data StopsAfter (brief : BriefValue) (role tries : ℕ) (steps : List Step) (fault : AttendFault) (events : List Event) : Type 0 where
   -- its tries are used up
   out_of_tries : length steps ≡ tries → fault ≡ Stalled → events ≡ [] → StopsAfter brief role tries steps fault events
   -- a step, whose end may be missing
@@ -51,7 +51,7 @@ pub data StopsAfter (brief : Brief) (role tries : ℕ) (steps : List Step) (faul
       → StopsAfter brief role tries steps fault events
 
 -- The worker stopped early: some whole steps after which it goes on, and a part of one more step, or none.
-pub record StopsEarly (brief : Brief) (role tries : ℕ) (before after : Telling) (fault : AttendFault) : Type 0 where
+pub record StopsEarly (brief : BriefValue) (role tries : ℕ) (before after : Telling) (fault : AttendFault) : Type 0 where
   pub steps : List Step
   pub go_on : All (λ step. goes_on step ≡ true) steps
   pub events : List Event

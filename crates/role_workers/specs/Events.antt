@@ -4,7 +4,7 @@ use Rattle.std.specs.List.{filter_map}
 use Rattle.call_history.specs.Told.{told_with}
 use Rattle.desk_calls.specs.declared.call.Call.{Call}
 use Rattle.desk_calls.specs.declared.call.Reply.{Reply}
-use Rattle.role_workers.specs.Handing.{Handed, MayKeep}
+use Rattle.match_messages.specs.Handing.{Handed, MayKeep}
 
 -- the worker makes a call over the wire, takes a reply, or hands a message to the player, who answers it
 pub data Event : Type 0 where

@@ -5,26 +5,26 @@ use Rattle.desk_calls.specs.declared.due.Due.TheVariants.{Over}
 use Rattle.desk_calls.specs.declared.call.Call.{Call}
 use Rattle.desk_calls.specs.declared.call.Reply.{Reply}
 use Rattle.desk_calls.specs.declared.call.Reply.TheVariants.{Due}
-use Rattle.match_messages.specs.declared.brief.Brief.{Brief}
+use Rattle.match_messages.specs.BriefValue.{BriefValue}
 use Rattle.role_workers.specs.declared.attend_fault.AttendFault.{AttendFault}
 use Rattle.match_messages.specs.MessageText.{message_text}
-use Rattle.role_workers.specs.Handing.{Handed, MayKeep, seconds_for}
+use Rattle.match_messages.specs.Handing.{Handed, MayKeep, seconds_for}
 use Rattle.role_workers.specs.Events.{telling}
 use Rattle.role_workers.specs.Attendances.{HasEnded}
 use Rattle.role_workers.specs.RoleCalls.{IsRoleCall, owed_of}
 
 -- a worker makes only calls of its role
 abbrev pub CallsAreOfTheRole : Type 0
-CallsAreOfTheRole = (brief : Brief) (role tries : ℕ) (calls : List Call) (replies replies' : Option (List Reply)) (handed handed' : Option (List Handed)) (end : Result ℕ AttendFault)
+CallsAreOfTheRole = (brief : BriefValue) (role tries : ℕ) (calls : List Call) (replies replies' : Option (List Reply)) (handed handed' : Option (List Handed)) (end : Result ℕ AttendFault)
     → HasEnded brief role tries (telling (Some []) replies handed) (telling (Some calls) replies' handed') end → All (IsRoleCall brief.id role) calls
 
 -- one that found the end of its match took a reply to each of its calls
 abbrev pub CallsHaveReplies : Type 0
-CallsHaveReplies = (brief : Brief) (role tries : ℕ) (calls : List Call) (replies : List Reply) (handed handed' : Option (List Handed)) (end : Result ℕ AttendFault) → IsOk end
+CallsHaveReplies = (brief : BriefValue) (role tries : ℕ) (calls : List Call) (replies : List Reply) (handed handed' : Option (List Handed)) (end : Result ℕ AttendFault) → IsOk end
     → HasEnded brief role tries (telling (Some []) (Some []) handed) (telling (Some calls) (Some replies) handed') end → length replies ≡ length calls
 
 -- The messages that a worker handed over until it found the end, when these replies came.
-pub record AreHandedOver (brief : Brief) (role count : ℕ) (replies : List Reply) (handed handed' : Option (List Handed)) : Type 0 where
+pub record AreHandedOver (brief : BriefValue) (role count : ℕ) (replies : List Reply) (handed handed' : Option (List Handed)) : Type 0 where
   -- the last reply is that the match is over
   pub front : List Reply
   pub last : replies ≡ front ++ Due Over ∷ []
@@ -38,6 +38,6 @@ pub record AreHandedOver (brief : Brief) (role count : ℕ) (replies : List Repl
 
 -- a worker that found the end handed over each message that a reply owed, once and in their order
 abbrev pub OwedAreHandedOver : Type 0
-OwedAreHandedOver = (brief : Brief) (role tries count : ℕ) (calls calls' : Option (List Call)) (replies : List Reply) (handed handed' : Option (List Handed))
+OwedAreHandedOver = (brief : BriefValue) (role tries count : ℕ) (calls calls' : Option (List Call)) (replies : List Reply) (handed handed' : Option (List Handed))
     → HasEnded brief role tries (telling calls (Some []) handed) (telling calls' (Some replies) handed') (Ok count)
     → AreHandedOver brief role count replies handed handed'

@@ -1,5 +1,4 @@
 pub mod Places
-pub mod Handing
 pub mod Events
 pub mod AttendFaults
 pub mod Steps

@@ -3,34 +3,34 @@ use Rattle.std.specs.Prelude.{◌≡◌, ℕ, List, Some, slice_get}
 use Rattle.call_history.specs.declared.wire.Wire as Wire
 use Rattle.desk_calls.specs.declared.call.Call.{Call}
 use Rattle.desk_calls.specs.declared.call.Reply.{Reply}
-use Rattle.match_messages.specs.declared.brief.Brief.{Brief}
-use Rattle.role_workers.specs.declared.player.Player as Player
+use Rattle.match_messages.specs.BriefValue.{BriefValue}
+use Rattle.match_messages.specs.declared.player.Player as Player
 use Rattle.role_workers.specs.Attendances.{IsAttended}
 use Rattle.role_workers.specs.Places.{EachAt}
 use Rattle.role_workers.specs.declared.seat.Seat.{Seat}
 use Rattle.role_workers.specs.declared.seat.Attended.{Attended}
 
 -- the seat of a role, with the player and the wire at its place
-pub record IsSeatOf {P W : Type 0} (brief : Brief) (players : List P) (wires : List W) (role : ℕ) (seat : Seat P W) : Type 0 where
+pub record IsSeatOf {P W : Type 0} (brief : BriefValue) (players : List P) (wires : List W) (role : ℕ) (seat : Seat P W) : Type 0 where
   pub brief_is : seat.brief.now ≡ brief
   pub role_is : seat.role ≡ role
   pub player_is : slice_get players role ≡ Some seat.player
   pub wire_is : slice_get wires role ≡ Some seat.wire
 
 -- seats of a match, in the order of the roles
-abbrev pub AreSeatsOf : {P W : Type 0} → Brief → List P → List W → List (Seat P W) → Type 0
+abbrev pub AreSeatsOf : {P W : Type 0} → BriefValue → List P → List W → List (Seat P W) → Type 0
 AreSeatsOf brief players wires seats = EachAt (IsSeatOf brief players wires) seats
 
 module _ {P W : Type 0} (w : Wire.Ghosts W Call Reply) (p : Player.Ghosts P) where
-  -- the result of attending a role with this player and over this wire
-  abbrev pub IsLeftBy : Brief → ℕ → ℕ → P → W → Attended P W → Type 0
-  IsLeftBy brief role tries player wire left = IsAttended w p brief role tries player left.player wire left.wire left.end
+  -- the result of attending this seat
+  abbrev pub IsLeftOf : ℕ → Seat P W → Attended P W → Type 0
+  IsLeftOf tries seat left = IsAttended w p seat.brief.now seat.role tries seat.player left.player seat.wire left.wire left.end
 
   -- it is the result of attending the seat at this place
   pub record IsLeftAt (tries : ℕ) (seats : List (Seat P W)) (k : ℕ) (left : Attended P W) : Type 0 where
     pub seat : Seat P W
     pub is_seat : slice_get seats k ≡ Some seat
-    pub left_by : IsLeftBy seat.brief.now seat.role tries seat.player seat.wire left
+    pub left_by : IsLeftOf tries seat left
 
   -- each is the result of attending the seat at its place
   abbrev pub AreLeftBy : ℕ → List (Seat P W) → List (Attended P W) → Type 0

@@ -8,10 +8,10 @@ use Rattle.desk_calls.specs.declared.call.Call.{Call}
 use Rattle.desk_calls.specs.declared.call.Call.TheVariants.{Next, Submit, Miss}
 use Rattle.desk_calls.specs.declared.call.Reply.{Reply}
 use Rattle.desk_calls.specs.declared.call.Reply.TheVariants.{Due}
-use Rattle.match_messages.specs.declared.brief.Brief.{Brief}
+use Rattle.match_messages.specs.BriefValue.{BriefValue}
 use Rattle.match_messages.specs.MessageText.{message_text}
 use Rattle.role_workers.specs.declared.attend_fault.AttendFault.{AttendFault}
-use Rattle.role_workers.specs.Handing.{seconds_for}
+use Rattle.match_messages.specs.Handing.{seconds_for}
 use Rattle.role_workers.specs.Events.{Event, makes, takes, hands}
 use Rattle.role_workers.specs.AttendFaults.{next_fault, answer_fault}
 
@@ -22,11 +22,11 @@ answer_call id role round Silent = Miss id role round false
 answer_call id role round Broken = Miss id role round true
 
 -- the worker asks what is due to the role, and this reply comes
-abbrev pub asking : Brief → ℕ → Reply → List Event
+abbrev pub asking : BriefValue → ℕ → Reply → List Event
 asking brief role reply = makes (Next brief.id role) ∷ takes reply ∷ []
 
 -- the owed message is handed over once, and one call brings the answer to the desk for that round and gets this reply
-abbrev pub handing_over : Brief → ℕ → ℕ → Owed → Answer → Reply → List Event
+abbrev pub handing_over : BriefValue → ℕ → ℕ → Owed → Answer → Reply → List Event
 handing_over brief role round owed answer reply =
     hands (record { seconds = seconds_for brief owed; body = message_text brief role owed; answer = answer })
     ∷ makes (answer_call brief.id role round answer) ∷ takes reply ∷ []
@@ -42,7 +42,7 @@ pub data Step : Type 0 where
   -- the reply does not say
   finds_no_due : (reply : Reply) → Step
 
-abbrev pub events_of : Brief → ℕ → Step → List Event
+abbrev pub events_of : BriefValue → ℕ → Step → List Event
 events_of brief role (rests round) = asking brief role (Due (Hold round))
 events_of brief role (hands_over round owed answer reply) = asking brief role (Due (Owe round owed)) ++ handing_over brief role round owed answer reply
 events_of brief role finds_the_end = asking brief role (Due Over)

@@ -22,7 +22,7 @@ pub enum AttendFault {
     #[error("the history is full")]
     Full,
     /// Out of memory.
-    #[error("want of memory")]
+    #[error("out of memory")]
     Memory,
 }
 

@@ -4,16 +4,15 @@ ghost use Rattle.call_history.specs.RingLines.{SamePorts, AreEndsOf, IsLineOf};
 ghost use Rattle.role_workers.specs.RoleLines.{AreSeatLines, HasFinished, AreLeftLines};
 
 use crate::attend_fault::AttendFault;
-use crate::finishing::{Finished, finish_all, finish_line};
+use crate::finishing::{finish_all, finish_line};
 use crate::holder::DeskHolder;
-use crate::player::Player;
-use crate::seats::{Attendance, attend_all, seat_players};
+use crate::seats::{attend_all, seat_players};
 use crate::served_wire::ServedWire;
 use crate::shared_desk::{DeskBrand, SharedDesk};
 use call_history::laws::{lines_stay, new_lines_are_lines};
 use call_history::{LineEnd, Object, RingDesk, RingLine};
 use desk_calls::{Call, Reply};
-use match_messages::SharedBrief;
+use match_messages::{Player, SharedBrief};
 use std::alloc::{AllocError, Global};
 use std::sync::Wait;
 use std::thread::Threads;
@@ -87,27 +86,21 @@ where
     } = plan;
     // The lists that are filled at the end get their room before the first thread starts.
     let count = others.len();
-    let room = Finished {
-        lines: Vec::with_capacity(alloc, count + 1)?,
-        ends: Vec::with_capacity(alloc, count)?,
-        players: Vec::with_capacity(alloc, count)?,
-    };
+    let mut lines = Vec::with_capacity(alloc, count + 1)?;
+    let mut ends = Vec::with_capacity(alloc, count)?;
+    let mut left = Vec::with_capacity(alloc, count)?;
     let DeskHolder { desk, line } = holder;
     let shared: SharedDesk<O, N> = SharedDesk::new(desk);
     let wires = wires_over(alloc, others, &shared)?;
     let seats = seat_players(alloc, &brief, wires, players)?;
     let own = ServedWire::new(line, &shared);
-    let Attendance { own, attended } = attend_all(rt, alloc, &shared, own, seats, tries)?;
-    let Finished {
-        mut lines,
-        ends,
-        players,
-    } = finish_all(attended, room)?;
+    let (own, attended) = attend_all(rt, alloc, &shared, own, seats, tries)?;
+    finish_all(attended, &mut lines, &mut ends, &mut left)?;
     lines.push(finish_line(own.end()))?;
     Ok(AttendedMatch {
         desk: shared.into_desk(),
         lines,
         ends,
-        players,
+        players: left,
     })
 }

@@ -5,7 +5,8 @@ ghost use Rattle.desk_calls.specs.declared.answer.Answer.{Answer};
 ghost use Rattle.desk_calls.specs.declared.call.Reply.{Reply};
 ghost use Rattle.desk_calls.specs.declared.call.Call.TheVariants.{Next};
 ghost use Rattle.desk_calls.specs.declared.call.Reply.TheVariants.{Due as IsDue};
-ghost use Rattle.role_workers.specs.Handing.{seconds_for};
+ghost use Rattle.match_messages.specs.BriefValue.{brief_value};
+ghost use Rattle.match_messages.specs.Handing.{seconds_for};
 ghost use Rattle.role_workers.specs.Events.{Event, telling, Tells};
 ghost use Rattle.role_workers.specs.AttendFaults.{next_fault, answer_fault};
 ghost use Rattle.role_workers.specs.Steps.{answer_call, handing_over};
@@ -13,10 +14,9 @@ ghost use Rattle.role_workers.specs.Attending.{StopsAmid, CallStops};
 ghost use Rattle.role_workers.specs.Attendances.{IsAttended};
 
 use crate::attend_fault::AttendFault;
-use crate::player::Player;
 use call_history::Wire;
 use desk_calls::{Answer, Call, Due, Owed, Refusal, Reply};
-use match_messages::{Brief, SharedBrief, shared_message};
+use match_messages::{Brief, Player, SharedBrief, shared_message};
 use std::alloc::{AllocError, Global};
 
 /// Asks what is due to the role.
@@ -187,7 +187,7 @@ pub fn attend<W: Wire<Call = Call, Reply = Reply>, P: Player>(
     tries: u64,
 ) -> Result<u64, AttendFault>
     requires { role < length brief.now.roles }
-    ensures { IsAttended W.Wire P.Player brief.now role tries player.old player.new wire.old wire.new result }
+    ensures { IsAttended W.Wire P.Player (brief_value brief.now) role tries player.old player.new wire.old wire.new result }
 {
     attend_shared(alloc, wire, player, &brief.shared(), role, tries)
 }

@@ -1,5 +1,5 @@
 //! The lines of the attended roles are finished.
-ghost use Rattle.std.specs.Prelude.{◌≡◌, [], IfOk, map};
+ghost use Rattle.std.specs.Prelude.{◌≡◌, [], OnOk, map};
 ghost use Rattle.role_workers.specs.RoleLines.{IsFinishedOf, AreFinishedOf};
 
 use crate::attend_fault::AttendFault;
@@ -13,14 +13,6 @@ use std::alloc::AllocError;
 /// The limit of calls, and of replies, that wait on a line.
 pub const ROOM: u64 = 2;
 
-/// The lines of the attended roles, how attending each role ended, and the players, all in the order of the roles.
-#[derive(Drop)]
-pub struct Finished<O: Object, P> {
-    pub lines: Vec<LineEnd<O>>,
-    pub ends: Vec<Result<u64, AttendFault>>,
-    pub players: Vec<P>,
-}
-
 /// Ends the posting of a line, and takes the replies that still wait.
 pub fn finish_line<O: Object>(line: RingLine<O>) -> LineEnd<O>
     ensures { IsFinishedOf line result }
@@ -32,36 +24,29 @@ pub fn finish_line<O: Object>(line: RingLine<O>) -> LineEnd<O>
     end
 }
 
-/// Finishes the lines of the attended roles. The lines, the ends and the players go into lists that are empty and have room for
-/// them.
+/// Finishes the lines of the attended roles. The lines, how attending each role ended, and the players go into lists that are empty and
+/// have room for them, in the order of the roles.
 pub fn finish_all<O, N, P>(
     attended: Vec<Attended<P, ServedWire<'_, O, N>>>,
-    room: Finished<O, P>,
-) -> Result<Finished<O, P>, AllocError>
+    lines: &mut Vec<LineEnd<O>>,
+    ends: &mut Vec<Result<u64, AttendFault>>,
+    players: &mut Vec<P>,
+) -> Result<(), AllocError>
 where
     O: Object<Call = Call, Reply = Reply> + Drop,
     N: DeskBrand<O>,
     P: Drop,
-    requires no_lines { room.lines.items ≡ [] }
-    requires no_ends { room.ends.items ≡ [] }
-    requires no_players { room.players.items ≡ [] }
-    ensures lines { IfOk result (λ finished. AreFinishedOf (map (λ a. a.wire.line) attended.entry.items) finished.lines.items) }
-    ensures ends { IfOk result (λ finished. finished.ends.items ≡ map (λ a. a.end) attended.entry.items) }
-    ensures players { IfOk result (λ finished. finished.players.items ≡ map (λ a. a.player) attended.entry.items) }
+    requires no_lines { lines.old.items ≡ [] }
+    requires no_ends { ends.old.items ≡ [] }
+    requires no_players { players.old.items ≡ [] }
+    ensures lines { OnOk result (AreFinishedOf (map (λ a. a.wire.line) attended.entry.items) lines.new.items) }
+    ensures ends { OnOk result (ends.new.items ≡ map (λ a. a.end) attended.entry.items) }
+    ensures players { OnOk result (players.new.items ≡ map (λ a. a.player) attended.entry.items) }
 {
-    let Finished {
-        mut lines,
-        mut ends,
-        mut players,
-    } = room;
     for Attended { wire, end, player } in attended {
         lines.push(finish_line(wire.end()))?;
         ends.push(end)?;
         players.push(player)?;
     }
-    Ok(Finished {
-        lines,
-        ends,
-        players,
-    })
+    Ok(())
 }

@@ -1,6 +1,7 @@
 //! Roles of matches, each attended over a wire of its own in a thread of its own.
 ghost use Rattle.std.specs.Prelude.{◌≡◌, ◌<◌, ◌≤◌, ℕ, [], ◌∷◌, Some, length, map, min, slice_get, IfOk, OnOk};
-ghost use Rattle.role_workers.specs.Seats.{AreSeatsOf, IsLeftBy, AreLeftBy};
+ghost use Rattle.role_workers.specs.Attendances.{IsAttended};
+ghost use Rattle.role_workers.specs.Seats.{AreSeatsOf, IsLeftOf, AreLeftBy};
 ghost use Rattle.role_workers.specs.Internal.Promises.{IsKept, ArePromisedFor};
 ghost use Rattle.role_workers.specs.RoleCalls.{due_round};
 ghost use Rattle.role_workers.specs.Internal.GivenUp.{AreGivenUp};
@@ -8,40 +9,29 @@ ghost use denote.Param.Send.{IsSend};
 
 use crate::attend_fault::AttendFault;
 use crate::attending::{answer_call, attend_shared};
-use crate::player::Player;
 use crate::seat::{Attended, Seat};
 use crate::shared_desk::{DeskBrand, SharedDesk};
 use call_history::{Bell, Object, Wire};
 use desk_calls::{Answer, Call, Due, Reply};
-use match_messages::SharedBrief;
+use match_messages::{Player, SharedBrief};
 use std::alloc::{AllocError, Global};
 use std::snapshot::Snapshot;
 use std::sync::Wait;
 use std::thread;
 use std::thread::{Promise, PromisedHandle, Scope, Threads};
 
-/// The result of `attend_all`: the calling thread's own wire, and one result for each seat in order.
-#[derive(Drop)]
-pub struct Attendance<P, W> {
-    pub own: W,
-    pub attended: Vec<Attended<P, W>>,
-}
-
 /// The promise that a seat's thread gives of its result.
 #[derive(Drop)]
 struct LeftBy<'a, P, W> {
-    brief: &'a SharedBrief<'a>,
-    role: usize,
+    seat: Snapshot<Seat<'a, P, W>>,
     tries: u64,
-    player: Snapshot<P>,
-    wire: Snapshot<W>,
 }
 
 impl<'a, P: Player, W: Wire<Call = Call, Reply = Reply>> Promise<Attended<P, W>>
     for LeftBy<'a, P, W> {
-    ghost use Rattle.role_workers.specs.Seats.{IsLeftBy};
+    ghost use Rattle.role_workers.specs.Seats.{IsLeftOf};
 
-    ghost kept_by = { λ p left. IsLeftBy W.Wire P.Player p.brief.now p.role p.tries p.player.value p.wire.value left };
+    ghost kept_by = { λ p left. IsLeftOf W.Wire P.Player p.tries p.seat.value left };
 }
 
 /// A role of a match without a thread that attends it.
@@ -81,22 +71,22 @@ pub fn seat_players<'a, P: Drop, W: Drop>(
     Ok(seats)
 }
 
-/// Attends a role over its wire, and then signals its end. If it runs out of memory the desk stops: the match can't end without the role,
+/// Attends the role of a seat over its wire, and then signals its end. If it runs out of memory the desk stops: the match can't end without the role,
 /// and the other workers would ask in vain until the history is full.
 fn attend_seat<P: Player + Drop, W: Wire<Call = Call, Reply = Reply>>(
     alloc: Global,
-    brief: &SharedBrief<'_>,
-    role: usize,
-    player: P,
-    wire: W,
+    seat: Seat<'_, P, W>,
     tries: u64,
     bell: &Bell,
 ) -> Attended<P, W>
-    requires { role < length brief.now.roles }
-    ensures { IsLeftBy W.Wire P.Player brief.now role tries player wire result }
+    ensures { IsLeftOf W.Wire P.Player tries seat.entry result }
 {
-    let mut player = player;
-    let mut wire = wire;
+    let Seat {
+        brief,
+        role,
+        mut player,
+        mut wire,
+    } = seat;
     let end = attend_shared(alloc, &mut wire, &mut player, brief, role, tries);
     if let Err(AttendFault::Memory) = end {
         bell.stop();
@@ -203,23 +193,28 @@ where
 {
     let mut handles = Vec::with_capacity(alloc, seats.len())?;
     for seat in seats {
+        let promise = LeftBy {
+            seat: Snapshot::of(&seat),
+            tries,
+        };
         let Seat {
             brief,
             role,
             player,
             wire,
         } = seat;
-        let promise = LeftBy {
-            brief,
-            role,
-            tries,
-            player: Snapshot::of(&player),
-            wire: Snapshot::of(&wire),
-        };
         let work = move || -> Attended<P, W>
             requires { role < length brief.now.roles }
-            ensures { IsLeftBy W.Wire P.Player brief.entry.now role tries player wire result }
-        { attend_seat(alloc, brief, role, player, wire, tries, bell) };
+            ensures { IsAttended W.Wire P.Player brief.entry.now role tries player result.player wire result.wire result.end }
+        {
+            let seat = Seat {
+                brief,
+                role,
+                player,
+                wire,
+            };
+            attend_seat(alloc, seat, tries, bell)
+        };
         let Ok(handle) = scope.spawn_with(promise, work) else {
             break;
         };
@@ -259,7 +254,7 @@ where
 }
 
 /// Attends each seat in a thread of its own, in at most `tries` tries, while the calling thread serves the desk, too, until all have
-/// ended. The results stand in the order of the seats.
+/// ended. The own wire comes back, with the results in the order of the seats.
 ///
 /// If a thread can't be made, no further one starts. A match waits for all its roles, so the matches of the remaining seats are
 /// aborted over the calling thread's own wire. Once the running threads have ended, the result is out of memory.
@@ -270,25 +265,25 @@ pub fn attend_all<O, N, W, P, R>(
     own: W,
     seats: Vec<Seat<'_, P, W>>,
     tries: u64,
-) -> Result<Attendance<P, W>, AllocError>
+) -> Result<(W, Vec<Attended<P, W>>), AllocError>
 where
     O: Object<Call = Call, Reply = Reply> + Drop,
     N: DeskBrand<O>,
     W: Wire<Call = Call, Reply = Reply> + Drop + Send,
     P: Player + Drop + Send,
     R: Threads + Wait + Sync,
-    ensures own { IfOk result (λ a. a.own ≡ own) }
-    ensures count { IfOk result (λ a. length a.attended.items ≡ length seats.entry.items) }
-    ensures left { IfOk result (λ a. AreLeftBy W.Wire P.Player tries seats.entry.items a.attended.items) }
+    ensures own { IfOk result (λ a. a.0 ≡ own) }
+    ensures count { IfOk result (λ a. length a.1.items ≡ length seats.entry.items) }
+    ensures left { IfOk result (λ a. AreLeftBy W.Wire P.Player tries seats.entry.items a.1.items) }
 {
     thread::scope(
         thread::scope_env(),
         rt,
-        move |scope| -> Result<Attendance<P, W>, AllocError>
+        move |scope| -> Result<(W, Vec<Attended<P, W>>), AllocError>
             requires sent { IsSend W.row × IsSend P.row }
-            ensures own { IfOk result (λ a. a.own ≡ own) }
-            ensures count { IfOk result (λ a. length a.attended.items ≡ length seats.entry.items) }
-            ensures left { IfOk result (λ a. AreLeftBy W.Wire P.Player tries seats.entry.items a.attended.items) }
+            ensures own { IfOk result (λ a. a.0 ≡ own) }
+            ensures count { IfOk result (λ a. length a.1.items ≡ length seats.entry.items) }
+            ensures left { IfOk result (λ a. AreLeftBy W.Wire P.Player tries seats.entry.items a.1.items) }
         {
             let count = seats.len();
             let roles = roles_of(alloc, seats.as_slice())?;
@@ -302,7 +297,7 @@ where
             }
             desk.serve_until(rt, started as u64);
             let attended = join_seats(rt, handles, attended)?;
-            Ok(Attendance { own, attended })
+            Ok((own, attended))
         },
     )
 }

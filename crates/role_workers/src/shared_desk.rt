@@ -86,7 +86,7 @@ fn rounds_left(before: u64, served: &Result<u64, DeskFault>) -> u64
 pub struct SharedDesk<O: Object<Call = Call, Reply = Reply>, N: DeskBrand<O>> {
     locked: Mutex<NamedDesk<O, N>>,
     bell: Bell,
-    /// Whether the desk was stopped for want of memory.
+    /// Whether the desk was stopped because memory ran out.
     is_short: AtomicBool,
 }
 
@@ -132,7 +132,7 @@ impl<O: Object<Call = Call, Reply = Reply>, N: DeskBrand<O>> SharedDesk<O, N> {
         self.bell.stop();
     }
 
-    /// Whether the desk was stopped for want of memory.
+    /// Whether the desk was stopped because memory ran out.
     pub fn is_short(&self) -> bool {
         self.is_short.load(Ordering::SeqCst)
     }

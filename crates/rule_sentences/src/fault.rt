@@ -37,7 +37,7 @@ pub enum LoadFault {
     #[error("a head depends on what it may not depend on")]
     Depends,
     /// Out of memory.
-    #[error("want of memory")]
+    #[error("out of memory")]
     Memory,
 }
 

@@ -7,11 +7,14 @@ ghost use Rattle.match_book.specs.MatchValue.{joint_moves};
 ghost use Rattle.match_book.specs.Phase.{stage, is_live, round};
 ghost use Rattle.uses_match_book.specs.Endings.{EndsWith};
 
+mod refereeing;
+
 use game_core::Game;
 use match_book::laws::{
     matches_are_lawful, recorded_moves_are_legal, stages_are_settled, taken_for_the_round,
 };
 use match_book::{LentAnswer, Match};
+pub use refereeing::{Answers, referee};
 use std::alloc::{AllocError, Global};
 
 /// The present state of a match: the state to which its recorded joint moves lead. Each of these was legal.

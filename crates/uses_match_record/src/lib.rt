@@ -2,19 +2,19 @@
 #![tactic(auto)]
 
 ghost use Rattle.std.specs.Prelude.{◌≡◌, IfOk};
-ghost use Rattle.desk_calls.specs.Names.{IsLawfulSetup};
+ghost use Rattle.record_reading.specs.Names.{IsLawfulSetup};
 ghost use Rattle.record_reading.specs.LawfulRecord.{IsLawfulRecord};
 ghost use Rattle.record_reading.specs.RecordParts.{parts_of};
 
 use game_core::{Game, Text};
 use match_book::Match;
 use match_book::laws::matches_are_lawful;
-use match_record::{VerifyFault, record_json};
-use record_check::verify;
-use record_reading::laws::{
+use match_record::laws::{
     holds_one_parts_at_most, lawful_parts_have_shape, record_tree_holds_parts,
 };
-use record_reading::{RecordParts, read_record};
+use match_record::record_json;
+use record_check::{RecordParts, VerifyFault, verify};
+use record_reading::read_record;
 use std::alloc::{AllocError, Global};
 
 /// The record of a match, checked before it is handed out. The check can't refuse what was written.

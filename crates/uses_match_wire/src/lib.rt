@@ -3,6 +3,7 @@
 
 ghost use Rattle.std.specs.Prelude.{◌≡◌, ◌<◌, true, IfOk, length};
 ghost use Rattle.desk_calls.specs.Names.{is_name};
+ghost use Rattle.match_wire.specs.BriefValue.{brief_value};
 ghost use Rattle.match_wire.specs.MessageLaws.{Says, IsSayable};
 ghost use Rattle.match_wire.specs.MessageValue.{MessageValue, folded_message, message_value};
 
@@ -15,8 +16,8 @@ use std::alloc::{AllocError, Global};
 /// Writes and reads the message that is owed to a role. Returns what its player reads: what the message says to it, without capitals.
 pub fn heard(alloc: Global, brief: &Brief, role: usize, owed: &Owed) -> Result<Message, AllocError>
     requires role { role < length brief.now.roles }
-    requires sayable { (said : MessageValue) × Says brief.now role owed.now said × IsSayable said }
-    ensures { IfOk result (λ m. (said : MessageValue) × Says brief.now role owed.now said × (message_value m ≡ folded_message said)) }
+    requires sayable { (said : MessageValue) × Says (brief_value brief.now) role owed.now said × IsSayable said }
+    ensures { IfOk result (λ m. (said : MessageValue) × Says (brief_value brief.now) role owed.now said × (message_value m ≡ folded_message said)) }
 {
     owed_messages_read_back();
     let text = message(alloc, brief, role, owed)?;

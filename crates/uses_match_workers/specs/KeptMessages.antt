@@ -1,6 +1,6 @@
 -- The messages that a player keeps.
 use Rattle.std.specs.Prelude.{List, map, Option, option_map}
-use Rattle.role_workers.specs.Handing.{Handed}
+use Rattle.match_messages.specs.Handing.{Handed}
 use Rattle.uses_match_workers.specs.declared.KeptMessage.{KeptMessage}
 use Rattle.uses_match_workers.specs.declared.KeepingPlayer.{KeepingPlayer}
 

@@ -2,7 +2,10 @@
 #![tactic(auto)]
 
 ghost use Rattle.std.specs.Prelude.{◌≡◌, ◌∷◌, ◌++◌, [], All, IfOk, Some, length, map, vec_len};
+ghost use Rattle.kif_text.specs.View.{views};
+ghost use Rattle.match_messages.specs.RulesText.{rules_text};
 ghost use Rattle.match_workers.specs.Briefs.{IsBriefOf};
+ghost use Rattle.match_workers.specs.OneMatch.{HasOneMatch};
 ghost use Rattle.uses_match_workers.specs.KeptMatches.{HaveKept};
 ghost use Rattle.uses_match_workers.specs.KeptMessages.{handed_message, kept_messages};
 
@@ -10,6 +13,7 @@ use desk_calls::{Answer, Setup};
 use game_core::{Game, Text};
 use kif_text::Expr;
 use match_messages::StartRules;
+use match_workers::laws::roles_are_owed;
 use match_workers::{Player, RefereeFault, Refereed, referee_shared};
 use role_workers::laws::owed_are_handed_over;
 use std::alloc::{AllocError, Global};
@@ -77,8 +81,9 @@ impl<P: Player> Player for KeepingPlayer<P> {
 }
 
 /// Referees a match between players that keep their messages, and have none yet. Each role whose worker found the end of the match was
-/// handed START, each PLAY and STOP as the desk's replies on its line owed them: each once, in their order, with its text and its
-/// seconds. Its player has just these messages, unless it lost them when out of memory.
+/// handed the role's messages in the match that the closed desk holds: START, PLAY before each turn, unless the turns before it retire
+/// the role, and STOP or ABORT. It was handed each once, in their order, with its text and its seconds, and no other. Its player has just
+/// these messages, unless it lost them when out of memory.
 pub fn refereed_and_kept<G, P, R>(
     rt: &R,
     alloc: Global,
@@ -96,10 +101,11 @@ where
     R: Threads + Wait + Sync,
     requires one_each { vec_len players ≡ length setup.players }
     requires none_yet { All (λ p. kept_messages p ≡ Some []) players.items }
-    ensures { IfOk result (λ r. (brief : _) × IsBriefOf (G.rules game) setup rules.items brief
-        × HaveKept brief r.1.items r.0.closed.history.items r.0.ends.items) }
+    ensures { IfOk result (λ r. (brief : _) × IsBriefOf (G.rules game) setup (rules_text (views rules.items)) brief
+        × (one : HasOneMatch game setup r.0.closed.object) × HaveKept (G.rules game) one.held brief r.1.items r.0.ends.items) }
 {
     owed_are_handed_over();
+    roles_are_owed::<G, KeepingPlayer<P>>();
     let rules = StartRules::Sentences(&rules);
     let refereed = referee_shared(rt, alloc, game, setup, rules, players, tries)?;
     Ok(refereed)

@@ -1,5 +1,6 @@
 -- The effect on the streams of reading a whole input and writing a whole output.
-use Rattle.std.specs.Prelude.{◌≡◌, ℕ, ◌<◌, ◌≤◌, ◌⊎◌, List, length}
+use Rattle.std.specs.Prelude.{◌≡◌, ℕ, ◌<◌, ◌≤◌, ◌⊎◌, List, Option, length, take}
+use Rattle.std.specs.Io.KnownBytes.{Appends}
 use Rattle.game_core.specs.Counting.{Counting, CallsMade, max_stream_calls, one_more}
 use Rattle.whole_streams.specs.declared.whole.InputFault.{InputFault}
 use Rattle.whole_streams.specs.declared.whole.InputFault.TheVariants.{ReadFault, TooLong, Memory}
@@ -13,3 +14,7 @@ abbrev pub InputFails : {R : Type 0} → ℕ → InputFault → List ℕ → Cou
 InputFails limit ReadFault given old new = (length given ≤ limit) × StopsReading (length given) old new
 InputFails limit TooLong given old new = (limit < length given) × (new.faults ≡ old.faults)
 InputFails limit Memory given old new = (length given ≤ limit) × (new.faults ≡ old.faults)
+
+-- Known bytes grow by a prefix of the text.
+abbrev pub AppendsPart : Option (List ℕ) → Option (List ℕ) → List ℕ → Type 0
+AppendsPart old new text = (taken : ℕ) × (taken ≤ length text) × Appends old new (take taken text)

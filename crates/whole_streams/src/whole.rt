@@ -1,8 +1,8 @@
 //! Reading a whole input, and writing a whole output.
-ghost use Rattle.std.specs.Prelude.{◌≡◌, ◌≤◌, ◌<◌, ℕ, List, length, take, IfOk, OnOk, OnErr, IfErr};
+ghost use Rattle.std.specs.Prelude.{◌≡◌, ◌≤◌, ◌<◌, ℕ, List, length, IfOk, OnOk, OnErr, IfErr};
 ghost use Rattle.std.specs.Io.KnownBytes.{Consumes, Appends, IsAtEnd};
 ghost use Rattle.game_core.specs.Counting.{one_more};
-ghost use Rattle.whole_streams.specs.Streams.{InputFails};
+ghost use Rattle.whole_streams.specs.Streams.{AppendsPart, InputFails};
 
 use game_core::{Counted, MAX_STREAM_CALLS};
 use std::alloc::Global;
@@ -64,8 +64,7 @@ pub fn read_to_end<R: Read>(
 pub fn write_all<W: Write>(writer: &mut Counted<W>, output: &[u8]) -> Result<(), WriteFault>
     ensures whole { OnOk result (Appends (W.contents writer.old.stream) (W.contents writer.new.stream) output.now) }
     ensures no_fault { OnOk result (writer.new.faults ≡ writer.old.faults) }
-    ensures prefix { OnErr result ((taken : ℕ) × (taken ≤ length output.now)
-        × Appends (W.contents writer.old.stream) (W.contents writer.new.stream) (take taken output.now)) }
+    ensures prefix { OnErr result (AppendsPart (W.contents writer.old.stream) (W.contents writer.new.stream) output.now) }
     ensures failed { OnErr result (writer.new.faults ≡ one_more writer.old.faults) }
 {
     let mut taken = 0;

@@ -1,6 +1,5 @@
 //! A desk over rings, of a register.
 ghost use Rattle.std.specs.Prelude.{◌≤◌, IfOk};
-ghost use Rattle.std.specs.List.{All};
 ghost use Rattle.call_history.specs.Limits.{max_entries};
 ghost use Rattle.call_history.specs.RingLines.{IsLineOf, AreEndsOf};
 
@@ -9,7 +8,7 @@ use crate::register::Register;
 use call_history::laws::lines_stay;
 use call_history::{
     AskFault, CallFault, DeskFault, LineEnd, RingCloseFault, RingDesk, RingLine, RingUnclosed,
-    RingWire, Wire, open_rings,
+    RingWire, Wire, last_line, open_rings,
 };
 use std::alloc::{AllocError, Global};
 use std::process::Abort;
@@ -22,33 +21,25 @@ type Line = RingLine<Register>;
 type End = LineEnd<Register>;
 
 /// A desk and its two lines, each with room for two calls and two replies.
-fn open_lines(alloc: Global, most: u64) -> Result<(Desk, Vec<Line>), AllocError>
-    requires { (1 ≤ most) × (most ≤ max_entries) }
-    ensures { IfOk result (λ opened. All (IsLineOf opened.0.ports) opened.1.items) }
-{
-    match open_rings(alloc, Register { value: 0 }, most, 2, 2) {
-        Ok(opened) => Ok(opened),
-        Err((_, refused)) => Err(refused),
-    }
-}
-
-/// The same desk, with each line by itself.
-fn open_two<R: Abort>(rt: &R, alloc: Global, most: u64) -> Result<(Desk, Line, Line), AllocError>
+fn open_two(alloc: Global, most: u64) -> Result<(Desk, Line, Line), AllocError>
     requires { (1 ≤ most) × (most ≤ max_entries) }
     ensures first { IfOk result (λ opened. IsLineOf opened.0.ports opened.1) }
     ensures second { IfOk result (λ opened. IsLineOf opened.0.ports opened.2) }
 {
-    let (desk, mut lines) = open_lines(alloc, most)?;
-    let (Some(second), Some(first)) = (lines.pop(), lines.pop()) else {
-        panic!(rt; "no lines");
-    };
-    Ok((desk, first, second))
+    match open_rings(alloc, Register { value: 0 }, most, 2, 2) {
+        Ok((desk, mut lines)) => {
+            let second = last_line(&desk, &mut lines);
+            let first = last_line(&desk, &mut lines);
+            Ok((desk, first, second))
+        }
+        Err((_, refused)) => Err(refused),
+    }
 }
 
 /// The ends of lines, with the end of one more.
 fn beside<R: Abort>(rt: &R, desk: &Desk, ends: Vec<End>, end: End) -> Vec<End>
     requires ends { AreEndsOf desk.now.ports ends.items }
-    requires end { IsLineOf desk.now.ports end.line }
+    requires end { IsLineOf desk.now.ports end }
     ensures { AreEndsOf desk.now.ports result.items }
 {
     let mut ends = ends;
@@ -90,7 +81,7 @@ fn a_line_waits_for_room(rt: HostRuntime) {
 #[test]
 fn a_full_history_leaves_a_call_unserved(rt: HostRuntime) -> Result<(), Fail> {
     lines_stay::<Register>();
-    let (mut desk, mut first, second) = open_two(&rt, rt.alloc(), 1)?;
+    let (mut desk, mut first, second) = open_two(rt.alloc(), 1)?;
     holds(&rt, first.post(7) == Ok(()), "a call");
     holds(&rt, first.post(8) == Ok(()), "another call");
     holds(&rt, desk.round() == Ok(1), "a round");
@@ -115,7 +106,7 @@ fn a_full_history_leaves_a_call_unserved(rt: HostRuntime) -> Result<(), Fail> {
 #[test]
 fn a_line_that_is_not_there_is_missed(rt: HostRuntime) -> Result<(), Fail> {
     lines_stay::<Register>();
-    let (desk, first, second) = open_two(&rt, rt.alloc(), 10)?;
+    let (desk, first, second) = open_two(rt.alloc(), 10)?;
     let ends = beside(&rt, &desk, Vec::new(rt.alloc()), first.finish());
     let Err(unclosed) = desk.close(ends) else {
         panic!(rt; "closed without a line");
@@ -131,7 +122,7 @@ fn a_line_that_is_not_there_is_missed(rt: HostRuntime) -> Result<(), Fail> {
 #[test]
 fn a_wire_without_rounds_stalls(rt: HostRuntime) -> Result<(), Fail> {
     lines_stay::<Register>();
-    let (mut desk, first, second) = open_two(&rt, rt.alloc(), 10)?;
+    let (mut desk, first, second) = open_two(rt.alloc(), 10)?;
     let mut wire = RingWire::new(first, 10);
     holds(&rt, wire.ask(7) == Err(AskFault::Stalled), "a call");
     holds(&rt, wire.ask(8) == Err(AskFault::Stalled), "another call");

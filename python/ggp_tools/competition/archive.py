@@ -11,22 +11,26 @@ import re
 import tarfile
 import tempfile
 import zlib
+from collections.abc import Iterable, Iterator, Sequence
+from typing import BinaryIO
 
 from ggp_tools.competition.described import DIFFERS, IS_SAME, held_records
 from ggp_tools.competition.files import UNFINISHED, Refused, written_whole
 from ggp_tools.competition.history import history_files
-from ggp_tools.competition.kept import PROCESSORS, look_at_records, strangers
-from ggp_tools.competition.known import sum_of_file, sum_or_none
+from ggp_tools.competition.kept import MOST_OF_RECORD, PROCESSORS, look_at_records, strangers
+from ggp_tools.competition.known import Known, sum_of_file, sum_or_none
 from ggp_tools.competition.log_faults import faults_of_logs
+from ggp_tools.competition.log_lines import reasons
 from ggp_tools.competition.pages import made_anew
-from ggp_tools.competition.plan import faults_of_descriptions, read_plan, read_sums, rounds_left, sums_text
+from ggp_tools.competition.plan import Plan, faults_of_descriptions, read_plan, read_sums, rounds_left, sums_of, sums_text
 from ggp_tools.descriptions.loading import has_variables
-from ggp_tools.referee import VERSION_LINE, Unchecked
-from ggp_tools.competition.results import match_line
+from ggp_tools.referee import VERSION_LINE, Referee, Unchecked
+from ggp_tools.competition.results import Result, Sums, match_line, read_record
 from ggp_tools.competition.schedule import schedule_text
 from ggp_tools.competition.table import tables_of
 from ggp_tools.competition.table_text import TABLE_FILES, in_order, table_files, without_record
 from ggp_tools.competition.tar_members import NoTar, copied, members
+from ggp_tools.records.facts import Exchanges, broken_answers, record_sum
 
 SUMS, VERSION, HOW, GAPS = "SHA256SUMS", "VERSION", "CHECK.txt", "GAPS.tsv"
 NAME = re.compile(r"[A-Za-z0-9_.-]+(/[A-Za-z0-9_.-]+){1,3}")
@@ -61,6 +65,10 @@ What this does not show: that the players of these names sent these answers, and
 """
 
 
+# A file of an archive: its name, and its bytes or where they stand.
+Content = tuple[str, bytes | pathlib.Path]
+
+
 class Spoilt(Refused):
     """What is wrong with an archive, in lines."""
 
@@ -69,39 +77,48 @@ class TooLarge(Exception):
     """What there is to publish is more than `check` would take."""
 
 
-def files_below(folder):
+def files_below(folder: pathlib.Path) -> dict[str, pathlib.Path]:
     """Returns the files below a folder, by their names from there, in order."""
     return {str(file.relative_to(folder)): file for file in sorted(folder.rglob("*")) if file.is_file()}
 
 
-def how_to(plan):
+def how_to(plan: Plan) -> bytes:
     """Returns the file that says how the archive is checked."""
     return HOW_TO.format(name=plan.competition.name).encode("ascii")
 
 
-def matches_text(plan, results, known=None):
-    """Returns matches.jsonl. A line that is known, of the same result and log, is not made again."""
-    lines = []
+def line_of(result: Result, sums: Sums, record: bytes, log: bytes) -> str:
+    """Returns the line of a match in matches.jsonl."""
+    broken = broken_answers(Exchanges(read_record(record)), reasons(log, result.match))
+    return match_line(result, sums, log, broken).decode("ascii")
+
+
+def matches_text(plan: Plan, results: Iterable[Result], known: Known | None = None) -> bytes:
+    """Returns matches.jsonl. A line that is known, of the same result, sums and log, is not made again."""
+    lines, path = [], plan.folder.description_sums()
+    descriptions = sums_of(path) if path.is_file() else {}
     for result in results:
-        rules_sum, log = plan.rules[result.match.game].sum, plan.folder.read_log(result.match.id)
-        key = known.key(repr(result).encode(), rules_sum.encode(), log) if known else ""
+        match, game = result.match.id, result.match.game
+        record, log = plan.folder.read_record(match, MOST_OF_RECORD + 2), plan.folder.read_log(match)
+        sums = Sums(record_sum(record), plan.rules[game].sum, descriptions.get(f"{game}.kif"))
+        key = known.key(repr((result, sums)).encode(), log) if known else ""
         line = known.get("lines", key) if known else None
         if line is None:
-            line = match_line(result, rules_sum, log).decode("ascii")
+            line = line_of(result, sums, record, log)
             if known:
                 known.put("lines", key, line)
         lines.append(line)
     return "".join(lines).encode("ascii")
 
 
-def gaps_files(plan, results):
+def gaps_files(plan: Plan, results: Iterable[Result]) -> dict[str, bytes]:
     """Returns the file that names the matches without a record, by its name; none where there are no such matches, and each round is
     planned."""
     missing = without_record(plan, results)
     return {GAPS: schedule_text(missing)} if missing or rounds_left(plan) else {}
 
 
-def contents(plan, referee, results, known):
+def contents(plan: Plan, referee: Referee, results: list[Result], known: Known | None) -> Iterator[Content]:
     """Gives what is published: names, and bytes or the file that has them."""
     folder = plan.folder
     yield "competition.toml", plan.text
@@ -132,7 +149,7 @@ def contents(plan, referee, results, known):
     yield HOW, how_to(plan)
 
 
-def own_files(plan):
+def own_files(plan: Plan) -> list[pathlib.Path]:
     """Returns the files of the competition that stand directly in its folder, and the descriptions of its games."""
     folder = plan.folder
     # The last four are there where the folder comes out of an archive.
@@ -141,7 +158,7 @@ def own_files(plan):
     return [folder.competition, folder.schedule, folder.planned, folder.again, folder.matches, folder.journal, *others, *descriptions]
 
 
-def publish(plan, referee, results, path, known):
+def publish(plan: Plan, referee: Referee, results: list[Result], path: pathlib.Path, known: Known | None) -> str:
     """Writes the archive, the same for the same files, and returns its sum. What is known to be right is not made again: pages of matches,
     and an archive of the same files."""
     made_anew(plan, results, known)
@@ -163,13 +180,13 @@ def publish(plan, referee, results, path, known):
     return found
 
 
-def sums_of_contents(contents):
+def sums_of_contents(contents: Iterable[Content]) -> Iterator[tuple[str, str]]:
     """Gives the names and sums of what is to be published."""
     for name, data in contents:
         yield name, hashlib.sha256(data).hexdigest() if isinstance(data, bytes) else sum_of_file(data)
 
 
-def with_sums(contents, sums):
+def with_sums(contents: Iterable[Content], sums: dict[str, str]) -> Iterator[Content]:
     """Gives the names and bytes of what is published, and the sums last."""
     for name, data in contents:
         data = data if isinstance(data, bytes) else data.read_bytes()
@@ -178,13 +195,13 @@ def with_sums(contents, sums):
     yield SUMS, sums_text(sums)
 
 
-def add(archive, name, data):
+def add(archive: tarfile.TarFile, name: str, data: bytes | pathlib.Path) -> None:
     member = tarfile.TarInfo(name)
     member.size, member.mode = len(data), 0o644
     archive.addfile(member, io.BytesIO(data))
 
 
-def unpacked(path, room):
+def unpacked(path: pathlib.Path, room: pathlib.Path) -> pathlib.Path:
     """Unpacks an archive into an empty folder, and returns the folder of the competition. It takes plain files alone, below one folder,
     each once, and entries for their folders, as `tar` writes them."""
     top, size, known = None, 0, set()
@@ -214,7 +231,7 @@ def unpacked(path, room):
     return room / top
 
 
-def new_file(room, name):
+def new_file(room: pathlib.Path, name: str) -> BinaryIO:
     """Opens a file to be written into a folder, with the folders in between."""
     try:
         (room / name).parent.mkdir(parents=True, exist_ok=True)
@@ -223,7 +240,7 @@ def new_file(room, name):
         raise Spoilt(f"{name!r} is a file and a folder, or below a file") from None
 
 
-def faults_of_sums(folder):
+def faults_of_sums(folder: pathlib.Path) -> Iterator[str]:
     """Gives each file that is not the one of the sums."""
     files = files_below(folder)
     if SUMS not in files:
@@ -242,7 +259,7 @@ def faults_of_sums(folder):
             yield f"{name} is not the one of its sum"
 
 
-def faults_of_files(folder, plan, results, wanted):
+def faults_of_files(folder: pathlib.Path, plan: Plan, results: list[Result], wanted: dict[str, bytes]) -> Iterator[str]:
     """Gives each file that does not follow from the records, and each that should not be there."""
     for name, data in wanted.items():
         file = folder / name
@@ -271,7 +288,7 @@ def faults_of_files(folder, plan, results, wanted):
             yield f"{name} is nothing of this competition"
 
 
-def faults_of_matches(plan, referee):
+def faults_of_matches(plan: Plan, referee: Referee) -> tuple[list[Result], list[str]]:
     """Returns the results, and what is wrong with the records and the accounts."""
     results, faults, misfits = look_at_records(plan, referee)
     faults |= misfits
@@ -285,19 +302,19 @@ def faults_of_matches(plan, referee):
     return in_order(plan, results), found
 
 
-def faults_of_places(folder):
+def faults_of_places(folder: pathlib.Path) -> Iterator[str]:
     """Gives each file that stands where none of an archive does."""
     for name in files_below(folder):
         if not PLACE.fullmatch(name):
             yield f"{name} is nothing of this competition"
 
 
-def plain(words):
+def plain(words: str) -> str:
     """Returns words of an archive as they may reach a terminal: what is no printable ASCII becomes a question mark."""
     return NOT_PLAIN.sub("?", words)
 
 
-def faults_of_words(folder):
+def faults_of_words(folder: pathlib.Path) -> Iterator[str]:
     """Gives what is wrong with the files that say how the archive is checked, and with which program it was published."""
     if not (folder / HOW).is_file():
         yield f"{HOW} is missing"
@@ -307,7 +324,7 @@ def faults_of_words(folder):
         yield f"{VERSION} is not one line `ggp_manager N.N.N`"
 
 
-def check_archive(path, referee):
+def check_archive(path: pathlib.Path, referee: Referee) -> tuple[list[str], str]:
     """Returns what is wrong with an archive, in printable ASCII, and, where nothing is, what was found right."""
     try:
         faults, said = looked_at(path, referee)
@@ -318,7 +335,7 @@ def check_archive(path, referee):
     return list(map(plain, faults)), said
 
 
-def held_side_by_side(file, records):
+def held_side_by_side(file: pathlib.Path, records: Sequence[bytes]) -> list[str]:
     """Returns for each record what there is to say of it: several processes hold a part of them each against the description."""
     size = -(-len(records) // PROCESSORS)
     parts = [records[at : at + size] for at in range(0, len(records), size)]
@@ -326,7 +343,7 @@ def held_side_by_side(file, records):
         return [words for found in at_once.map(lambda part: held_records(file, part), parts) for words in found]
 
 
-def held_matches(plan, results, folder):
+def held_matches(plan: Plan, results: list[Result], folder: pathlib.Path) -> tuple[list[str], str]:
     """Holds the matches of each game with variables against its description. Returns what is said of that, and the differences."""
     count, late, faults = 0, [], []
     for game in plan.competition.games:
@@ -343,7 +360,7 @@ def held_matches(plan, results, folder):
     return f"{said}, and {len(late)} could not be followed: {', '.join(late)}" if late else said, faults
 
 
-def looked_at(path, referee):
+def looked_at(path: pathlib.Path, referee: Referee) -> tuple[list[str], str]:
     """Returns the same in whatever characters the archive has."""
     with tempfile.TemporaryDirectory() as room:
         try:
@@ -371,7 +388,7 @@ def looked_at(path, referee):
         except Unchecked as why:
             raise Unchecked(str(why).replace(f"{room}/", "")) from None
         except MemoryError:
-            raise Unchecked("the archive can't be checked: want of memory") from None
+            raise Unchecked("the archive can't be checked: out of memory") from None
     missing = len(plan.matches) - len(results)
     gaps = f"; {missing} of {len(plan.matches)} matches have no record, {GAPS} names them" if missing else ""
     left = rounds_left(plan)

@@ -20,7 +20,7 @@ MOST_UNREAD = 2
 LIBRARY = ctypes.CDLL(None)
 
 
-def end_with(parent):
+def end_with(parent: int) -> None:
     """Has the process that calls it end when its parent does, also where that has ended before it could ask."""
     LIBRARY.prctl(END_WITH_PARENT, signal.SIGKILL)
     if os.getppid() != parent:

@@ -5,7 +5,7 @@ import collections
 import os
 import pathlib
 import sys
-from collections.abc import Callable
+from collections.abc import Callable, Iterable
 
 from ggp_tools import VERSION
 from ggp_tools.competition.again import order_again
@@ -18,6 +18,8 @@ from ggp_tools.competition.log_faults import faults_of_logs
 from ggp_tools.competition.pages import Pages
 from ggp_tools.competition.plan import WRITES, Plan, faults_of_descriptions, make_plan, read_plan, round_words, rounds_left
 from ggp_tools.competition.playing import Playing, play, said_of_missing
+from ggp_tools.competition.results import Result
+from ggp_tools.competition.schedule import Match
 from ggp_tools.referee import NoReferee, Referee, Unchecked, find_program
 from ggp_tools.competition.seats import Seats
 from ggp_tools.competition.serving import add_serve, run_serve
@@ -89,7 +91,7 @@ def arguments(words: list[str]) -> argparse.Namespace:
     return parser.parse_args(words)
 
 
-def write_matches(plan, results, known=None):
+def write_matches(plan: Plan, results: list[Result], known: Known | None = None) -> None:
     """Writes matches.jsonl. Says which matches have no log, and so no times."""
     for result in results:
         if not plan.folder.has_log(result.match.id):
@@ -97,7 +99,7 @@ def write_matches(plan, results, known=None):
     write_whole(plan.folder.matches, matches_text(plan, results, known))
 
 
-def known_results(plan, referee, known):
+def known_results(plan: Plan, referee: Referee, known: Known | None) -> tuple[list[Result], bool]:
     """Returns the results that count, in the schedule's order; says of each record that does not."""
     results, faults, misfits = look_at_records(plan, referee, known)
     for match, why in {**faults, **misfits}.items():
@@ -105,22 +107,22 @@ def known_results(plan, referee, known):
     return in_order(plan, results), bool(faults or misfits)
 
 
-def spread(counts):
+def spread(counts: Iterable[int]) -> str:
     """Returns the least and the greatest of numbers, as text."""
     return " to ".join(str(number) for number in sorted({min(counts), max(counts)})) if counts else "0"
 
 
-def said_of_game(plan, matches):
+def said_of_game(plan: Plan, matches: list[Match]) -> str:
     """Returns how many matches of a game there are, how often a player sits in each seat, and how often two players meet."""
     if not matches:
         return "no match"
     names = [player.name for player in plan.competition.players]
     seats = collections.Counter((seat, player) for match in matches for seat, player in enumerate(match.players))
-    met = collections.Counter((one, other) for match in matches for one in match.players for other in match.players if one < other)
+    met = collections.Counter((player, other) for match in matches for player in match.players for other in match.players if player < other)
     roles = plan.roles(matches[0].game)
     times = spread([seats[seat, name] for seat in range(len(roles)) for name in names])
     said = f"{len(matches)} matches, roles {' '.join(roles)}; each player in each seat: {times}"
-    pairs = [met[one, other] for one in names for other in names if one < other]
+    pairs = [met[player, other] for player in names for other in names if player < other]
     return f"{said}; each two players: {spread(pairs)}" if len(roles) > 1 else said
 
 
@@ -158,7 +160,7 @@ def run_play(asked: argparse.Namespace, referee: Referee) -> int:
         return run_held_play(asked, referee)
 
 
-def are_written(write, results, reporter):
+def are_written(write: Callable, results: list[Result], reporter: Reporter) -> bool:
     """Returns whether the pages of the results are written. Where they can't be that is told, and matches go on."""
     try:
         write(results)
@@ -214,7 +216,7 @@ def run_pages(asked: argparse.Namespace, referee: Referee) -> int:
     return is_faulty
 
 
-def archive_path(plan, to):
+def archive_path(plan: Plan, to: str | None) -> pathlib.Path:
     """Returns where the archive is to stand. Refuses what it can't replace, a folder that is not there, and the places of the
     competition's own files."""
     path = pathlib.Path(to or plan.folder.path / f"{plan.competition.name}.tar.gz")

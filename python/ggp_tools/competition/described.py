@@ -1,12 +1,16 @@
 """Matches are held against the descriptions of their games as they were published: no trust in how their rules were instantiated."""
 
 import io
+import pathlib
 import subprocess
 import sys
 import tarfile
+from collections.abc import Sequence
 
+from ggp_tools.competition.competition_file import Game
 from ggp_tools.competition.files import Refused
-from ggp_tools.competition.plan import sums_of
+from ggp_tools.competition.plan import Plan, sums_of
+from ggp_tools.competition.schedule import Match
 from ggp_tools.descriptions.loading import FOLDER, has_variables, sum_of
 from ggp_tools.referee import Unchecked
 
@@ -21,7 +25,7 @@ HELD, NOT_HELD = b"held against the description: the same\n", "not held against 
 REPORT = "report-{}.tar.gz"
 
 
-def description_of(plan, game):
+def description_of(plan: Plan, game: Game) -> tuple[bytes | None, str | None]:
     """Returns the bytes of a game's description as `plan` has read it, and why there are none. Both are none where it has no variables,
     and so is what is played."""
     file = plan.folder.description(game)
@@ -36,17 +40,17 @@ def description_of(plan, game):
     return (text, None) if has_variables(text) else (None, None)
 
 
-def words_of(path):
+def words_of(path: pathlib.Path) -> list[str]:
     """Returns the command that holds the records of its standard input against a description."""
     return [*HOLD, str(path)]
 
 
-def log_line(why):
+def log_line(why: str | None) -> bytes:
     """Returns the line of a match's log: it was followed, or why not."""
     return NOT_HELD.format(why).encode("ascii", "replace") if why else HELD
 
 
-def held_records(path, records):
+def held_records(path: pathlib.Path, records: Sequence[bytes]) -> list[str]:
     """Returns for each record, a line of bytes, what there is to say of it."""
     done = subprocess.run(words_of(path), input=b"".join(records), capture_output=True)
     found = done.stdout.decode("ascii", "replace").splitlines()
@@ -56,7 +60,7 @@ def held_records(path, records):
     return found
 
 
-def write_report(plan, match, description, files):
+def write_report(plan: Plan, match: Match, description: bytes, files: dict[str, bytes]) -> pathlib.Path:
     """Writes all that shows how a match differs from the description of its game, and returns the file."""
     path = plan.folder.path / REPORT.format(match.id)
     with tarfile.open(path, "w:gz") as archive:

@@ -6,7 +6,11 @@ import fcntl
 import os
 import pathlib
 import stat
-from typing import BinaryIO
+from collections.abc import Iterator
+from typing import TYPE_CHECKING, BinaryIO
+
+if TYPE_CHECKING:
+    from ggp_tools.competition.competition_file import Game
 
 UNFINISHED = ".unfinished-"
 # The file of an open match's room that names the players who are sent ABORT where no referee plays the match any more.
@@ -18,13 +22,13 @@ END_OF_LOG = 4_096
 class Refused(Exception):
     """Why there is nothing to go on with, in lines, and what helps in the folder of a competition, though not where it is unpacked."""
 
-    def __init__(self, words, advice=None):
+    def __init__(self, words: str, advice: str | None = None) -> None:
         super().__init__(f"{words}: {advice}" if advice else words)
         self.words = words
 
 
 @contextlib.contextmanager
-def held(path):
+def held(path: pathlib.Path) -> Iterator[None]:
     """Holds a competition's folder for this run alone. Where the run is killed the system lets it go."""
     path = pathlib.Path(path)
     try:
@@ -59,7 +63,7 @@ def lock_place(folder: str | pathlib.Path) -> str:
     return f"{major:02x}:{minor:02x}:{found.st_ino}"
 
 
-def sync(folder):
+def sync(folder: pathlib.Path) -> None:
     """Has the names in a folder on the disk."""
     found = os.open(folder, os.O_RDONLY)
     try:
@@ -69,7 +73,7 @@ def sync(folder):
 
 
 @contextlib.contextmanager
-def written_whole(path, is_lasting=True):
+def written_whole(path: pathlib.Path, is_lasting: bool = True) -> Iterator[BinaryIO]:
     """Gives a file to be written, so that at each moment it is there whole or not at all: under another name first, then renamed. Where
     it is to be lasting it is on the disk before this ends; else it may be lost, where the machine is. A fault leaves nothing behind."""
     path = pathlib.Path(path)
@@ -93,19 +97,19 @@ def written_whole(path, is_lasting=True):
         sync(path.parent)
 
 
-def write_whole(path, data, is_lasting=True):
+def write_whole(path: pathlib.Path, data: bytes, is_lasting: bool = True) -> None:
     """Writes a file whole or not at all."""
     with written_whole(path, is_lasting) as file:
         file.write(data)
 
 
-def is_being_written(path):
+def is_being_written(path: pathlib.Path) -> bool:
     """Returns whether another process that is alive may be at work on an unfinished file, by the number in its name."""
     number = path.name.removeprefix(UNFINISHED).partition("-")[0]
     return number.isdecimal() and number != str(os.getpid()) and os.path.exists(f"/proc/{number}")
 
 
-def drop_unfinished(folder):
+def drop_unfinished(folder: pathlib.Path) -> None:
     """Takes away what writes that were broken off have left in a folder. Nothing is being written there by this process."""
     for file in folder.glob(f"{UNFINISHED}*"):
         if not is_being_written(file):
@@ -124,7 +128,7 @@ def opened_file(path: str | pathlib.Path) -> BinaryIO:
 class Folder:
     """The folder of a competition."""
 
-    def __init__(self, path):
+    def __init__(self, path: pathlib.Path | str) -> None:
         self.path = pathlib.Path(path)
         self.competition = self.path / "competition.toml"
         self.schedule = self.path / "schedule.tsv"
@@ -136,33 +140,33 @@ class Folder:
         # What `play` has done and seen, with the times.
         self.journal = self.path / "play.log"
 
-    def rules_of(self, game):
+    def rules_of(self, game: str) -> pathlib.Path:
         return self.rules / f"{game}.kif"
 
-    def player_rules_of(self, game):
+    def player_rules_of(self, game: str) -> pathlib.Path:
         """The file of what players are told of the rules. All rules end in .kif, so those of no game have this name."""
         return self.rules / f"{game}.players"
 
-    def rule_files(self, game):
+    def rule_files(self, game: "Game") -> list[pathlib.Path]:
         """The files that `plan` writes of a game of competition.toml: its rules, and what players are told in their place."""
         return [self.rules_of(game.name), *([self.player_rules_of(game.name)] if game.tells_variables() else [])]
 
-    def rule_sums(self):
+    def rule_sums(self) -> pathlib.Path:
         return self.rules / "SHA256SUMS"
 
-    def description(self, game):
+    def description(self, game: "Game") -> pathlib.Path:
         """The file of a game's description, as competition.toml names it: that with variables, where it stands beside ground rules."""
         return self.path / (game.described or game.file)
 
-    def given(self, game):
+    def given(self, game: "Game") -> pathlib.Path:
         """The file that a game's rules are made from, as competition.toml names it."""
         return self.path / game.file
 
-    def description_sums(self):
+    def description_sums(self) -> pathlib.Path:
         """The file of the sums of the descriptions that `plan` made the rules from. All rules end in .kif or .players."""
         return self.rules / "DESCRIPTIONS.sha256"
 
-    def record(self, match):
+    def record(self, match: str) -> pathlib.Path:
         return self.records / f"{match}.json"
 
     def read_record(self, match: str, most: int) -> bytes:
@@ -170,16 +174,16 @@ class Folder:
         with opened_file(self.record(match)) as file:
             return file.read(most)
 
-    def account(self, match):
+    def account(self, match: str) -> pathlib.Path:
         return self.accounts / f"{match}.txt"
 
-    def log(self, match):
+    def log(self, match: str) -> pathlib.Path:
         return self.logs / f"{match}.txt"
 
-    def has_log(self, match):
+    def has_log(self, match: str) -> bool:
         return self.log(match).is_file()
 
-    def read_log(self, match):
+    def read_log(self, match: str) -> bytes:
         """Returns the log of a match. Where it is missing it is empty: the match counts all the same, and its times are unknown."""
         return self.log(match).read_bytes() if self.has_log(match) else b""
 
@@ -196,21 +200,21 @@ class Folder:
             last = [line for line in file.read(END_OF_LOG).splitlines(keepends=True)[1:] if line.startswith(b"ended ")]
         return data[: data.rfind(b"\n", 0, most) + 1] + b"".join(last), True
 
-    def must_be_text(self):
+    def must_be_text(self) -> None:
         """Refuses a folder whose path the referee would not take as a word."""
         try:
             os.fsencode(self.path.absolute()).decode("utf-8")
         except UnicodeDecodeError:
             raise Refused(f"{self.path.absolute()}: the path of a competition has to be UTF-8, since the referee takes no other") from None
 
-    def make(self, *folders):
+    def make(self, *folders: pathlib.Path) -> None:
         """Makes folders that are not there, so that they last as long as what is written into them."""
         for place in (self.path, *folders):
             if not place.is_dir():
                 place.mkdir(parents=True, exist_ok=True)
                 sync(place.parent)
 
-    def drop_unfinished(self):
+    def drop_unfinished(self) -> None:
         """Takes away what a write that was broken off has left. Below the folder nobody writes but who holds it."""
         drop_unfinished(self.path)
         for folder in (self.rules, self.earlier, self.records, self.accounts, self.logs):

@@ -6,11 +6,13 @@ import re
 import shutil
 import sys
 from collections import Counter
+from collections.abc import Sequence
+from typing import Any
 
-from ggp_tools.descriptions.loading import SECONDS, NoDescription, Stopped, has_variables, load_description, most_bytes, sentence_starts
+from ggp_tools.descriptions.loading import SECONDS, NoDescription, Rules, Stopped, has_variables, load_description, most_bytes, sentence_starts
 from ggp_tools.competition.files import Refused
 from ggp_tools.descriptions.random_matches import RandomMatches, counted
-from ggp_tools.referee import Unchecked
+from ggp_tools.referee import Referee, Unchecked
 from ggp_tools.descriptions.suspicious import NOT_ALL, Suspicions, suspicions
 from ggp_tools.reporting import Reporter
 
@@ -30,7 +32,7 @@ NO_VERDICT = re.compile(
 )
 
 
-def number_of(text, least, most):
+def number_of(text: str, least: int, most: int) -> int:
     """Returns the whole number that a word says. It has to be a number from the least to the most."""
     if not (len(text) <= MOST_DIGITS and text.isascii() and text.isdigit() and least <= int(text) <= most):
         shown = text if text and text.isprintable() else repr(text)
@@ -39,19 +41,19 @@ def number_of(text, least, most):
     return int(text)
 
 
-def matches(text):
+def matches(text: str) -> int:
     return number_of(text, 0, MOST_MATCHES)
 
 
-def seed(text):
+def seed(text: str) -> int:
     return number_of(text, 0, MOST_SEED)
 
 
-def seconds(text):
+def seconds(text: str) -> int:
     return number_of(text, 1, MOST_SECONDS)
 
 
-def add_game(commands):
+def add_game(commands: Any) -> argparse.ArgumentParser:
     """Adds the command `game` to those of the command line, and returns it."""
     command = commands.add_parser("game", help=HELP, description=f"{HELP[0].upper()}{HELP[1:]}.", epilog=STATUS)
     command.add_argument("file", metavar="FILE", help="the description, with or without variables")
@@ -65,7 +67,7 @@ def add_game(commands):
     return command
 
 
-def read_description(path, most):
+def read_description(path: pathlib.Path, most: int) -> bytes:
     try:
         if path.exists() and not path.is_file():
             raise Refused(f"{path} is no plain file")
@@ -75,7 +77,7 @@ def read_description(path, most):
         raise Refused(f"{path} can't be read: {why.strerror}") from None
 
 
-def run_game(asked, referee):
+def run_game(asked: argparse.Namespace, referee: Referee) -> int:
     """Tells what there is to tell of a description, and returns the status."""
     path, reporter, referee = pathlib.Path(asked.file), Reporter(), referee.taking(asked.large)
     text, why = read_description(path, most_bytes(asked.large)), None
@@ -94,7 +96,7 @@ def run_game(asked, referee):
     return status
 
 
-def load(path, text, referee, limit):
+def load(path: pathlib.Path, text: bytes, referee: Referee, limit: int) -> Rules:
     """Returns the rules of a description. Where it has to be instantiated, and that came to no verdict, this is no fault of its own."""
     if len(text) <= most_bytes(referee.is_large) and has_variables(text) and not shutil.which("gringo"):
         raise Unchecked(f"{path} can't be instantiated: the grounder gringo is not installed")
@@ -111,7 +113,7 @@ def load(path, text, referee, limit):
         raise
 
 
-def report_game(reporter, asked, referee, path, text):
+def report_game(reporter: Reporter, asked: argparse.Namespace, referee: Referee, path: pathlib.Path, text: bytes) -> bool:
     """Tells all that there is to tell of a description. Returns whether it is not accepted, or something is wrong with its matches."""
     reporter.draw("the description")
     try:
@@ -128,13 +130,13 @@ def report_game(reporter, asked, referee, path, text):
     return bool(asked.matches) and report_matches(reporter, asked, referee, rules)
 
 
-def said_of_rules(text, rules):
+def said_of_rules(text: bytes, rules: Rules) -> str:
     count, ground = len(sentence_starts(text)), len(sentence_starts(rules.text))
     became = f", which became {counted(ground, 'ground one')}" if has_variables(text) else ""
     return f"{counted(count, 'sentence')}{became}; roles {' '.join(rules.roles)}"
 
 
-def report_suspicions(reporter, asked, text, ground):
+def report_suspicions(reporter: Reporter, asked: argparse.Namespace, text: bytes, ground: bytes | None) -> None:
     reporter.draw("what is suspicious")
     found = suspicions(text, ground, asked.seconds) if len(text) <= most_bytes(asked.large) else Suspicions([], NOT_ALL)
     for line in found.lines:
@@ -148,7 +150,7 @@ def report_suspicions(reporter, asked, text, ground):
 # ---- Matches -------------------------------------------------------------------------------------
 
 
-def report_matches(reporter, asked, referee, rules):
+def report_matches(reporter: Reporter, asked: argparse.Namespace, referee: Referee, rules: Rules) -> bool:
     """Plays random matches, and tells how they ended. Returns whether anything is wrong with one, or none came to its end."""
     played = RandomMatches(rules.text, referee, asked.file, reporter, asked.seconds)
     played.run(asked.seed, asked.matches)
@@ -171,7 +173,7 @@ def report_matches(reporter, asked, referee, rules):
     return bool(aborted or played.differing or not (ended or played.is_too_deep))
 
 
-def said_of_cause(cause, ended):
+def said_of_cause(cause: str, ended: list) -> str:
     """Returns what there is to say of the matches that were aborted for a cause."""
     first = ended[0]
     seeds = ", ".join(str(match.seed) for match in ended[:LISTED]) + (", .." if len(ended) > LISTED else "")
@@ -181,14 +183,14 @@ def said_of_cause(cause, ended):
     return f"{said}; after turn {first.turns:,} of seed {first.seed} the state is {state}"
 
 
-def spread(numbers):
+def spread(numbers: Sequence[int]) -> str:
     """Returns the least, the greatest and the mean of numbers, as text."""
     if min(numbers) == max(numbers):
         return f"always {numbers[0]:,}"
     return f"{min(numbers):,} to {max(numbers):,}, on average {sum(numbers) / len(numbers):,.1f}"
 
 
-def report_figures(reporter, roles, ended):
+def report_figures(reporter: Reporter, roles: Sequence[str], ended: list) -> None:
     reporter.line(f"turns of a match: {spread([match.turns for match in ended])}")
     for role, name in enumerate(roles):
         goals = [match.goals[role] for match in ended if match.goals]

@@ -7,7 +7,8 @@ import json
 import os
 import pathlib
 import re
-from collections.abc import Iterator, Sequence
+from collections.abc import Iterable, Iterator, Sequence
+from typing import TYPE_CHECKING
 
 from ggp_tools.competition.competition_file import Competition
 from ggp_tools.competition.files import Folder, write_whole
@@ -15,6 +16,9 @@ from ggp_tools.competition.known import Known, sum_or_none
 from ggp_tools.competition.results import Result, fault_of_record, read_record, result_of, result_of_values, values_of
 from ggp_tools.competition.schedule import Match
 from ggp_tools.referee import Referee, Unchecked, is_text_list
+
+if TYPE_CHECKING:
+    from ggp_tools.competition.plan import Plan
 
 # So many matches are checked together, and so many bytes of their files unless one match has more, since all of these are in memory.
 TOGETHER, BYTES_TOGETHER = 250, 1 << 25
@@ -26,24 +30,24 @@ MOST_OF_RECORD, MOST_OF_ACCOUNT = 16_777_216, 268_435_456
 CALL = re.compile(rb"^[0-9]+\t[a-z]+ ([^ \t\n]+)[ \t]", re.MULTILINE)
 
 
-def read_at_most(path, most):
+def read_at_most(path: pathlib.Path, most: int) -> bytes:
     """Returns the bytes of a file; of one that has more than these, no more than show it."""
     with open(path, "rb") as file:
         return file.read(most + 1)
 
 
-def read_or_none(path, most):
+def read_or_none(path: pathlib.Path, most: int) -> bytes | None:
     try:
         return read_at_most(path, most)
     except FileNotFoundError:
         return None
 
 
-def size_of(path):
+def size_of(path: pathlib.Path) -> int:
     return path.stat().st_size if path.exists() else 0
 
 
-def batches(folder, matches):
+def batches(folder: Folder, matches: Iterable[Match]) -> Iterator[list[Match]]:
     """Gives the matches in order, so many at a time as are checked together."""
     batch, size = [], 0
     for match in matches:
@@ -57,14 +61,14 @@ def batches(folder, matches):
         yield batch
 
 
-def is_of_one_match(account):
+def is_of_one_match(account: bytes) -> bool:
     """Returns whether each line of an account is a call on the match of its first line. A call on another one would leave no trace in the
     record."""
     called = CALL.findall(account)
     return len(called) == account.count(b"\n") > 0 and len(set(called)) == 1
 
 
-def fault_of_files(record, account):
+def fault_of_files(record: bytes, account: bytes | None) -> str | None:
     """Returns why files are not even handed to the referee, or none. What it would skip, or end at, is here."""
     if account is None:
         return "its account is missing"
@@ -106,7 +110,7 @@ def result_in_file(folder: Folder, competition: Competition, match: Match) -> Re
     return result_of({"cause": None, **record}, match, competition.forfeit)
 
 
-def judge_of(plan, referee: Referee, game: str) -> list[bytes] | None:
+def judge_of(plan: "Plan", referee: Referee, game: str) -> list[bytes] | None:
     """Returns what says whether a record is right beside it and its account: the sums of the program and of the rules, and the strikes.
     None where a sum is not known."""
     sums = sum_or_none(referee.path), sum_or_none(plan.folder.rules_of(game))
@@ -117,7 +121,7 @@ def match_bytes(match: Match) -> bytes:
     return repr(match).encode()
 
 
-def judged(plan, referee: Referee, game: str, records: Sequence[bytes], accounts: Sequence[bytes]) -> list[str | None]:
+def judged(plan: "Plan", referee: Referee, game: str, records: Sequence[bytes], accounts: Sequence[bytes]) -> list[str | None]:
     """Returns for each record and its account why they are wrong, none where they are right."""
     rules, referee = plan.folder.rules_of(game), plan.judge(referee, game)
     verdicts = referee.verdicts(rules, records)
@@ -127,7 +131,7 @@ def judged(plan, referee: Referee, game: str, records: Sequence[bytes], accounts
     return [None if replays.get(at) else wrong if at in replays else verdict for at, verdict in enumerate(verdicts)]
 
 
-def found_of(plan, match: Match, data: bytes, fault: str | None) -> tuple:
+def found_of(plan: "Plan", match: Match, data: bytes, fault: str | None) -> tuple:
     """Returns of a match why its record is wrong, why it is that of another match, or its result."""
     if fault:
         return match, fault, None, None
@@ -136,7 +140,7 @@ def found_of(plan, match: Match, data: bytes, fault: str | None) -> tuple:
     return match, None, misfit, None if misfit else result_of(record, match, plan.competition.forfeit)
 
 
-def looked_at(plan, referee: Referee, game: str, matches: list[Match], known: Known | None = None) -> Iterator[tuple]:
+def looked_at(plan: "Plan", referee: Referee, game: str, matches: list[Match], known: Known | None = None) -> Iterator[tuple]:
     """Gives for each of these matches of a game, which have records, its result, or why it does not count: because its files are wrong,
     or though they are right, since they are of another match. Where the referee can't tell, this ends with `Unchecked`. A result that is
     known, of the same files by the same rules and program, is not looked for again."""
@@ -162,16 +166,16 @@ def looked_at(plan, referee: Referee, game: str, matches: list[Match], known: Kn
         yield found
 
 
-def look_at_records(plan, referee: Referee, known: Known | None = None) -> tuple[dict, dict, dict]:
+def look_at_records(plan: "Plan", referee: Referee, known: Known | None = None) -> tuple[dict, dict, dict]:
     """Returns the results of the matches that count, by their ids; of the others that have records why their files are wrong; and of
     those whose files are right in what they are not those of the match."""
     try:
         return all_looked_at(plan, referee, known)
     except MemoryError:
-        raise Unchecked("records and accounts can't be checked: want of memory") from None
+        raise Unchecked("records and accounts can't be checked: out of memory") from None
 
 
-def all_looked_at(plan, referee: Referee, known: Known | None) -> tuple[dict, dict, dict]:
+def all_looked_at(plan: "Plan", referee: Referee, known: Known | None) -> tuple[dict, dict, dict]:
     results, faults, misfits, by_game = {}, {}, {}, {}
     for match in plan.matches:
         if plan.folder.record(match.id).exists():
@@ -190,25 +194,25 @@ def all_looked_at(plan, referee: Referee, known: Known | None) -> tuple[dict, di
     return results, faults, misfits
 
 
-def strangers(plan):
+def strangers(plan: "Plan") -> list[str]:
     """Returns the records of the folder that are of no match of the schedule."""
     known = {plan.folder.record(match.id).name for match in plan.matches}
     found = os.listdir(plan.folder.records) if plan.folder.records.is_dir() else []
     return sorted(name for name in found if name.endswith(".json") and name not in known)
 
 
-def free_ending(files, word):
+def free_ending(files: tuple[pathlib.Path, ...], word: str) -> str:
     """Returns the first of the endings `.word`, `.word.2` and so on under which none of the files is there already."""
     endings = itertools.chain([f".{word}"], (f".{word}.{count}" for count in itertools.count(2)))
     return next(candidate for candidate in endings if not any(file.with_name(file.name + candidate).exists() for file in files))
 
 
-def files_of(folder, match):
+def files_of(folder: Folder, match: str) -> tuple[pathlib.Path, ...]:
     """Returns the files of a match, in the order in which they are written: the record last."""
     return folder.log(match), folder.account(match), folder.record(match)
 
 
-def set_aside(plan, match):
+def set_aside(plan: "Plan", match: str) -> bool:
     """Keeps the files of a match that do not count under another name, out of the way of those that are to come. Files that were set
     aside before stay as they are. Returns whether there are any."""
     files = files_of(plan.folder, match)
@@ -219,7 +223,7 @@ def set_aside(plan, match):
     return bool(there)
 
 
-def keep(folder, match, record, account, log, word=None):
+def keep(folder: Folder, match: str, record: bytes, account: bytes, log: bytes, word: str | None = None) -> pathlib.Path:
     """Writes the files of a match, the record last, so that what has a record has the others. With a word they get it as an ending, and
     do not count; what has this ending already stays. Returns the file of the record. Where one can't be written those before it go."""
     files = files_of(folder, match)

@@ -80,5 +80,5 @@ class Known:
             folder = cache() / "known"
             folder.mkdir(parents=True, exist_ok=True)
             write_whole(folder / self.name, hashlib.sha256(text).hexdigest().encode() + b"\n" + text, is_lasting=False)
-            for old in sorted(folder.iterdir(), key=lambda one: one.stat().st_mtime)[:-MOST_KEPT]:
+            for old in sorted(folder.iterdir(), key=lambda file: file.stat().st_mtime)[:-MOST_KEPT]:
                 old.unlink(missing_ok=True)

@@ -367,7 +367,7 @@ class Reader:
         """Keeps the last replaced moves of a match that is over."""
         found = [(turn, role, error) for turn, errors in enumerate(record["errors"], 1) for role, error in enumerate(errors) if error]
         self.replaced_counts[match.id] = len(found)
-        kept = [one for one in self.replaced if one.match.id != match.id]
+        kept = [move for move in self.replaced if move.match.id != match.id]
         if last := found[-MOST_OF_MATCH:]:
             try:
                 log = self.plan.folder.read_log(match.id)
@@ -381,14 +381,14 @@ class Reader:
 
     def last_replaced(self) -> list[tuple[Replaced, int]]:
         """Returns the last replaced moves, the newest first, each with the number of those before it in its match that are not among them."""
-        over = (one for one in self.replaced if one.match.id in self.results)
-        found = [*over, *(one for seen in self.open.values() for one in seen.replaced)]
+        over = (move for move in self.replaced if move.match.id in self.results)
+        found = [*over, *(move for seen in self.open.values() for move in seen.replaced)]
         found = newest(found)
         counts = self.replaced_counts | {name: seen.replaced_count for name, seen in self.open.items()}
-        left = {name: counts[name] - count for name, count in Counter(one.match.id for one in found).items()}
-        return [(one, left.pop(one.match.id, 0)) for one in found][::-1]
+        left = {name: counts[name] - count for name, count in Counter(move.match.id for move in found).items()}
+        return [(move, left.pop(move.match.id, 0)) for move in found][::-1]
 
-    def open_ones(self) -> list[Seen]:
+    def open_matches(self) -> list[Seen]:
         """Returns the open matches in the schedule's order."""
         return sorted(self.open.values(), key=lambda seen: self.place[seen.match.id])
 

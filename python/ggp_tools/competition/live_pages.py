@@ -79,13 +79,13 @@ def board_html(board: LiveBoard) -> str:
     """Returns the state after the last turn that was followed: its boards, and the terms that none shows."""
     states = list(board.states)
     boards = boards_of([board.first, *states])
-    drawn, on_boards = [], {form for one in boards for form in one.forms}
-    for one in boards:
-        places = [board_places(one, state) for state in states[-2:]]
+    drawn, on_boards = [], {form for drawing in boards for form in drawing.forms}
+    for drawing in boards:
+        places = [board_places(drawing, state) for state in states[-2:]]
         before = places[0] if len(places) > 1 else None
         # What an empty place shows is what stands at most places at first.
-        ground = ground_of(one, board_places(one, board.first))
-        drawn.append(board_page(one, places[-1], before, ground, board.marks(one)))
+        ground = ground_of(drawing, board_places(drawing, board.first))
+        drawn.append(board_page(drawing, places[-1], before, ground, board.marks(drawing)))
     terms = [term for term in states[-1] if not (words_of(term) and (words_of(term)[0], len(words_of(term))) in on_boards)]
     more = f" and {len(terms) - MOST_TERMS:,} more" if len(terms) > MOST_TERMS else ""
     said = f'<p class="terms">{shown("  ".join(terms[:MOST_TERMS]))}{more}</p>' if terms else ""
@@ -191,7 +191,7 @@ def open_match_parts(seen: Seen, state: str, turn: int, turns: tuple[Turn, ...],
         head,
         now,
         Part("state", f"<h2>{title}</h2>{state}"),
-        rows_part("turns", "<h2>Last turns</h2>", heads, left, [turn_row(one) for one in reversed(turns)], "No turn is over."),
+        rows_part("turns", "<h2>Last turns</h2>", heads, left, [turn_row(past) for past in reversed(turns)], "No turn is over."),
         answers_part(seen),
     ]
 

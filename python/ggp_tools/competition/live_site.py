@@ -205,7 +205,7 @@ class LiveSite:
         """Returns the open matches whose boards somebody looks at; the others are followed no more."""
         now = time.monotonic()
         looked = {path for path, found in self.pages.items() if found.viewers or now - found.touched < IDLE}
-        shown = self.reader.open_ones()[: live_pages.BOARDS] if "/index.html" in looked else []
+        shown = self.reader.open_matches()[: live_pages.BOARDS] if "/index.html" in looked else []
         names = {seen.match.id for seen in shown}
         matches = (PATH.fullmatch(path) for path in looked)
         names |= {found[3] for found in matches if found and found[2] == "matches" and found[3] in self.reader.open}
@@ -294,17 +294,17 @@ class LiveSite:
         return titled(self.plan, match.id), live_pages.open_match_parts(seen, followed.state, followed.turn, followed.turns, head, roles)
 
     def board_items(self) -> list[tuple[str, str]]:
-        shown = [seen for seen in self.reader.open_ones()[: live_pages.BOARDS] if seen.match.id in self.followed and seen.stage != "asking"]
+        shown = [seen for seen in self.reader.open_matches()[: live_pages.BOARDS] if seen.match.id in self.followed and seen.stage != "asking"]
         states = [self.followed[seen.match.id] for seen in shown]
         roles = [self.plan.roles(seen.match.game) for seen in shown]
         return [live_pages.board_item(seen, followed.state, followed.turn, own) for seen, followed, own in zip(shown, states, roles)]
 
     def open_rows(self) -> list[tuple[str, str]]:
         """Returns the rows of the open matches. A row is made again only where its match has changed."""
-        for seen in self.reader.open_ones():
+        for seen in self.reader.open_matches():
             if self.rows.get(seen.match.id, (None,))[0] != seen.version:
                 self.rows[seen.match.id] = seen.version, live_pages.open_row(seen)
-        return [self.rows[seen.match.id][1] for seen in self.reader.open_ones()]
+        return [self.rows[seen.match.id][1] for seen in self.reader.open_matches()]
 
     def renew(self, path: str, found: OpenPage) -> bool:
         """Makes a page again where its data changed. Returns whether those who look at it are to be told."""

@@ -12,7 +12,8 @@ PARENTHESIS = re.compile(r"[()]")
 SHOWN = 200
 MORE = ".."
 # What stands in the place of an answer that did not come: it has its reason with it. The word alone is what a player has answered.
-NO_ANSWER = re.compile(r"(TO|CE|lost) \(.*\)")
+NO_ANSWER = re.compile(r"(TO|CE|lost) \((.*)\)")
+BROKEN = "CE"
 SHORTAGE = "lost ("
 
 
@@ -84,3 +85,15 @@ def log_line(text: str) -> LogLine | None:
     if said[end : end + 2] != ": ":
         return None
     return LogLine(found[2], int(found[3]), found[4], int(found[5]), found[7], said[:end], said[end + 2 :], int(found[8]), found[1])
+
+
+def reasons(log: bytes, match: Match) -> dict[tuple[int, int], str]:
+    """Returns why answers were broken, by roles and numbers of messages, as the log says it of the match since that began last."""
+    found: dict[tuple[int, int], str] = {}
+    for text in log.decode("ascii", "replace").splitlines():
+        if text.startswith("began "):
+            found = {}
+        line = log_line(text) if f": {BROKEN} (" in text else None
+        if line and line.is_of(match) and (said := NO_ANSWER.fullmatch(line.answer)) and said[1] == BROKEN:
+            found[line.role, line.number] = said[2]
+    return found

@@ -36,6 +36,10 @@ def leave_players(room: pathlib.Path) -> None:
                 file.unlink()
 
 
+# What a match does until it has to wait, again and again.
+Steps = Generator[None, None, None]
+
+
 @dataclasses.dataclass
 class Shared:
     """What all open matches have in common. Without hosts they are played on this computer."""
@@ -67,7 +71,7 @@ class OpenMatch:
         self.may_begin, self.is_broken, self.stops_game = True, False, False
         self.steps = self.go()
 
-    def go(self):
+    def go(self) -> Steps:
         """The steps of the match."""
         self.room.mkdir(parents=True, exist_ok=True)
         if not (yield from self.ask()) or not self.may_begin:
@@ -91,7 +95,7 @@ class OpenMatch:
             self.shared.hosts.leave(self.host)
         self.host = None
 
-    def close(self):
+    def close(self) -> None:
         """Ends the match, and removes its room unless its players have yet to be freed: it broke off, or did so in a `play` before, and
         has not begun again since."""
         is_abort_due = self.stage == "asking" and (self.room / PLAYERS).exists()
@@ -103,15 +107,15 @@ class OpenMatch:
         elif not self.is_broken:
             shutil.rmtree(self.room, ignore_errors=True)
 
-    def child(self, words, name, given="/dev/null"):
+    def child(self, words: list[str], name: str, given: pathlib.Path | str = "/dev/null") -> Child:
         self.children.append(Child(words, self.room, name, given))
         return self.children[-1]
 
-    def end_children(self):
+    def end_children(self) -> None:
         for child in self.children:
             child.end()
 
-    def ask(self):
+    def ask(self) -> Generator[None, None, bool]:
         """Asks each player whether it is free. Returns whether the match can begin."""
         asked = [self.child(self.referee.info_words(place), f"info-{at}") for at, place in enumerate(self.places)]
         seconds = self.plan.competition.info
@@ -134,7 +138,7 @@ class OpenMatch:
             return False
         return self.can_begin(dict(zip(self.match.players, said)))
 
-    def can_begin(self, said):
+    def can_begin(self, said: dict[str, str]) -> bool:
         """Returns whether the match can begin by what its players have said. Else it is left with the reason, or put back. What becomes
         of it is told once all of them are judged."""
         missed = {player: word for player, word in said.items() if word not in THERE}
@@ -286,7 +290,7 @@ class OpenMatch:
             return not line.startswith((f"{self.match.id} role ", CONNECTED))
         return line.startswith(f"{PROGRAM}: ")
 
-    def check(self, played, log):
+    def check(self, played: bytes, log: bytes) -> Steps:
         """Has the record verified and the account replayed, and only then puts the files of the match where they count. Where the
         referee came to no verdict they are kept aside, since the match was played."""
         record, _, account = played.partition(b"\n")
@@ -314,7 +318,7 @@ class OpenMatch:
                 why_not = held.output().decode("ascii", "replace").strip().removeprefix(described.IS_NOT_FOLLOWED) or held.last_words()
             self.count(read_record(record), record, account, log + (described.log_line(why_not) if held or why_not else b""))
 
-    def hold(self):
+    def hold(self) -> tuple[Child | None, str | None]:
         """Has the record held against the description of its game. Returns the process, or why there is none; neither where the game was
         given as its rules."""
         game = next(candidate for candidate in self.plan.competition.games if candidate.name == self.match.game)
@@ -326,7 +330,7 @@ class OpenMatch:
         copy.write_bytes(self.description)
         return self.child(described.words_of(copy), "held", self.room / "record"), None
 
-    def differ(self, words, record, account, log):
+    def differ(self, words: str, record: bytes, account: bytes, log: bytes) -> None:
         """Keeps a match that is not one of the description of its game, which ends the game: its rules are wrong."""
         kept = keep(self.plan.folder, self.match.id, record, account, log, "differs")
         files = {"record.json": record, "account.txt": account, "words.txt": f"{words}\n".encode("ascii", "replace")}
@@ -334,7 +338,7 @@ class OpenMatch:
         self.stops_game = True
         self.why = f"by the description of {self.match.game} it {words}; it is kept as {kept}; please report it, with {report}"
 
-    def count(self, read, record, account, log):
+    def count(self, read: dict, record: bytes, account: bytes, log: bytes) -> None:
         """Puts the files of a match that was found right where they count, if they are of this match."""
         self.why = fault_of_files(record, account) or fault_of_record(read, self.match, self.plan.competition.strikes)
         if not self.why:

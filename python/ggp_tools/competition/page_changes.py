@@ -33,14 +33,14 @@ def changes(old: PageParts, new: PageParts) -> dict | None:
     if frame(old) != frame(new):
         return {"reload": True}
     dropped, replaced, added = [], [], []
-    for one, other in zip(old, new):
-        if isinstance(one, Items):
-            found = item_changes(one, other)
+    for before, after in zip(old, new):
+        if isinstance(before, Items):
+            found = item_changes(before, after)
             dropped += found[0]
             replaced += found[1]
             added += found[2]
-        elif one.text != other.text:
-            replaced.append([other.name, other.html()])
+        elif before.text != after.text:
+            replaced.append([after.name, after.html()])
     return {"drop": dropped, "set": replaced, "add": added} if dropped or replaced or added else None
 
 

@@ -16,6 +16,7 @@ import time
 from collections.abc import Callable, Iterator
 from dataclasses import dataclass
 
+from ggp_tools.answers import MOST_RULES, game_of
 from ggp_tools.competition.files import UNFINISHED, drop_unfinished, write_whole
 from ggp_tools.competition.kept import PROCESSORS
 from ggp_tools.competition.known import Known, sum_or_none
@@ -122,9 +123,10 @@ def rules_text(text: bytes) -> str:
     return f'<p class="dim">SHA-256: {sum_of(text)}</p><pre>{html.escape(text.decode("ascii", "backslashreplace"))}</pre>'
 
 
-def match_page(way: bytes, data: bytes) -> bytes:
-    """Returns the page of a match by its record, as `show-record` makes it, with the way back."""
-    return page_of(read_record(data)).replace(b"<body>", b"<body>\n" + way, 1) + b"\n"
+def match_page(way: bytes, data: bytes, rules: bytes, answers: dict[tuple[int, int], str]) -> bytes:
+    """Returns the page of a match by its record, as `show-record` makes it, with the way back: with rules it tells what was legal."""
+    page = page_of(read_record(data), (lambda: game_of(rules)) if rules else None, answers)
+    return page.replace(b"<body>", b"<body>\n" + way, 1) + b"\n"
 
 
 @dataclass(frozen=True)
@@ -158,7 +160,7 @@ class Site:
         values = known.get("told", key) if known else None
         if values:
             *told, sittings = values
-            self.told[match.id] = Told(*told[:2], *map(tuple, told[2:]), [sitting_of_values(one, result) for one in sittings], is_cut)
+            self.told[match.id] = Told(*told[:2], *map(tuple, told[2:]), [sitting_of_values(said, result) for said in sittings], is_cut)
             return data
         times = times_of(log, len(match.players)) | {"isSetBack": is_set_back(log)}
         rows = match_row(result, times, ""), match_row(result, times, "../")
@@ -176,8 +178,17 @@ class Site:
         way += round_text(self.plan.competition, match) + "".join(f"<p>{html.escape(remark)}</p>" for remark in remarks(result))
         return way.encode("ascii")
 
+    def match_work(self, result: Result, data: bytes) -> tuple[bytes, bytes, bytes, dict[tuple[int, int], str]]:
+        """Returns what the page of a match is made of: what stands at its head, its record, the rules where they tell more of a replaced
+        move and are not too long, and those answers of the log that were no expressions, as far as they are told."""
+        told = self.told.get(result.match.id)
+        faults = [(sitting.role, fault) for sitting in told.sittings for fault in sitting.faults] if told else []
+        answers = {(role, fault.turn - 1): fault.answer for role, fault in faults if fault.error == "IL ?" and fault.message}
+        rules = self.plan.rules[result.match.game].text if any(errors["IL"] for errors in result.errors) else b""
+        return self.way_of_match(result), data, rules if len(rules) <= MOST_RULES else b"", answers
+
     def match_page(self, result: Result, data: bytes) -> bytes:
-        return match_page(self.way_of_match(result), data)
+        return match_page(*self.match_work(result, data))
 
     def own_matches(self, results: list[Result]) -> PageParts:
         """Returns the list of the matches of a player or a game: the last ones in the schedule's order where there are many."""
@@ -189,7 +200,7 @@ class Site:
     def last_matches(self, results: list[Result]) -> Items:
         """Returns the matches that ended last, the newest first."""
         told = sorted((self.told[result.match.id] for result in results), key=lambda told: told.end or "", reverse=True)[:LAST]
-        return matches_part([one.above for one in told], "Last matches")
+        return matches_part([match.above for match in told], "Last matches")
 
     def gaps(self, results: list[Result]) -> Iterator[Part]:
         """Gives what the first page says of the matches that have no record, where it does."""
@@ -203,7 +214,7 @@ class Site:
     def span(self, results: list[Result]) -> str:
         """Returns when the first match began and the last one ended, as text."""
         told = [self.told[result.match.id] for result in results]
-        begins, ends = [one.begin for one in told if one.begin], [one.end for one in told if one.end]
+        begins, ends = [match.begin for match in told if match.begin], [match.end for match in told if match.end]
         if not begins or not ends:
             return ""
         return f" From {spelt(min(begins))} to {spelt(max(ends))} UTC."
@@ -312,19 +323,20 @@ class Pages:
             # Another run that knows fewer matches may have taken the page away.
             if result.match.id in self.site.told and (self.folder / name).exists():
                 continue
-            data, way = self.site.add(result, self.known), self.site.way_of_match(result)
-            key = self.known.key(way, data) if self.known else ""
+            data = self.site.add(result, self.known)
+            work = self.site.match_work(result, data)
+            key = self.known.key(*work[:3], repr(work[3]).encode()) if self.known else ""
             if not self.known or self.known.get("pages", key) != (sum_or_none(self.folder / name) or ""):
-                left.append((name, key, way, data))
+                left.append((name, key, work))
                 size += len(data)
             if size > TOGETHER:
                 self.make_matches(left)
                 left, size = [], 0
         self.make_matches(left)
 
-    def make_matches(self, works: list[tuple[str, str, bytes, bytes]]) -> None:
-        """Writes pages of matches: of each there is the name, its key, what stands at its head, and the record."""
-        for (name, key, _, _), data in zip(works, made_side_by_side(match_page, [(way, record) for _, _, way, record in works])):
+    def make_matches(self, works: list[tuple[str, str, tuple]]) -> None:
+        """Writes pages of matches: of each there is the name, its key, and what it is made of."""
+        for (name, key, _), data in zip(works, made_side_by_side(match_page, [work for _, _, work in works])):
             self.put(name, data)
             if self.known:
                 self.known.put("pages", key, hashlib.sha256(data).hexdigest())

@@ -4,23 +4,27 @@ import collections
 import contextlib
 import errno
 import os
+import pathlib
 import resource
 import shutil
 import signal
 import time
-from collections.abc import Iterator
+from collections.abc import Iterable, Iterator
 
 from ggp_tools.competition.aborts import send_aborts
 from ggp_tools.competition.children import UNSAID
 from ggp_tools.competition.competition_file import is_place
-from ggp_tools.competition.files import PLAYERS, Refused
+from ggp_tools.competition.files import PLAYERS, Folder, Refused
 from ggp_tools.competition.hosts import Hosts
 from ggp_tools.competition.kept import look_at_records, set_aside, strangers
 from ggp_tools.competition.open_match import OpenMatch, Shared, leave_players
-from ggp_tools.competition.plan import plan_next_round, refuse_lost_results, round_words
+from ggp_tools.competition.plan import Plan, plan_next_round, refuse_lost_results, round_words
 from ggp_tools.competition.schedule import Match
+from ggp_tools.competition.seats import Seats
 from ggp_tools.competition.time_left import TimeLeft
 from ggp_tools.competition.timed_lines import LineReader
+from ggp_tools.referee import Referee
+from ggp_tools.reporting import Reporter
 
 REST = 0.02
 # Who ends open matches does not wait longer than so many seconds for their players to answer ABORT.
@@ -37,7 +41,7 @@ INTERRUPTS = {signal.SIGINT: 1, signal.SIGTERM: 2, signal.SIGHUP: 2}
 class Playing:
     """The matches that wait, those that are open, and what came of the others."""
 
-    def __init__(self, plan, referee, seats, reporter, at_once):
+    def __init__(self, plan: Plan, referee: Referee, seats: Seats, reporter: Reporter, at_once: int) -> None:
         self.plan, self.referee, self.seats, self.reporter, self.at_once = plan, referee, seats, reporter, at_once
         competition = plan.competition
         self.hosts = Hosts(competition.hosts, competition.tries, competition.wait, at_once) if competition.hosts else None
@@ -57,7 +61,7 @@ class Playing:
         """Returns whether further matches may begin."""
         return not self.interrupts and not self.is_full and not (self.hosts and self.hosts.are_all_lost())
 
-    def begin(self):
+    def begin(self) -> None:
         """Opens matches as long as fewer than may be are at play and one can begin."""
         at_play = sum(open_match.stage in ("asking", "playing") for open_match in self.open)
         while at_play < self.at_once:
@@ -73,7 +77,7 @@ class Playing:
             self.open.append(OpenMatch(self.shared, match, host))
             at_play += 1
 
-    def step(self, open_match):
+    def step(self, open_match: OpenMatch) -> None:
         """Has an open match go on. Where a file can't be written the match is lost, and no further one begins."""
         try:
             next(open_match.steps, None)
@@ -100,7 +104,7 @@ class Playing:
         else:
             self.wait(open_match.match)
 
-    def stop_game(self, match):
+    def stop_game(self, match: Match) -> None:
         """Has no further match begin of a game whose rules are wrong. Those that are open are played to their ends."""
         self.stopped[match.game] = f"{match.game} is not played on, since {match.id} is no match of its description"
         others = [waiting for waiting in self.waiting if waiting.game == match.game]
@@ -110,7 +114,7 @@ class Playing:
         self.waiting = collections.deque(waiting for waiting in self.waiting if waiting.game != match.game)
         self.reporter.line(f"stopped {self.stopped[match.game]}; {len(others)} matches of it do not begin")
 
-    def lose(self, open_match, why):
+    def lose(self, open_match: OpenMatch, why: str | None) -> None:
         """Ends a match before its end."""
         open_match.end_children()
         open_match.is_broken = open_match.stage == "playing"
@@ -118,7 +122,7 @@ class Playing:
             open_match.leave()
         open_match.stage, open_match.why = "over", why
 
-    def go(self):
+    def go(self) -> None:
         """Goes on until no match is open, and none waits or may begin."""
         told = 0
         while self.open or self.waiting and self.may_begin():
@@ -140,13 +144,13 @@ class Playing:
         self.look_at_journal()
         self.reporter.clear()
 
-    def add(self, matches):
+    def add(self, matches: Iterable[Match]) -> None:
         """Lets further matches wait."""
         for match in matches:
             self.wait(match)
         self.seats.look_again()
 
-    def may_go_on(self):
+    def may_go_on(self) -> bool:
         """Returns whether further matches may begin: nothing has hindered those before."""
         return not (self.interrupts or self.is_full or self.reporter.fault)
 
@@ -162,14 +166,14 @@ class Playing:
         at_once = min(self.at_once, self.hosts.all_room()) if self.hosts else self.at_once
         return self.time_left.left([(open_match.match, now - open_match.seated) for open_match in self.open], max(at_once, 1))
 
-    def say_interrupt(self):
+    def say_interrupt(self) -> None:
         if self.interrupts == 1:
             at_play = sum(open_match.stage == "playing" for open_match in self.open)
             self.reporter.line(f"no more matches begin; {at_play} are played to their ends, or ended by one more Ctrl-C")
         else:
-            self.end_open_ones()
+            self.end_open_matches()
 
-    def end_open_ones(self):
+    def end_open_matches(self) -> None:
         """Ends the matches that are at play, and tells their players. Those that are being checked go on."""
         places = {}
         for open_match in self.open:
@@ -184,13 +188,13 @@ class Playing:
         abort_matches(self.referee, places, self.plan.folder, self.reporter, ABORT_SECONDS)
 
 
-def says_full(why, is_on_host):
+def says_full(why: str, is_on_host: object) -> bool:
     """Returns whether a match has no record since the disk is full, which the referee may be the first to see. It says so with status 1,
     or can't write that either. On a host that status may have other reasons."""
     return why.endswith("write fault") or not is_on_host and why.endswith(UNSAID.format(1))
 
 
-def abort_matches(referee, places, folder, reporter, seconds=None):
+def abort_matches(referee: Referee, places: dict[str, list[str]], folder: Folder, reporter: Reporter, seconds: float | None = None) -> None:
     """Sends the players of these matches ABORT, within so many seconds where they are given. The room of a match is kept where one does not
     answer, so that it is sent again."""
     for match in places:
@@ -204,7 +208,7 @@ def abort_matches(referee, places, folder, reporter, seconds=None):
             shutil.rmtree(folder.open / match, ignore_errors=True)
 
 
-def places_in(room):
+def places_in(room: pathlib.Path) -> list[str]:
     """Returns the players of a match that was open; none where nothing in its room names them."""
     try:
         found = (room / PLAYERS).read_text("ascii").split()
@@ -213,14 +217,14 @@ def places_in(room):
     return found if all(map(is_place, found)) else []
 
 
-def rooms(plan):
+def rooms(plan: Plan) -> list[pathlib.Path]:
     """Returns the folders of matches that were open, of this plan or of one before it, and not what else stands beside them."""
     names = {match.id for match in plan.matches}
     found = (room for room in sorted(plan.folder.open.iterdir()) if room.is_dir() and not room.is_symlink())
     return [room for room in found if room.name in names or places_in(room)]
 
 
-def clear_open_rooms(playing):
+def clear_open_rooms(playing: Playing) -> None:
     """Frees the players of the matches that were open when a run before this one was killed."""
     places = {}
     for room in rooms(playing.plan):
@@ -232,7 +236,7 @@ def clear_open_rooms(playing):
     abort_matches(playing.referee, places, playing.plan.folder, playing.reporter)
 
 
-def prepared(playing):
+def prepared(playing: Playing) -> None:
     """Looks at what is there already, frees players of matches that were lost, and lets the others wait."""
     plan, folder, reporter = playing.plan, playing.plan.folder, playing.reporter
     folder.must_be_text()
@@ -266,10 +270,10 @@ def prepared(playing):
 
 
 @contextlib.contextmanager
-def interrupts_counted(playing):
+def interrupts_counted(playing: Playing) -> Iterator[None]:
     """Has signals end no open match without an ABORT. A hang-up that is ignored, as under nohup, stays so."""
 
-    def interrupted(number, _):
+    def interrupted(number: int, _: object) -> None:
         playing.interrupts += INTERRUPTS[number]
 
     caught = [number for number in INTERRUPTS if number != signal.SIGHUP or signal.getsignal(number) != signal.SIG_IGN]
@@ -289,7 +293,7 @@ def allow_descriptors() -> None:
         resource.setrlimit(resource.RLIMIT_NOFILE, (wanted, hard))
 
 
-def play(playing):
+def play(playing: Playing) -> dict[str, str]:
     """Plays, in a folder that is held. Returns for each match that has no lawful record why."""
     allow_descriptors()
     prepared(playing)

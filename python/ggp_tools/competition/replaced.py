@@ -29,12 +29,12 @@ class Replaced:
 
 def newest(found: Iterable[Replaced]) -> list[Replaced]:
     """Returns the last replaced moves, the newest last."""
-    return sorted(found, key=lambda one: (one.moment, one.number))[-MOST_REPLACED:]
+    return sorted(found, key=lambda move: (move.moment, move.number))[-MOST_REPLACED:]
 
 
 def last_moment(found: Iterator[re.Match[bytes]]) -> float | None:
     """Returns the last of the moments that a form has found: a match may have begun again."""
-    texts = [one[1].decode("ascii") for one in found]
+    texts = [moment[1].decode("ascii") for moment in found]
     return moment_of(texts[-1]) if texts else None
 
 

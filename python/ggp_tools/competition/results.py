@@ -6,6 +6,7 @@ import re
 from collections import Counter
 from collections.abc import Iterator
 from dataclasses import dataclass
+from typing import NamedTuple
 
 from ggp_tools.competition.schedule import Match
 from ggp_tools.moments import MOMENT
@@ -206,13 +207,23 @@ def again_keys(match: Match) -> dict[str, object]:
     return {key: value for key, value in said.items() if value}
 
 
-def match_line(result: Result, rules_sum: str, log: bytes) -> bytes:
-    """Returns the match as one line of JSON."""
+class Sums(NamedTuple):
+    """The sums of what a result comes from: of the record, of the rules, and of the description that these were made from."""
+
+    record: str
+    rules: str
+    description: str | None = None
+
+
+def match_line(result: Result, sums: Sums, log: bytes, broken: list[dict[str, object]]) -> bytes:
+    """Returns the match as one line of JSON; `broken` has the answers that were broken, with their reasons."""
     match = result.match
     said = {
         "id": match.id,
+        "record": sums.record,
         "game": match.game,
-        "rules": rules_sum,
+        "rules": sums.rules,
+        "description": sums.description,
         "players": match.players,
         "goals": result.goals,
         **forfeit_keys(result),
@@ -222,5 +233,6 @@ def match_line(result: Result, rules_sum: str, log: bytes) -> bytes:
         "cause": result.cause,
         "errors": [dict(sorted(errors.items())) for errors in result.errors],
         **times_of(log, len(match.players)),
+        "broken": broken,
     }
     return (json.dumps(said, separators=(",", ":")) + "\n").encode("ascii")

@@ -48,8 +48,8 @@ class Scores:
             self.points[bye] += self.meeting
         for pair in found.pairs:
             self.met[frozenset(pair)] += 1
-            for one, other in (pair, pair[::-1]):
-                self.opponents[one].append(other)
+            for name, opponent in (pair, pair[::-1]):
+                self.opponents[name].append(opponent)
 
     def count_result(self, result: Result) -> None:
         for role, player in enumerate(result.match.players):
@@ -146,11 +146,11 @@ def knockout_round(competition: Competition, before: Sequence[Round], of_meeting
     for found in before:
         met = {frozenset(pair): of_meeting[found.number, frozenset(pair)] for pair in found.pairs}
         places = [
-            one or other if None in (one, other) else winner((one, other), met[frozenset((one, other))], seeds, competition)
-            for one, other in zip(places[::2], places[1::2])
+            first or second if None in (first, second) else winner((first, second), met[frozenset((first, second))], seeds, competition)
+            for first, second in zip(places[::2], places[1::2])
         ]
     pairs = list(zip(places[::2], places[1::2]))
-    byes = tuple(one or other for one, other in pairs if None in (one, other))
+    byes = tuple(first or second for first, second in pairs if None in (first, second))
     return Round(len(before) + 1, tuple(pair for pair in pairs if None not in pair), byes)
 
 

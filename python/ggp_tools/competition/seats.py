@@ -2,12 +2,16 @@
 
 import math
 import time
+from collections.abc import MutableSequence
+
+from ggp_tools.competition.competition_file import Competition
+from ggp_tools.competition.schedule import Match
 
 
 class Seats:
     """The players' seats, and how often in a row each was asked in vain."""
 
-    def __init__(self, competition):
+    def __init__(self, competition: Competition) -> None:
         self.free = {player.name: player.concurrent for player in competition.players}
         self.rested = dict.fromkeys(self.free, 0.0)
         self.failed = dict.fromkeys(self.free, 0)
@@ -17,26 +21,26 @@ class Seats:
         # Until then no match can begin, unless a seat is left before.
         self.idle_until = 0.0
 
-    def can_sit(self, match, now):
+    def can_sit(self, match: Match, now: float) -> bool:
         return all(self.free[player] > 0 and self.rested[player] <= now for player in match.players)
 
-    def sit(self, match):
+    def sit(self, match: Match) -> None:
         for player in match.players:
             self.free[player] -= 1
 
-    def look_again(self):
+    def look_again(self) -> None:
         """Has the waiting matches be looked through again: there are others."""
         self.idle_until = 0.0
 
-    def leave(self, match):
+    def leave(self, match: Match) -> None:
         self.look_again()
         for player in match.players:
             self.free[player] += 1
 
-    def was_there(self, player):
+    def was_there(self, player: str) -> None:
         self.failed[player] = 0
 
-    def was_not_there(self, player, seated):
+    def was_not_there(self, player: str, seated: float) -> bool:
         """Returns whether the player, which sat down for a match at this time, is to be asked again: not if it was asked in vain so often
         in a row as it may be. A player with several seats may be asked for several matches at once, which is one try."""
         if seated <= self.missed[player]:
@@ -48,7 +52,7 @@ class Seats:
         self.rested[player] = self.missed[player] + (0 if is_last else self.wait)
         return not is_last
 
-    def next_match(self, waiting, now):
+    def next_match(self, waiting: MutableSequence[Match], now: float) -> Match | None:
         """Takes the first match that can begin out of the waiting ones. None where there is none; then they are not looked through
         again before a player has left a seat or is rested."""
         if now < self.idle_until:

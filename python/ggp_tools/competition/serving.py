@@ -11,6 +11,7 @@ import sys
 import threading
 import time
 from collections import OrderedDict
+from collections.abc import Iterator
 from http import HTTPStatus
 from http.server import BaseHTTPRequestHandler, ThreadingHTTPServer
 
@@ -281,7 +282,7 @@ class Server(ThreadingHTTPServer):
         return data
 
     @contextlib.contextmanager
-    def viewing(self, path: str):
+    def viewing(self, path: str) -> Iterator[OpenPage | None]:
         """Gives a page to somebody who is told of its changes: none where there is none, or too many look at pages."""
         with self.site.changed:
             found = self.site.opened(path) if self.viewers < self.most - self.most // 8 else None

@@ -113,12 +113,12 @@ def count_pairs(table: Table, result: Result) -> None:
     """Counts each two players of a match as having met: the higher goal has won, and equal ones are half a win for each. Two that both
     forfeited it have not."""
     players, worth = result.match.players, result.worths() or ()
-    for one in range(len(worth)):
-        for other in range(one):
-            if worth[one] == worth[other] < 0:
+    for seat in range(len(worth)):
+        for beside in range(seat):
+            if worth[seat] == worth[beside] < 0:
                 continue
-            points = (1 + (worth[one] > worth[other]) - (worth[one] < worth[other])) / 2
-            for first, second, got in ((one, other, points), (other, one, 1 - points)):
+            points = (1 + (worth[seat] > worth[beside]) - (worth[seat] < worth[beside])) / 2
+            for first, second, got in ((seat, beside, points), (beside, seat, 1 - points)):
                 pair = players[first], players[second]
                 table.points[pair] = table.points.get(pair, 0) + got
                 table.met[pair] = table.met.get(pair, 0) + 1

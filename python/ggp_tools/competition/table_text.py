@@ -104,9 +104,9 @@ def crosstable_rows(table: Table) -> Iterator[list[str]]:
     the standings."""
     order = [line.player for line in table.standings()]
     yield ["", "player", *map(str, range(1, len(order) + 1))]
-    for number, one in enumerate(order, 1):
-        cells = ((table.points.get((one, other), 0), table.met.get((one, other), 0)) for other in order)
-        yield [str(number), one, *(f"{points_text(points)}/{met}" if met else "." for points, met in cells)]
+    for number, player in enumerate(order, 1):
+        cells = ((table.points.get((player, opponent), 0), table.met.get((player, opponent), 0)) for opponent in order)
+        yield [str(number), player, *(f"{points_text(points)}/{met}" if met else "." for points, met in cells)]
 
 
 def notes(table: Table) -> Iterator[str]:
@@ -160,10 +160,10 @@ def crosstable_csv(tables: list[Table]) -> str:
     writer.writerow(("game", "player", "opponent", "meetings", "points"))
     for table in tables:
         order = [line.player for line in table.standings()]
-        for one in order:
+        for player in order:
             for other in order:
-                if table.met.get((one, other)):
-                    writer.writerow((table.game, one, other, table.met[one, other], points_text(table.points[one, other])))
+                if table.met.get((player, other)):
+                    writer.writerow((table.game, player, other, table.met[player, other], points_text(table.points[player, other])))
     return text.getvalue()
 
 
@@ -182,8 +182,8 @@ def json_text(plan: Plan, tables: list[Table]) -> str:
                 "matches": table.matches,
                 "lines": [dict(zip(HEADS, fields(line))) for line in table.standings()],
                 "crosstable": [
-                    {"player": one, "opponent": other, "meetings": met, "points": table.points[one, other]}
-                    for (one, other), met in sorted(table.met.items())
+                    {"player": player, "opponent": opponent, "meetings": met, "points": table.points[player, opponent]}
+                    for (player, opponent), met in sorted(table.met.items())
                 ],
                 "notes": list(notes(table)),
             }

@@ -36,12 +36,12 @@ class TimeLeft:
         known = {game: self.took[game] / count for game, count in self.over.items()}
         return {game: known.get(game, mean) for game in [*self.games, *self.over]}
 
-    def left(self, open_ones: list[tuple[Match, float]], at_once: int) -> float | None:
+    def left(self, open_matches: list[tuple[Match, float]], at_once: int) -> float | None:
         """Returns the seconds that the rest takes, by the matches that are open and how long each is; none before a first one is over."""
         if not self.over:
             return None
         lengths = self.lengths()
-        rest = [(match, max(lengths.get(match.game, 0.0) - seconds, 0.0)) for match, seconds in open_ones]
+        rest = [(match, max(lengths.get(match.game, 0.0) - seconds, 0.0)) for match, seconds in open_matches]
         loads = {player: sum(lengths[game] * count for game, count in games.items()) for player, games in self.to_begin.items()}
         for match, seconds in rest:
             for player in match.players:

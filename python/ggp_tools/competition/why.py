@@ -2,18 +2,15 @@
 
 import functools
 import re
-import sys
 from collections.abc import Iterator
 from dataclasses import dataclass
 
-from ggp_tools.answers import listed, no_expression
+from ggp_tools.answers import Illegal, game_of, no_expression
 from ggp_tools.competition.files import Refused
 from ggp_tools.competition.log_lines import MORE, NO_ANSWER, SHOWN
 from ggp_tools.competition.plan import Plan
 from ggp_tools.competition.results import read_record
 from ggp_tools.competition.schedule import Match
-from ggp_tools.ground_games import MOST_CALLS, Game
-from ggp_tools.kif import KifFault, expressions, spelled
 from ggp_tools.moments import MOMENT
 
 TIMED = re.compile(rf"({MOMENT}) (.*)")
@@ -177,30 +174,16 @@ class Told:
         return f"{mark}: no legal move of its role in that state"
 
     @functools.cached_property
-    def game(self) -> Game:
-        sys.setrecursionlimit(MOST_CALLS)
-        return Game(expressions(self.plan.rules[self.match.game].text.decode("latin-1")))
-
-    def legal(self, role: int, turn: int) -> list[str]:
-        """Returns the legal moves of a role in a turn, by an interpreter that shares nothing with the program: none where it can't tell."""
-        try:
-            state = frozenset(expressions("\n".join(self.record["states"][turn])))
-            return [spelled(move) for move in self.game.legal(state, expressions(self.roles[role])[0])]
-        except (KifFault, LookupError, RecursionError, TypeError, ValueError):
-            return []
+    def illegal(self) -> Illegal:
+        return Illegal(self.record["states"], self.roles, lambda: game_of(self.plan.rules[self.match.game].text))
 
     def illegal_words(self, role: int, turn: int, error: str, answer: str) -> str:
         """Returns what else is known of an answer that is no legal move: where it would be one, and what is legal in its place."""
         if error == "IL ?":
             why = no_expression(answer)
             return f": {why}" if why else ""
-        legal = self.legal(role, turn) if error.startswith("IL ") else []
-        if not legal:
-            return ""
-        move, words = error[3:], f", which has {listed(legal)}"
-        if others := [name for other, name in enumerate(self.roles) if other != role and move in self.legal(other, turn)]:
-            return f"{words}; it is legal for {', '.join(others)}"
-        return f"{words}; it was legal in the turn before" if turn and move in self.legal(role, turn - 1) else words
+        moves = self.illegal.moves(role, turn, error)
+        return f", which has {moves}" if moves else ""
 
     def turn_words(self, role: int, turn: int, answer: str) -> str:
         """Returns what was played for a role in a turn, and why."""

@@ -54,5 +54,5 @@ def keep(key: str, rules: bytes, player_rules: bytes) -> None:
         with tempfile.NamedTemporaryFile(dir=folder(), delete=False) as file:
             file.write(b"%d\n" % len(rules) + rules + player_rules)
         os.replace(file.name, folder() / key)
-        for old in sorted(folder().iterdir(), key=lambda one: one.stat().st_mtime)[:-MOST_KEPT]:
+        for old in sorted(folder().iterdir(), key=lambda file: file.stat().st_mtime)[:-MOST_KEPT]:
             old.unlink(missing_ok=True)

@@ -15,7 +15,7 @@ from ggp_tools.descriptions import kept
 from ggp_tools.instantiating.relations import Relations
 from ggp_tools.instantiating.sentences import Rule, all_rules, as_read
 from ggp_tools.instantiating.for_players import text_for_players as text_for_players
-from ggp_tools.referee import BadRules
+from ggp_tools.referee import BadRules, Referee
 
 # The folder of this package, where a process that instantiates finds it.
 FOLDER = pathlib.Path(__file__).resolve().parents[2]
@@ -80,13 +80,13 @@ def has_variables(text: bytes) -> bool:
     return any(token.startswith("?") for token in kif.TOKEN.findall(kif.blanked(text.decode("latin-1"))))
 
 
-def why_not(made):
+def why_not(made: subprocess.CompletedProcess) -> str:
     """Returns why a run of `ggp-instantiate` made nothing: its last line, and before it which sentences cost most where it is past a limit."""
     lines = made.stderr.decode(errors="replace").strip().splitlines() or [f"ggp-instantiate ended with status {made.returncode}"]
     return "\n".join([*(line.strip() for line in lines[:-1] if line.startswith("  dear: ")), lines[-1]])
 
 
-def instantiated(path, text, tells_variables, seconds, is_large=False):
+def instantiated(path: pathlib.Path, text: bytes, tells_variables: bool, seconds: float, is_large: bool = False) -> tuple[bytes, bytes | None]:
     """Returns the ground description that `ggp-instantiate` makes of a file with this text, and the description for players where it is
     asked for."""
     large = ["--large"] if is_large else []
@@ -106,12 +106,15 @@ def instantiated(path, text, tells_variables, seconds, is_large=False):
     return found
 
 
-def notes_of(ground):
+def notes_of(ground: bytes) -> tuple[str, ...]:
     """Returns what `ggp-instantiate` says at the head of what it made: how it was folded or unrolled, and what is left out."""
     return tuple(note[2:].decode() for note in itertools.takewhile(lambda line: line.startswith(b"; "), ground.splitlines()))
 
 
-def rules_of(text, name, referee, player_rules=None, description_sum=None, notes=()):
+def rules_of(
+    text: bytes, name: pathlib.Path | str, referee: Referee, player_rules: bytes | None = None, description_sum: str | None = None,
+    notes: tuple[str, ...] = (),
+) -> Rules:
     """Returns the rules that a ground description says, as the referee reads it, with the text that players get. Refuses what the
     referee refuses, in its words."""
     try:
@@ -121,12 +124,12 @@ def rules_of(text, name, referee, player_rules=None, description_sum=None, notes
     return Rules(text, sum_of(text), roles, player_rules, description_sum, notes, referee.is_large)
 
 
-def most_bytes(is_large):
+def most_bytes(is_large: bool) -> int:
     """Returns how many bytes a description may have."""
     return MOST_BYTES_OF_LARGE if is_large else MOST_BYTES
 
 
-def read_text(path, is_large=False):
+def read_text(path: pathlib.Path, is_large: bool = False) -> bytes:
     """Returns the bytes of a description."""
     most = most_bytes(is_large)
     try:
@@ -139,7 +142,7 @@ def read_text(path, is_large=False):
     return text
 
 
-def load_description(path, referee, tells_variables, seconds=SECONDS):
+def load_description(path: pathlib.Path, referee: Referee, tells_variables: bool, seconds: float = SECONDS) -> Rules:
     """Returns the rules of the game that a file describes, with the text that its players get. If the file has no variables that is
     nothing beside the rules, whatever is asked for."""
     text = read_text(path, referee.is_large)
@@ -154,7 +157,7 @@ def load_description(path, referee, tells_variables, seconds=SECONDS):
         raise NoDescription(f"its ground rules, by ggp-instantiate: {why}") from None
 
 
-def load_described(path, described, referee, tells_variables):
+def load_described(path: pathlib.Path, described: pathlib.Path, referee: Referee, tells_variables: bool) -> Rules:
     """Returns the rules that a file has, with the text that its players get, by the description with variables that stands beside it."""
     ground, text = read_text(path, referee.is_large), read_text(described)
     if has_variables(ground):
@@ -165,7 +168,7 @@ def load_described(path, described, referee, tells_variables):
         raise NoDescription(f"{described} has no variables")
     player_rules = None
     if tells_variables:
-        heads = [Rule(0, one[1] if one[0] == "<=" else one, ()) for one in kif.expressions(ground.decode("latin-1"))]
+        heads = [Rule(0, sentence[1] if sentence[0] == "<=" else sentence, ()) for sentence in kif.expressions(ground.decode("latin-1"))]
         player_rules = text_for_players(list(map(as_read, kif.expressions(text.decode("latin-1")))), heads).encode("ascii")
         if len(player_rules) > MOST_BYTES:
             raise NoDescription(f"the text for players has more than {MOST_BYTES:,} bytes")

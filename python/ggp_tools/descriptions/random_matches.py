@@ -5,13 +5,14 @@ import random
 import subprocess
 import sys
 import time
+from collections.abc import Iterator
 from dataclasses import dataclass
 
 from ggp_tools.descriptions.suspicious import is_too_long
 from ggp_tools.ground_games import MOST_CALLS, Game, Match, text_of, texts_of
-from ggp_tools.kif import expressions
-from ggp_tools.referee import is_text_list, read_records, rules_file, unchecked
-from ggp_tools.reporting import REDRAWN
+from ggp_tools.kif import Expression, expressions
+from ggp_tools.referee import Referee, is_text_list, read_records, rules_file, unchecked
+from ggp_tools.reporting import REDRAWN, Reporter
 
 # The bytes of a script and the matches of a desk that one run of the program gets, below what it takes.
 MOST_BYTES, MOST_MATCHES = 1_000_000, 1_000
@@ -23,7 +24,7 @@ class TimeIsOver(Exception):
     """The seconds are over."""
 
 
-def sum_of(texts):
+def sum_of(texts: list[str]) -> bytes:
     """Returns a sum of a state's terms, which is all that is kept of most states."""
     return hashlib.sha256("\n".join(texts).encode()).digest()
 
@@ -31,25 +32,25 @@ def sum_of(texts):
 class Played(Match):
     """A match that keeps the last of its states, and of the others only sums."""
 
-    def __init__(self, game, name, players):
+    def __init__(self, game: Game, name: str, players: list[str]) -> None:
         super().__init__(game, name, 1, 1, players)
         # The turns that one script can hold, and the state after these.
         self.room, self.held = MOST_BYTES - BESIDE_TURNS, (0, self.states[0])
 
-    def turn(self, judged):
+    def turn(self, judged: list[tuple]) -> None:
         super().turn(judged)
         self.states[-2] = sum_of(texts_of(self.states[-2]))
         self.room -= sum(len(line) + 1 for line in turn_lines(self, len(self.moves)))
         if self.room >= 0:
             self.held = len(self.moves), self.states[-1]
 
-    def shorten(self):
+    def shorten(self) -> None:
         """Cuts the match to the turns that one script can hold."""
         turns, state = self.held
         self.moves, self.errors, self.states = self.moves[:turns], self.errors[:turns], [*self.states[:turns], state]
         self.marks["end"] = {}
 
-    def record(self):
+    def record(self) -> dict:
         """Returns the record with sums in the place of states."""
         sums, self.states = self.states[:-1], self.states[-1:]
         record = super().record()
@@ -71,11 +72,11 @@ class Ended:
     choices: list
 
 
-def counted(number, word):
+def counted(number: int, word: str) -> str:
     return f"{number:,} {word}{'' if number == 1 else 's'}"
 
 
-def named(cause, roles):
+def named(cause: str | None, roles: list[Expression]) -> str | None:
     """Returns the cause with the role's name in the place of its number."""
     word, _, number = (cause or "").partition(" ")
     return f"{word} {text_of(roles[int(number)])}" if number else cause
@@ -84,14 +85,14 @@ def named(cause, roles):
 class RandomMatches:
     """Matches of one game, each with a seed of its own."""
 
-    def __init__(self, rules, referee, name, reporter, seconds):
+    def __init__(self, rules: bytes, referee: Referee, name: str, reporter: Reporter, seconds: float | None) -> None:
         self.game, self.rules, self.referee, self.name = Game(expressions(rules.decode("latin-1"))), rules, referee, name
         self.reporter, self.seconds, self.until = reporter, seconds, time.monotonic() + seconds
         self.causes, self.ended, self.differing, self.uncompared, self.too_long, self.notes = {None}, [], [], 0, 0, []
         self.waiting, self.size, self.drawn, self.turns, self.is_too_deep = [], 0, 0.0, 0, False
         sys.setrecursionlimit(MOST_CALLS)
 
-    def run(self, seed, count):
+    def run(self, seed: int, count: int) -> None:
         """Plays this many matches, with seeds from this one on. What hinders that is told in notes."""
         try:
             for number in range(count):
@@ -104,7 +105,7 @@ class RandomMatches:
             self.notes.append("the interpreter can't play it: its rules ask for one another too deeply")
         self.ask_desk()
 
-    def play(self, seed, said):
+    def play(self, seed: int, said: str) -> None:
         """Plays a match to its end, with each move chosen among the legal ones, and hands it to the desk, at once or with later ones."""
         roles, dice = self.game.roles, random.Random(seed)
         match = Played(self.game, f"seed-{seed}", [f"p{number}" for number in range(len(roles))])
@@ -123,7 +124,7 @@ class RandomMatches:
         self.ended.append(Ended(seed, len(match.moves), record["goalValues"], cause, state, choices))
         self.hand_in(seed, match, record)
 
-    def look_at_clock(self, said):
+    def look_at_clock(self, said: str) -> None:
         now = time.monotonic()
         if now > self.until:
             raise TimeIsOver
@@ -131,7 +132,7 @@ class RandomMatches:
             self.drawn = now
             self.reporter.draw(f"{said}, {self.turns:,} turns")
 
-    def hand_in(self, seed, match, record):
+    def hand_in(self, seed: int, match: Played, record: dict) -> None:
         if any(is_too_long(move) for moves in match.moves for move in moves):
             # The desk takes no such answer.
             self.too_long += 1
@@ -147,7 +148,7 @@ class RandomMatches:
         self.waiting.append((seed, lines, record))
         self.size += size
 
-    def ask_desk(self):
+    def ask_desk(self) -> None:
         """Has the program play the waiting matches, in one run, and compares its records."""
         waiting, self.waiting, self.size = self.waiting, [], 0
         if not waiting:
@@ -170,13 +171,13 @@ class RandomMatches:
             self.differing += [(seed, keys)] if keys else []
 
 
-def turn_lines(match, number):
+def turn_lines(match: Played, number: int) -> Iterator[str]:
     """Gives the lines of a turn, which are numbered from 1 on."""
     for role, move in enumerate(match.moves[number - 1]):
         yield f"submit {match.name} {role} {number} {text_of(move)}"
 
 
-def lines_of(match):
+def lines_of(match: Played) -> Iterator[str]:
     """Gives the lines of a script for the whole match, as the desk reads them."""
     roles = range(len(match.game.roles))
     yield f"open {match.name} 0 {match.start} {match.play} {' '.join(match.players)}"

@@ -6,12 +6,13 @@ import itertools
 import math
 import time
 from collections import Counter
+from collections.abc import Iterable, Iterator, Sequence
 from typing import NamedTuple
 
 from ggp_tools.descriptions.loading import NoDescription, sentence_starts
 from ggp_tools.instantiating.sentences import ARITIES, GAME, SECRET, as_read, must_be_atomic, must_be_literal
 from ggp_tools.instantiating.for_players import head_of
-from ggp_tools.kif import TOKEN, Refused, blanked, expressions, place_of, relation, spelled, variables
+from ggp_tools.kif import TOKEN, Expression, Refused, Relation, blanked, expressions, place_of, relation, spelled, variables
 
 # The relations that need no rule to ask for them, and those whose first argument is a role.
 OWN = {*((name, ARITIES[name]) for name in GAME), ("base", 1), ("input", 2)}
@@ -39,8 +40,8 @@ MOST_LISTED = 3
 # The desk takes no answer that is longer.
 MOST_ANSWER = 4_096
 TOO_LONG = f"no player can make this move: its text is longer than {MOST_ANSWER:,} bytes"
-
-
+# The way to an expression inside of a sentence, by the numbers of members.
+Way = tuple[int, ...]
 NOT_ALL = "the rest was not looked at"
 
 
@@ -52,8 +53,8 @@ class Part(NamedTuple):
     """An atomic sentence of a description: the number of its sentence, and the way to it there, by the numbers of members."""
 
     sentence: int
-    way: tuple
-    atom: object
+    way: Way
+    atom: Expression
 
 
 class Finding(NamedTuple):
@@ -64,7 +65,7 @@ class Finding(NamedTuple):
     kind: tuple
 
 
-def conditions(literal, way):
+def conditions(literal: Expression, way: Way) -> Iterator[tuple[Way, Expression]]:
     """Gives each atomic sentence of a literal, with the way to it."""
     match literal:
         case ("not", inner):
@@ -78,14 +79,14 @@ def conditions(literal, way):
             yield way, literal
 
 
-def may_be(one, other):
+def may_be(left: Expression, right: Expression) -> bool:
     """Returns whether two terms may be equal, with some values for their variables."""
-    if isinstance(one, str) or isinstance(other, str):
-        return one == other or any(isinstance(term, str) and term.startswith("?") for term in (one, other))
-    return len(one) == len(other) and all(map(may_be, one, other))
+    if isinstance(left, str) or isinstance(right, str):
+        return left == right or any(isinstance(term, str) and term.startswith("?") for term in (left, right))
+    return len(left) == len(right) and all(map(may_be, left, right))
 
 
-def places(atom, way=()):
+def places(atom: Expression, way: Way = ()) -> Iterator[tuple[Way, object]]:
     """Gives each place in an atomic sentence with what stands there: an atom, the length of a list, or None for a variable."""
     if isinstance(atom, str):
         yield way, None if atom.startswith("?") else atom
@@ -95,7 +96,7 @@ def places(atom, way=()):
         yield from places(member, (*way, number))
 
 
-def without_names(term):
+def without_names(term: Expression) -> Expression:
     """Returns the term with the same variable in the place of each."""
     if isinstance(term, str):
         return "?" if term.startswith("?") else term
@@ -105,13 +106,13 @@ def without_names(term):
 class Index:
     """Atomic sentences, found by what stands at one place of them."""
 
-    def __init__(self, atoms):
+    def __init__(self, atoms: Iterable[Expression]) -> None:
         self.table = {}
         for atom in atoms:
             for place in places(atom):
                 self.table.setdefault(place, []).append(atom)
 
-    def alike(self, atom):
+    def alike(self, atom: Expression) -> Iterable[Expression]:
         """Returns those that may have what this one has at one place: at that one where they are fewest."""
         best, least = (), None
         for way, word in places(atom):
@@ -127,27 +128,27 @@ class Index:
 class Atoms:
     """Atomic sentences, found by their relations."""
 
-    def __init__(self, atoms):
+    def __init__(self, atoms: Iterable[Expression]) -> None:
         self.plain, self.open = {}, {}
         for atom in dict.fromkeys(atoms):
             (self.open if variables(atom) else self.plain).setdefault(relation(atom), {})[atom] = None
         self.indexes, self.answers = {}, {}
 
-    def relations(self):
+    def relations(self) -> set[Relation]:
         return {*self.plain, *self.open}
 
-    def like(self, atom):
+    def like(self, atom: Expression) -> Iterator[Expression]:
         """Gives those that may be this one: itself first."""
-        one, is_open = relation(atom), bool(variables(atom))
-        if not is_open and atom in self.plain.get(one, ()):
+        key, is_open = relation(atom), bool(variables(atom))
+        if not is_open and atom in self.plain.get(key, ()):
             yield atom
         for name, atoms in (("open", self.open), ("plain", self.plain))[: 1 + is_open]:
-            if one in atoms:
-                if (name, one) not in self.indexes:
-                    self.indexes[name, one] = Index(atoms[one])
-                yield from (candidate for candidate in self.indexes[name, one].alike(atom) if may_be(candidate, atom))
+            if key in atoms:
+                if (name, key) not in self.indexes:
+                    self.indexes[name, key] = Index(atoms[key])
+                yield from (candidate for candidate in self.indexes[name, key].alike(atom) if may_be(candidate, atom))
 
-    def may_give(self, atom):
+    def may_give(self, atom: Expression) -> bool:
         """Returns whether one of them may be this one."""
         asked = without_names(atom)
         if asked not in self.answers:
@@ -158,14 +159,14 @@ class Atoms:
 class Description:
     """A text with the atomic sentences that stand in it: its heads, and its conditions with the relations that ask for them."""
 
-    def __init__(self, text):
+    def __init__(self, text: bytes) -> None:
         self.text = blanked(text.decode("latin-1"))
         self.starts, self.is_well_formed = sentence_starts(text), True
         self.heads, self.conditions, self.asks, self.secrets = [], [], {}, {}
         for number, sentence in enumerate(expressions(text.decode("latin-1"))):
             self.read(number, as_read(sentence))
 
-    def read(self, number, sentence):
+    def read(self, number: int, sentence: Expression) -> None:
         is_rule = sentence[:1] == ("<=",)
         if not sentence or (is_rule and len(sentence) < 2):
             self.is_well_formed = False
@@ -186,17 +187,17 @@ class Description:
         self.conditions += asked
         self.asks.setdefault(relation(part.atom), set()).update(relation(part.atom) for part in asked)
 
-    def needed(self):
+    def needed(self) -> set[Relation]:
         """Returns the relations of the game, and those that they ask for."""
-        found, open_ones = set(), list(OWN)
-        while open_ones:
-            one = open_ones.pop()
-            if one not in found:
-                found.add(one)
-                open_ones += self.asks.get(one, ())
+        found, left = set(), list(OWN)
+        while left:
+            key = left.pop()
+            if key not in found:
+                found.add(key)
+                left += self.asks.get(key, ())
         return found
 
-    def told_places(self, parts):
+    def told_places(self, parts: list[Part]) -> dict[tuple[int, Way], str]:
         """Returns the places of parts, by their sentences and ways, in the words that tell them."""
         wanted, found = {}, {}
         for part in parts:
@@ -224,7 +225,7 @@ def member_starts(text: str, at: int, ways: set[tuple]) -> dict[tuple, int]:
     return found
 
 
-def meant(atom, words, names=()):
+def meant(atom: Expression, words: dict[str, int | str | None], names: Sequence[str] = ()) -> str | None:
     """Returns the word that may be meant by the relation of an atomic sentence, by its look and the number of its arguments: one of GDL,
     or one of these names. None if there is none."""
     name, count = relation(atom)
@@ -239,30 +240,30 @@ def meant(atom, words, names=()):
     return found[0] if found else None
 
 
-def cut(text):
+def cut(text: str) -> str:
     return text if len(text) <= MOST_SHOWN else f"{text[:MOST_SHOWN]}.."
 
 
-def form(name, count):
+def form(name: str, count: int | None) -> str:
     """Returns how an atomic sentence of a relation looks."""
     return cut(name if count is None else f"({' '.join([name] + ['_'] * count)})")
 
 
-def listed(name, counts):
+def listed(name: str, counts: Sequence[int | None]) -> str:
     """Returns how a relation looks with these numbers of arguments: with the first of them, where there are many."""
     return " and ".join([f"`{form(name, count)}`" for count in counts[:MOST_LISTED]] + ["others"] * (len(counts) > MOST_LISTED))
 
 
-def shown(atom):
+def shown(atom: Expression) -> str:
     return cut(spelled(atom))
 
 
-def is_too_long(move):
+def is_too_long(move: Expression) -> bool:
     """Returns whether no player can make a move, since the desk takes no answer that is as long."""
     return len(spelled(move)) > MOST_ANSWER
 
 
-def by_name(relations):
+def by_name(relations: Iterable[Relation]) -> dict[str, list[int | None]]:
     """Returns the numbers of arguments of relations, by their names."""
     found = {}
     for name, count in sorted(relations, key=str):
@@ -273,7 +274,7 @@ def by_name(relations):
 class Search:
     """The search for what is suspicious in a description; `ground` is the text of its ground rules, where it is accepted."""
 
-    def __init__(self, description, ground, until):
+    def __init__(self, description: Description, ground: bytes | None, until: float) -> None:
         self.description, self.until, self.said, self.parts = description, until, {}, {}
         for head in description.heads:
             self.parts.setdefault(head.atom, []).append(head)
@@ -291,7 +292,7 @@ class Search:
             heads = (sentence for sentence in map(head_of, sentences) if relation(sentence) in KNOWN)
             self.known, self.facts = Atoms(heads), {sentence for sentence in sentences if sentence[:1] != ("<=",)}
 
-    def findings(self):
+    def findings(self) -> Iterator[Finding]:
         """Gives what is suspicious. Where a sentence has not its form, only misspelt heads are told: it may be what others ask for."""
         for part, why in self.description.secrets.items():
             yield Finding(part, why, ("secret", relation(part.atom)))
@@ -304,82 +305,82 @@ class Search:
             yield from self.of_instances()
             yield from self.of_roles()
 
-    def look_at_clock(self):
+    def look_at_clock(self) -> None:
         if time.monotonic() > self.until:
             raise TimeIsOver
 
-    def of_head(self, part):
+    def of_head(self, part: Part) -> Finding | None:
         self.look_at_clock()
-        one = relation(part.atom)
-        if one in OWN:
+        key = relation(part.atom)
+        if key in OWN:
             return self.of_role(part) or self.of_move(part) or self.of_term(part)
-        if one in self.needed or part in self.description.secrets:
+        if key in self.needed or part in self.description.secrets:
             return None
-        if one not in self.said:
-            self.said[one] = self.of_unneeded(part)
-        return self.said[one]._replace(part=part)
+        if key not in self.said:
+            self.said[key] = self.of_unneeded(part)
+        return self.said[key]._replace(part=part)
 
-    def of_unneeded(self, part):
+    def of_unneeded(self, part: Part) -> Finding:
         """Returns what is to be said of a head that the game does not need."""
-        one = relation(part.atom)
+        key = relation(part.atom)
         word = meant(part.atom, HEADS)
         if word:
-            words = f"`{one[0]}` is no word of GDL, and nothing of the game asks for it; is `{word}` meant?"
-            return Finding(part, words, ("misspelt", one[0]))
-        words, others = f"nothing of the game asks for `{form(*one)}`", self.needed_counts.get(one[0])
-        return Finding(part, words + (f", only for {listed(one[0], others)}" if others else ""), ("unused", one))
+            words = f"`{key[0]}` is no word of GDL, and nothing of the game asks for it; is `{word}` meant?"
+            return Finding(part, words, ("misspelt", key[0]))
+        words, others = f"nothing of the game asks for `{form(*key)}`", self.needed_counts.get(key[0])
+        return Finding(part, words + (f", only for {listed(key[0], others)}" if others else ""), ("unused", key))
 
-    def of_role(self, part):
+    def of_role(self, part: Part) -> Finding | None:
         if relation(part.atom) not in OF_ROLES or self.known.may_give(("role", part.atom[1])):
             return None
         return Finding(part, f"{shown(part.atom[1])} is no role", ("role", part.atom[1]))
 
-    def of_move(self, part):
+    def of_move(self, part: Part) -> Finding | None:
         if relation(part.atom) != ("legal", 2) or not is_too_long(part.atom[2]):
             return None
         return Finding(part, TOO_LONG, ("long", relation(part.atom[2])))
 
-    def of_term(self, part):
+    def of_term(self, part: Part) -> Finding | None:
         if relation(part.atom) not in (("init", 1), ("next", 1)) or self.asked.may_give(("true", part.atom[1])):
             return None
         return Finding(part, f"no condition asks for the term {shown(part.atom[1])}", ("unasked", relation(part.atom[1])))
 
-    def of_condition(self, part):
+    def of_condition(self, part: Part) -> Finding | None:
         self.look_at_clock()
-        one, atom = relation(part.atom), part.atom
+        key, atom = relation(part.atom), part.atom
         if found := self.of_role(part):
             return found
-        if one == ("true", 1):
+        if key == ("true", 1):
             is_given, words = self.terms.may_give(atom), f"no `init` and no `next` gives the term {shown(atom[1])}"
             return None if is_given else Finding(part, words, ("true", relation(atom[1])))
-        if one == ("does", 2):
+        if key == ("does", 2):
             is_given, words = self.heads.may_give(("legal", *atom[1:])), "no `legal` gives this move"
             return None if is_given else Finding(part, words, ("does", atom[1], relation(atom[2])))
         if self.heads.may_give(atom):
             return None
-        if ("as a condition", one) not in self.said:
-            self.said["as a condition", one] = self.of_missing(part)
-        return self.said["as a condition", one]._replace(part=part)
+        if ("as a condition", key) not in self.said:
+            self.said["as a condition", key] = self.of_missing(part)
+        return self.said["as a condition", key]._replace(part=part)
 
-    def of_missing(self, part):
+    def of_missing(self, part: Part) -> Finding:
         """Returns what is to be said of a condition that no head may be."""
-        name, count = one = relation(part.atom)
-        counts, words = self.counts.get(name, ()), f"`{form(*one)}` has no rule and no fact"
+        name, count = key = relation(part.atom)
+        counts, words = self.counts.get(name, ()), f"`{form(*key)}` has no rule and no fact"
         if count in counts:
-            return Finding(part, "no rule and no fact gives this", ("never", one))
+            return Finding(part, "no rule and no fact gives this", ("never", key))
         if counts:
             words += f", only {listed(name, counts)}"
         elif word := meant(part.atom, CONDITIONS, self.names_like(count)):
             words += f"; is `{word}` meant?"
-        return Finding(part, words, ("undefined", one))
+        return Finding(part, words, ("undefined", key))
 
-    def names_like(self, count):
+    def names_like(self, count: int | None) -> list[str]:
         """Returns the names of relations with as many arguments: none where many were compared, since this takes its time."""
         lists = [self.names.get(number, []) for number in ((count,) if count else (None, 0))]
         self.compared += sum(map(len, lists))
         return sum(lists, []) if self.compared <= MOST_COMPARED else []
 
-    def of_instances(self):
+    def of_instances(self) -> Iterator[Finding]:
         """Gives the instances with a move that is too long, and those that hold always and are of what is no role. Others may never
         hold: this is left open."""
         for name in ("legal", "goal"):
@@ -391,14 +392,14 @@ class Search:
                     words = f"{shown(atom[1])} is no role, and a fact of the ground rules has it"
                     yield from self.of_instance(atom, words, ("role", atom[1]))
 
-    def of_instance(self, atom, words, kind):
+    def of_instance(self, atom: Expression, words: str, kind: tuple) -> Iterator[Finding]:
         """Gives what there is to say of an instance, at the head that it is of: at none where it may be of several."""
         parts = [] if atom in self.parts else [part for head in self.heads.like(atom) for part in self.parts[head]]
         if parts:
             is_sure = len(parts) == 1
             yield Finding(parts[0]._replace(atom=atom) if is_sure else None, words if is_sure else f"{words}: {shown(atom)}", kind)
 
-    def of_roles(self):
+    def of_roles(self) -> Iterator[Finding]:
         """Gives what a role lacks, and whether the end does."""
         for atom in self.known.plain.get(("role", 1), ()):
             self.look_at_clock()
@@ -417,7 +418,7 @@ class Suspicions(NamedTuple):
     cut: str = ""
 
 
-def suspicions(text, ground=None, seconds=math.inf):
+def suspicions(text: bytes, ground: bytes | None = None, seconds: float | None = math.inf) -> Suspicions:
     """Returns what is suspicious in a description, in the order of the text; `ground` is the text of its ground rules, where it is
     accepted. After the seconds the search is cut."""
     found, why = [], ""
@@ -433,7 +434,7 @@ def suspicions(text, ground=None, seconds=math.inf):
     return Suspicions(lines_of(description, found), why or ("" if description.is_well_formed else NOT_ALL))
 
 
-def lines_of(description, found):
+def lines_of(description: Description, found: list[Finding]) -> list[str]:
     """Returns the lines that tell findings, those of one kind in one line, at the place of the first."""
     counts, firsts = Counter(finding.kind for finding in found), {}
     for finding in sorted(found, key=lambda finding: finding.part[:2] if finding.part else (len(description.starts), ())):

@@ -31,18 +31,18 @@ class Late(Exception):
     """The seconds are over."""
 
 
-def late(signal_number, frame):
+def late(signal_number: int, frame: object) -> None:
     raise Late
 
 
-def seconds(text):
+def seconds(text: str) -> float:
     found = float(text)
     if not 0 < found <= MOST_SECONDS:
         raise argparse.ArgumentTypeError(f"{text} is not above 0 and up to {MOST_SECONDS:,}")
     return found
 
 
-def arguments():
+def arguments() -> argparse.Namespace:
     words = argparse.ArgumentParser("ggp-hold-against", usage=USAGE, description=ABOUT, epilog=STATUS)
     told = f"the seconds for each record, above 0 and up to {MOST_SECONDS:,} ({SECONDS:g})"
     words.add_argument("--seconds", type=seconds, default=SECONDS, metavar="N", help=told)
@@ -58,10 +58,10 @@ class Holding:
     """The records of one description, one after another. `following` is none until the description is read. What it keeps of the game
     serves all records; where a look at one was broken off, it may be half of it, and is made anew."""
 
-    def __init__(self, text):
+    def __init__(self, text: str) -> None:
         self.text, self.following = text, None
 
-    def held(self, line):
+    def held(self, line: str) -> tuple[int, str]:
         """Holds one record against the description. Returns a status and words."""
         following, self.following = self.following, None
         try:
@@ -91,7 +91,7 @@ def place_of(why: BaseException) -> str:
     return f"{place.tb_frame.f_code.co_name}, line {place.tb_lineno}"
 
 
-def hold(text, lines, limit):
+def hold(text: str, lines: Iterable[str], limit: float) -> Iterator[tuple[int, str]]:
     """Gives a status and words for each record, each within the seconds."""
     holding = Holding(text)
     signal.signal(signal.SIGALRM, late)
@@ -99,7 +99,7 @@ def hold(text, lines, limit):
         yield within(limit, holding, line) or (NOT_FOLLOWED, f"not followed: its time was over, after {limit:g} s")
 
 
-def within(limit, holding, line):
+def within(limit: float, holding: Holding, line: str) -> tuple[int, str] | None:
     """What there is to say of a record; none where the seconds are over before."""
     try:
         try:
@@ -135,7 +135,7 @@ def records_in(files: Iterable[BinaryIO]) -> Iterator[bytes]:
         yield from (line for line in file if line.strip())
 
 
-def main():
+def main() -> int:
     sys.setrecursionlimit(MOST_CALLS)
     asked, found = arguments(), set()
     limit_memory()

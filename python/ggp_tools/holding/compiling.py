@@ -4,11 +4,16 @@ Where all are known the function says whether the sentence is true, and else it 
 once. What it has found of a position it keeps. Relations that depend on themselves are derived as a whole, from the facts up.
 """
 
-from . import positions
-from .planning import is_known, is_test
-from .reading import Asked, Either, NotFollowed, Same, is_built, is_variable, low, spelled, variables, variables_of
-from .relations import DOES, TRUE
+from collections.abc import Callable, Iterable, Iterator, Sequence
 
+from . import positions
+from .planning import Sizes, is_known, is_test
+from .positions import Position, State
+from .reading import Asked, Condition, Either, NotFollowed, Relation, Rule, Same, Term, is_built, is_variable, low, spelled, variables, variables_of
+from .relations import DOES, TRUE, Relations
+
+# The expressions of variables that are bound.
+Bound = dict[str, str]
 # Python takes twenty blocks in one another.
 MOST_DEPTH = 12
 
@@ -17,31 +22,31 @@ class GoesRound(NotFollowed):
     """A sentence depends on itself through a denial."""
 
 
-def tuple_text(members):
+def tuple_text(members: Iterable[str]) -> str:
     members = list(members)
     return "(" + ", ".join(members) + ("," if len(members) == 1 else "") + ")"
 
 
-def key_text(members):
+def key_text(members: list[str]) -> str:
     return members[0] if len(members) == 1 else tuple_text(members)
 
 
-def term_text(term, bound):
+def term_text(term: Term, bound: Bound) -> str:
     """The expression that makes a term whose variables are bound."""
     if isinstance(term, str):
         return bound[term] if term.startswith("?") else repr(term)
-    return tuple_text(term_text(one, bound) for one in term)
+    return tuple_text(term_text(part, bound) for part in term)
 
 
 class Program:
     """The functions of a description, each made where it is first asked for."""
 
-    def __init__(self, relations, sizes):
+    def __init__(self, relations: Relations, sizes: Sizes) -> None:
         self.relations, self.sizes = relations, sizes
         self.made, self.waiting, self.fixed, self.count = {}, [], [], 0
         self.space = {"NONE": (), "ONE": (0,), "Whole": positions.Whole, "BUSY": object(), "GoesRound": GoesRound, "low": low}
 
-    def function(self, relation, known):
+    def function(self, relation: Relation, known: tuple[bool, ...]) -> Callable:
         """The function of a relation where these of its arguments are known."""
         name = self.name(relation, known)
         while self.waiting:
@@ -49,13 +54,13 @@ class Program:
             exec(compile(source, "<rules>", "exec"), self.space)
         return self.space[name]
 
-    def name(self, relation, known):
+    def name(self, relation: Relation, known: tuple[bool, ...]) -> str:
         if (relation, known) not in self.made:
             self.made[relation, known] = name = self.fresh("f")
             self.waiting.append(lambda: Asking(self, name, relation, known).source())
         return self.made[relation, known]
 
-    def circle(self, relation):
+    def circle(self, relation: Relation) -> tuple[str, int]:
         """The function that derives a circle of relations, and the relation's number there."""
         circle = self.relations.circles[relation]
         if circle not in self.made:
@@ -63,21 +68,21 @@ class Program:
             self.waiting.append(lambda: Circle(self, name, circle).source())
         return self.made[circle], circle.index(relation)
 
-    def fresh(self, letter):
+    def fresh(self, letter: str) -> str:
         self.count += 1
         return f"{letter}{self.count}"
 
-    def constant(self, value):
+    def constant(self, value: object) -> str:
         name = self.fresh("k")
         self.space[name] = value
         return name
 
-    def table(self, is_timely):
+    def table(self, is_timely: bool) -> int:
         """The number of a new table: one that stays, or one that each position has anew."""
         self.fixed.append(None if is_timely else {})
         return len(self.fixed) - 1
 
-    def facts(self, relation, places):
+    def facts(self, relation: Relation, places: tuple[int, ...] | None) -> str:
         """The name of the facts of a relation: all of them, or an index by these places."""
         key = "facts", relation, places
         if key not in self.made:
@@ -86,28 +91,28 @@ class Program:
             self.made[key] = self.constant(value)
         return self.made[key]
 
-    def position(self, state, pairs):
+    def position(self, state: State, pairs: Sequence[tuple[str, Term]]) -> Position:
         return positions.Position(state, pairs, [{} if table is None else table for table in self.fixed])
 
 
 class Lines:
     """Lines of Python that are being written. `place` is how far they stand in, `depth` in how many loops."""
 
-    def __init__(self, program, extra=""):
+    def __init__(self, program: Program, extra: str = "") -> None:
         self.program, self.lines, self.helpers, self.extra = program, [], [], extra
 
-    def put(self, place, text):
+    def put(self, place: int, text: str) -> None:
         self.lines.append("    " * place + text)
 
-    def fresh(self):
+    def fresh(self) -> str:
         return self.program.fresh("v")
 
-    def text(self):
+    def text(self) -> str:
         return "\n".join([*(line for helper in self.helpers for line in helper), *self.lines]) + "\n"
 
     # ---- Terms -----------------------------------------------------------------------------------
 
-    def match(self, place, pattern, value, bound):
+    def match(self, place: int, pattern: Term, value: str, bound: Bound) -> None:
         """Goes on with the next answer where the value does not fit the pattern, and binds its variables."""
         if is_variable(pattern) and pattern not in bound:
             bound[pattern] = value
@@ -116,11 +121,11 @@ class Lines:
         else:
             functor = "" if is_variable(pattern[0]) else f" or {value}[0] != {pattern[0]!r}"
             self.put(place, f"if type({value}) is not tuple or len({value}) != {len(pattern)}{functor}: continue")
-            for at, one in enumerate(pattern):
-                if at or is_variable(one):
-                    self.part(place, one, f"{value}[{at}]", bound)
+            for at, member in enumerate(pattern):
+                if at or is_variable(member):
+                    self.part(place, member, f"{value}[{at}]", bound)
 
-    def part(self, place, pattern, value, bound):
+    def part(self, place: int, pattern: Term, value: str, bound: Bound) -> None:
         """The same for a part of a term, which gets a name where it is looked at more than once."""
         if not is_known(pattern, bound):
             name = self.fresh()
@@ -128,7 +133,7 @@ class Lines:
             value = name
         self.match(place, pattern, value, bound)
 
-    def targets(self, patterns, bound):
+    def targets(self, patterns: Sequence[Term], bound: Bound) -> tuple[list[str], list[tuple[Term, str]]]:
         """The names that the parts of an answer get, and what is still to be looked at: names and patterns."""
         names, rest = [], []
         for pattern in patterns:
@@ -141,17 +146,17 @@ class Lines:
 
     # ---- Conditions whose variables are all bound ------------------------------------------------
 
-    def test(self, condition, bound):
+    def test(self, condition: Condition, bound: Bound) -> str:
         """The expression that says whether a condition holds."""
         if isinstance(condition, Either):
-            return "(" + " or ".join("(" + (" and ".join(self.test(one, bound) for one in way) or "True") + ")" for way in condition.ways) + ")"
+            return "(" + " or ".join("(" + (" and ".join(self.test(inner, bound) for inner in way) or "True") + ")" for way in condition.ways) + ")"
         if isinstance(condition, Same):
-            one, other = (term_text(argument, bound) for argument in condition.arguments)
-            return f"{one} {'==' if condition.positive else '!='} {other}"
+            left, right = (term_text(argument, bound) for argument in condition.arguments)
+            return f"{left} {'==' if condition.positive else '!='} {right}"
         found = self.asked(condition.relation, condition.arguments, bound)
         return found if condition.positive else f"not {found}"
 
-    def cost(self, condition):
+    def cost(self, condition: Condition) -> int:
         """What a test costs: those that look something up stand behind those that compare."""
         if isinstance(condition, Asked):
             return 3 if condition.relation in self.program.relations.rules else 1
@@ -160,10 +165,10 @@ class Lines:
     def texts(self, relation: tuple, arguments: list, bound: dict[str, str]) -> list[str]:
         """The expressions of arguments that are asked for. What a relation asks of itself may grow."""
         may_grow = relation in self.program.relations.denying
-        found = [(one, term_text(one, bound)) for one in arguments]
-        return [f"low({text})" if may_grow and is_built(one) else text for one, text in found]
+        found = [(argument, term_text(argument, bound)) for argument in arguments]
+        return [f"low({text})" if may_grow and is_built(argument) else text for argument, text in found]
 
-    def asked(self, relation, arguments, bound):
+    def asked(self, relation: Relation, arguments: Sequence[Term], bound: Bound) -> str:
         texts = self.texts(relation, arguments, bound)
         if relation == TRUE:
             return f"({texts[0]} in D.state)"
@@ -176,14 +181,14 @@ class Lines:
             return f"{self.program.name(relation, (True,) * len(texts))}({', '.join(['D', *texts])})"
         return f"({tuple_text(texts)} in {self.program.facts(relation, None)})"
 
-    def whole(self, relation):
+    def whole(self, relation: Relation) -> tuple[str, int]:
         """The expression of all that is true of a circle of relations, and the relation's number there."""
         name, number = self.program.circle(relation)
         return ("W" if self.extra == f"W{name}" else f"{name}(D)"), number
 
     # ---- Conditions that bind variables ----------------------------------------------------------
 
-    def loop(self, place, condition, bound):
+    def loop(self, place: int, condition: Asked, bound: Bound) -> None:
         """Begins a loop over the answers of a condition."""
         relation, arguments = condition.relation, condition.arguments
         if relation == TRUE:
@@ -193,7 +198,7 @@ class Lines:
         else:
             self.loop_over_answers(place, relation, arguments, bound)
 
-    def loop_over_terms(self, place, pattern, bound):
+    def loop_over_terms(self, place: int, pattern: Term, bound: Bound) -> None:
         if is_variable(pattern):
             bound[pattern] = self.fresh()
             self.put(place, f"for {bound[pattern]} in D.state:")
@@ -201,7 +206,7 @@ class Lines:
         if is_variable(pattern[0]):
             raise NotFollowed(f"{spelled(pattern)} is no term")
         functor = pattern[0], len(pattern)
-        places = tuple(at for at, one in enumerate(pattern) if at and is_known(one, bound))
+        places = tuple(at for at, member in enumerate(pattern) if at and is_known(member, bound))
         rows = f"D.rows.get({functor!r}, NONE)"
         if places:
             key = ("index", functor, places)
@@ -209,15 +214,15 @@ class Lines:
             rows = f"D.index({number}, {functor!r}, {places!r})({key_text([term_text(pattern[at], bound) for at in places])}, NONE)"
         self.loop_over_rows(place, rows, pattern, (0, *places), bound)
 
-    def loop_over_rows(self, place, rows, patterns, known, bound):
+    def loop_over_rows(self, place: int, rows: str, patterns: Sequence[Term], known: tuple[int, ...], bound: Bound) -> None:
         """Begins a loop over rows, of which the parts at some places are known to fit."""
-        names, rest = self.targets([one for at, one in enumerate(patterns) if at not in known], bound)
+        names, rest = self.targets([pattern for at, pattern in enumerate(patterns) if at not in known], bound)
         left = iter(names)
         self.put(place, f"for {tuple_text('_' if at in known else next(left) for at in range(len(patterns)))} in {rows}:")
         for pattern, name in rest:
             self.match(place + 1, pattern, name, bound)
 
-    def loop_over_moves(self, place, arguments, bound):
+    def loop_over_moves(self, place: int, arguments: Sequence[Term], bound: Bound) -> None:
         role, move = arguments
         name = self.fresh()
         if is_known(role, bound):
@@ -229,8 +234,8 @@ class Lines:
             self.match(place + 1, role, other, bound)
         self.match(place + 1, move, name, bound)
 
-    def loop_over_answers(self, place, relation, arguments, bound):
-        known = tuple(at for at, one in enumerate(arguments) if is_known(one, bound))
+    def loop_over_answers(self, place: int, relation: Relation, arguments: Sequence[Term], bound: Bound) -> None:
+        known = tuple(at for at, argument in enumerate(arguments) if is_known(argument, bound))
         texts = self.texts(relation, [arguments[at] for at in known], bound)
         relations = self.program.relations
         if relation in relations.circles:
@@ -238,7 +243,7 @@ class Lines:
             rows = f"{whole}.index({number}, {known!r})({key_text(texts)}, NONE)" if known else f"{whole}.lists[{number}]"
         elif relation in relations.rules:
             name = self.program.name(relation, tuple(at in known for at in range(len(arguments))))
-            free = [one for at, one in enumerate(arguments) if at not in known]
+            free = [argument for at, argument in enumerate(arguments) if at not in known]
             names, rest = self.targets(free, bound)
             self.put(place, f"for {names[0] if len(names) == 1 else tuple_text(names)} in {name}({', '.join(['D', *texts])}):")
             for pattern, name in rest:
@@ -250,11 +255,11 @@ class Lines:
 
     # ---- Bodies ----------------------------------------------------------------------------------
 
-    def body(self, place, conditions, bound, finish, depth=0):
+    def body(self, place: int, conditions: Iterable[Condition], bound: Bound, finish: "Finish", depth: int = 0) -> None:
         """Meets all conditions, in the order that costs least, and finishes each way of it."""
         left = list(conditions)
         while True:
-            for test in sorted((one for one in left if is_test(one, bound)), key=self.cost):
+            for test in sorted((condition for condition in left if is_test(condition, bound)), key=self.cost):
                 self.put(place, f"if not {self.test(test, bound)}: continue")
                 left.remove(test)
             if not left:
@@ -264,18 +269,18 @@ class Lines:
             if is_done or depth == MOST_DEPTH:
                 self.apart(place, left, bound, finish, is_done)
                 return
-            binding = [one for one in left if isinstance(one, Asked) and one.positive]
-            best = min(binding, key=lambda one: self.program.sizes.answers(one, bound))
+            binding = [condition for condition in left if isinstance(condition, Asked) and condition.positive]
+            best = min(binding, key=lambda condition: self.program.sizes.answers(condition, bound))
             left.remove(best)
             self.loop(place, best, bound)
             place, depth = place + 1, depth + 1
 
-    def apart(self, place, left, bound, finish, is_done):
+    def apart(self, place: int, left: list[Condition], bound: Bound, finish: "Finish", is_done: bool) -> None:
         """Meets the other conditions in a function of its own: whether they can be met, where that is all that is left to know."""
         name, needed = self.program.fresh("h"), {variable for condition in left for variable in variables_of(condition)} | set(finish.names)
-        live = {one: text for one, text in bound.items() if one in needed}
+        live = {variable: text for variable, text in bound.items() if variable in needed}
         inner, test = Lines(self.program, self.extra), is_done or finish.is_test
-        names = {one: self.program.fresh("v") for one in live}
+        names = {variable: self.program.fresh("v") for variable in live}
         words = [*finish.parameters(self.extra, is_done), *names.values()]
         inner.put(0, f"def {name}({', '.join(words)}):")
         inner.put(1, "for _ in ONE:")
@@ -296,10 +301,10 @@ class Truth:
 
     is_test, names = True, ()
 
-    def parameters(self, extra, is_done):
+    def parameters(self, extra: str, is_done: bool) -> list[str]:
         return ["D", "W"] if extra else ["D"]
 
-    def write(self, lines, place, bound):
+    def write(self, lines: Lines, place: int, bound: Bound) -> None:
         lines.put(place, "return True")
 
 
@@ -311,14 +316,14 @@ class Answer:
 
     is_test = False
 
-    def __init__(self, terms):
+    def __init__(self, terms: Sequence[Term]) -> None:
         self.terms, self.names = terms, list(variables(terms))
 
-    def parameters(self, extra, is_done):
+    def parameters(self, extra: str, is_done: bool) -> list[str]:
         return ["D"] if is_done else ["D", "F"]
 
-    def write(self, lines, place, bound):
-        lines.put(place, f"F[{key_text([term_text(one, bound) for one in self.terms])}] = None")
+    def write(self, lines: Lines, place: int, bound: Bound) -> None:
+        lines.put(place, f"F[{key_text([term_text(term, bound) for term in self.terms])}] = None")
 
 
 class Derived:
@@ -326,26 +331,30 @@ class Derived:
 
     is_test = False
 
-    def __init__(self, number, terms):
+    def __init__(self, number: int, terms: Sequence[Term]) -> None:
         self.number, self.terms, self.names = number, terms, list(variables(terms))
 
-    def parameters(self, extra, is_done):
+    def parameters(self, extra: str, is_done: bool) -> list[str]:
         return ["D", "W"]
 
-    def write(self, lines, place, bound):
-        texts = (f"low({term_text(one, bound)})" if is_built(one) else term_text(one, bound) for one in self.terms)
+    def write(self, lines: Lines, place: int, bound: Bound) -> None:
+        texts = (f"low({term_text(term, bound)})" if is_built(term) else term_text(term, bound) for term in self.terms)
         lines.put(place, f"W.add({self.number}, {tuple_text(texts)})")
+
+
+# What is done where all conditions of a body hold.
+Finish = Truth | Answer | Derived
 
 
 class Asking:
     """The function of a relation where some of its arguments are known."""
 
-    def __init__(self, program, name, relation, known):
+    def __init__(self, program: Program, name: str, relation: Relation, known: tuple[bool, ...]) -> None:
         self.program, self.name, self.relation, self.known = program, name, relation, known
-        self.parameters = [f"p{at}" for at, one in enumerate(known) if one]
+        self.parameters = [f"p{at}" for at, is_given in enumerate(known) if is_given]
         self.is_test = all(known)
 
-    def source(self):
+    def source(self) -> str:
         relations, lines = self.program.relations, Lines(self.program)
         lines.put(0, f"def _{self.name}({', '.join(['D', *([] if self.is_test else ['F']), *self.parameters])}):")
         if self.relation in relations.circles:
@@ -359,27 +368,27 @@ class Asking:
         lines.put(1, "return False" if self.is_test else "return F")
         return lines.text() + "\n".join(self.kept()) + "\n"
 
-    def put_facts(self, lines):
+    def put_facts(self, lines: Lines) -> None:
         """The lines that give the facts of the relation."""
         if self.is_test:
             lines.put(1, f"if {tuple_text(self.parameters)} in {self.program.facts(self.relation, None)}: return True")
             return
-        places = tuple(at for at, one in enumerate(self.known) if one)
+        places = tuple(at for at, is_given in enumerate(self.known) if is_given)
         rows = self.program.facts(self.relation, places)
         lines.put(1, f"for R in {f'{rows}({key_text(self.parameters)}, NONE)' if places else rows}:")
-        lines.put(2, f"F[{key_text([f'R[{at}]' for at, one in enumerate(self.known) if not one])}] = None")
+        lines.put(2, f"F[{key_text([f'R[{at}]' for at, is_given in enumerate(self.known) if not is_given])}] = None")
 
-    def put_rule(self, lines, arguments, body):
+    def put_rule(self, lines: Lines, arguments: Sequence[Term], body: tuple[Condition, ...]) -> None:
         """The lines of one rule: its head has the known arguments."""
         bound = {}
         lines.put(1, "for _ in ONE:")
-        for at, one in enumerate(arguments):
+        for at, argument in enumerate(arguments):
             if self.known[at]:
-                lines.match(2, one, f"p{at}", bound)
-        free = tuple(one for at, one in enumerate(arguments) if not self.known[at])
+                lines.match(2, argument, f"p{at}", bound)
+        free = tuple(argument for at, argument in enumerate(arguments) if not self.known[at])
         lines.body(2, body, bound, TRUTH if self.is_test else Answer(free))
 
-    def kept(self):
+    def kept(self) -> Iterator[str]:
         """The function that looks first at what was found before."""
         number = self.program.table(self.relation in self.program.relations.timely)
         words, key = ["D", *self.parameters], key_text(self.parameters) if self.parameters else "0"
@@ -396,24 +405,24 @@ class Asking:
         yield "    return R"
 
 
-def spelled_relation(relation):
+def spelled_relation(relation: Relation) -> str:
     return f"a sentence of `{relation[0]}` depends on itself, through a denial"
 
 
 class Circle:
     """The function that derives all that is true of a circle of relations."""
 
-    def __init__(self, program, name, circle):
+    def __init__(self, program: Program, name: str, circle: tuple[Relation, ...]) -> None:
         self.program, self.name, self.circle = program, name, circle
 
-    def source(self):
+    def source(self) -> str:
         relations, lines = self.program.relations, Lines(self.program, f"W{self.name}")
         variants = [[] for _ in self.circle]
         lines.put(0, f"def _{self.name}(D, W):")
         lines.put(1, "pass")
         for number, relation in enumerate(self.circle):
             for row in relations.facts.get(relation, ()):
-                lines.put(1, f"W.add({number}, {tuple_text(term_text(one, {}) for one in row)})")
+                lines.put(1, f"W.add({number}, {tuple_text(term_text(term, {}) for term in row)})")
             for rule in relations.rules[relation]:
                 if not self.asked_in(rule.body):
                     lines.put(1, "for _ in ONE:")
@@ -424,21 +433,21 @@ class Circle:
                     self.put_variant(lines, number, rule, at, variants)
         return lines.text() + "\n".join(self.kept(variants)) + "\n"
 
-    def asked_in(self, body):
-        return [at for at, one in enumerate(body) if isinstance(one, Asked) and one.relation in self.circle]
+    def asked_in(self, body: Sequence[Condition]) -> list[int]:
+        return [at for at, condition in enumerate(body) if isinstance(condition, Asked) and condition.relation in self.circle]
 
-    def put_variant(self, lines, number, rule, at, variants):
+    def put_variant(self, lines: Lines, number: int, rule: Rule, at: int, variants: list[list[str]]) -> None:
         """The function that derives what follows by a rule from one row of what it asks for at this place."""
         name, asked, bound = self.program.fresh("d"), rule.body[at], {}
         variants[self.circle.index(asked.relation)].append(name)
         lines.put(0, f"def {name}(D, W, R):")
         lines.put(1, "for _ in ONE:")
-        for place, one in enumerate(asked.arguments):
-            lines.part(2, one, f"R[{place}]", bound)
+        for place, argument in enumerate(asked.arguments):
+            lines.part(2, argument, f"R[{place}]", bound)
         lines.body(2, [*rule.body[:at], *rule.body[at + 1 :]], bound, Derived(number, rule.arguments))
 
-    def kept(self, variants):
-        number = self.program.table(any(one in self.program.relations.timely for one in self.circle))
+    def kept(self, variants: list[list[str]]) -> Iterator[str]:
+        number = self.program.table(any(relation in self.program.relations.timely for relation in self.circle))
         lists = ", ".join("[" + ", ".join(f"lambda W, R: {name}(D, W, R)" for name in names) + "]" for names in variants)
         yield f"def {self.name}(D):"
         yield f"    T = D.tables[{number}]"

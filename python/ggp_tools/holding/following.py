@@ -1,8 +1,10 @@
 """A record is followed by the published description: whether its roles, states, moves, errors, end and goals are those of the game."""
 
-from typing import NamedTuple
+from collections.abc import Callable, Sequence
 
-from .reading import NotFollowed, is_variable, spelled, term_of
+from .game import Game
+from .positions import Position, State
+from .reading import NotFollowed, Relation, Term, is_variable, spelled, term_of
 from .records import AT_END, ILLEGAL, UNREADABLE, must_be_record
 from .relations import GOAL, INIT, LEGAL, NEXT, TERMINAL
 
@@ -19,16 +21,16 @@ class Differs(Exception):
 class Following:
     """The game, and the texts of terms as a record has them. `seen` has the first sentence that was seen to give a move of a role."""
 
-    def __init__(self, game):
+    def __init__(self, game: Game) -> None:
         self.game, self.texts, self.terms, self.seen = game, {}, {}, {}
         self.in_order = list(game.roles)
 
-    def text(self, term):
+    def text(self, term: Term) -> str:
         if term not in self.texts:
             self.texts[term] = spelled(term)
         return self.texts[term]
 
-    def term(self, text):
+    def term(self, text: str) -> Term:
         """Returns the term of a text. Records have each term in its canonical text."""
         if text not in self.terms:
             found = term_of(text)
@@ -37,7 +39,7 @@ class Following:
             self.terms[text] = found
         return self.terms[text]
 
-    def follow(self, record):
+    def follow(self, record: dict) -> int:
         """Follows a record to its end. Returns how many turns it has."""
         must_be_record(record)
         self.look_at_roles(record["roles"])
@@ -50,14 +52,14 @@ class Following:
 
     # ---- Roles and states ------------------------------------------------------------------------
 
-    def look_at_roles(self, roles):
+    def look_at_roles(self, roles: list[str]) -> None:
         own = list(map(self.text, self.game.roles))
         # Roles that a rule gives have no order in the description.
         if own != roles and (self.game.has_fixed_order or sorted(own) != sorted(roles)):
             raise Differs(f"the roles are {' '.join(own)} by the description, and {' '.join(roles)} in the record")
         self.in_order = list(map(self.term, roles))
 
-    def look_at_state(self, when, state, texts, cited):
+    def look_at_state(self, when: str, state: State, texts: list[str], cited: Callable) -> None:
         """Refuses another state than the record's."""
         own = {self.text(term): term for term in state}
         if own.keys() == set(texts) and len(texts) == len(own):
@@ -69,19 +71,19 @@ class Following:
             said.append(f"{when} has {text}, which no sentence of the description gives there")
         raise Differs("\n".join(said or [f"{when} has a term twice"]))
 
-    def cited(self, relation, arguments, state, moves=()):
+    def cited(self, relation: Relation, arguments: Sequence[Term], state: State, moves: Sequence[Term] = ()) -> str:
         """Words for what gives this in a state."""
         found = self.game.sources(relation, arguments, state, self.own_order(moves))
         return " and ".join(f"{self.game.cited(number)} gives" for number in found[:MOST_TOLD]) or "the description gives"
 
-    def own_order(self, moves):
+    def own_order(self, moves: Sequence[Term]) -> Sequence[Term]:
         """The moves in the order in which the game has its roles."""
         by_role = dict(zip(self.in_order, moves))
         return tuple(by_role[role] for role in self.game.roles) if moves else ()
 
     # ---- Turns -----------------------------------------------------------------------------------
 
-    def turn(self, when, state, texts, errors, following):
+    def turn(self, when: str, state: State, texts: list[str], errors: list[str], following: list[str]) -> State:
         """Follows one turn. Returns the state after it."""
         moves = list(map(self.term, texts))
         position = self.game.position(state, self.own_order(moves))
@@ -93,7 +95,7 @@ class Following:
         self.look_at_state(f"after {when} the record", after, following, lambda term: self.cited(NEXT, (term,), state, moves))
         return after
 
-    def look_at_move(self, when, position, role, move, error):
+    def look_at_move(self, when: str, position: Position, role: str, move: Term, error: str) -> None:
         """Refuses a move that is not legal, and one in the place of an answer that is, or that is not the first legal one."""
         if not self.game.is_legal(position, role, move):
             raise Differs(f"{when}: the record plays {self.text(move)}, which is not legal by the description")
@@ -105,7 +107,7 @@ class Following:
         if error:
             self.look_at_first(when, position, role, move)
 
-    def look_at_first(self, when, position, role, first):
+    def look_at_first(self, when: str, position: Position, role: str, first: Term) -> None:
         """Refuses a first legal move that another stands before. The instances of a sentence stand in the order of their heads, behind
         those of the sentences before it, whatever the state: where several sentences have instances of a move its place may be open."""
         least = self.least_place(role, first)
@@ -115,14 +117,14 @@ class Following:
                 words = f"the record plays {self.text(first)} in the place of an answer, and {self.text(move)} stands before it"
                 raise Differs(f"{when}: {words}, by {self.game.cited(greatest[0])}")
 
-    def least_place(self, role, move):
+    def least_place(self, role: str, move: Term) -> tuple[int, tuple]:
         """The place that a move has where the first sentence that could give it does so in some state."""
         for number, rules in self.game.by_sentence(LEGAL).items():
             if any(fits(rule.arguments, (role, move), {}) for rule in rules):
                 return number, place_of(move)
         raise NotFollowed(f"no head of a sentence fits the legal move {self.text(move)}")
 
-    def greatest_place(self, position, role, move):
+    def greatest_place(self, position: Position, role: str, move: Term) -> tuple[int, tuple]:
         """The place that a move has at the latest: by the first sentence that was seen to give it."""
         numbers = self.game.sources(LEGAL, (role, move), position.state)
         found = min([*numbers, self.seen.get((role, move), numbers[0])])
@@ -131,7 +133,7 @@ class Following:
 
     # ---- The end ---------------------------------------------------------------------------------
 
-    def look_at_end(self, record, state):
+    def look_at_end(self, record: dict, state: State) -> None:
         if None in record.get("startMarks", ()):
             return
         position, (kind, *at) = self.game.position(state), (record.get("cause") or "none").split()
@@ -149,13 +151,13 @@ class Following:
         elif kind != "toolong":
             self.look_at_legal(position, int(at[0]) if kind == "nolegal" else None)
 
-    def look_at_goal(self, position, role, value):
+    def look_at_goal(self, position: Position, role: str, value: int) -> None:
         found = self.game.goals(position, role)
         if found != [value]:
-            given = [f"{self.cited(GOAL, (role, str(one)), position.state)} {one}" for one in found]
+            given = [f"{self.cited(GOAL, (role, str(goal)), position.state)} {goal}" for goal in found]
             raise Differs(f"{self.text(role)} has the goal {value} in the record, and by the description {'; '.join(given) or 'none'}")
 
-    def look_at_missing_goal(self, position, at):
+    def look_at_missing_goal(self, position: Position, at: int) -> None:
         """Refuses a match that was given up for the goals of a role that is not the first without a single one."""
         counts = [len(self.game.goals(position, role)) for role in self.in_order]
         without = next((place for place, count in enumerate(counts) if count != 1), None)
@@ -163,7 +165,7 @@ class Following:
             words = "no role lacks its goal" if without is None else f"{self.text(self.in_order[without])} does"
             raise Differs(f"the record is given up since {self.text(self.in_order[at])} has no single goal, and by the description {words}")
 
-    def look_at_legal(self, position, at):
+    def look_at_legal(self, position: Position, at: int | None) -> None:
         """Refuses a role without a legal move that has one, and the other way round."""
         without = next((place for place, role in enumerate(self.in_order) if not self.game.moves(position, role)), None)
         if without != at:
@@ -172,16 +174,16 @@ class Following:
             raise Differs(f"after the last turn {said} has no legal move in the record, and by the description {stuck}")
 
 
-def fits(pattern, term, values):
+def fits(pattern: Term, term: Term, values: dict[str, Term]) -> bool:
     """Whether a pattern is the term for some values of its variables."""
     if is_variable(pattern):
         return values.setdefault(pattern, term) == term
     if isinstance(pattern, str) or isinstance(term, str):
         return pattern == term
-    return len(pattern) == len(term) and all(fits(one, other, values) for one, other in zip(pattern, term))
+    return len(pattern) == len(term) and all(fits(wanted, given, values) for wanted, given in zip(pattern, term))
 
 
-def place_of(term):
+def place_of(term: Term) -> tuple:
     """The place of a term among those of one sentence: numbers by value, then other atoms by their bytes, then lists, member by member."""
     if isinstance(term, tuple):
         return 2, tuple(map(place_of, term))

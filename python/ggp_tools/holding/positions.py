@@ -1,11 +1,17 @@
 """What is looked up while a state is asked about: its terms and the moves by what is known of them, and what was found so far."""
 
+from collections.abc import Callable, Iterable, Sequence
 from operator import itemgetter
 
+from .reading import Term
+
+State = frozenset[Term]
+# Rows by what they have at some places.
+Rows = dict[object, list[Term]]
 NONE = ()
 
 
-def index_of(rows, places):
+def index_of(rows: Iterable[Term], places: tuple[int, ...]) -> Rows:
     """Rows by what they have at these places: by one value, or by a tuple of several."""
     found, key = {}, itemgetter(*places)
     for row in rows:
@@ -16,21 +22,21 @@ def index_of(rows, places):
 class Index:
     """An index of facts that stay."""
 
-    def __init__(self, rows, places):
+    def __init__(self, rows: Iterable[Term], places: tuple[int, ...]) -> None:
         self.get = index_of(rows, places).get
 
 
 class Position:
     """A state, with the moves of a turn where there are some."""
 
-    def __init__(self, state, pairs, tables):
+    def __init__(self, state: State, pairs: Sequence[tuple[str, Term]], tables: list[dict]) -> None:
         self.state, self.pairs, self.does, self.tables = state, pairs, dict(pairs), tables
         self.rows, self.indexes = {}, {}
         for term in state:
             key = (term, 0) if isinstance(term, str) else (term[0], len(term))
             self.rows.setdefault(key, []).append(term)
 
-    def index(self, number, functor, places):
+    def index(self, number: int, functor: tuple[str, int], places: tuple[int, ...]) -> Callable:
         """The terms of a functor by what they have at these places."""
         found = self.indexes.get(number)
         if found is None:
@@ -41,11 +47,11 @@ class Position:
 class Whole:
     """All that is true of relations that depend on themselves."""
 
-    def __init__(self, count):
+    def __init__(self, count: int) -> None:
         self.sets, self.lists, self.indexes = [set() for _ in range(count)], [[] for _ in range(count)], {}
         self.queue, self.keys = [], [[] for _ in range(count)]
 
-    def add(self, number, row):
+    def add(self, number: int, row: Term) -> None:
         if row in self.sets[number]:
             return
         self.sets[number].add(row)
@@ -54,7 +60,7 @@ class Whole:
         for found, key in self.keys[number]:
             found.setdefault(key(row), []).append(row)
 
-    def index(self, number, places):
+    def index(self, number: int, places: tuple[int, ...]) -> Callable:
         """The rows of a relation by what they have at these places: it grows with them."""
         found = self.indexes.get((number, places))
         if found is None:
@@ -62,7 +68,7 @@ class Whole:
             self.keys[number].append((found, itemgetter(*places)))
         return found.get
 
-    def close(self, variants):
+    def close(self, variants: list[list[Callable]]) -> None:
         """Derives until there is no more: each row is put where it is asked for, once."""
         while self.queue:
             number, row = self.queue.pop()

@@ -7,8 +7,12 @@ only where each of its variables is bound by other conditions of the rule.
 import itertools
 import math
 import re
+from collections.abc import Container
 from typing import NamedTuple
 
+Term = str | tuple
+# The name of a relation, and the number of its arguments: none for an atom alone.
+Relation = tuple[str, int | None]
 TOKEN = re.compile(r"[()]|[^\s();]+|;[^\n]*|\n")
 OWN = {"role": 1, "init": 1, "true": 1, "next": 1, "does": 2, "legal": 2, "goal": 2, "terminal": None}
 CONNECTIVES = "<=", "not", "or", "and", "distinct"
@@ -29,7 +33,7 @@ class Sentence(NamedTuple):
     line: int
     term: object
 
-    def cited(self):
+    def cited(self) -> str:
         text = spelled(self.term)
         return f"sentence {self.number}, line {self.line}: {text[:160]}" + (".." if len(text) > 160 else "")
 
@@ -55,6 +59,9 @@ class Either(NamedTuple):
     ways: tuple
 
 
+Condition = Asked | Same | Either
+
+
 class Rule(NamedTuple):
     """What is derived where all conditions hold."""
 
@@ -64,12 +71,12 @@ class Rule(NamedTuple):
     body: tuple
 
 
-def spelled(term):
+def spelled(term: Term) -> str:
     """The canonical text of a term."""
     return term if isinstance(term, str) else "(" + " ".join(map(spelled, term)) + ")"
 
 
-def sentences_of(text, most_levels=MOST_LEVELS):
+def sentences_of(text: str, most_levels: int = MOST_LEVELS) -> list[Sentence]:
     """The sentences that a text spells, in small letters. Refuses one with more lists in one another."""
     found, levels, line, begun = [], [[]], 1, 1
     for token in TOKEN.findall(text):
@@ -94,7 +101,7 @@ def sentences_of(text, most_levels=MOST_LEVELS):
     return found
 
 
-def term_of(text):
+def term_of(text: str) -> Term:
     """The term that a text spells, as a move or a term of a state."""
     found = sentences_of(text)
     if len(found) != 1:
@@ -106,11 +113,11 @@ def low(term: str | tuple) -> str | tuple:
     """Returns a term. Refuses one that is larger than any that the referee takes, as rules make them that don't end."""
     left = [(term, 0)]
     while left:
-        one, level = left.pop()
-        if isinstance(one, tuple):
+        inner, level = left.pop()
+        if isinstance(inner, tuple):
             if level == MOST_LEVELS:
                 raise NotFollowed(f"a term has more than {MOST_LEVELS} lists in one another")
-            left += [(member, level + 1) for member in one]
+            left += [(member, level + 1) for member in inner]
     return term
 
 
@@ -119,25 +126,25 @@ def is_built(term: str | tuple) -> bool:
     return not isinstance(term, str) and bool(variables(term))
 
 
-def is_variable(term):
+def is_variable(term: Term) -> bool:
     return isinstance(term, str) and term.startswith("?")
 
 
-def variables(term):
+def variables(term: Term) -> dict[str, None]:
     """The variables of a term or of a list of terms, each once, in their order."""
     if isinstance(term, str):
         return {term: None} if term.startswith("?") else {}
     return {name: None for member in term for name in variables(member)}
 
 
-def variables_of(condition):
+def variables_of(condition: Condition) -> dict[str, None]:
     """The variables of a condition."""
     if isinstance(condition, Either):
-        return {name: None for way in condition.ways for one in way for name in variables_of(one)}
+        return {name: None for way in condition.ways for inner in way for name in variables_of(inner)}
     return variables(condition.arguments)
 
 
-def relation_of(atom):
+def relation_of(atom: Term) -> tuple[Relation, tuple[Term, ...]]:
     """The relation of an atomic sentence, with the number of its arguments (none for an atom alone), and these."""
     if isinstance(atom, str):
         found = (atom, None), ()
@@ -151,7 +158,7 @@ def relation_of(atom):
     return (name, count), arguments
 
 
-def conditions_of(literal, positive=True):
+def conditions_of(literal: Term, positive: bool = True) -> list[list[Condition]]:
     """The ways in which a literal can hold: each a list of conditions."""
     match literal:
         case ("not", inner):
@@ -159,23 +166,23 @@ def conditions_of(literal, positive=True):
         case ("or" | "and", *inners):
             ways = [conditions_of(inner, positive) for inner in inners]
             return products(ways) if (literal[0] == "and") == positive else list(itertools.chain(*ways))
-        case ("distinct", one, other):
-            return [[Same(not positive, (one, other))]]
+        case ("distinct", left, right):
+            return [[Same(not positive, (left, right))]]
     relation, arguments = relation_of(literal)
     return [[Asked(positive, relation, arguments)]]
 
 
-def products(ways):
+def products(ways: list[list[list]]) -> list[list]:
     """The ways in which all of these can hold together."""
     count = 1
-    for one in ways:
-        count *= len(one)
+    for alternatives in ways:
+        count *= len(alternatives)
     if count > MOST_WAYS:
         raise NotFollowed(f"its `or`s can hold in more than {MOST_WAYS:,} ways")
     return [list(itertools.chain(*way)) for way in itertools.product(*ways)]
 
 
-def rules_of(sentence):
+def rules_of(sentence: Sentence) -> list[Rule]:
     """The rules of a sentence."""
     term = sentence.term
     is_rule = isinstance(term, tuple) and term[:1] == ("<=",)
@@ -184,7 +191,7 @@ def rules_of(sentence):
     must_be_terms(term)
     relation, arguments = relation_of(term[1] if is_rule else term)
     literals = [conditions_of(literal) for literal in (term[2:] if is_rule else ())]
-    bound = {name for ways in literals if len(ways) == 1 for one in ways[0] if is_binding(one) for name in variables_of(one)}
+    bound = {name for ways in literals if len(ways) == 1 for condition in ways[0] if is_binding(condition) for name in variables_of(condition)}
     tests = [Either(tuple(map(tuple, ways))) for ways in literals if len(ways) > 1 and is_bound(ways, bound)]
     others = [ways for ways in literals if len(ways) == 1 or not is_bound(ways, bound)]
     others, own = set_apart(sentence.number, others)
@@ -205,7 +212,7 @@ def set_apart(number: int, literals: list) -> tuple[list, list[Rule]]:
     found, own = [], []
     is_many = math.prod(map(len, literals)) > FEW_WAYS
     for place, ways in enumerate(literals):
-        names = tuple({name: None for way in ways for one in way for name in variables_of(one)})
+        names = tuple({name: None for way in ways for condition in way for name in variables_of(condition)})
         if is_many and len(ways) > 1 and all(binds(way, names) for way in ways):
             # No name has a blank.
             relation = f"or {number} {place}", len(names)
@@ -216,19 +223,19 @@ def set_apart(number: int, literals: list) -> tuple[list, list[Rule]]:
 
 
 def binds(way: list, names: tuple[str, ...]) -> bool:
-    bound = {name for one in way if is_binding(one) for name in variables_of(one)}
+    bound = {name for condition in way if is_binding(condition) for name in variables_of(condition)}
     return bound.issuperset(names)
 
 
-def is_binding(condition):
+def is_binding(condition: Condition) -> bool:
     return isinstance(condition, Asked) and condition.positive
 
 
-def is_bound(ways, bound):
-    return all(name in bound for way in ways for one in way for name in variables_of(one))
+def is_bound(ways: list[list[Condition]], bound: Container[str]) -> bool:
+    return all(name in bound for way in ways for condition in way for name in variables_of(condition))
 
 
-def all_rules(sentences):
+def all_rules(sentences: list[Sentence]) -> list[Rule]:
     """The rules of all sentences. Each variable of one is bound by a condition that is no denial."""
     found = []
     for sentence in sentences:
@@ -237,8 +244,8 @@ def all_rules(sentences):
         except NotFollowed as why:
             raise NotFollowed(f"{sentence.cited()}: {why}") from None
         for rule in rules:
-            bound = {name for one in rule.body if is_binding(one) for name in variables_of(one)}
-            named = [*variables(rule.arguments), *(name for one in rule.body for name in variables_of(one))]
+            bound = {name for condition in rule.body if is_binding(condition) for name in variables_of(condition)}
+            named = [*variables(rule.arguments), *(name for condition in rule.body for name in variables_of(condition))]
             if free := [name for name in named if name not in bound]:
                 raise NotFollowed(f"{sentence.cited()}: nothing binds {free[0]}")
         found += rules

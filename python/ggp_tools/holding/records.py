@@ -36,7 +36,7 @@ def must_be_record(record: object) -> None:
         if not isinstance(record.get(key), kind):
             raise NotFollowed(f"it is no record: {key} is missing, or of another kind")
     for key in ("states", "moves", "errors"):
-        if not all(isinstance(one, list) and are_texts(one) for one in record[key]):
+        if not all(isinstance(texts, list) and are_texts(texts) for texts in record[key]):
             raise NotFollowed(f"it is no record: {key} are lists of texts")
     if not are_texts(record["roles"]):
         raise NotFollowed("it is no record: roles are texts")

@@ -123,7 +123,7 @@ class Seat:
         asked = self.next_message(clock_of(start))
         try:
             game, own = game_of(rules), spelled(role)
-            roles = [spelled(one) for one in game.roles]
+            roles = [spelled(role) for role in game.roles]
             if own not in roles:
                 raise NotFollowed(f"they have no role {own}")
         except BAD_RULES as why:

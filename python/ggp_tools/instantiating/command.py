@@ -35,7 +35,7 @@ HELP = (
 )
 
 
-def seconds(text):
+def seconds(text: str) -> float:
     """Returns the seconds that a word says."""
     found = float(text)
     if not 0 < found <= MOST_SECONDS:
@@ -43,7 +43,7 @@ def seconds(text):
     return found
 
 
-def put(text):
+def put(text: str) -> None:
     """Writes the ground description. Where that fails, nothing of it is written at the end either."""
     if not sys.stdout:
         raise Refused("standard output can't be written: it is closed")
@@ -54,7 +54,7 @@ def put(text):
         raise Refused(f"standard output can't be written: {error.strerror}") from None
 
 
-def write_player_rules(made, file):
+def write_player_rules(made: Making, file: str) -> None:
     """Writes the description with variables, and says how long it is."""
     text = made.text_for_players()
     if len(text) > MOST["bytes"]:
@@ -67,7 +67,7 @@ def write_player_rules(made, file):
     say(f"  for players {len(text):,} bytes with variables in {file}")
 
 
-def arguments():
+def arguments() -> argparse.Namespace:
     usage = "ggp-instantiate [--seconds N] [--large] [--folded | --unfolded] [--split] [--player-rules FILE] [FILE]"
     words = argparse.ArgumentParser("ggp-instantiate", usage=usage, description=HELP, epilog="More is said in examples/games/general/README.md.")
     told = f"the seconds for the whole run, above 0 and up to {MOST_SECONDS:,} ({SECONDS})"
@@ -88,7 +88,7 @@ def arguments():
     return given
 
 
-def main():
+def main() -> None:
     asked = arguments()
     try:
         made = Making((asked.file or sys.stdin.buffer).read().decode("latin-1"), asked.seconds, asked.folding, asked.split, asked.large)

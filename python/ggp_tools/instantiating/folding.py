@@ -10,11 +10,14 @@ one was, so the order of roles and of legal moves stays too.
 """
 
 from collections import Counter, defaultdict
+from collections.abc import Iterable, Iterator, Mapping
 
 from .formulas import FALSE, TRUE, Formulas
-from ggp_tools.kif import Refused, atoms, fresh_before_digits, relation
-from .sentences import GAME
+from ggp_tools.kif import Expression, Refused, atoms, fresh_before_digits, relation
+from .sentences import GAME, Rule
 
+# A body, as the numbers of its formulas.
+Formed = frozenset[int]
 # Lists stand in one another this deep at most, in sentences that are made of several.
 MOST_DEEP = 48
 ROUNDS = 30
@@ -30,7 +33,7 @@ class Folded:
     """The game as formulas: of each head its bodies, each a set of formulas that all have to be true. `origins` has for each body of a head
     how many bytes come from which sentences of the description; of a part that several ask for they are those of who asks."""
 
-    def __init__(self, rules):
+    def __init__(self, rules: list[Rule]) -> None:
         self.formulas, self.bodies, self.sources = Formulas(), {}, {}
         self.origins = defaultdict(lambda: defaultdict(Counter))
         moves = {}
@@ -55,19 +58,19 @@ class Folded:
 
     # ---- What it comes to ------------------------------------------------------------------------
 
-    def sentence_size(self, head, body):
+    def sentence_size(self, head: int, body: Iterable[int]) -> int:
         size = self.formulas.sizes[head]
         return size + 1 if not body else size + 6 + sum(self.formulas.sizes[formula] + 1 for formula in body)
 
-    def sentences(self):
+    def sentences(self) -> int:
         return sum(map(len, self.bodies.values()))
 
-    def bytes(self):
+    def bytes(self) -> int:
         return sum(self.sentence_size(head, body) for head, bodies in self.bodies.items() for body in bodies)
 
     # ---- Whose it is -----------------------------------------------------------------------------
 
-    def costs(self, is_bytes):
+    def costs(self, is_bytes: bool) -> Counter[int]:
         """What the sentences of the description cost in what is written."""
         found, asked_by, known = Counter(), self.asked_by(), {}
         for head, bodies in self.bodies.items():
@@ -78,7 +81,7 @@ class Folded:
                     found[sentence] += share
         return found
 
-    def asked_by(self):
+    def asked_by(self) -> dict[int, list[tuple[int, Formed]]]:
         """The bodies that ask for each part, with their heads."""
         found = defaultdict(list)
         for head, bodies in self.bodies.items():
@@ -88,7 +91,7 @@ class Folded:
                         found[part].append((head, body))
         return found
 
-    def of_part(self, part, asked_by, known):
+    def of_part(self, part: int, asked_by: dict[int, list[tuple[int, Formed]]], known: dict[int, Counter[int]]) -> Counter[int]:
         """The bytes of a part by the sentences of who asks for it."""
         if part not in known:
             known[part] = Counter()
@@ -96,18 +99,18 @@ class Folded:
                 known[part].update(self.origins[head][body] if head in self.origins else self.of_part(head, asked_by, known))
         return known[part]
 
-    def take_origins(self, head, body, new, by):
+    def take_origins(self, head: int, body: Formed, new: Formed, by: dict[int, int]) -> None:
         """Notes whose a body is with formulas in the place of heads: what it has grown by comes from the rules of these."""
         own = self.origins[head][new]
         own.update(scaled(self.origins[head][body], self.sentence_size(head, body)))
         grown = self.sentence_size(head, new) - self.sentence_size(head, body)
-        placed = [one for one in self.atoms_in(body) if one in by] if grown > 0 else []
-        sizes = sum(self.formulas.sizes[by[one]] for one in placed)
-        for one in placed if sizes else ():
-            whose = sum(self.origins[one].values(), Counter())
-            own.update(scaled(whose, grown * self.formulas.sizes[by[one]] / sizes))
+        placed = [atom for atom in self.atoms_in(body) if atom in by] if grown > 0 else []
+        sizes = sum(self.formulas.sizes[by[atom]] for atom in placed)
+        for atom in placed if sizes else ():
+            whose = sum(self.origins[atom].values(), Counter())
+            own.update(scaled(whose, grown * self.formulas.sizes[by[atom]] / sizes))
 
-    def rewrite(self, head, bodies):
+    def rewrite(self, head: int, bodies: list[Formed]) -> None:
         """Puts bodies in the place of those of a head, one for each, which say the same."""
         if head in self.origins:
             origins = self.origins.pop(head)
@@ -117,12 +120,12 @@ class Folded:
 
     # ---- Sentences of one head -------------------------------------------------------------------
 
-    def merge(self):
+    def merge(self) -> None:
         for head, bodies in self.bodies.items():
             if len(bodies) > 1:
                 self.bodies[head] = merged(bodies, self.formulas, self.origins[head])
 
-    def settle(self):
+    def settle(self) -> None:
         """Puts what is always or never true into its place."""
         while True:
             known = {head: TRUE for head, bodies in self.bodies.items() if frozenset() in bodies and head not in self.own}
@@ -131,7 +134,7 @@ class Folded:
                 return
             self.put(known)
 
-    def put(self, by):
+    def put(self, by: dict[int, int]) -> None:
         """Puts formulas in the place of heads that are no longer there."""
         for head in by:
             del self.bodies[head]
@@ -141,7 +144,7 @@ class Folded:
             found = {}
             for body in bodies:
                 parts = [self.formulas.replaced(formula, by, known) for formula in body]
-                new = body if all(one == other for one, other in zip(parts, body)) else self.formulas.body(parts)
+                new = body if all(part == formula for part, formula in zip(parts, body)) else self.formulas.body(parts)
                 if new is not None:
                     found[new] = None
                     if new != body:
@@ -150,7 +153,7 @@ class Folded:
         for head in by:
             self.origins.pop(head, None)
 
-    def factored(self, bodies, depth=0):
+    def factored(self, bodies: list[Formed], depth: int = 0) -> int:
         """One formula that is true where all of some body is: what most bodies share stands once."""
         if frozenset() in bodies:
             return TRUE
@@ -165,7 +168,7 @@ class Folded:
         others = [body for body in bodies if shared not in body]
         return self.formulas.any([found, self.factored(others, depth + 1)]) if others else found
 
-    def join(self, most):
+    def join(self, most: int) -> None:
         """Makes one sentence of those of a head, where that costs least first, until there are as few sentences as that."""
         costs = []
         for head, bodies in self.bodies.items():
@@ -187,7 +190,7 @@ class Folded:
 
     # ---- What is asked for -----------------------------------------------------------------------
 
-    def uses(self):
+    def uses(self) -> list[int]:
         """How often each formula stands in the text."""
         counts = [0] * len(self.formulas.nodes)
         for bodies in self.bodies.values():
@@ -201,15 +204,15 @@ class Folded:
                     counts[member] += counts[number]
         return counts
 
-    def below(self, head):
+    def below(self, head: int) -> set[int]:
         """The heads that a head's sentences ask for."""
         return self.atoms_in(formula for body in self.bodies[head] for formula in body)
 
-    def atoms_in(self, formulas):
+    def atoms_in(self, formulas: Iterable[int]) -> set[int]:
         """The atomic sentences that stand in formulas."""
-        found, seen, open_ones = set(), set(), list(formulas)
-        while open_ones:
-            formula = open_ones.pop()
+        found, seen, open_formulas = set(), set(), list(formulas)
+        while open_formulas:
+            formula = open_formulas.pop()
             if formula in seen:
                 continue
             seen.add(formula)
@@ -217,10 +220,10 @@ class Folded:
             if node[0] == "atom":
                 found.add(formula)
             else:
-                open_ones += (node[1],) if node[0] == "not" else node[1]
+                open_formulas += (node[1],) if node[0] == "not" else node[1]
         return found
 
-    def place_in(self, most):
+    def place_in(self, most: int) -> None:
         """Puts what is asked for in its place where that makes the text smaller, and while there are more sentences than that."""
         for _ in range(ROUNDS):
             costs = sorted(self.costs_of_placing())
@@ -238,7 +241,7 @@ class Folded:
             self.merge()
             self.settle()
 
-    def must_have_room(self, most_sentences, most_bytes):
+    def must_have_room(self, most_sentences: int, most_bytes: int) -> None:
         """Refuses what is past a limit before it is folded for long. Each sentence of the game's own relations stays, and of the others
         those that are too many have to be put where they are asked for: now that costs so many bytes, and later it costs more."""
         if len(self.own) > most_sentences:
@@ -251,7 +254,7 @@ class Folded:
         if many > 0 and least > most_bytes:
             raise Hopeless(f"bytes (at least {least:,} of {most_bytes:,}, since {many:,} of {len(self.bodies):,} sentences have to stand in others)")
 
-    def costs_of_placing(self):
+    def costs_of_placing(self) -> Iterator[tuple[int, int, int, set[int]]]:
         """For each head that is only asked for, how many bytes it costs to put its formula there."""
         uses, sizes, depths = self.uses(), self.formulas.sizes, self.formulas.depths
         deepest = max((depths[formula] for bodies in self.bodies.values() for body in bodies for formula in body), default=0)
@@ -264,13 +267,13 @@ class Folded:
 
     # ---- Common parts ----------------------------------------------------------------------------
 
-    def shorten(self):
+    def shorten(self) -> None:
         """Puts each formula into its shortest form."""
         known = {}
         for head, bodies in self.bodies.items():
             self.rewrite(head, [self.shortest_body(body, known) for body in bodies])
 
-    def shortest_body(self, body, known):
+    def shortest_body(self, body: Formed, known: dict[int, int]) -> Formed:
         for formula in body:
             if formula not in known:
                 known[formula] = self.formulas.shortest(formula)
@@ -285,7 +288,7 @@ class Folded:
             found.add(self.formulas.no(self.formulas.listed(members)))
         return frozenset(found)
 
-    def share_bodies(self, most):
+    def share_bodies(self, most: int) -> None:
         """Makes a sentence of each body that many sentences have, if that makes the text smaller, up to this many sentences."""
         counts = Counter(body for bodies in self.bodies.values() for body in bodies if len(body) > 1)
         name_size, gains = len(self.word) + 4, []
@@ -301,11 +304,11 @@ class Folded:
                     self.sources.setdefault(names[body], self.sources[head])
         self.bodies.update({name: [body] for body, name in names.items()})
 
-    def new_part(self):
+    def new_part(self) -> int:
         self.part_count += 1
         return self.formulas.atom(f"{self.word}{self.part_count}")
 
-    def share(self, most):
+    def share(self, most: int) -> None:
         """Makes a sentence of each formula that stands in many, if that makes the text smaller, up to this many sentences."""
         refs = Counter(formula for bodies in self.bodies.values() for body in bodies for formula in body)
         nodes, sizes = self.formulas.nodes, self.formulas.sizes
@@ -324,11 +327,11 @@ class Folded:
         if chosen:
             self.name_parts(sorted(chosen))
 
-    def members(self, number):
+    def members(self, number: int) -> tuple[int, ...]:
         node = self.formulas.nodes[number]
         return (node[1],) if node[0] == "not" else node[1] if node[0] == "or" else ()
 
-    def rename(self):
+    def rename(self) -> None:
         """Gives short names to sentences that are asked for alone, where that makes the text smaller."""
         uses, by = self.uses(), {}
         for head, bodies in self.bodies.items():
@@ -344,7 +347,7 @@ class Folded:
             self.sources[by.get(head, head)] = self.sources[head]
             self.bodies[by.get(head, head)] = bodies
 
-    def name_parts(self, chosen):
+    def name_parts(self, chosen: list[int]) -> None:
         """Gives each of these formulas a sentence, the smaller ones first, and its name wherever it stands."""
         known, made = {}, {}
         for number in chosen:
@@ -364,7 +367,7 @@ class Folded:
 
     # ---- What is written -------------------------------------------------------------------------
 
-    def written(self):
+    def written(self) -> Iterator[tuple[int, Expression]]:
         """Each sentence, with the number of the one that it comes from."""
         for head, bodies in self.bodies.items():
             atom = self.formulas.nodes[head][1]
@@ -374,13 +377,13 @@ class Folded:
                 yield self.sources[head], sentence
 
 
-def scaled(shares, size):
+def scaled(shares: Mapping[int, float], size: float) -> dict[int, float]:
     """The same shares, so many bytes in all."""
     total = sum(shares.values())
     return {sentence: share * size / total for sentence, share in shares.items()} if total else {}
 
 
-def merged(bodies, formulas, origins):
+def merged(bodies: list[Formed], formulas: Formulas, origins: dict[Formed, Counter[int]]) -> list[Formed]:
     """The bodies with an `or` in the place of what two or more of them differ in, as long as there are such. Takes what comes of several
     for what comes of the sentences of them all."""
     while True:
@@ -404,7 +407,7 @@ def merged(bodies, formulas, origins):
             return [frozenset()]
 
 
-def folded(rules, most_sentences, most_bytes, refuses=False):
+def folded(rules: list[Rule], most_sentences: int, most_bytes: int, refuses: bool = False) -> Folded:
     """The game folded, if possible to at most this many sentences and bytes. Where it is to be refused if it is not, that is seen early."""
     game = Folded(rules)
     game.settle()

@@ -3,6 +3,7 @@
 from typing import NamedTuple
 
 from .gringo import MOST_INSTANCES
+from .sentences import Rule
 from .splitting import split
 
 # Up to so many instances a description is tried as it stands. It folds best so, in seconds, and stays what it was.
@@ -12,12 +13,12 @@ FEW_INSTANCES = 1 << 16
 class Form(NamedTuple):
     """The rules of a description in one form, with how many instances are taken, and what is said of it."""
 
-    rules: list
+    rules: list[Rule]
     most: int
-    notes: tuple = ()
+    notes: tuple[str, ...] = ()
 
 
-def forms(rules, is_whole, is_split):
+def forms(rules: list[Rule], is_whole: bool, is_split: bool) -> list[Form]:
     """The description as it stands where it has few instances; then with its rules split; then as it stands, however many it has. Where
     one of these is asked for it is the only one."""
     whole, parts = Form(rules, MOST_INSTANCES), split(rules)

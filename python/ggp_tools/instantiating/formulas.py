@@ -4,7 +4,9 @@ In a turn each role makes exactly one of its moves. So of one role's `does` sent
 the `or` of them all is true, and an `or` of most of them is the denial of the `or` of the few others.
 """
 
-from ggp_tools.kif import levels, spelled
+from collections.abc import Iterable
+
+from ggp_tools.kif import Expression, levels, spelled
 
 TRUE, FALSE = 0, 1
 
@@ -12,11 +14,11 @@ TRUE, FALSE = 0, 1
 class Formulas:
     """A node is an atomic sentence, `("not", number)` or `("or", numbers in order)`."""
 
-    def __init__(self):
+    def __init__(self) -> None:
         self.nodes, self.numbers, self.sizes, self.depths = [("true",), ("false",)], {}, [0, 0], [0, 0]
         self.role_of, self.moves = {}, {}
 
-    def made(self, node, size, depth):
+    def made(self, node: tuple, size: int, depth: int) -> int:
         number = self.numbers.get(node)
         if number is None:
             number = self.numbers[node] = len(self.nodes)
@@ -25,18 +27,18 @@ class Formulas:
             self.depths.append(depth)
         return number
 
-    def atom(self, atom):
+    def atom(self, atom: Expression) -> int:
         node = ("atom", atom)
         number = self.numbers.get(node)
         return self.made(node, len(spelled(atom)), levels(atom)) if number is None else number
 
-    def set_moves(self, moves):
+    def set_moves(self, moves: dict[Expression, Iterable[Expression]]) -> None:
         """Takes the moves of each role, as `does` sentences."""
         for role, sentences in moves.items():
             self.moves[role] = frozenset(map(self.atom, sentences))
             self.role_of.update(dict.fromkeys(self.moves[role], role))
 
-    def no(self, number):
+    def no(self, number: int) -> int:
         """The denial of a formula."""
         if number in (TRUE, FALSE):
             return TRUE + FALSE - number
@@ -45,7 +47,7 @@ class Formulas:
             return node[1]
         return self.made(("not", number), self.sizes[number] + 6, self.depths[number] + 1)
 
-    def any(self, numbers):
+    def any(self, numbers: Iterable[int]) -> int:
         """That one of these is true."""
         members = set()
         for number in numbers:
@@ -56,7 +58,7 @@ class Formulas:
             return TRUE
         return FALSE if not members else TRUE if self.has_all_moves(members) else self.listed(members)
 
-    def listed(self, members):
+    def listed(self, members: set[int]) -> int:
         """The `or` of these, as it stands."""
         if len(members) == 1:
             return next(iter(members))
@@ -64,25 +66,25 @@ class Formulas:
         size = sum(self.sizes[member] for member in members) + len(members) + 4
         return self.made(("or", members), size, max(self.depths[member] for member in members) + 1)
 
-    def has_all_moves(self, members):
+    def has_all_moves(self, members: set[int]) -> bool:
         counts = {}
         for member in members:
             if member in self.role_of:
                 counts[self.role_of[member]] = counts.get(self.role_of[member], 0) + 1
         return any(count == len(self.moves[role]) for role, count in counts.items())
 
-    def all(self, numbers):
+    def all(self, numbers: Iterable[int]) -> int:
         """That all of these are true."""
         return self.no(self.any([self.no(number) for number in numbers]))
 
-    def parts(self, number):
+    def parts(self, number: int) -> list[int]:
         """The formulas that all have to be true where this one is."""
         node = self.nodes[number]
         if node[0] == "not" and self.nodes[node[1]][0] == "or":
             return [self.no(member) for member in self.nodes[node[1]][1]]
         return [number]
 
-    def allowed(self, number):
+    def allowed(self, number: int) -> tuple[Expression, frozenset[int]] | None:
         """For a formula that speaks of one role's moves alone: the role, and the moves with which it is true. Otherwise none."""
         node = self.nodes[number]
         if node[0] == "not":
@@ -93,7 +95,7 @@ class Formulas:
         role = roles.pop()
         return None if roles or role is None else (role, frozenset(members))
 
-    def body(self, numbers):
+    def body(self, numbers: Iterable[int]) -> frozenset[int] | None:
         """The formulas that all have to be true where these are, as a set: those of one role's moves are one. None if that can't be."""
         found, allowed = set(), {}
         for number in numbers:
@@ -111,7 +113,7 @@ class Formulas:
             return None
         return frozenset(found)
 
-    def shortest(self, number):
+    def shortest(self, number: int) -> int:
         """The formula with the few moves in the place of the many, wherever that is shorter."""
         node = self.nodes[number]
         if node[0] == "not":
@@ -132,7 +134,7 @@ class Formulas:
             members.append(others if self.sizes[others] < self.sizes[together] else together)
         return members[0] if len(members) == 1 else self.listed(set(members))
 
-    def expression(self, number):
+    def expression(self, number: int) -> Expression:
         node = self.nodes[number]
         if node[0] == "atom":
             return node[1]
@@ -140,7 +142,7 @@ class Formulas:
             return "not", self.expression(node[1])
         return "or", *map(self.expression, node[1])
 
-    def replaced(self, number, by, known):
+    def replaced(self, number: int, by: dict[int, int], known: dict[int, int]) -> int:
         """The formula with others in the place of some atoms; `known` keeps what has been found."""
         if number in known:
             return known[number]
@@ -154,7 +156,7 @@ class Formulas:
         known[number] = found
         return found
 
-    def renamed(self, number, known):
+    def renamed(self, number: int, known: dict[int, int]) -> int:
         """The formula as it stands, with other atoms in the place of some; `known` keeps what has been found."""
         if number not in known:
             node = self.nodes[number]

@@ -5,9 +5,11 @@ import resource
 import subprocess
 import threading
 from collections import Counter
+from collections.abc import Iterable, Iterator
+from typing import TextIO
 
-from ggp_tools.kif import MOST_LEVELS, Refused, relation, variables
-from .sentences import GAME, Rule
+from ggp_tools.kif import MOST_LEVELS, Expression, Refused, Relation, relation, variables
+from .sentences import GAME, Literal, Rule
 
 # What the grounder may take and give before it is stopped.
 MEMORY, MOST_INSTANCES = 2 << 30, 1_000_000
@@ -17,7 +19,7 @@ class LogicProgram:
     """The text for the grounder: relations are p0, p1, .., the instances of the rules that are kept i0, i1, .., and terms are
     quoted atoms and tuples, so that every KIF atom can stand there."""
 
-    def __init__(self, rules, unsettled):
+    def __init__(self, rules: list[Rule], unsettled: set[Relation]) -> None:
         self.unsettled, self.numbers = unsettled, {}
         self.kept, self.sources, self.names, self.derived, lines = [], {}, {}, set(), []
         for rule in rules:
@@ -29,13 +31,13 @@ class LogicProgram:
         ]
         self.text = "\n".join(lines) + "\n"
 
-    def name(self, key):
+    def name(self, key: Relation) -> str:
         return f"p{self.numbers.setdefault(key, len(self.numbers))}"
 
-    def is_settled(self, literal):
+    def is_settled(self, literal: Literal) -> bool:
         return literal.same or relation(literal.atom) not in self.unsettled
 
-    def lines_of(self, rule):
+    def lines_of(self, rule: Rule) -> list[str]:
         """A settled relation is derived as it stands. Of another only what can be true is: what it denies is left out."""
         names = {name: f"V{k}" for k, name in enumerate(variables((rule.head, *(literal.atom for literal in rule.body))))}
         body = [self.literal(literal, names) for literal in rule.body if literal.positive or self.is_settled(literal)]
@@ -59,32 +61,32 @@ class LogicProgram:
         self.kept.append((kept, needed))
         return [rule_line(instance, body), rule_line(self.atom(rule.head, names), [instance])]
 
-    def literal(self, literal, names):
+    def literal(self, literal: Literal, names: dict[str, str]) -> str:
         if literal.same:
-            one, other = literal.atom
-            return f"{term_text(one, names)} {'=' if literal.positive else '!='} {term_text(other, names)}"
+            left, right = literal.atom
+            return f"{term_text(left, names)} {'=' if literal.positive else '!='} {term_text(right, names)}"
         return ("" if literal.positive else "not ") + self.atom(literal.atom, names)
 
-    def atom(self, atom, names):
+    def atom(self, atom: Expression, names: dict[str, str]) -> str:
         arguments = () if isinstance(atom, str) else atom[1:]
         return applied(self.name(relation(atom)), [term_text(argument, names) for argument in arguments])
 
 
-def applied(name, arguments):
+def applied(name: str, arguments: list[str]) -> str:
     return f"{name}({','.join(arguments)})" if arguments else name
 
 
-def rule_line(head, body):
+def rule_line(head: str, body: list[str]) -> str:
     return f"{head} :- {', '.join(body)}." if body else f"{head}."
 
 
-def term_text(term, names):
+def term_text(term: Expression, names: dict[str, str]) -> str:
     if isinstance(term, str):
         return names.get(term) or '"' + term.replace("\\", "\\\\").replace('"', '\\"') + '"'
     return "(" + ",".join(term_text(member, names) for member in term) + ("," if len(term) == 1 else "") + ")"
 
 
-def term_list(text):
+def term_list(text: str) -> list[str]:
     """The terms that the grounder's text lists."""
     levels = [[]]
     for token in re.findall(r'"(?:[^"\\]|\\.)*"|[()]', text):
@@ -98,7 +100,7 @@ def term_list(text):
     return levels[0]
 
 
-def level_count(text):
+def level_count(text: str) -> int:
     """How many lists stand in one another in a line of the grounder."""
     deepest = level = 0
     for token in re.findall(r'"(?:[^"\\]|\\.)*"|[()]', text):
@@ -114,10 +116,10 @@ class TooMany(Refused):
 class Grounder:
     """One run of gringo. It ends where it has found all, is past a limit, or an exception comes, as from the clock."""
 
-    def __init__(self, program, most=MOST_INSTANCES):
+    def __init__(self, program: LogicProgram, most: int = MOST_INSTANCES) -> None:
         self.program, self.most, self.counts, self.lists = program, most, Counter(), {}
 
-    def instances(self):
+    def instances(self) -> list[tuple[int, list[str]]]:
         """The instances that it finds, each with the number of its rule and its terms."""
         pipes = {"stdin": subprocess.PIPE, "stdout": subprocess.PIPE, "stderr": subprocess.PIPE}
         try:
@@ -139,7 +141,7 @@ class Grounder:
             raise Refused(f"gringo refuses it: {' '.join(said.split())[:300]}")
         return found
 
-    def read(self, lines):
+    def read(self, lines: Iterable[str]) -> Iterator[tuple[int, list[str]]]:
         kept = 0
         for line in lines:
             name, _, rest = line.partition("(")
@@ -155,11 +157,11 @@ class Grounder:
                     raise TooMany(f"there are more than {self.most:,} instances")
                 yield int(name[1:]), term_list(rest.rpartition(")")[0])
 
-    def lists_in(self, rule):
+    def lists_in(self, rule: Rule) -> int:
         """How many lists the largest sentence has among those that were found for a rule's relation."""
         return self.lists.get(self.program.name(relation(rule.head)), 0)
 
-    def largest(self):
+    def largest(self) -> tuple[int, ...]:
         """The sentence that has made the most instances so far, and how many: none where nothing has come yet."""
         by_sentence = Counter()
         for name, count in self.counts.items():
@@ -168,11 +170,11 @@ class Grounder:
         return by_sentence.most_common(1)[0] if by_sentence else None
 
 
-def limit_memory():
+def limit_memory() -> None:
     resource.setrlimit(resource.RLIMIT_AS, (MEMORY, MEMORY))
 
 
-def write(stream, text):
+def write(stream: TextIO, text: str) -> None:
     try:
         with stream as pipe:
             pipe.write(text)

@@ -1,10 +1,16 @@
 """The ground rules of a game, from the instances that the grounder has found."""
 
-from ggp_tools.kif import place, put, relation
-from .sentences import GAME, Literal, Rule
+from collections.abc import Iterable, Sequence
+
+from ggp_tools.kif import Expression, place, put, relation
+from .sentences import GAME, Body, Literal, Rule
+
+# The rules that were grounded, each with the variables that an instance has terms for, and an instance: the number of its rule, and its terms.
+Kept = Sequence[tuple[Rule, Sequence[str]]]
+Instance = tuple[int, Sequence[Expression]]
 
 
-def ground(kept, instances):
+def ground(kept: Kept, instances: Iterable[Instance]) -> list[Rule]:
     """The instances of the rules, without the denials of what is never true."""
     found, literals = [], {}
     for number, terms in instances:
@@ -19,7 +25,7 @@ def ground(kept, instances):
     return [Rule(rule.sentence, rule.head, shortened(rule.body, can_be)) for rule in found]
 
 
-def possible(rules):
+def possible(rules: list[Rule]) -> set[Expression]:
     """The sentences that can be true in some state, and with some moves."""
     found = {rule.head for rule in rules}
     for head in list(found):
@@ -31,37 +37,37 @@ def possible(rules):
     return found
 
 
-def shortened(body, can_be):
+def shortened(body: Body, can_be: set[Expression]) -> Body | None:
     return tuple(dict.fromkeys(literal for literal in body if literal.positive or literal.atom in can_be))
 
 
-def needed(rules):
+def needed(rules: list[Rule]) -> list[Rule]:
     """The rules of the game's own relations, and those of what they ask for."""
     rules_for = {}
     for rule in rules:
         rules_for.setdefault(rule.head, []).append(rule)
-    open_ones = [head for head in rules_for if relation(head)[0] in GAME]
-    found = set(open_ones)
-    while open_ones:
-        for rule in rules_for.get(open_ones.pop(), ()):
+    open_heads = [head for head in rules_for if relation(head)[0] in GAME]
+    found = set(open_heads)
+    while open_heads:
+        for rule in rules_for.get(open_heads.pop(), ()):
             asked = {literal.atom for literal in rule.body} - found
             found |= asked
-            open_ones += asked
+            open_heads += asked
     return [rule for rule in rules if rule.head in found]
 
 
-def in_order(rules):
+def in_order(rules: list[Rule]) -> list[Rule]:
     """The rules in the order in which they are written, each once."""
     atoms = {atom for rule in rules for atom in (rule.head, *(literal.atom for literal in rule.body))}
     ranks = {atom: rank for rank, atom in enumerate(sorted(atoms, key=place))}
-    rules = sorted(rules, key=lambda rule: (rule.sentence, ranks[rule.head], [(ranks[one.atom], one.positive) for one in rule.body]))
+    rules = sorted(rules, key=lambda rule: (rule.sentence, ranks[rule.head], [(ranks[literal.atom], literal.positive) for literal in rule.body]))
     found = {}
-    for one in rules:
-        found.setdefault((one.head, one.body), one)
+    for rule in rules:
+        found.setdefault((rule.head, rule.body), rule)
     return list(found.values())
 
 
-def sentence_of(rule):
+def sentence_of(rule: Rule) -> Expression:
     if not rule.body:
         return rule.head
     return ("<=", rule.head, *(literal.atom if literal.positive else ("not", literal.atom) for literal in rule.body))

@@ -2,21 +2,25 @@
 
 import re
 from collections import Counter
+from collections.abc import Iterator, Sequence
 
-from ggp_tools.kif import MOST_LEVELS, Refused, levels, relation, spelled
-from .sentences import SECRET, cited
+from ggp_tools.kif import MOST_LEVELS, Expression, Refused, levels, relation, spelled
+from .sentences import SECRET, Rule, cited
 
 MOST = {"sentences": 8192, "atomic sentences": 16384, "roles": 16, "moves": 4096, "bytes": 1048576, "levels": MOST_LEVELS}
 # What is more with --large.
 MORE_OF_LARGE = {"sentences": 65536, "atomic sentences": 65536, "bytes": 4194304}
 # One word of a command line on Linux, without the byte that ends it.
 MOST_IN_A_WORD = 131071
+# A sentence that is written, with the number of the one that it comes from; and how much there is of something, with its name and limit.
+Numbered = tuple[int, Expression]
+Figure = tuple[str, int, int]
 GOAL = re.compile(r"0|[1-9][0-9]?|100")
 PAST_GOAL = re.compile(r"[1-9][0-9]{2,}")
 WITHOUT_HIGH_GOALS = "where one would hold at the end, its role keeps the other goal that holds there, and if none does the match has no goals"
 
 
-def without_high_goals(rules):
+def without_high_goals(rules: list[Rule]) -> tuple[list[Rule], int]:
     """The rules without those of goals past 100, and the number of these."""
     high = {rule.head for rule in rules if is_high(rule.head)}
     for rule in rules:
@@ -26,11 +30,11 @@ def without_high_goals(rules):
     return [rule for rule in rules if rule.head not in high], len(high)
 
 
-def is_high(atom):
+def is_high(atom: Expression) -> bool:
     return relation(atom) == ("goal", 2) and isinstance(atom[2], str) and bool(PAST_GOAL.fullmatch(atom[2])) and not GOAL.fullmatch(atom[2])
 
 
-def refuse_faults(rules, sentences, lines):
+def refuse_faults(rules: list[Rule], sentences: Sequence[Expression], lines: Sequence[int]) -> None:
     """Refuses what the program refuses: goals that are none, a role that depends on its own denial, no role."""
     for rule in rules:
         for atom in (rule.head, *(literal.atom for literal in rule.body)):
@@ -44,7 +48,7 @@ def refuse_faults(rules, sentences, lines):
         raise Refused("there is no role")
 
 
-def atoms_of(expression):
+def atoms_of(expression: Expression) -> Iterator[Expression]:
     """The atomic sentences of a ground sentence."""
     if isinstance(expression, tuple) and expression[0] in ("<=", "not", "or"):
         for member in expression[1:]:
@@ -53,12 +57,12 @@ def atoms_of(expression):
         yield expression
 
 
-def most_of(is_large):
+def most_of(is_large: bool) -> dict[str, int]:
     """How much there may be of each thing."""
     return {**MOST, **MORE_OF_LARGE} if is_large else MOST
 
 
-def figures(written, size, most):
+def figures(written: list[Numbered], size: int, most: dict[str, int]) -> Iterator[Figure]:
     """What the program sets a limit to: each thing's name, how much of it there is, and how much there may be."""
     heads = dict.fromkeys(sentence[1] if sentence[0] == "<=" else sentence for _, sentence in written)
     moves = Counter(head[1] for head in heads if relation(head) == ("legal", 2))
@@ -72,7 +76,7 @@ def figures(written, size, most):
     yield "lists in one another", max((levels(sentence) for _, sentence in written), default=0), most["levels"]
 
 
-def costs_of(written, is_bytes):
+def costs_of(written: list[Numbered], is_bytes: bool) -> Counter[int]:
     """What the sentences of the description cost in what is written as it was found."""
     costs = Counter()
     for number, sentence in written:
@@ -80,7 +84,7 @@ def costs_of(written, is_bytes):
     return costs
 
 
-def dearest(costs, sentences, lines, is_bytes):
+def dearest(costs: Counter[int], sentences: Sequence[Expression], lines: Sequence[int], is_bytes: bool) -> list[str]:
     """The three sentences of the description that cost the most, with what each costs."""
     unit = "bytes" if is_bytes else "ground sentences"
     return [f"{cited(number, sentences, lines)}: {count:,.0f} {unit}" for number, count in costs.most_common(3)]

@@ -8,10 +8,10 @@ from typing import NamedTuple
 
 from . import folding, for_players, gringo, grounding, limits, rounds
 from .endless import endless
-from ggp_tools.kif import Refused, expressions, relation, spelled
-from .forms import forms
+from ggp_tools.kif import Expression, Refused, expressions, relation, spelled
+from .forms import Form, forms
 from .relations import Relations
-from .sentences import all_rules, as_read, cited, lines_of
+from .sentences import Rule, all_rules, as_read, cited, lines_of
 
 # How a game is written: folded where it is past a limit otherwise, always, or never.
 WHERE_NEEDED, ALWAYS, NEVER = "where needed", "always", "never"
@@ -26,7 +26,7 @@ class Late(Exception):
     """The seconds are over."""
 
 
-def late(signal_number, frame):
+def late(signal_number: int, frame: object) -> None:
     raise Late
 
 
@@ -40,11 +40,11 @@ class Written(NamedTuple):
     notes: list
     game: object = None
 
-    def past(self):
+    def past(self) -> list[limits.Figure]:
         """What is past its limit."""
         return [(name, count, most) for name, count, most in self.figures if count > most]
 
-    def is_far_past(self):
+    def is_far_past(self) -> bool:
         """Whether no other form of the game can be expected to be within the limits: one is at most some three times as long as another."""
         return any(count > FAR * most for _, count, most in self.past())
 
@@ -52,12 +52,12 @@ class Written(NamedTuple):
 class Making:
     """The making of one ground description, within the usual limits of the program or those for large games."""
 
-    def __init__(self, text, seconds, folding_wanted, is_split=False, is_large=False):
+    def __init__(self, text: str, seconds: int, folding_wanted: str, is_split: bool = False, is_large: bool = False) -> None:
         self.text, self.seconds, self.wanted, self.is_split, self.most = text, seconds, folding_wanted, is_split, limits.most_of(is_large)
         self.sentences, self.lines, self.rules, self.grounder, self.work = [], [], [], None, "reading it"
         self.notes, self.best, self.hopeless, self.known, self.count, self.is_unrolled = [], None, None, [], 0, False
 
-    def run(self):
+    def run(self) -> str:
         """The ground description, or why there is none, within the seconds."""
         self.began = time.monotonic()
         signal.signal(signal.SIGALRM, late)
@@ -72,10 +72,10 @@ class Making:
             why = f"stopped after {self.seconds:g} s, {self.work}"
         return self.reported(self.best) if self.best else self.refuse(why)
 
-    def refuse(self, why):
+    def refuse(self, why: str) -> None:
         raise Refused(self.explained(why))
 
-    def made(self):
+    def made(self) -> str:
         self.sentences = [as_read(expression) for expression in expressions(self.text)]
         self.lines = lines_of(self.text)
         self.rules = all_rules(self.sentences, self.lines)
@@ -86,7 +86,7 @@ class Making:
         is_whole = self.wanted == NEVER and not self.is_split
         return self.reported(self.first_within(forms(rules, is_whole, self.is_split)))
 
-    def first_within(self, tried):
+    def first_within(self, tried: list[Form]) -> Written:
         """What is written in the first form that is within the limits; where none is, what is past them in the last that was written."""
         done = []
         for form in tried:
@@ -110,7 +110,7 @@ class Making:
             raise Refused(f"nothing is written, since this is past the limit, however it is folded: {self.hopeless}")
         return self.best
 
-    def ground_rules_of(self, form):
+    def ground_rules_of(self, form: Form) -> list[Rule]:
         """The ground rules of a form, without cycles."""
         self.notes, self.known, self.is_unrolled = list(form.notes), [], False
         found = self.ground(gringo.LogicProgram(form.rules, Relations(form.rules).unsettled()), form.most)
@@ -128,13 +128,13 @@ class Making:
         self.ground_rules = found
         return found
 
-    def note_circles(self, circles):
+    def note_circles(self, circles: list[tuple[Expression, int, int]]) -> None:
         if circles:
             atom, count, last = max(circles, key=lambda circle: circle[1])
             largest = f"the largest, of {count:,} sentences with {spelled(atom)}, in {last + 1:,} rounds"
             self.notes.append(f"{len(circles):,} cycles of sentences are unrolled, {largest}")
 
-    def ground(self, program, most):
+    def ground(self, program: gringo.LogicProgram, most: int) -> list[Rule]:
         self.work = "finding the instances"
         self.grounder = gringo.Grounder(program, most)
         try:
@@ -152,13 +152,13 @@ class Making:
         self.know(f"{len(found):,} ground sentences")
         return found
 
-    def know(self, words):
+    def know(self, words: str) -> None:
         """Notes what is known of a form, which a run that goes on for long says at once."""
         self.known.append(words)
         if time.monotonic() - self.began > SOON:
             say(f"  after {time.monotonic() - self.began:.0f} s: {words}")
 
-    def explained(self, why):
+    def explained(self, why: str) -> str:
         """The reason, with what is known of the instances so far."""
         why = "; ".join([why, *self.known])
         rule = endless(self.rules)
@@ -170,12 +170,12 @@ class Making:
             why += f"; the most instances, {largest[1]:,}, are those of {self.cited(largest[0])}"
         return why
 
-    def cited(self, number):
+    def cited(self, number: int) -> str:
         return cited(number, self.sentences, self.lines)
 
     # ---- What is written, and said ---------------------------------------------------------------
 
-    def written(self, rules):
+    def written(self, rules: list[Rule]) -> Written:
         plain = [(rule.sentence, grounding.sentence_of(rule)) for rule in rules]
         found = self.as_written(plain)
         is_past = any(name in FOLDABLE for name, _, _ in found.past())
@@ -187,11 +187,11 @@ class Making:
             found = self.as_written(folded)._replace(game=game)
         return found
 
-    def as_written(self, sentences):
+    def as_written(self, sentences: list[limits.Numbered]) -> Written:
         text = text_of(sentences, self.notes)
         return Written(sentences, text, list(limits.figures(sentences, len(text), self.most)), self.notes)
 
-    def reported(self, written):
+    def reported(self, written: Written) -> str:
         """Says what was made, beside the limits, and refuses what is past one. Returns its text."""
         seconds, size = time.monotonic() - self.began, len(written.text)
         say(f"ggp-instantiate: {len(self.sentences)} sentences gave {len(written.sentences):,} ground ones, in {seconds:.2f} s")
@@ -211,16 +211,16 @@ class Making:
             raise Refused(f"nothing is written, since this is past the limit: {listed}")
         return written.text
 
-    def text_for_players(self):
+    def text_for_players(self) -> str:
         """The description with variables, for players."""
         return for_players.text_for_players(self.sentences, self.ground_rules)
 
 
-def text_of(written, notes):
+def text_of(written: list[limits.Numbered], notes: list[str]) -> str:
     return "".join([*(f"; {note}\n" for note in notes), *(f"{spelled(sentence)}\n" for _, sentence in written)])
 
 
-def say(text):
+def say(text: str) -> None:
     """Writes a line to standard error, where that is open: to print, none is standard output."""
     if sys.stderr:
         with contextlib.suppress(OSError):

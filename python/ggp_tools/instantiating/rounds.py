@@ -10,18 +10,22 @@ has to come twice. The last round is the sentence itself, and what no later roun
   way to one takes no two of them that it could have gone between directly, so it takes two at most of each clique.
 """
 
-from ggp_tools.kif import Refused, atoms, fresh, relation, spelled
+from collections.abc import Iterable, Iterator, Mapping
+
+from ggp_tools.kif import Expression, Refused, atoms, fresh, relation, spelled
 from .sentences import Literal, Rule
 
+# The rules of each sentence.
+RulesFor = dict[Expression, list[Rule]]
 MOST_RULES = 2_000_000
 
 
-def asked(rule):
+def asked(rule: Rule) -> list[Expression]:
     """What a rule asks for that is derived in the same state."""
     return [literal.atom for literal in rule.body if relation(literal.atom)[0] not in ("true", "does")]
 
 
-def circles(rules):
+def circles(rules: list[Rule]) -> list[list[Expression]]:
     """The sets of sentences that depend on each other, each with more than one or with one that depends on itself."""
     graph = {}
     for rule in rules:
@@ -29,17 +33,17 @@ def circles(rules):
     return [component for component in components(graph) if len(component) > 1 or component[0] in graph[component[0]]]
 
 
-def components(graph):
+def components(graph: Mapping[Expression, Iterable[Expression]]) -> list[list[Expression]]:
     """The strongly connected components of a graph, each a list, those below first."""
     places, lows, stack, on_stack, found = {}, {}, [], set(), []
     for start in graph:
-        open_ones = [] if start in places else [(start, iter(graph[start]))]
-        if open_ones:
+        open_nodes = [] if start in places else [(start, iter(graph[start]))]
+        if open_nodes:
             places[start] = lows[start] = len(places)
             stack.append(start)
             on_stack.add(start)
-        while open_ones:
-            one, others = open_ones[-1]
+        while open_nodes:
+            node, others = open_nodes[-1]
             for other in others:
                 if other not in graph:
                     continue
@@ -47,30 +51,30 @@ def components(graph):
                     places[other] = lows[other] = len(places)
                     stack.append(other)
                     on_stack.add(other)
-                    open_ones.append((other, iter(graph[other])))
+                    open_nodes.append((other, iter(graph[other])))
                     break
                 if other in on_stack:
-                    lows[one] = min(lows[one], places[other])
+                    lows[node] = min(lows[node], places[other])
             else:
-                open_ones.pop()
-                if open_ones:
-                    above = open_ones[-1][0]
-                    lows[above] = min(lows[above], lows[one])
-                if lows[one] == places[one]:
-                    found.append(popped_until(one, stack))
+                open_nodes.pop()
+                if open_nodes:
+                    above = open_nodes[-1][0]
+                    lows[above] = min(lows[above], lows[node])
+                if lows[node] == places[node]:
+                    found.append(popped_until(node, stack))
                     on_stack.difference_update(found[-1])
     return found
 
 
-def popped_until(one, stack):
+def popped_until(last: Expression, stack: list[Expression]) -> list[Expression]:
     """Takes what stands on a stack from one on, and returns it in its order."""
     found = [stack.pop()]
-    while found[-1] != one:
+    while found[-1] != last:
         found.append(stack.pop())
     return found[::-1]
 
 
-def is_halved(circle, rules_for):
+def is_halved(circle: list[Expression], rules_for: RulesFor) -> bool:
     """Whether the circle is one relation of two places that is derived from its two halves alone, and from any two: where a rule asks for
     more of some, such as a fact of the game, other halves have no rule, and a circle of so few rounds would lack what goes round them."""
     if any(isinstance(atom, str) or len(atom) != 3 or atom[0] != circle[0][0] for atom in circle):
@@ -84,30 +88,30 @@ def is_halved(circle, rules_for):
     return has_all_halves(circle, rules_for)
 
 
-def has_all_halves(circle, rules_for):
+def has_all_halves(circle: list[Expression], rules_for: RulesFor) -> bool:
     """Whether any two sentences of the circle that can be halves of a third have a rule for it, and it is in the circle as well: what is
     outside is no half of another, so ways that go over it are not made of halves."""
     begun, bodies, members = {}, {}, set(circle)
     for atom in circle:
         begun.setdefault(atom[1], []).append(atom)
-    for one in circle:
-        for other in begun.get(one[2], ()):
-            whole = (one[0], one[1], other[2])
-            if whole in (one, other):
+    for half in circle:
+        for other in begun.get(half[2], ()):
+            whole = (half[0], half[1], other[2])
+            if whole in (half, other):
                 continue
             if whole not in bodies:
                 bodies[whole] = {frozenset(literal.atom for literal in rule.body) for rule in rules_for.get(whole, ())}
-            if whole not in members or frozenset((one, other)) not in bodies[whole]:
+            if whole not in members or frozenset((half, other)) not in bodies[whole]:
                 return False
     return True
 
 
-def halves(whole, one, other):
+def halves(whole: Expression, first: Expression, second: Expression) -> bool:
     ends = whole[1], whole[2]
-    return any((a[1], b[2]) == ends and a[2] == b[1] for a, b in ((one, other), (other, one)))
+    return any((front[1], back[2]) == ends and front[2] == back[1] for front, back in ((first, second), (second, first)))
 
 
-def last_round(circle, rules_for):
+def last_round(circle: list[Expression], rules_for: RulesFor) -> int:
     """The number of the round in which all is derived that can be."""
     if is_halved(circle, rules_for):
         return (len({term for atom in circle for term in atom[1:]}) - 1).bit_length()
@@ -117,7 +121,7 @@ def last_round(circle, rules_for):
     return sum(min(2, len(clique)) for clique in cliques(circle, steps)) - 1
 
 
-def steps_of(circle, rules_for):
+def steps_of(circle: list[Expression], rules_for: RulesFor) -> dict[Expression, set[Expression]]:
     """Of each sentence those that it can be derived from, if each way asks for one alone and all for the same beside it; else none."""
     members, steps = set(circle), {}
     for atom in circle:
@@ -134,7 +138,7 @@ def steps_of(circle, rules_for):
     return steps
 
 
-def cliques(circle, steps):
+def cliques(circle: list[Expression], steps: dict[Expression, set[Expression]]) -> list[list[Expression]]:
     """The sentences in sets in which each can be derived from each other one."""
     left, found = dict.fromkeys(circle), []
     while left:
@@ -148,7 +152,7 @@ def cliques(circle, steps):
     return found
 
 
-def refuse_denial(circle, rules_for):
+def refuse_denial(circle: list[Expression], rules_for: RulesFor) -> None:
     members = set(circle)
     for atom in circle:
         for rule in rules_for[atom]:
@@ -157,7 +161,7 @@ def refuse_denial(circle, rules_for):
                     raise Refused(f"a cycle: {spelled(atom)} depends on itself, through the denial of {spelled(literal.atom)}")
 
 
-def alive(circle, rules_for, last):
+def alive(circle: list[Expression], rules_for: RulesFor, last: int) -> list[set[Expression]]:
     """Of each round the sentences that some rule can derive in it."""
     members, found = set(circle), [set()]
     for _ in range(last + 1):
@@ -169,17 +173,17 @@ def alive(circle, rules_for, last):
     return found[1:]
 
 
-def inner(rule, members):
+def inner(rule: Rule, members: set[Expression]) -> set[Expression]:
     """What a rule asks for in its own circle."""
     return {literal.atom for literal in rule.body if literal.atom in members}
 
 
-def layers(circle, rules_for, last, word):
+def layers(circle: list[Expression], rules_for: RulesFor, last: int, word: str) -> Iterator[Rule]:
     """The rules of all rounds of a circle that its sentences ask for. The first rule of a sentence stands where the first one stood that
     it had, also where that one is left out, since legal moves have their order by it."""
     members, lives = set(circle), alive(circle, rules_for, last)
 
-    def named(count, atom):
+    def named(count: int, atom: Expression) -> Expression:
         return atom if count == last else (word, str(count), atom)
 
     wanted = lives[last]
@@ -198,7 +202,7 @@ def layers(circle, rules_for, last, word):
         wanted = asked_below
 
 
-def unrolled(rules):
+def unrolled(rules: list[Rule]) -> tuple[list[Rule], list[tuple[Expression, int, int]]]:
     """The rules without circles, and of each circle a sentence of it, how many it has, and its last round."""
     found = circles(rules)
     if not found:

@@ -2,9 +2,10 @@
 
 import itertools
 import math
+from collections.abc import Iterator, Sequence
 from typing import NamedTuple
 
-from ggp_tools.kif import Refused, atoms, fresh_before_digits, relation, spelled, starts, variables
+from ggp_tools.kif import Expression, Refused, atoms, fresh_before_digits, relation, spelled, starts, variables
 
 # So many rules may come of the `or`s of one sentence. Past the first number each `or` that can be is a relation of its own.
 FEW_WAYS, MOST_WAYS = 100, 10000
@@ -20,19 +21,22 @@ class Literal(NamedTuple):
     """An atomic sentence or its negation; or that two terms, its atom, are `same`, or `not same`."""
 
     positive: bool
-    atom: object
+    atom: Expression
     same: bool = False
+
+
+Body = tuple[Literal, ...]
 
 
 class Rule(NamedTuple):
     """A sentence with one way in which its `or`s can hold."""
 
     sentence: int
-    head: object
-    body: tuple
+    head: Expression
+    body: Body
 
 
-def as_read(expression):
+def as_read(expression: Expression) -> Expression:
     """The sentence or literal with the atom in the place of the list `(terminal)`, which some descriptions have."""
     if isinstance(expression, str):
         return expression
@@ -43,7 +47,7 @@ def as_read(expression):
     return expression
 
 
-def must_be_term(expression):
+def must_be_term(expression: Expression) -> None:
     if isinstance(expression, tuple):
         if not expression or not isinstance(expression[0], str) or expression[0].startswith("?"):
             raise Refused(f"{spelled(expression)} is no term")
@@ -51,7 +55,7 @@ def must_be_term(expression):
             must_be_term(member)
 
 
-def must_be_atomic(atom, is_head):
+def must_be_atomic(atom: Expression, is_head: bool) -> None:
     """Refuses what is no atomic sentence, or stands where it may not."""
     if isinstance(atom, str) and atom.startswith("?"):
         raise Refused(f"{atom} is no sentence")
@@ -69,31 +73,31 @@ def must_be_atomic(atom, is_head):
         raise Refused(f"{spelled(atom)} is in a body")
 
 
-def must_be_literal(literal):
+def must_be_literal(literal: Expression) -> None:
     match literal:
         case ("not", inner):
             must_be_literal(inner)
         case ("or" | "and", _, *_):
             for inner in literal[1:]:
                 must_be_literal(inner)
-        case ("distinct", one, other):
-            must_be_term(one)
-            must_be_term(other)
+        case ("distinct", left, right):
+            must_be_term(left)
+            must_be_term(right)
         case _:
             must_be_atomic(literal, False)
 
 
-def each_of(ways):
+def each_of(ways: list[list[Body]]) -> list[Body]:
     """The ways in which all of these can hold, each given by its own ways."""
     count = 1
-    for one in ways:
-        count *= len(one)
+    for alternatives in ways:
+        count *= len(alternatives)
     if count > MOST_WAYS:
         raise Refused(f"its `or`s can hold in more than {MOST_WAYS:,} ways")
     return [tuple(itertools.chain(*way)) for way in itertools.product(*ways)]
 
 
-def ways_of(literal, positive=True):
+def ways_of(literal: Expression, positive: bool = True) -> list[Body]:
     """The ways in which a literal can hold, or where it is not positive its negation: each a list of literals."""
     match literal:
         case ("not", inner):
@@ -101,23 +105,23 @@ def ways_of(literal, positive=True):
         case ("or" | "and", *inners):
             ways = [ways_of(inner, positive) for inner in inners]
             return each_of(ways) if (literal[0] == "and") == positive else list(itertools.chain(*ways))
-        case ("distinct", one, other):
-            return [(Literal(not positive, (one, other), True),)]
+        case ("distinct", left, right):
+            return [(Literal(not positive, (left, right), True),)]
     return [(Literal(positive, literal),)]
 
 
-def is_bound(name, body):
+def is_bound(name: str, body: Body) -> bool:
     return any(name in variables(literal.atom) for literal in body if literal.positive and not literal.same)
 
 
-def must_be_safe(rule):
+def must_be_safe(rule: Rule) -> None:
     """Refuses a rule with a variable that no sentence of its body binds."""
     for name in variables((rule.head, *(literal.atom for literal in rule.body))):
         if not is_bound(name, rule.body):
             raise Refused(f"{name} is unsafe: no sentence of the body that is not negated has it")
 
 
-def rules_of(number, sentence, names):
+def rules_of(number: int, sentence: Expression, names: Iterator[str]) -> list[Rule]:
     """The rules of one sentence, and where its `or`s can hold in many ways those of relations for them, by these names."""
     is_rule = isinstance(sentence, tuple) and sentence[:1] == ("<=",)
     if is_rule and len(sentence) < 2:
@@ -141,7 +145,7 @@ def rules_of(number, sentence, names):
     return found
 
 
-def lines_of(text):
+def lines_of(text: str) -> list[int]:
     """The line in which each sentence of a text begins, counted from 1."""
     found, line, last = [], 1, 0
     for index in starts(text):
@@ -151,13 +155,13 @@ def lines_of(text):
     return found
 
 
-def cited(number, sentences, lines=()):
+def cited(number: int, sentences: Sequence[Expression], lines: Sequence[int] = ()) -> str:
     """A sentence as it is cited where something is wrong with it, with its line where the lines are known."""
     text, where = spelled(sentences[number]), f", line {lines[number]}: " if lines else ", "
     return f"sentence {number}{where}{text[:100]}" + (".." if len(text) > 100 else "")
 
 
-def all_rules(sentences, lines=()):
+def all_rules(sentences: Sequence[Expression], lines: Sequence[int] = ()) -> list[Rule]:
     """The rules of all sentences. Where one is refused it is cited."""
     word = fresh_before_digits("either", set(atoms(tuple(sentences))))
     found, names = [], (f"{word}{count}" for count in itertools.count(1))

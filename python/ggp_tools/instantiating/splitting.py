@@ -6,9 +6,10 @@ a sum. What holds is the same: the part's other variables stand nowhere else. Re
 """
 
 import itertools
+from collections.abc import Iterable, Iterator, Sequence
 from typing import NamedTuple
 
-from ggp_tools.kif import atoms, fresh_before_digits, put, relation, variables
+from ggp_tools.kif import Expression, atoms, fresh_before_digits, put, relation, variables
 from .relations import Relations
 from .sentences import Literal, Rule
 
@@ -25,7 +26,7 @@ class Part(NamedTuple):
     shared: frozenset
 
 
-def split(rules):
+def split(rules: list[Rule]) -> list[Rule]:
     """The rules with those parts as relations of their own; the same rules where no part is worth it."""
     below = Relations(rules).below
     word = fresh_before_digits("split", {name for rule in rules for name in (*atoms(rule.head), *body_atoms(rule.body))})
@@ -38,17 +39,17 @@ def split(rules):
     return splitting.rules
 
 
-def body_atoms(body):
+def body_atoms(body: Iterable[Literal]) -> Iterator[Expression]:
     return (name for literal in body for name in atoms(literal.atom))
 
 
 class Splitting:
     """The rules so far, and the relation of each part by what it says."""
 
-    def __init__(self, word):
+    def __init__(self, word: str) -> None:
         self.word, self.rules, self.relations = word, [], {}
 
-    def add(self, rule):
+    def add(self, rule: Rule) -> None:
         part = best_part(rule)
         if not part:
             self.rules.append(rule)
@@ -56,7 +57,7 @@ class Splitting:
         literal = self.relation_of(rule.sentence, [rule.body[at] for at in part.inside], part.shared)
         self.add(Rule(rule.sentence, rule.head, (*(rule.body[at] for at in part.outside), literal)))
 
-    def relation_of(self, sentence, body, shared):
+    def relation_of(self, sentence: int, body: list[Literal], shared: frozenset[str]) -> Literal:
         """The literal that stands for a part. Parts that differ in the names of variables alone have one relation."""
         names = dict.fromkeys(name for literal in body for name in variables(literal.atom))
         canonical = {name: f"?{count}" for count, name in enumerate(names)}
@@ -67,11 +68,11 @@ class Splitting:
         return Literal(True, applied(self.relations[key], [name for name in names if name in shared]))
 
 
-def applied(word, arguments):
+def applied(word: str, arguments: Sequence[str]) -> Expression:
     return (word, *arguments) if arguments else word
 
 
-def best_part(rule):
+def best_part(rule: Rule) -> Part | None:
     """The part of a rule's body with which the fewest variables stand in one rule; none where they would be no fewer."""
     named = [frozenset(variables(literal.atom)) for literal in rule.body]
     binding = [them if literal.positive and not literal.same else frozenset() for literal, them in zip(rule.body, named)]
@@ -88,7 +89,7 @@ def best_part(rule):
     return found
 
 
-def part_of(inside, head, named, binding):
+def part_of(inside: tuple[int, ...], head: frozenset[str], named: list[frozenset[str]], binding: list[frozenset[str]]) -> Part | None:
     """The part of these places: none where it or the rest would have a variable that nothing binds, or nothing would be gained."""
     outside = tuple(at for at in range(len(named)) if at not in inside)
     own, others = frozenset().union(*(named[at] for at in inside)), head.union(*(named[at] for at in outside))

@@ -5,16 +5,17 @@
     ggp-records --rules FOLDER csv DIR PILE ..
     ggp-records --rules FOLDER pages DIR PILE ..
     ggp-records --rules FOLDER ggp-base [--log LOG ..] [--games URL] DIR PILE ..
-    ggp-records --rules FOLDER facts [--log LOG ..] [--descriptions FOLDER] FILE PILE ..
+    ggp-records --rules FOLDER facts [--log LOG ..] [--descriptions FOLDER] [--refereed-by TEXT] FILE PILE ..
 
 A PILE is a file with a record on each line, as `season` and `run` write them; lines of accounts are skipped. FOLDER has the ground rules of
-the games, a file NAME.kif each: a record is of the game with its roles and its first state. With --large the limits of the rules are those for large games. `check` writes a line for each record: the
-file, the line's number, the match, the game and the verdict, with a tab between each two. With --explain lines below one that is not lawful say what
-was expected and what was found. `ggp-base` writes a file for each record that is lawful, as ggp-base has a match, and names the others.
-URL/NAME/ is then the address of the game NAME. `facts` writes a line of JSON for each record that is lawful, with what it does not say
-itself, and names the others. LOG, a file or a folder of files, has the times of messages, as the folder `logs` of a competition. The FOLDER
-of --descriptions has what the rules were made from, by the same names. FILE and DIR must not be there. docs/PROFILE.md has the verdicts in
-section 9, examples/records/README.md the keys for ggp-base and of facts.
+the games, a file NAME.kif each: a record is of the game with its roles and its first state. With --large the limits of the rules are those
+for large games. `check` writes a line for each record: the file, the line's number, the match, the game and the verdict, with a tab between
+each two. With --explain lines below one that is not lawful say what was expected and what was found. `ggp-base` writes a file for each
+record that is lawful, as ggp-base has a match, and names the others. URL/NAME/ is then the address of the game NAME. `facts` writes a line
+of JSON for each record that is lawful, with what it does not say itself, and names the others. LOG, a file or a folder of files, has the
+times of messages, as the folder `logs` of a competition. The FOLDER of --descriptions has what the rules were made from, by the same names,
+and TEXT names the program that refereed the matches. FILE and DIR must not be there. docs/PROFILE.md has the verdicts in section 9,
+examples/records/README.md the keys for ggp-base and of facts.
 
 The status is 0 if all records are lawful, 1 if not, 2 for wrong use, 3 if the program came to no verdict."""
 
@@ -28,7 +29,7 @@ from collections.abc import Iterable, Iterator
 
 from ggp_tools.records.collection import Judged, Pile, judged_lines, known_games
 from ggp_tools.records.explain import explanation, json_lines
-from ggp_tools.records.facts import Facts, description_sums, write_facts
+from ggp_tools.records.facts import Facts, description_sums, version_beside, write_facts
 from ggp_tools.records.ggp_base import times_of_logs, write_matches
 from ggp_tools.records.index import write_pages
 from ggp_tools.records.match_logs import MatchLogs
@@ -95,7 +96,8 @@ def name_others(others: Iterable[Judged]) -> None:
 
 def facts_for(given: argparse.Namespace, referee: Referee) -> Facts:
     """Returns what makes the facts of records, with all that is read before any of these."""
-    return Facts(referee.version(), description_sums(given.rules, given.descriptions), MatchLogs(given.log))
+    refereed_by = given.refereed_by or version_beside(given.rules)
+    return Facts(referee.version(), refereed_by, description_sums(given.rules, given.descriptions), MatchLogs(given.log))
 
 
 def arguments(words: list[str]) -> argparse.Namespace:
@@ -107,16 +109,17 @@ def arguments(words: list[str]) -> argparse.Namespace:
     reader.add_argument("--explain", action="store_true", help="`check`: say why a record is not lawful")
     actions = reader.add_subparsers(dest="action", required=True)
     for action, output in (("check", None), ("sqlite", "FILE"), ("csv", "DIR"), ("pages", "DIR"), ("ggp-base", "DIR"), ("facts", "FILE")):
-        one = actions.add_parser(action)
+        command = actions.add_parser(action)
         if action in ("ggp-base", "facts"):
-            one.add_argument("--log", action="append", default=[], metavar="LOG", help="a log of matches, or a folder of logs; may be given again")
+            command.add_argument("--log", action="append", default=[], metavar="LOG", help="a log of matches, or a folder of logs; may be given again")
         if action == "ggp-base":
-            one.add_argument("--games", metavar="URL", help="where the games are published: the game NAME at URL/NAME/")
+            command.add_argument("--games", metavar="URL", help="where the games are published: the game NAME at URL/NAME/")
         if action == "facts":
-            one.add_argument("--descriptions", metavar="FOLDER", help="what the rules were made from, by the same names")
+            command.add_argument("--descriptions", metavar="FOLDER", help="what the rules were made from, by the same names")
+            command.add_argument("--refereed-by", metavar="TEXT", help="the program that refereed the matches (as VERSION says beside FOLDER of --rules)")
         if output:
-            one.add_argument("output", metavar=output, type=pathlib.Path)
-        one.add_argument("piles", metavar="PILE", nargs="+")
+            command.add_argument("output", metavar=output, type=pathlib.Path)
+        command.add_argument("piles", metavar="PILE", nargs="+")
     given = reader.parse_args(words)
     if given.jobs < 1:
         reader.error("--jobs is at least 1")

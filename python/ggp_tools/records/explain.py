@@ -8,7 +8,7 @@ import json
 import re
 import subprocess
 import sys
-from collections.abc import Callable, Iterable, Iterator
+from collections.abc import Callable, Iterable, Iterator, Sequence
 from dataclasses import dataclass
 
 from ggp_tools.ground_games import MOST_CALLS, Game, Match, text_of, texts_of
@@ -45,22 +45,22 @@ class NoVerdict(Exception):
 # ---- words
 
 
-def shown(text, most=MOST_OF_TEXT):
+def shown(text: str, most: int = MOST_OF_TEXT) -> str:
     """Returns a text in visible ASCII, or its beginning."""
     seen = "".join(letter if " " <= letter <= "~" else f"\\u{{{ord(letter):x}}}" for letter in text[: most + 1])
     return seen if len(seen) <= most else f"{seen[:most]}.."
 
 
-def listed(texts):
+def listed(texts: Sequence[str]) -> str:
     more = len(texts) - MOST_LISTED
     return (", ".join(map(shown, texts[:MOST_LISTED])) or "none") + (f", and {more:,} more" if more > 0 else "")
 
 
-def counted(number, word):
+def counted(number: int, word: str) -> str:
     return f"{number:,} {word}{'' if number == 1 else 's'}"
 
 
-def end_words(phase, cause, names):
+def end_words(phase: str, cause: str | None, names: Sequence[str]) -> str:
     """Returns a phase with its cause, and the name of the role of which the cause has the number."""
     number = (cause or "").partition(" ")[2]
     return f"phase {phase}, cause {cause or 'null'}" + (f" (the role {names[int(number)]})" if number else "")
@@ -123,7 +123,7 @@ SHAPES = {
 IS_ONE = {"errors": shapes.is_error, "moves": shapes.is_text, "states": shapes.is_text}
 
 
-def shape_lines(key, record, roles):
+def shape_lines(key: str, record: object, roles: Sequence[str]) -> list[str]:
     """Returns what a key must hold, and what it holds."""
     lines = [f"expected in {key}: {SHAPES[key]}", *[f"the roles are: {', '.join(roles)}"] * ("role" in SHAPES[key])]
     if not isinstance(record, dict):
@@ -151,33 +151,37 @@ WHY = {
 }
 
 
+# The words of a fault as `verify` says it, and the lines that explain it.
+Found = tuple[str, ...]
+
+
 class Replay(Match):
     """The match of a record of the right shape, played again by the interpreter."""
 
-    def __init__(self, game, record, names):
+    def __init__(self, game: Game, record: dict, names: Sequence[str]) -> None:
         super().__init__(game, record["matchId"], record["startClock"], record["playClock"], record["players"])
         self.given, self.names, self.all = record, names, range(len(names))
         self.strikes = record["strikes"] if record.get("version") == 2 else 0
         self.runs, self.most = [0 for _ in names], [0 for _ in names]
         self.marks["start"] = dict.fromkeys(self.all, "")
 
-    def is_retired(self, role):
+    def is_retired(self, role: int) -> bool:
         return 0 < self.strikes <= self.most[role]
 
-    def phase(self):
+    def phase(self) -> tuple[str, str | None]:
         phase, cause = super().phase()
         if phase == "playing" and all(map(self.is_retired, self.all)):
             return self.aborted(), "allretired"
         return phase, cause
 
-    def aborted(self):
+    def aborted(self) -> str:
         return "aborted" if len(self.marks["end"]) == len(self.names) else "aborting"
 
-    def why(self, cause):
+    def why(self, cause: str | None) -> str:
         word, _, number = cause.partition(" ") if cause else (None, "", "")
         return WHY[word].format(number and self.names[int(number)])
 
-    def first_fault(self):
+    def first_fault(self) -> Found | None:
         for terms, moves, errors in itertools.zip_longest(*(self.given[key] for key in ("states", "moves", "errors"))):
             found = self.state_fault(terms) or moves and self.turn_fault(moves, errors)
             if found:
@@ -186,13 +190,12 @@ class Replay(Match):
                 self.advance(moves, errors)
         return self.goals_fault() or self.end_fault()
 
-    def advance(self, moves, errors):
-        legal = [{text_of(legal_move): legal_move for legal_move in self.game.legal(self.states[-1], role)} for role in self.game.roles]
-        self.turn([(terms[move], error) for terms, move, error in zip(legal, moves, errors)])
+    def advance(self, moves: list[str], errors: list[str]) -> None:
+        self.turn([(legal[move], error) for legal, move, error in zip(self.legal, moves, errors)])
         self.runs = [run + 1 if error else 0 for run, error in zip(self.runs, errors)]
         self.most = list(map(max, self.most, self.runs))
 
-    def state_fault(self, terms):
+    def state_fault(self, terms: list[str]) -> Found | None:
         turn, wanted = len(self.moves), texts_of(self.states[-1])
         if terms == wanted:
             return None
@@ -202,22 +205,23 @@ class Replay(Match):
         where = f"after turn {turn} is not what the rules and the moves" if turn else "before turn 1 is not what the rules"
         return (f"state {turn}", f"The state {where} make it.", *lines)
 
-    def turn_fault(self, moves, errors):
+    def turn_fault(self, moves: list[str], errors: list[str]) -> Found | None:
         turn, (phase, cause) = len(self.moves), self.phase()
         if phase != "playing":
             turns = [counted(count, "turn") for count in (turn, len(self.given["moves"]))]
             return ("end", f"The record goes on after the end: before turn {turn + 1} {self.why(cause)}.", f"expected: {turns[0]}", f"found: {turns[1]}")
+        self.legal = [{text_of(legal_move): legal_move for legal_move in self.game.legal(self.states[-1], role)} for role in self.game.roles]
         return next(filter(None, map(self.role_fault, self.all, moves, errors)), None)
 
-    def role_fault(self, role, move, error):
-        legal = [text_of(legal_move) for legal_move in self.game.legal(self.states[-1], self.game.roles[role])]
+    def role_fault(self, role: int, move: str, error: str) -> Found | None:
+        legal = self.legal[role]
         place, who = f"{len(self.moves)} {role}", f"Turn {len(self.moves) + 1}, role {self.names[role]}"
         if move not in legal:
-            wanted = f"expected{f' one of {len(legal):,}' if legal[1:] else ''}: {listed(legal)}"
+            wanted = f"expected{f' one of {len(legal):,}' if len(legal) > 1 else ''}: {listed([*legal])}"
             return (f"illegal {place}", f"{who}: the move is not legal.", wanted, f"found: {shown(move)}")
-        if error and move != legal[0]:
+        if error and move != (first := next(iter(legal))):
             why = f"beside the error {shown(error)} the first legal move must stand"
-            return (f"notfirst {place}", f"{who}: {why}.", f"expected: {shown(legal[0])}", f"found: {shown(move)}")
+            return (f"notfirst {place}", f"{who}: {why}.", f"expected: {shown(first)}", f"found: {shown(move)}")
         if error.startswith("IL ") and error[3:] in legal:
             why = f"the error says that {shown(error[3:])} is not legal, but it is"
             return (f"notfirst {place}", f"{who}: {why}.", "expected: no error", f"found: the error {shown(error)}")
@@ -227,7 +231,7 @@ class Replay(Match):
             return (f"retired {place}", f"{who}: the role is {kind}: {had}.", f"expected: {wanted}", f"found: {shown(error) or 'no error'}")
         return None
 
-    def goals_fault(self):
+    def goals_fault(self) -> Found | None:
         phase, found = self.given["phase"], self.given["goalValues"]
         has_goals = phase in ("stopping", "finished")
         wanted = [self.game.goal(self.states[-1], role) for role in self.game.roles] if has_goals else []
@@ -237,7 +241,7 @@ class Replay(Match):
         why = "has the goals of the last state" if has_goals else "has no goals"
         return ("goals", f"A record of the phase {phase} {why}.", f"expected: {sides[0]}", f"found: {sides[1]}")
 
-    def end_fault(self):
+    def end_fault(self) -> Found | None:
         """Compares phase and cause with those that the marks and the last state leave, by the table in section 9 of docs/PROFILE.md."""
         for kind in self.marks:
             self.marks[kind] = {role: mark for role, mark in enumerate(self.given[f"{kind}Marks"]) if mark is not None}
@@ -303,8 +307,8 @@ def judged(program: str, words: list[str], data: bytes) -> str | None:
 
 
 def judged_lines(program: str, words: list[str], lines: list[bytes]) -> list[str | None]:
-    """Returns the same for each of some lines. A space before a digit changes no verdict, and the program skips no such line."""
-    said = asked(program, ["--lines", *words], b"".join(b" " * line[:1].isdigit() + line + b"\n" for line in lines))
+    """Returns the same for each of some lines, of which none is one of an account."""
+    said = asked(program, ["--lines", *words], b"".join(line + b"\n" for line in lines))
     found = [LINE_VERDICT.fullmatch(line) for line in said.stdout.decode("ascii", "replace").splitlines()]
     wrong = sum(bool(verdict and verdict[1]) for verdict in found)
     if len(found) != len(lines) or not all(found) or said.returncode != bool(wrong):
@@ -316,7 +320,7 @@ def unreadable(file: str | int, why: Exception) -> NoVerdict:
     return NoVerdict(f"ggp-explain-record: {file or 'standard input'} can't be read: {getattr(why, 'strerror', None) or why}", 3)
 
 
-def read(file, most):
+def read(file: str | int, most: int) -> bytes:
     """Returns the bytes of a file, or of standard input, up to one more than the most that the program takes."""
     try:
         with open(file, "rb", closefd=file != 0) as stream:

@@ -1,6 +1,6 @@
-"""What a record does not say of its match, as one line of JSON beside it: the sums of the record and of the rules, and what a log has:
-when it was played, how long each message took, and why an answer was broken. examples/records/README.md has the keys; those that
-`matches.jsonl` of a competition has too mean the same."""
+"""What a record does not say of its match, as one line of JSON beside it: the sums of the record and of the rules, who refereed it, and
+what a log has: when it was played, how long each message took, and why an answer was broken. examples/records/README.md has the keys;
+those that `matches.jsonl` of a competition has too mean the same."""
 
 import errno
 import hashlib
@@ -15,8 +15,9 @@ from ggp_tools.records.collection import Judged
 from ggp_tools.records.ggp_base import ABORTED, COMPLETED
 from ggp_tools.records.match_logs import BROKEN, KINDS, Beginning, MatchLogs, message_sum
 from ggp_tools.records.tables import made_whole
+from ggp_tools.referee import VERSION_LINE
 
-DESCRIPTIONS = "DESCRIPTIONS.sha256"
+DESCRIPTIONS, VERSION = "DESCRIPTIONS.sha256", "VERSION"
 TWO_RECORDS, TWO_LOGS = "several matches have this id", "several matches of the logs have this id"
 
 
@@ -30,6 +31,23 @@ def description_sums(rules: str, descriptions: str | None) -> dict[str, str]:
     if sums is None:
         raise OSError(errno.EINVAL, "it has a file twice, or a line that is no sum", str(path))
     return {name.removesuffix(".kif"): digest for name, digest in sums.items()}
+
+
+def version_beside(rules: str) -> str | None:
+    """Returns which referee the folder of some rules stands beside, as in the archive of a competition, none where nothing says it."""
+    path = pathlib.Path(rules).absolute().parent / VERSION
+    said = path.read_bytes() if path.is_file() else b""
+    return said.decode("ascii").strip() if VERSION_LINE.fullmatch(said) else None
+
+
+def record_sum(data: bytes) -> str:
+    """Returns the sum of a record's line, with one LF at its end."""
+    return hashlib.sha256(data.rstrip(b"\r\n") + b"\n").hexdigest()
+
+
+def broken_answers(exchanges: "Exchanges", whys: dict[tuple[int, int], str]) -> list[dict[str, object]]:
+    """Returns where answers were broken, each with its reason, none where no log has it."""
+    return [{"role": role, "message": number, "why": whys.get((role, number)) or None} for role, number in exchanges.broken()]
 
 
 class Exchanges:
@@ -90,8 +108,8 @@ def messages_of(exchanges: Exchanges, logged: Beginning) -> list[list[list | Non
 class Facts:
     """Makes the lines, and keeps what there is to say of matches whose logs are not taken."""
 
-    def __init__(self, program: str, descriptions: dict[str, str], logs: MatchLogs) -> None:
-        self.program, self.descriptions, self.logs = program, descriptions, logs
+    def __init__(self, checked_by: str, refereed_by: str | None, descriptions: dict[str, str], logs: MatchLogs) -> None:
+        self.checked_by, self.refereed_by, self.descriptions, self.logs = checked_by, refereed_by, descriptions, logs
         # The sum of the first record of each id.
         self.sums: dict[str, str] = {}
         self.faults: dict[str, str] = {}
@@ -113,7 +131,7 @@ class Facts:
     def of(self, judged: Judged) -> dict[str, object]:
         """Returns the line of a lawful record."""
         line, game, exchanges = judged.line, judged.game, Exchanges(judged.line.record)
-        found = hashlib.sha256(line.data + b"\n").hexdigest()
+        found = record_sum(line.data)
         if self.sums.setdefault(line.match_id, found) != found:
             self.faults[line.match_id] = TWO_RECORDS
         begin = end = host = messages = None
@@ -128,13 +146,14 @@ class Facts:
             "game": game.name,
             "rules": game.rules_sum,
             "description": self.descriptions.get(game.name),
-            "checkedBy": self.program,
+            "program": self.refereed_by,
+            "checkedBy": self.checked_by,
             "players": exchanges.players,
             "begin": begin,
             "end": end,
             "host": host,
             "messages": messages,
-            "broken": [{"role": role, "message": number, "why": whys.get((role, number)) or None} for role, number in exchanges.broken()],
+            "broken": broken_answers(exchanges, whys),
         }
 
     def without_log(self, data: bytes) -> bytes:
@@ -142,7 +161,7 @@ class Facts:
         found = json.loads(data)
         if self.faults.get(found["id"]) != TWO_RECORDS:
             return data
-        broken = [{**one, "why": None} for one in found["broken"]]
+        broken = [{**answer, "why": None} for answer in found["broken"]]
         return line_of(found | {"begin": None, "end": None, "host": None, "messages": None, "broken": broken})
 
 

@@ -65,6 +65,8 @@ def write_pages(folder: pathlib.Path, lines: Iterable[Judged]) -> None:
         except NoRecord:
             record = None
         if record:
-            (folder / page_name(number, judged.line.match_id)).write_bytes(page_of(record) + b"\n")
+            game = judged.game.rules if judged.game else None
+            page = page_of(record, game and (lambda: game))
+            (folder / page_name(number, judged.line.match_id)).write_bytes(page + b"\n")
         rows.append(index_row(number, judged, record))
     (folder / "index.html").write_bytes(index_page(rows, f"{len(rows):,} records"))

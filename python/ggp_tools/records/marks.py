@@ -100,7 +100,7 @@ def glyphs_of(labels: set[str]) -> dict[str, Mark]:
 def common_length(texts: list[str]) -> int:
     """Returns the length of what all texts begin with."""
     first, last = min(texts), max(texts)
-    return next((at for at, (one, other) in enumerate(zip(first, last)) if one != other), len(first))
+    return next((at for at, (letter, other) in enumerate(zip(first, last)) if letter != other), len(first))
 
 
 def cut(text: str, tail: int) -> str:

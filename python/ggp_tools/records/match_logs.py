@@ -8,7 +8,7 @@ from collections.abc import Iterable, Iterator
 from dataclasses import dataclass
 from typing import BinaryIO
 
-from ggp_tools.competition.log_lines import NO_ANSWER, LogLine, log_line, moment_of
+from ggp_tools.competition.log_lines import BROKEN, NO_ANSWER, LogLine, log_line, moment_of
 from ggp_tools.competition.results import HOST_LINE, TIME_LINE
 from ggp_tools.moments import moment_at
 
@@ -16,7 +16,6 @@ from ggp_tools.moments import moment_at
 SET_ASIDE = re.compile(r".*\.(refused|unchecked|differs)(\.\d+)?")
 KINDS = ("START", "PLAY", "STOP", "ABORT")
 ENDS = ("STOP", "ABORT")
-BROKEN = "CE"
 # No line of a message is longer: of its texts the referee shows 200 bytes each.
 LONGEST_LINE = 1 << 16
 # Of one match, so many beginnings show that there are several.

@@ -5,8 +5,8 @@ from collections.abc import Callable
 
 PHASES = ("starting", "playing", "stopping", "finished", "aborting", "aborted")
 ERRORS = ("", "TO", "CE", "RT", "IL ?")
-# A record may have been joined to a line that was cut: then it is no line of an account.
-ACCOUNT_LINE = re.compile(rb"[0-9]+\t(?:open|strict|next|submit|miss|query|abort) [^\t]*\t(?![^\t]*\{\x22cause\x22:)[^\t]*")
+# The program goes by the same form. No reply ends as a record does, which may have been joined to a line that was cut.
+ACCOUNT_LINE = re.compile(rb"[0-9]+\t(?:open|strict|next|submit|miss|query|abort)(?: [^\t]*)?\t[^\t]*[0-9A-Za-z)]")
 MOST_LISTS, LONGEST_EXPRESSION = 64, 8_192
 TOKEN = re.compile(r"[()]|[^() ]+|.")
 # Printable ASCII without capitals and `;`, with one space between members and none beside a parenthesis inside of it.

@@ -8,10 +8,12 @@ import html
 import json
 import re
 import sys
-from collections.abc import Iterator
+from collections.abc import Callable, Iterable, Iterator
 from dataclasses import dataclass
 from typing import BinaryIO
 
+from ggp_tools.answers import Whys
+from ggp_tools.ground_games import Game
 from ggp_tools.records.marks import PIECES, Mark, marks_of
 from ggp_tools.records.shapes import ACCOUNT_LINE
 
@@ -153,19 +155,24 @@ class NoRecord(Exception):
     """What is wrong with a text that is no record."""
 
 
-def is_text(value):
+# What says whether a value is of a kind, and what stands at each place of a board.
+Kind = Callable[[object], bool]
+Places = dict[tuple[int, int], list[str]]
+
+
+def is_text(value: object) -> bool:
     return isinstance(value, str)
 
 
-def is_whole(value):
+def is_whole(value: object) -> bool:
     return isinstance(value, int) and not isinstance(value, bool) and value >= 0
 
 
-def is_text_or_null(value):
+def is_text_or_null(value: object) -> bool:
     return value is None or is_text(value)
 
 
-def list_of(is_one):
+def list_of(is_one: Kind) -> Kind:
     return lambda value: isinstance(value, list) and all(map(is_one, value))
 
 
@@ -188,10 +195,10 @@ KEYS = {
 STRIKES = (is_whole, "no whole number")
 
 
-def parsed(data):
+def parsed(data: bytes) -> object:
     """Returns the JSON value that the bytes spell."""
 
-    def no_number(word):
+    def no_number(word: str) -> None:
         raise ValueError(f"{word} is no number")
 
     try:
@@ -202,7 +209,7 @@ def parsed(data):
         raise NoRecord(f"it is not JSON: {why}") from None
 
 
-def check_key(record, key, kind):
+def check_key(record: dict, key: str, kind: tuple[Kind, str]) -> None:
     is_of_kind, said = kind
     if key not in record:
         raise NoRecord(f"the key {key!r} is missing")
@@ -210,7 +217,7 @@ def check_key(record, key, kind):
         raise NoRecord(f"the value of {key!r} is {said}")
 
 
-def check_lengths(record):
+def check_lengths(record: dict) -> None:
     """Looks that there is one of each for each role, and one state more than turns."""
     roles, turns = len(record["roles"]), len(record["moves"])
     if not roles:
@@ -279,13 +286,13 @@ def record_of(file: BinaryIO) -> bytes:
 
 
 @functools.cache
-def words_of(term):
+def words_of(term: str) -> list[str]:
     """Returns the members of a term that is a list of atoms, else none."""
     is_flat = term.startswith("(") and term.endswith(")") and not re.search(r"[()]", term[1:-1])
     return term[1:-1].split(" ") if is_flat else []
 
 
-def axis_of(values):
+def axis_of(values: Iterable[str]) -> list[str] | None:
     """Returns the places of an axis, from the least value to the greatest: numbers behind at most one letter, or single letters.
     None where the values are no such places."""
     if all(re.fullmatch("[a-z]", value) for value in values):
@@ -299,11 +306,11 @@ def axis_of(values):
     return axis if 2 <= len(axis) <= LONGEST_AXIS else None
 
 
-def kind_of(axis):
+def kind_of(axis: list[str]) -> str:
     return axis[0].rstrip("0123456789") if axis[0][-1].isdigit() else "letters"
 
 
-def is_pairing(states):
+def is_pairing(states: list[list[list[str]]]) -> bool:
     """Returns whether in every state each first argument has one second argument, or each second one first: then they are no places."""
     return any(all(len({term[side] for term in terms}) == len(terms) for terms in states) for side in (1, 2))
 
@@ -317,13 +324,13 @@ class Board:
     up: list
     forms: dict
 
-    def place(self, words):
+    def place(self, words: list[str]) -> tuple[int, int, str]:
         """Returns the column, the row and the label of a term, each place counted from 1."""
         at, labels = self.forms[words[0], len(words)]
         return self.across.index(words[at]) + 1, self.up.index(words[at + 1]) + 1, " ".join(words[place] for place in labels)
 
 
-def form_of(words_by_state, number):
+def form_of(words_by_state: list[list[list[str]]], number: int) -> tuple[int, list[int]] | None:
     """Returns where the terms of one relation, of so many members, name a place and where its label stands; None if they name none."""
     terms = [words for state in words_by_state for words in state]
     # (on X Y); (cell X Y V) and (cell X Y V W); (piece V X Y)
@@ -337,7 +344,7 @@ def form_of(words_by_state, number):
     return None
 
 
-def boards_of(states):
+def boards_of(states: list[list[str]]) -> list[Board]:
     """Returns the boards of a match: one for each relation like (cell X Y V), and one for all others with the same kinds of places."""
     grouped = {}
     for at, state in enumerate(states):
@@ -365,20 +372,20 @@ def visible(text: str) -> str:
     return "".join(letter if " " <= letter <= "~" else f"\\u{{{ord(letter):x}}}" for letter in text)
 
 
-def shown(text):
+def shown(text: str) -> str:
     """Returns a record's text for the page, escaped."""
     return html.escape(visible(text))
 
 
-def why_of(error):
+def why_of(error: str) -> str:
     return ERRORS["IL"] if error.startswith("IL ") and error != "IL ?" else ERRORS.get(error, "an error of no known form")
 
 
-def mark_text(mark):
+def mark_text(mark: str | None) -> str:
     return "none" if mark is None else shown(mark) or "answered"
 
 
-def ending(record):
+def ending(record: dict) -> str:
     """Returns the sentence that says how the match ended."""
     said = PHASES[record["phase"]]
     cause = CAUSE.fullmatch(record["cause"] or "")
@@ -388,7 +395,7 @@ def ending(record):
     return said if said.endswith(".") else f"{said}."
 
 
-def players_table(record):
+def players_table(record: dict) -> str:
     counts = [sum(bool(turn[role]) for turn in record["errors"]) for role in range(len(record["roles"]))]
     goals = record["goalValues"] or ["none"] * len(counts)
     head = "<tr><th>Role<th><th>Player<th>Goal<th>Substitutions<th>START<th>End</tr>"
@@ -400,21 +407,24 @@ def players_table(record):
     return "\n".join(['<div class="wide"><table class="players">', head, *lines, "</table></div>"])
 
 
-def turns_table(record):
+def turns_table(record: dict, whys: Whys) -> str:
     """Returns the turns, each with the moves of all roles. They are counted from 1: a turn has the number of the state that it leads to."""
 
-    def cell(move, error):
+    def cell(turn: int, role: int, move: str, error: str) -> str:
         if not error:
             return f"<td>{shown(move)}"
-        return f'<td class="substituted" title="{html.escape(why_of(error))}">{shown(move)}<span class="why">{shown(error)}</span>'
+        title = f"{html.escape(why_of(error))}{shown(whys.more(role, turn, error))}"
+        return f'<td class="substituted" title="{title}">{shown(move)}<span class="why">{shown(error)}</span>'
+
+    def cells(turn: int) -> str:
+        return "".join(cell(turn, role, *judged) for role, judged in enumerate(zip(record["moves"][turn], record["errors"][turn])))
 
     head = "<tr><th>Turn" + "".join(f"<th>{shown(role)}" for role in record["roles"]) + "</tr>"
-    turns = enumerate(zip(record["moves"], record["errors"]), 1)
-    lines = [f'<tr class="turn"><td><a href="#state-{at}">{at}</a>{"".join(map(cell, *turn))}</tr>' for at, turn in turns]
+    lines = [f'<tr class="turn"><td><a href="#state-{turn + 1}">{turn + 1}</a>{cells(turn)}</tr>' for turn in range(len(record["moves"]))]
     return "\n".join(["<table>", head, *lines, "</table>"])
 
 
-def legend(record):
+def legend(record: dict) -> str:
     errors = sorted({why_of(error): error for turn in record["errors"] for error in turn if error}.items())
     if not errors:
         return ""
@@ -423,7 +433,7 @@ def legend(record):
     return f'<p class="dim">{said}: {forms}.</p>'
 
 
-def board_places(board, state):
+def board_places(board: Board, state: list[str]) -> Places:
     """Returns what stands at each place of the board."""
     places = {}
     for words in filter(None, map(words_of, state)):
@@ -433,7 +443,7 @@ def board_places(board, state):
     return places
 
 
-def ground_of(board, places):
+def ground_of(board: Board, places: Places) -> str | None:
     """Returns what stands at more than half of all places, if something stands at each: that is what an empty cell shows."""
     labels = [labels[0] for labels in places.values()]
     if len(labels) < len(board.across) * len(board.up):
@@ -475,7 +485,7 @@ def board_page(board: Board, places: dict, before: dict | None, ground: str | No
     return f'<div class="wide"><div class="board" style="{size}"><div class="squares"></div>{"".join(axes)}{"".join(cells)}</div></div>'
 
 
-def terms_page(terms, before):
+def terms_page(terms: list[str], before: set[str] | None) -> str:
     """Returns the terms that no board shows, those that are new marked, and behind them those that are gone."""
     lines = [f'<li class="new">{shown(term)}</li>' if before is not None and term not in before else f"<li>{shown(term)}</li>" for term in terms]
     now = set(terms)
@@ -483,7 +493,7 @@ def terms_page(terms, before):
     return f"<ul>{''.join(lines)}</ul>" if lines else ""
 
 
-def states_page(record):
+def states_page(record: dict) -> tuple[str, bool]:
     boards = boards_of(record["states"])
     boards = boards if len(boards) * len(record["states"]) <= MOST_DRAWN else []
     on_boards = {form for board in boards for form in board.forms}
@@ -503,14 +513,15 @@ def states_page(record):
     return "\n".join(lines), bool(boards)
 
 
-def navigation(has_boards):
+def navigation(has_boards: bool) -> str:
     steps = STEPS + BOARD_STEPS * has_boards
     buttons = [f'<button data-key="{key}" title="the key {key.removeprefix("Arrow")}">{text}</button>' for key, text in steps]
     return f"<nav>{' '.join(buttons)}</nav>"
 
 
-def page_of(record):
-    """Returns the page, in ASCII. Its policy lets the browser run its own script alone, and load nothing."""
+def page_of(record: dict, game: Callable[[], Game] | None = None, answers: dict[tuple[int, int], str] | None = None) -> bytes:
+    """Returns the page, in ASCII. Its policy lets the browser run its own script alone, and load nothing. Where the game is given, and what
+    was answered by role and turn from 0 on, the page says more of replaced moves."""
     digest = base64.b64encode(hashlib.sha256(SCRIPT.encode()).digest()).decode()
     policy = f"default-src 'none'; style-src 'unsafe-inline'; script-src 'sha256-{digest}'; base-uri 'none'; form-action 'none'"
     who = ", ".join(f"{shown(player)} ({shown(role)})" for role, player in zip(record["roles"], record["players"]))
@@ -526,14 +537,14 @@ def page_of(record):
         f"{record['playClock']} s for every other message.{strikes} Record version {record['version']}.</span></p>",
         players_table(record),
         f'<div class="columns"><main class="states">{navigation(has_boards)}{states}</main>',
-        f'<div><h2>Turns</h2><div class="turns">{turns_table(record)}</div>{legend(record)}</div></div>',
+        f'<div><h2>Turns</h2><div class="turns">{turns_table(record, Whys(record, game, answers or {}))}</div>{legend(record)}</div></div>',
         '<p class="dim">This page shows what the record says. Whether it is that of a lawful match, <code>ggp_manager verify</code> tells.</p>',
         f"<script>{SCRIPT}</script></body></html>",
     ]
     return "\n".join(lines).encode("ascii", "xmlcharrefreplace")
 
 
-def say(words):
+def say(words: str) -> None:
     """Writes to standard error, where that is open: to print, none is standard output."""
     if sys.stderr:
         print(words, file=sys.stderr)
@@ -562,7 +573,7 @@ def main() -> int:
     return put(page + b"\n")
 
 
-def put(page):
+def put(page: bytes) -> int:
     """Writes the page, and returns the status."""
     try:
         with open(1, "wb", closefd=False) as output:

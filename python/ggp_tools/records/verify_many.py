@@ -24,6 +24,7 @@ import signal
 import subprocess
 import sys
 import threading
+from collections.abc import Callable, Iterator
 from typing import BinaryIO, NamedTuple
 
 LONGEST_LINE = 64 << 30
@@ -42,13 +43,17 @@ UNLAWFUL = re.compile(rb"^ggp_manager: records not lawful [0-9]+\n\Z", re.M)
 class Fault(Exception):
     """What ends the check: what is said on standard error, and the status."""
 
-    def __init__(self, said, status=1):
+    def __init__(self, said: bytes, status: int = 1) -> None:
         super().__init__(said)
         self.said, self.status = said, status
 
-    def status_with_why(self):
+    def status_with_why(self) -> int:
         """Returns the status with `--why`: only that records are not lawful is an answer."""
         return 2 if self.status in (1, 3) and not UNLAWFUL.search(self.said) else self.status
+
+
+# A piece of the input in the parts in which it was read, or the fault that comes in its place.
+Piece = list[bytes] | Fault
 
 
 class Checked(NamedTuple):
@@ -61,19 +66,19 @@ class Checked(NamedTuple):
     fault: Fault | None = None
 
 
-def write_whole(stream, text):
+def write_whole(stream: int, text: bytes) -> None:
     left = memoryview(text)
     while left:
         left = left[os.write(stream, left) :]
 
 
-def say(text):
+def say(text: bytes) -> None:
     """Writes to standard error, as far as that takes it."""
     with contextlib.suppress(OSError):
         write_whole(2, text)
 
 
-def pieces(size):
+def pieces(size: int) -> Iterator[Piece]:
     """Gives standard input in pieces of whole lines, each in the parts in which it was read; where it fails, a fault comes last. The first
     piece is empty, so that the program tells a fault of its words or of the rules before there is input. A line that is too long ends the
     last piece, as far as it was read."""
@@ -99,23 +104,23 @@ def pieces(size):
         yield held
 
 
-def own_words(text):
+def own_words(text: str) -> bytes:
     """Returns a line of this program's own, with a path as it was given."""
     return os.fsencode(f"ggp-verify-records: {text}\n")
 
 
-def in_memory(name):
+def in_memory(name: str) -> BinaryIO:
     """Returns a new file that is kept in memory, to be written by a process."""
     return open(os.memfd_create(name), "r+b", buffering=0)
 
 
-def hand_over(piece, pipe):
+def hand_over(piece: Piece, pipe: BinaryIO) -> None:
     """Writes a piece to a process, as far as that reads it: one that has found a fault reads no further."""
     with contextlib.suppress(BrokenPipeError), pipe:
         pipe.writelines(piece)
 
 
-def check(words, piece):
+def check(words: list[str], piece: Piece) -> Checked:
     """Has a process of the program check a piece, if it is none but a fault of the input."""
     if isinstance(piece, Fault):
         return Checked(None, fault=piece)
@@ -137,7 +142,7 @@ def check(words, piece):
     return Checked(verdicts, fault=Fault(said, status) if status else None)
 
 
-def copy_out(file):
+def copy_out(file: BinaryIO) -> None:
     """Writes a file to standard output, and closes it."""
     with file:
         file.seek(0)
@@ -152,19 +157,19 @@ class Checking:
     """The check of all pieces by several threads. Each takes a piece, has it checked, and writes the verdicts when it is their turn, so
     there are no more pieces at a time than threads."""
 
-    def __init__(self, words, jobs, size):
+    def __init__(self, words: list[str], jobs: int, size: int) -> None:
         self.words, self.pieces = words, enumerate(pieces(size))
         self.reading, self.running = threading.Lock(), threading.Semaphore(jobs)
         self.turns, self.written, self.skipped, self.unlawful = threading.Condition(), 0, 0, 0
         # What each thread came to: none where no piece was left.
         self.ends = queue.SimpleQueue()
 
-    def take(self):
+    def take(self) -> tuple[int, Piece] | None:
         """Returns the next piece with its place, none where no piece is left."""
         with self.reading:
             return next(self.pieces, None)
 
-    def write(self, place, checked):
+    def write(self, place: int, checked: Checked) -> None:
         """Writes the verdicts on a piece, once those on the pieces before it are written. Behind a fault no piece has its turn."""
         with self.turns:
             self.turns.wait_for(lambda: self.written == place)
@@ -177,7 +182,7 @@ class Checking:
             self.written += 1
             self.turns.notify_all()
 
-    def work(self):
+    def work(self) -> None:
         """Does what one thread does."""
         try:
             for place, piece in iter(self.take, None):
@@ -190,7 +195,7 @@ class Checking:
             self.ends.put(None)
 
 
-def check_all(words, jobs, size):
+def check_all(words: list[str], jobs: int, size: int) -> None:
     """Checks standard input by `jobs` processes of the program at a time."""
     checking, count = Checking(words, jobs, size), jobs + WAITING
     try:
@@ -209,7 +214,7 @@ def check_all(words, jobs, size):
         raise Fault(f"ggp_manager: records not lawful {checking.unlawful}\n".encode())
 
 
-def hold_closed_streams():
+def hold_closed_streams() -> None:
     """Puts in the place of each standard stream that is closed what fails as that does, so that no other file gets its number."""
     for stream, way in enumerate((os.O_WRONLY, os.O_RDONLY, os.O_RDONLY)):
         try:
@@ -218,10 +223,10 @@ def hold_closed_streams():
             os.open(os.devnull, way)
 
 
-def number(most):
+def number(most: int) -> Callable[[str], int]:
     """Returns what reads a number from 1 to the greatest one."""
 
-    def read(text):
+    def read(text: str) -> int:
         if not text.isdecimal() or not 1 <= int(text) <= most:
             raise argparse.ArgumentTypeError(f"{text} is no number from 1 to {most:,}")
         return int(text)
@@ -229,7 +234,7 @@ def number(most):
     return read
 
 
-def arguments(words):
+def arguments(words: list[str]) -> tuple[argparse.Namespace, list[str]]:
     """Returns what is given before the options of the program, and these."""
     about, usage, more = __doc__.split("\n\n", 2)
     reader = argparse.ArgumentParser("ggp-verify-records", usage=usage.strip(), description=about, epilog=more)
@@ -244,7 +249,7 @@ def arguments(words):
     return given, words[end + 1 :]
 
 
-def main():
+def main() -> int:
     given, options = arguments(sys.argv[1:])
     hold_closed_streams()
     if signal.getsignal(signal.SIGINT) is signal.default_int_handler:

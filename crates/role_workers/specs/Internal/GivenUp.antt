@@ -6,14 +6,14 @@ use Rattle.desk_calls.specs.declared.answer.Answer.TheVariants.{Broken}
 use Rattle.desk_calls.specs.declared.call.Call.{Call}
 use Rattle.desk_calls.specs.declared.call.Call.TheVariants.{Abort}
 use Rattle.desk_calls.specs.declared.call.Reply.{Reply}
-use Rattle.match_messages.specs.declared.brief.Brief.{Brief}
+use Rattle.match_messages.specs.BriefValue.{BriefValue}
 use Rattle.role_workers.specs.Events.{Event, makes, takes, telling, Tells}
 use Rattle.role_workers.specs.Steps.{answer_call, asking}
 use Rattle.role_workers.specs.RoleCalls.{due_round}
 use Rattle.role_workers.specs.declared.seats.Unattended.{Unattended}
 
 -- if a message of such a round is due to the role, its answer is reported as broken, and this reply comes
-abbrev pub answering : Brief → ℕ → Option ℕ → Reply → List Event
+abbrev pub answering : BriefValue → ℕ → Option ℕ → Reply → List Event
 answering brief role None reply = []
 answering brief role (Some round) reply = makes (answer_call brief.id role round Broken) ∷ takes reply ∷ []
 

@@ -4,28 +4,23 @@ use Rattle.std.specs.declared.thread.PromisedHandle.{PromisedHandle}
 use Rattle.call_history.specs.declared.wire.Wire as Wire
 use Rattle.desk_calls.specs.declared.call.Call.{Call}
 use Rattle.desk_calls.specs.declared.call.Reply.{Reply}
-use Rattle.role_workers.specs.declared.player.Player as Player
+use Rattle.match_messages.specs.declared.player.Player as Player
 use Rattle.role_workers.specs.declared.seat.Attended.{Attended}
 use Rattle.role_workers.specs.declared.seat.Seat.{Seat}
 use Rattle.role_workers.specs.declared.seats.LeftBy.{LeftBy}
-use Rattle.role_workers.specs.Seats.{IsLeftBy}
+use Rattle.role_workers.specs.Seats.{IsLeftOf}
 use Rattle.role_workers.specs.Places.{EachAt}
 
 -- the result of the thread at this place keeps the promise that it was started with
 pub record IsKept {P W : Type 0} (w : Wire.Ghosts W Call Reply) (p : Player.Ghosts P) (handles : List (PromisedHandle (Attended P W) (LeftBy P W))) (k : ℕ) (left : Attended P W) : Type 0 where
   pub handle : PromisedHandle (Attended P W) (LeftBy P W)
   pub is_handle : slice_get handles k ≡ Some handle
-  pub left_by : IsLeftBy w p handle.promise.brief.now handle.promise.role handle.promise.tries handle.promise.player.value handle.promise.wire.value left
+  pub left_by : IsLeftOf w p handle.promise.tries handle.promise.seat.value left
 
 -- the promise is that of the seat at this place
 pub record IsPromisedFor {P W : Type 0} (tries : ℕ) (seats : List (Seat P W)) (k : ℕ) (promise : LeftBy P W) : Type 0 where
-  pub seat : Seat P W
-  pub is_seat : slice_get seats k ≡ Some seat
-  pub brief : promise.brief.now ≡ seat.brief.now
-  pub role : promise.role ≡ seat.role
+  pub is_seat : slice_get seats k ≡ Some promise.seat.value
   pub tries_are : promise.tries ≡ tries
-  pub player : promise.player.value ≡ seat.player
-  pub wire : promise.wire.value ≡ seat.wire
 
 -- the thread at each place was started with the promise of the seat there
 abbrev pub ArePromisedFor : {P W : Type 0} → ℕ → List (Seat P W) → List (PromisedHandle (Attended P W) (LeftBy P W)) → Type 0

@@ -7,6 +7,6 @@ use Rattle.uses_call_history.proofs.make_all.Given as goal
 abbrev pub invariant-loop-call : goal.invariant-loop-call
 invariant-loop-call g l = record {
   ports : SamePorts l.initial.desk.ports l.desk.ports;
-  line : SameLine l.initial.line l.line;
-  posted : posted_calls l.line ++ into_iter_items l.call-iterator ≡ posted_calls l.initial.line ++ l.fn.calls.items;
+  line : SameLine l.fn.line l.line;
+  posted : posted_calls l.line ++ into_iter_items l.call-iterator ≡ posted_calls l.fn.line ++ l.fn.calls.items;
 }

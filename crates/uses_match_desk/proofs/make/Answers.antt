@@ -1,12 +1,12 @@
 use Rattle.std.proofs.Common.{◌≡◌, ℕ, Bool, true, false, Option, Some, None, refl, ap, ◌∙◌}
 use Rattle.std.specs.Prelude.{if◌then◌else◌, is_none, slice_get}
 use Rattle.game_core.specs.Play.{Rules}
-use Rattle.desk_calls.specs.declared.setup.Setup.{Setup}
+use Rattle.match_desk.specs.Setup.{Setup}
 use Rattle.match_desk.specs.ManagerValue.{ManagerValue}
 use Rattle.match_desk.specs.Open.{open_refusal, with_new_match}
 use Rattle.match_desk.specs.Steps.{setup_of, after}
-use Rattle.desk_calls.specs.declared.call.Call.{Call}
-use Rattle.desk_calls.specs.declared.call.Call.TheVariants.{Open, Next, Submit, Miss, Query, Abort}
+use Rattle.match_desk.specs.Call.{Call}
+use Rattle.match_desk.specs.Call.TheVariants.{Open, Next, Submit, Miss, Query, Abort}
 use Rattle.uses_match_desk.proofs.make.Goals as goal
 
 opening_keeps_games : {G S M : Type 0} (rules : G → Rules S M) (d : ManagerValue G M) (number : ℕ) (setup : Setup) (is_opened : Bool) (game : Option G)

@@ -1,11 +1,11 @@
 use Rattle.std.proofs.Common.{◌≡◌, ℕ, List, Some, sym, ap, subst, ◌∙◌}
 use Rattle.std.proofs.lemmas.Option.{same_Some}
-use Rattle.serde_json.specs.Data.{Data}
-use Rattle.serde_json.specs.Read.{read}
+use Rattle.record_reading.specs.Data.{Data}
+use Rattle.record_reading.specs.Read.{read}
 use Rattle.game_core.specs.Play.{Rules}
 use Rattle.match_book.specs.Lawful.{IsLawfulMatch}
 use Rattle.match_book.specs.MatchValue.{MatchValue}
-use Rattle.desk_calls.specs.Names.{IsLawfulSetup}
+use Rattle.record_reading.specs.Names.{IsLawfulSetup}
 use Rattle.record_reading.specs.LawfulRecord.{IsJson, RecordTreeHoldsParts, LawfulPartsHaveShape, HoldsOnePartsAtMost}
 use Rattle.record_reading.specs.RecordParts.{parts_of}
 use Rattle.record_reading.specs.RecordTree.{record_tree, Holds, HasShape}

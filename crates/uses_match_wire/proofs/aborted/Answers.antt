@@ -4,7 +4,7 @@ use Rattle.game_core.specs.Canonical.{canonical}
 use Rattle.kif_text.specs.Spelling.{max_length}
 use Rattle.desk_calls.specs.Names.{is_name}
 use Rattle.desk_calls.specs.declared.due.Owed.TheVariants.{Abort as OwesAbort}
-use Rattle.match_messages.specs.declared.brief.Brief.{Brief}
+use Rattle.match_messages.specs.BriefValue.{BriefValue, brief_value}
 use Rattle.match_messages.specs.declared.messages.Message.{Message}
 use Rattle.match_wire.specs.MessageLaws.{IsSayable, Says}
 use Rattle.match_wire.specs.MessageValue.{MessageValue, info, start, play, stop, abort, message_form, message_value, folded_message}
@@ -22,7 +22,7 @@ sayable id name = record {
 }
 
 -- what ABORT says is the id of the match
-told : (b : Brief) (role : ℕ) (m : Message) (said : MessageValue) → Says b role OwesAbort said → message_value m ≡ folded_message said → message_value m ≡ abort b.id
+told : (b : BriefValue) (role : ℕ) (m : Message) (said : MessageValue) → Says b role OwesAbort said → message_value m ≡ folded_message said → message_value m ≡ abort b.id
 told b role m info says is = absurd says
 told b role m (start i r s p q) says is = absurd says
 told b role m (play i ms) says is = absurd says
@@ -38,4 +38,4 @@ heard-requires c = record { role = c.requires.role; sayable = (abort c.args.brie
 pub returns : goal.returns
 returns c =
     let heard = c.in_ok-id.ensures in
-    id_of c.in-Abort.id c.args.brief.now.id (subst (λ m. message_value m ≡ abort c.args.brief.now.id) c.in-Abort.is (told c.args.brief.now c.args.role c.in_ok-id.field-0 heard.0 heard.1 heard.2))
+    id_of c.in-Abort.id c.args.brief.now.id (subst (λ m. message_value m ≡ abort c.args.brief.now.id) c.in-Abort.is (told (brief_value c.args.brief.now) c.args.role c.in_ok-id.field-0 heard.0 heard.1 heard.2))

@@ -5,7 +5,7 @@ use Rattle.desk_text.specs.Account.{no_matches}
 use Rattle.desk_text.specs.Account.{IsAccount}
 use Rattle.desk_text.specs.Replaying.{IsFirstFault}
 use Rattle.desk_text.specs.declared.replaying.ReplayFault.TheVariants.{Memory}
-use Rattle.desk_text.proofs.ToldHistories.{first_fault_refuses}
+use Rattle.desk_text.proofs.ReadHistories.{first_fault_refuses}
 use Rattle.desk_text.proofs.replaying.replay.Goals as goal
 
 pub returns-in-Ok-clause-ok : goal.returns-in-Ok-clause-ok

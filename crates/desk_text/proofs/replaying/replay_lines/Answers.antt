@@ -14,14 +14,14 @@ loop-rest-preserved g c =
     let reply = g.O.Object.reply in
     let after = g.O.Object.after in
     let start = c.args.object.now in
-    let told = lines c.args.input.now in
+    let all = lines c.args.input.now in
     let rest = lines c.first_line.result.1.now in
     let line = c.first_line.result.0.now in
-    let before : IsAccountSoFar reply after start told (line ∷ rest) c.loop-rest.object c.loop-rest.calls =
-    subst (λ x. IsAccountSoFar reply after start told x c.loop-rest.object c.loop-rest.calls) c.first_line.ensures.cut c.loop-rest.invariant.so_far in
+    let before : IsAccountSoFar reply after start all (line ∷ rest) c.loop-rest.object c.loop-rest.calls =
+    subst (λ x. IsAccountSoFar reply after start all x c.loop-rest.object c.loop-rest.calls) c.first_line.ensures.cut c.loop-rest.invariant.so_far in
     let made = c.in_ok-replay_entry.ensures.ok in
     record {
-      so_far = account_goes_on reply after start told rest line c.loop-rest.object c.replay_entry.new.object c.loop-rest.calls made.0 before made.1 made.2 made.3 made.4;
+      so_far = account_goes_on reply after start all rest line c.loop-rest.object c.replay_entry.new.object c.loop-rest.calls made.0 before made.1 made.2 made.3 made.4;
       small = omega (arith, c.loop-rest.invariant.small, c.first_line.ensures.shorter);
     }
 
@@ -30,15 +30,15 @@ returns-in_err-replay_entry-clause-fault g c =
     let reply = g.O.Object.reply in
     let after = g.O.Object.after in
     let start = c.args.object.now in
-    let told = lines c.args.input.now in
+    let all = lines c.args.input.now in
     let rest = lines c.first_line.result.1.now in
     let line = c.first_line.result.0.now in
-    let before : IsAccountSoFar reply after start told (line ∷ rest) c.loop-rest.object c.loop-rest.calls =
-    subst (λ x. IsAccountSoFar reply after start told x c.loop-rest.object c.loop-rest.calls) c.first_line.ensures.cut c.loop-rest.invariant.so_far in
+    let before : IsAccountSoFar reply after start all (line ∷ rest) c.loop-rest.object c.loop-rest.calls =
+    subst (λ x. IsAccountSoFar reply after start all x c.loop-rest.object c.loop-rest.calls) c.first_line.ensures.cut c.loop-rest.invariant.so_far in
     let refused = c.in_err-replay_entry.ensures.refused in
     let same : c.from_residual.result ≡ Err c.in_err-replay_entry.field-0.0 = search rules in
-    subst (λ r. IfErr r (λ fault. fault ≢ Memory → IsFirstFault reply after start told fault)) (sym same)
-    (λ other. fault_comes reply after start told rest line c.loop-rest.object c.loop-rest.calls c.in_err-replay_entry.field-0.0 before refused)
+    subst (λ r. IfErr r (λ fault. fault ≢ Memory → IsFirstFault reply after start all fault)) (sym same)
+    (λ other. fault_comes reply after start all rest line c.loop-rest.object c.loop-rest.calls c.in_err-replay_entry.field-0.0 before refused)
 
 pub returns-clause-ok : goal.returns-clause-ok
 returns-clause-ok g c =

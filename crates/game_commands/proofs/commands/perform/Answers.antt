@@ -1,14 +1,13 @@
 use Rattle.std.proofs.Common.{rules, [], ◌∙◌, inl, inr, refl}
 use Rattle.std.proofs.KnownBytes.{Consumes-nil}
 use Rattle.std.proofs.lemmas.Result.{IfErr-weaker, err_from_is_err_and}
-use Rattle.game_commands.specs.declared.script_fault.ScriptFault.TheVariants.{Memory}
 use Rattle.game_commands.specs.Verdicts.{verdict_lines}
 use Rattle.game_commands.proofs.commands.perform.Goals as goal
 
 pub returns-in_err-alone-in-Desk-clause-fails : goal.returns-in_err-alone-in-Desk-clause-fails
 returns-in_err-alone-in-Desk-clause-fails g c =
     let passed = err_from_is_err_and c.from_residual.result c.from_residual.ensures.1 in
-    rw (passed.1, c.in-Desk.is) (inr ([], Consumes-nil _, (Memory, passed.2 ∙ c.in_err-alone-in-Desk.ensures.memory, (search rules, refl, refl))))
+    rw (passed.1, c.in-Desk.is, passed.2 ∙ c.in_err-alone-in-Desk.ensures.memory) (inr ([], Consumes-nil _, (search rules, refl, refl)))
 
 pub returns-clause-fails : goal.returns-clause-fails
 returns-clause-fails g c =

@@ -8,7 +8,7 @@ use Rattle.ggp_commands.proofs.commands.play.Goals as goal
 pub returns-clause-played : goal.returns-clause-played
 returns-clause-played g c =
     let game = c.playable.result in
-    let playable : IsLoadedGame c.args.plan.now game.game.now game.rules.now.items = search rules in
+    let playable : IsLoadedGame c.args.plan.now game.game.now game.rules.now = search rules in
     let read : ReadsInput g.R.Read.remaining c.args.task.now c.deref.result.now c.args.reader.now c.prepared.new.reader = search rules in
     let whole = ends_well _ c.play_with_reports-held.result.0 c.task_end.result c.task_end.ensures.all c.play_with_reports-held.ensures.written in
     on_ok_weaker c.task_end.result (λ written. (game, c.deref.result.now, playable, read, written)) whole
@@ -16,7 +16,7 @@ returns-clause-played g c =
 pub returns-clause-at_fault : goal.returns-clause-at_fault
 returns-clause-at_fault g c =
     let game = c.playable.result in
-    let playable : IsLoadedGame c.args.plan.now game.game.now game.rules.now.items = search rules in
+    let playable : IsLoadedGame c.args.plan.now game.game.now game.rules.now = search rules in
     let read : ReadsInput g.R.Read.remaining c.args.task.now c.deref.result.now c.args.reader.now c.prepared.new.reader = search rules in
     let ends = ends_or_fails _ _ c.args.task.now c.play_with_reports-held.result.0 c.task_end.result c.task_end.ensures.some c.task_end.ensures.fault c.play_with_reports-held.ensures.written c.play_with_reports-held.ensures.at_fault in
     IfErr-weaker c.task_end.result _ _ (λ fault it. inr (elim it [

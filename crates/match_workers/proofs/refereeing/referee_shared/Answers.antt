@@ -7,7 +7,7 @@ use Rattle.match_desk.specs.Headline.{HasHeadline}
 use Rattle.match_desk.specs.ManagerValue.{opening}
 use Rattle.match_desk.specs.Open.{open_refusal}
 use Rattle.desk_calls.specs.declared.call.Reply.TheVariants.{Opened}
-use Rattle.match_messages.specs.declared.brief.Brief.{Brief}
+use Rattle.match_messages.specs.BriefValue.{BriefValue}
 use Rattle.match_workers.specs.Briefs.{IsBriefOf}
 use Rattle.match_workers.specs.LineParts.{open_call, OpensMatch, AreRoleLines}
 use Rattle.match_workers.specs.OneMatch.{HasOneMatch}
@@ -52,7 +52,7 @@ as_roles : (g : _) (c : In_ok-closed g) → length c.in_ok-desk.field-0.ends.ite
 as_roles g c =
     let played = c.in_ok-desk.field-0 in
     as_many g.P.Player.handed c.brief_of-brief.result c.args.tries c.args.players.items played.players.items c.in_ok-closed.closed.history.items played.lines.items played.ends.items c.in_ok-desk.ensures.ends
-    c.in_ok-closed.ensures.served c.in_ok-closed.ensures.replies c.numbers_are_of_ends.ensures played.desk.ports (g.G.Game.rules c.args.game).roles c.in_ok-desk.ensures.lines (lines_are g c) c.in_ok-closed.ensures.all
+    c.in_ok-closed.ensures.calls c.in_ok-closed.ensures.replies c.numbers_are_of_ends.ensures played.desk.ports (g.G.Game.rules c.args.game).roles c.in_ok-desk.ensures.lines (lines_are g c) c.in_ok-closed.ensures.all
 
 first_line_is : (g : _) (c : In_ok-closed g) → OpensMatch c.args.setup c.in_ok-closed.closed.history.items
 first_line_is g c =
@@ -61,21 +61,22 @@ first_line_is g c =
     (c.open_match.ensures.line.0 ∙ opened.first.number_is)
     (c.in_ok-open_match.ensures.call ∙ ap (λ l. l ++ open_call c.args.setup ∷ []) opened.first.posted)
     (c.in_ok-open_match.ensures.reply ∙ ap (λ l. l ++ Opened ∷ []) opened.first.taken)
-    c.in_ok-desk.ensures.first c.in_ok-closed.ensures.served c.in_ok-closed.ensures.replies
+    c.in_ok-desk.ensures.first c.in_ok-closed.ensures.calls c.in_ok-closed.ensures.replies
 
 role_lines_are : (g : _) (c : In_ok-closed g) → AreRoleLines c.args.setup.id (g.G.Game.rules c.args.game).roles c.in_ok-closed.closed.history.items
 role_lines_are g c =
     let played = c.in_ok-desk.field-0 in
     role_lines g.P.Player.handed c.brief_of-brief.result c.args.tries c.args.players.items played.players.items c.in_ok-closed.closed.history.items played.lines.items played.ends.items c.in_ok-desk.ensures.ends
-    c.in_ok-closed.ensures.served c.in_ok-closed.ensures.replies
-    c.calls_are_of_the_role.ensures c.args.setup.id (g.G.Game.rules c.args.game).roles (ap (λ (b : Brief). b.id) c.brief_of-brief.ensures ∙ c.in_ok-id.ensures) (as_roles g c)
+    c.in_ok-closed.ensures.calls c.in_ok-closed.ensures.replies
+    c.calls_are_of_the_role.ensures c.args.setup.id (g.G.Game.rules c.args.game).roles (ap (λ (b : BriefValue). b.id) c.brief_of-brief.ensures ∙ c.in_ok-id.ensures) (as_roles g c)
+
+lines_within : (g : _) (c : In_ok-closed g) → All (λ e. e.line < (g.G.Game.rules c.args.game).roles + 1) c.in_ok-closed.closed.history.items
+lines_within g c = subst (λ n. All (λ e. e.line < n) c.in_ok-closed.closed.history.items) (lines_are g c) c.in_ok-closed.ensures.lines
 
 -- so the closed manager has exactly one match
 one_is : (g : _) (c : In_ok-closed g) → HasOneMatch c.args.game c.args.setup c.in_ok-closed.closed.object
-one_is g c = one_match g.G.Game.rules c.args.game c.args.setup c.args.setup.id (g.G.Game.rules c.args.game).roles c.in_ok-closed.closed.object c.in_ok-closed.closed.history.items
-    (headline_is g c).replay (begins_with g c)
-    (subst (λ n. All (λ e. e.line < n) c.in_ok-closed.closed.history.items) (lines_are g c) c.in_ok-closed.ensures.lines)
-    (first_line_is g c) (role_lines_are g c)
+one_is g c = one_match g.G.Game.rules c.args.game c.args.setup (g.G.Game.rules c.args.game).roles c.in_ok-closed.closed.object c.in_ok-closed.closed.history.items
+    (headline_is g c).replay (begins_with g c) (lines_within g c) (first_line_is g c) (role_lines_are g c)
 
 pub returns-clause-refereed : goal.returns-clause-refereed
 returns-clause-refereed g c =
@@ -88,13 +89,14 @@ returns-clause-refereed g c =
       headline = headline_is g at;
       begins = begins_with g at;
       first_line = first_line_is g at;
+      lines = lines_within g at;
       role_lines = role_lines_are g at;
       counts = of_closed.made;
       one_match = one_is g at;
       one_end_each = as_roles g at;
       told = brief;
       is_told = subst (IsBriefOf (g.G.Game.rules c.args.game) c.args.setup _) (sym c.brief_of-brief.ensures) (record { id = c.in_ok-id.ensures; roles = c.in_ok-roles.ensures; rules_are = refl; start = refl; play = refl });
-      attended = ends_of g.P.Player.handed brief c.args.tries c.args.players.items played.players.items closed.history.items played.lines.items played.ends.items c.in_ok-desk.ensures.ends of_closed.served of_closed.replies c.calls_have_replies.ensures;
+      attended = ends_of g.P.Player.handed brief c.args.tries c.args.players.items played.players.items closed.history.items played.lines.items played.ends.items c.in_ok-desk.ensures.ends of_closed.calls of_closed.replies c.calls_have_replies.ensures;
     }
 
 pub invariant_of-result : goal.invariant_of-result

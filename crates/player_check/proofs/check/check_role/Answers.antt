@@ -14,7 +14,7 @@ returns-clause-told g c =
             is_setup = c.in_ok-prepared.ensures.setup;
             participants = c.in_ok-prepared.prepared.players.items;
             reached = c.in_ok-prepared.ensures.reached;
-            played = c.in_ok-turns.ensures.played;
+            played = c.in_ok-turns.ensures.told;
           })
           rows.1 c.in_ok-push_rows.ensures.bad,
       rows.2,

@@ -2,8 +2,9 @@ use Rattle.std.proofs.Common.{arith, rules, ◌∙◌, ◌++◌, [], ap, sym}
 use Rattle.std.specs.Prelude.{string_bytes}
 use Rattle.std.proofs.lemmas.Grind.{common_steps}
 use Rattle.std.proofs.lemmas.List.{append_assoc, append-nil}
-use Rattle.player_check.specs.Rows.{next_turn}
+use Rattle.player_check.specs.Rows.{next_turn, row_verdict}
 use Rattle.player_check.specs.Tables.{row_text}
+use Rattle.player_check.specs.Verdicts.{is_refused}
 use Rattle.player_check.proofs.TableRows.{all-rows, next-row}
 use Rattle.player_check.proofs.check.push_rows.Goals as goal
 
@@ -25,7 +26,7 @@ loop-exchange-preserved c =
         next-row _ _ _ c.loop-exchange.exchange-index exchange _ _ before.0 row c.loop-exchange-test.true c.exchange-item.is c.next_turn.ensures.later
             (record {
               words = words;
-              no_words = c.in_ok-words.ensures;
+              no_words = λ fine good. c.in_ok-words.ensures fine (ap is_refused (c.row_verdict-verdict.ensures ∙ ap (row_verdict exchange) c.next_turn.ensures.turn) ∙ good);
               is_text = c.as_bytes.ensures.value ∙ c.in_ok-format.ensures.ok ∙ ap (λ turn. row_text c.args.role.now exchange turn c.as_str.result.now) c.next_turn.ensures.turn
                   ∙ ap (λ words. row_text c.args.role.now exchange (next_turn exchange.is_play c.loop-exchange.left.now) words) c.as_str.ensures.value;
             })

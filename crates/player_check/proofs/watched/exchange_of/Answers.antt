@@ -8,7 +8,7 @@ invariant_of-result c = record {
     body = c.args.message.now;
     given = c.args.answer.now;
     message_shown = c.in_ok-format.ensures.ok ∙ ap shown_text c.message.ensures;
-    asks = c.asks_for_move.ensures;
+    asks = c.asks_for_move-is_play.ensures;
     answer_shown = c.in_ok-format-2.ensures.ok ∙ ap shown_text (c.text.ensures ∙ c.brought_of-brought.ensures.text);
     brings = c.brought_of-brought.ensures.brought;
   } ∣₁;

@@ -19,23 +19,23 @@ returns-clause-lines g c =
     let same = (c.into_desk.ensures c.args.holder.desk c.requires.named).ports in
     let own = c.end.ensures ∙ ap (λ w. w.line) c.in_ok-own.ensures.own ∙ c.new-own.ensures.line in
     let finished = subst (λ l. IsFinishedOf l c.finish_line.result) own c.finish_line.ensures in
-    let ends = desk_ends _ g.P.Player c.in_ok-wires.wires.items (λ x. x.line) (λ x. refl) (λ x. refl) (λ x y s. s) c.args.plan.brief c.args.plan.tries c.args.plan.players.items c.in_ok-seats.seats.items c.in_ok-own.field-0.attended.items
-    c.args.others.items c.in_ok-lines.field-0.lines.items c.in_ok-seats.ensures.seats c.in_ok-own.ensures.left c.in_ok-wires.ensures c.in_ok-lines.ensures.lines c.args.holder.desk.ports c.requires.seats c.lines_stay.ensures.lines c.new_lines_are_lines.ensures.lines desk.ports same c.requires.ports in
-    subst (AreEndsOf desk.ports) (sym c.in_ok-push.ensures.items) (All-push (λ e. IsLineOf desk.ports e.line) c.in_ok-lines.field-0.lines.items c.finish_line.result ends
-    (c.lines_stay.ensures.lines c.args.holder.desk.ports desk.ports c.args.holder.line c.finish_line.result.line same finished.same c.requires.first))
+    let ends = desk_ends _ g.P.Player c.in_ok-wires.wires.items (λ x. x.line) (λ x. refl) (λ x. refl) (λ x y s. s) c.args.plan.brief c.args.plan.tries c.args.plan.players.items c.in_ok-seats.seats.items c.in_ok-own.attended.items
+    c.args.others.items c.finish_all.new.lines.items c.in_ok-seats.ensures.seats c.in_ok-own.ensures.left c.in_ok-wires.ensures c.in_ok-finish_all.ensures.lines c.args.holder.desk.ports c.requires.seats c.lines_stay.ensures.lines c.new_lines_are_lines.ensures.lines desk.ports same c.requires.ports in
+    subst (AreEndsOf desk.ports) (sym c.in_ok-push.ensures.items) (All-push (IsLineOf desk.ports) c.finish_all.new.lines.items c.finish_line.result ends
+    (c.lines_stay.ensures.lines c.args.holder.desk.ports desk.ports c.args.holder.line c.finish_line.result same finished.same c.requires.first))
 
 pub returns-clause-first : goal.returns-clause-first
 returns-clause-first g c = (
   c.finish_line.result,
-  subst (λ lines. Contains lines c.finish_line.result) (sym c.in_ok-push.ensures.items) (Contains-push c.in_ok-lines.field-0.lines.items c.finish_line.result),
+  subst (λ lines. Contains lines c.finish_line.result) (sym c.in_ok-push.ensures.items) (Contains-push c.finish_all.new.lines.items c.finish_line.result),
   subst (λ l. IsFinishedOf l c.finish_line.result) (c.end.ensures ∙ ap (λ w. w.line) c.in_ok-own.ensures.own ∙ c.new-own.ensures.line) c.finish_line.ensures,
 )
 
 pub returns-clause-count : goal.returns-clause-count
 returns-clause-count g c =
     let wires = sym (length-map c.in_ok-wires.wires.items (λ w. w.line)) ∙ ap length c.in_ok-wires.ensures in
-    ap length c.in_ok-lines.ensures.ends
-    ∙ length-map c.in_ok-own.field-0.attended.items (λ a. a.end)
+    ap length c.in_ok-finish_all.ensures.ends
+    ∙ length-map c.in_ok-own.attended.items (λ a. a.end)
     ∙ c.in_ok-own.ensures.count
     ∙ c.in_ok-seats.ensures.count
     ∙ ap (λ lines. min (length c.args.plan.brief.roles) (min lines (length c.args.plan.players.items))) wires
@@ -43,6 +43,6 @@ returns-clause-count g c =
 pub returns-clause-ends : goal.returns-clause-ends
 returns-clause-ends g c =
     let own = c.end.ensures ∙ ap (λ w. w.line) c.in_ok-own.ensures.own ∙ c.new-own.ensures.line in
-    left_lines _ g.P.Player c.in_ok-wires.wires.items (λ x. x.line) (λ x. refl) (λ x. refl) (λ x y s. s) c.args.plan.brief c.args.plan.tries c.args.plan.players.items c.in_ok-seats.seats.items c.in_ok-own.field-0.attended.items
-    c.args.others.items c.in_ok-lines.field-0.lines.items c.in_ok-seats.ensures.seats c.in_ok-own.ensures.left c.in_ok-wires.ensures c.in_ok-lines.ensures.lines c.args.holder.desk.ports c.requires.seats
-    c.in_ok-lines.field-0.players.items c.in_ok-lines.ensures.players c.push.new.self.items c.finish_line.result c.in_ok-push.ensures.items (c.finish_line.ensures.same.0 ∙ ap (λ l. l.number) own ∙ c.requires.zeroth) c.in_ok-lines.field-0.ends.items c.in_ok-lines.ensures.ends
+    left_lines _ g.P.Player c.in_ok-wires.wires.items (λ x. x.line) (λ x. refl) (λ x. refl) (λ x y s. s) c.args.plan.brief c.args.plan.tries c.args.plan.players.items c.in_ok-seats.seats.items c.in_ok-own.attended.items
+    c.args.others.items c.finish_all.new.lines.items c.in_ok-seats.ensures.seats c.in_ok-own.ensures.left c.in_ok-wires.ensures c.in_ok-finish_all.ensures.lines c.args.holder.desk.ports c.requires.seats
+    c.finish_all.new.players.items c.in_ok-finish_all.ensures.players c.push.new.self.items c.finish_line.result c.in_ok-push.ensures.items (c.finish_line.ensures.same.0 ∙ ap (λ l. l.number) own ∙ c.requires.zeroth) c.finish_all.new.ends.items c.in_ok-finish_all.ensures.ends

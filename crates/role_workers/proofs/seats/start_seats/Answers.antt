@@ -1,4 +1,4 @@
-use Rattle.std.proofs.Common.{◌≡◌, ◌∙◌, [], ◌∷◌, ◌+◌, length, length-append, drop, sym, ap, arith}
+use Rattle.std.proofs.Common.{◌≡◌, ◌∙◌, [], ◌∷◌, ◌+◌, Some, length, length-append, drop, sym, ap, arith}
 use Rattle.std.specs.Vec.Iter.{into_iter_items}
 use Rattle.role_workers.specs.Internal.Promises.{IsPromisedFor}
 use Rattle.role_workers.proofs.Places.{EachAt-push, first_of}
@@ -14,13 +14,8 @@ loop-seat-preserved g c =
     let first = first_of (length old) seats c.in-Some.seat (into_iter_items c.next.new.self) (sym steps.0 ∙ was.rest) in
     let promise = c.in-Ok.ensures.ok in
     let here : IsPromisedFor c.args.tries seats (length old) handle.promise = record {
-      seat = c.in-Some.seat;
-      is_seat = first.at;
-      brief = ap (λ p. p.brief.now) promise;
-      role = ap (λ p. p.role) promise;
+      is_seat = first.at ∙ ap Some (sym (ap (λ p. p.seat.value) promise ∙ c.of.ensures));
       tries_are = ap (λ p. p.tries) promise;
-      player = ap (λ p. p.player.value) promise ∙ c.of.ensures;
-      wire = ap (λ p. p.wire.value) promise ∙ c.of-in-loop-seat.ensures;
     } in
     let pushed = c.in_ok-push.ensures.items in
     let all = c.push.new.self.items in

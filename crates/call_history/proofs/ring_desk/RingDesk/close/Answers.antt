@@ -1,12 +1,11 @@
-use Rattle.std.proofs.Common.{◌≡◌, ℕ, List, length, get_or, true, arith, sym, ◌∙◌, ap, subst}
+use Rattle.std.proofs.Common.{◌≡◌, ℕ, ◌<◌, List, All, length, get_or, true, arith, sym, ◌∙◌, ap, subst}
 use Rattle.call_history.specs.declared.port.Port.{Port}
-use Rattle.call_history.specs.declared.ring_line.LineEnd.{LineEnd}
 use Rattle.call_history.specs.Lines.{has_number, HasAll}
 use Rattle.call_history.specs.Parts.{part}
-use Rattle.call_history.specs.RingLines.{SamePorts, AreEndsOf}
+use Rattle.call_history.specs.RingLines.{LineValue, SamePorts, AreEndsOf}
 use Rattle.call_history.specs.RingClosing.{end_numbers}
-use Rattle.call_history.proofs.PartTotals.{total}
-use Rattle.call_history.proofs.ReturnedEnds.{numbers_of_same, has_end, served_of_same, prefix_of_same, some_of}
+use Rattle.call_history.proofs.PartTotals.{total, all_below}
+use Rattle.call_history.proofs.ReturnedEnds.{numbers_of_same, has_end, served_of_same, prefix_of_same, own_calls, own_replies, some_of}
 use Rattle.call_history.proofs.DeskLines.{same_ports_refl, same_ends_refl}
 use Rattle.call_history.proofs.ring_desk.RingDesk.close.Goals as goal
 
@@ -33,7 +32,7 @@ returns-in-Some-lowest_unserved-clause-cause g c =
     let said = c.in-Some-lowest_unserved.ensures in
     let numbers = numbers_of_same _ _ said.ends in (
       λ k below.
-          let E : List (LineEnd g.row.O.Denot g.row.O-Call.Denot g.row.O-Reply.Denot g.O.Object) → Type 0 = λ ends. has_number k (end_numbers ends) ≡ true in
+          let E : List (LineValue g.row.O-Call.Denot g.row.O-Reply.Denot) → Type 0 = λ ends. has_number k (end_numbers ends) ≡ true in
           let N : List ℕ → Type 0 = λ given. has_number k given ≡ true in
           subst N (sym numbers) (subst E c.as_slice.ensures.value (c.in_default.ensures.none k (omega (arith, below, said.ports.count, c.desk.invariant.1)))),
       said.calls,
@@ -54,15 +53,19 @@ returns-clause-closed g c =
     let made = c.note_made.new.made_by_line.items in
     let count : length c.args.self.ports ≡ length c.desk.inside.ports.items = sym (ap (λ d. length d.ports) c.desk.view_is) in
     let has_all : HasAll (end_numbers before) (length c.args.self.ports) = λ k below.
-    let E : List (LineEnd g.row.O.Denot g.row.O-Call.Denot g.row.O-Reply.Denot g.O.Object) → Type 0 = λ ends. has_number k (end_numbers ends) ≡ true in
+    let E : List (LineValue g.row.O-Call.Denot g.row.O-Reply.Denot) → Type 0 = λ ends. has_number k (end_numbers ends) ≡ true in
     subst E c.as_slice.ensures.value (c.in_default.ensures.none k (omega (arith, below, count, c.desk.invariant.1))) in
+    let lines : All (λ e. e.line < length c.args.self.ports) history = λ k e below. omega (arith, said.serves.lines k e below, said.ports.count, count) in
     rw (c.into_parts-object.ensures.object, c.into_parts-object.ensures.history) (record {
       history_is = ap (λ d. d.journal.history) c.desk.view_is;
       object_is = ap (λ d. d.journal.object) c.desk.view_is;
       has_all = has_all;
-      lines = λ k e below. omega (arith, said.serves.lines k e below, said.ports.count, count);
-      served = λ k e below. served_of_same history (get_or before k e) (get_or ends k e) (said.ends.each k e below) (said.calls k e (omega (arith, below, said.ends.count)));
-      replies = λ k e below. prefix_of_same history (get_or before k e) (get_or ends k e) (said.ends.each k e below) (said.replies k e (omega (arith, below, said.ends.count)));
+      lines = lines;
+      entries = all_below history (length c.args.self.ports) lines;
+      calls = own_calls history before
+          (λ k e below. served_of_same history (get_or before k e) (get_or ends k e) (said.ends.each k e below) (said.calls k e (omega (arith, below, said.ends.count))));
+      replies = own_replies history before
+          (λ k e below. prefix_of_same history (get_or before k e) (get_or ends k e) (said.ends.each k e below) (said.replies k e (omega (arith, below, said.ends.count))));
       one_each = c.note_made.ensures.count ∙ (c.desk.invariant.2 ∙ sym count);
       made = λ i below.
           let N : List ℕ → Type 0 = λ given. has_number i given ≡ true in

@@ -1,0 +1,192 @@
+"""Runs the program as somebody might: with any standard streams, in a terminal, and against servers that are no good."""
+import contextlib
+import os
+import pty
+import re
+import socket
+import struct
+import subprocess
+import tempfile
+import threading
+import time
+from typing import NamedTuple
+
+PATIENCE = 900
+LINE_OFF = struct.pack("ii", 1, 0)
+
+
+class Said(NamedTuple):
+    """What a run of the program came to."""
+
+    status: int
+    output: bytes
+    errors: str
+
+
+def checks_memory(program):
+    """Returns whether a program is one that is not proved, and checks memory as it runs."""
+    with open(program, "rb") as file:
+        return b"AddressSanitizer" in file.read()
+
+
+@contextlib.contextmanager
+def begun(words, **streams):
+    """Begins a program, and gives its process. It is killed where it does not end within the patience, or where it is left by a fault: no
+    read of what it says, and no wait for it, is without an end."""
+    child = subprocess.Popen(words, **streams)
+    patience = threading.Timer(PATIENCE, child.kill)
+    patience.daemon = True
+    patience.start()
+    try:
+        with child:
+            try:
+                yield child
+            except BaseException:
+                child.kill()
+                raise
+    finally:
+        patience.cancel()
+
+
+def wait_until(is_so, seconds, rest=0.01):
+    """Returns whether something is so before the seconds are over."""
+    ends = time.monotonic() + seconds
+    while not is_so():
+        if time.monotonic() > ends:
+            return False
+        time.sleep(rest)
+    return True
+
+
+def asked(program, words, text=b""):
+    """Returns what the program comes to with these words, on this input."""
+    ran = subprocess.run([program, *words], input=text, capture_output=True, timeout=PATIENCE)
+    return Said(ran.returncode, ran.stdout, ran.stderr.decode())
+
+
+def asked_in_shell(program, words, streams, text=b"", before=""):
+    """Does so with the standard streams as the shell sets them by these words, as `>&-`, which closes standard output; before the
+    program the shell does something else."""
+    call = ["bash", "-c", f'{before} exec "$0" "$@" {streams}', program, *words]
+    ran = subprocess.run(call, input=text, capture_output=True, timeout=PATIENCE)
+    return Said(ran.returncode, ran.stdout, ran.stderr.decode(errors="replace"))
+
+
+def asked_by_bytes(program, words, count):
+    """Does so on an input of this many bytes, each of which takes a read of its own."""
+    ours, theirs = socket.socketpair(socket.AF_UNIX, socket.SOCK_SEQPACKET)
+    with begun([program, *words], stdin=theirs, stdout=subprocess.PIPE, stderr=subprocess.PIPE) as child:
+        theirs.close()
+        try:
+            for _ in range(count):
+                ours.send(b"a")
+        except OSError:
+            # The program has read enough.
+            pass
+        ours.close()
+        output, errors = child.communicate()
+    return Said(child.returncode, output, errors.decode())
+
+
+def asked_with_closed_pipe(program, words, text=b""):
+    """Does so where nobody reads standard output any more."""
+    ours, theirs = os.pipe()
+    os.close(ours)
+    ran = subprocess.run([program, *words], input=text, stdout=theirs, stderr=subprocess.PIPE, timeout=PATIENCE)
+    os.close(theirs)
+    return Said(ran.returncode, b"", ran.stderr.decode())
+
+
+def read_to_close(end):
+    """Returns all that comes out of a terminal until the program has closed its other end."""
+    said = b""
+    try:
+        while piece := os.read(end, 4096):
+            said += piece
+    except OSError:
+        # The other end is closed.
+        pass
+    os.close(end)
+    return said.decode().replace("\r\n", "\n")
+
+
+def asked_in_terminal(program, words, stream="stderr", text=b""):
+    """Returns the status, and what comes of the standard stream that is a terminal, and of the other one."""
+    other = "stdout" if stream == "stderr" else "stderr"
+    ours, theirs = pty.openpty()
+    with tempfile.TemporaryFile() as given, tempfile.TemporaryFile() as kept:
+        given.write(text)
+        given.seek(0)
+        with begun([program, *words], stdin=given, **{stream: theirs, other: kept}) as child:
+            os.close(theirs)
+            shown = read_to_close(ours)
+        kept.seek(0)
+        return child.returncode, shown, kept.read().decode()
+
+
+def body_of(connection):
+    """Returns the body of a request."""
+    text = b""
+    while b"\r\n\r\n" not in text:
+        text += received(connection)
+    head, _, body = text.partition(b"\r\n\r\n")
+    size = int(re.search(rb"Content-Length: (\d+)", head)[1])
+    while len(body) < size:
+        body += received(connection)
+    return body.decode()
+
+
+def received(connection):
+    more = connection.recv(65536)
+    if not more:
+        raise ConnectionError
+    return more
+
+
+class Server(threading.Thread):
+    """A server on a port of its own, in the place of a player: each connection is handed to a function, one after the other."""
+
+    def __init__(self, serve, receives=None):
+        super().__init__(daemon=True)
+        self.serve = serve
+        self.socket = socket.socket()
+        if receives:
+            self.socket.setsockopt(socket.SOL_SOCKET, socket.SO_RCVBUF, receives)
+        self.socket.bind(("127.0.0.1", 0))
+        self.socket.listen(16)
+        self.start()
+
+    def address(self, name="ann"):
+        return f"{name}@127.0.0.1:{self.socket.getsockname()[1]}"
+
+    def run(self):
+        while True:
+            connection, _ = self.socket.accept()
+            with connection:
+                try:
+                    self.serve(connection)
+                except OSError:
+                    # The program has closed the connection.
+                    pass
+
+
+def reset(connection):
+    """Closes a connection so that the other end is told that it broke."""
+    connection.setsockopt(socket.SOL_SOCKET, socket.SO_LINGER, LINE_OFF)
+    connection.close()
+
+
+def answers(reply, thinking=0):
+    """Returns what serves each connection with these bytes, this many seconds after the request is read."""
+
+    def serve(connection):
+        body_of(connection)
+        time.sleep(thinking)
+        connection.sendall(reply)
+
+    return serve
+
+
+def told(answer, thinking=0):
+    """Returns what serves each connection with this answer, after this many seconds."""
+    return answers(f"HTTP/1.0 200 OK\r\nContent-Length: {len(answer)}\r\n\r\n{answer}".encode(), thinking)

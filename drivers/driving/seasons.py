@@ -1,0 +1,99 @@
+"""Seasons of Countdown that a script has a program play between players of its own, and what is looked at in their records."""
+import json
+import subprocess
+import tempfile
+
+from driving import GAMES
+from driving.players import ROLES
+
+GAME = GAMES / "countdown.kif"
+BEGUN = "ggp_manager: "
+# examples/season/README.md says so to its readers.
+CUT_OFF = """[ -z "$(tail -c 1 records)" ] || sed -i '$d' records"""
+PATIENCE = 1800
+
+
+def schedule(pairs, clocks="600 600", name="m"):
+    """Returns the text of a schedule in which these players sit, red and blue of each match, and the ids of its matches."""
+    ids = [f"{name}{number}" for number in range(len(pairs))]
+    return "".join(f"{match} {clocks} {red.address()} {blue.address()}\n" for match, (red, blue) in zip(ids, pairs)), ids
+
+
+def paired(players, matches):
+    """Returns the two players of each of this many matches: those that stand side by side, in turn."""
+    pairs = list(zip(players[::2], players[1::2]))
+    return [pairs[number % len(pairs)] for number in range(matches)]
+
+
+def run(program, words, text=""):
+    return subprocess.run([program, *words], input=text, capture_output=True, text=True, timeout=PATIENCE)
+
+
+def start(program, words, plan, records, **more):
+    """Starts a season of a schedule with this text, whose records are written to this file."""
+    with tempfile.TemporaryFile() as given:
+        given.write(plan.encode())
+        given.seek(0)
+        return subprocess.Popen([program, "season", *words], stdin=given, stdout=records, **more)
+
+
+def all_said(child):
+    """Returns what a program writes to its pipes until it ends. Where it does not end it is killed."""
+    try:
+        return child.communicate(timeout=PATIENCE)
+    except subprocess.TimeoutExpired:
+        child.kill()
+        return child.communicate()
+
+
+def ended(child):
+    """Returns the status of a program, and what it told if that goes to a pipe. Where it does not end it is killed."""
+    told = all_said(child)[1]
+    return child.returncode, told
+
+
+def whole_lines(text):
+    """Returns the lines of a file of bytes that are whole, and what stands behind them: a line that was cut, or nothing."""
+    whole, feed, cut = text.rpartition(b"\n")
+    return (whole + feed).splitlines(keepends=True), cut
+
+
+def cut_off(folder):
+    """Takes the last line of the file `records` in this folder away where it was cut."""
+    subprocess.run(["bash", "-c", CUT_OFF], cwd=folder, check=True)
+
+
+def records_in(lines):
+    """Returns the records among these lines; lines of accounts begin with a digit."""
+    return [json.loads(line) for line in lines if not line[:1].isdigit()]
+
+
+def errors_of(record):
+    """Returns the errors of a record's moves, and of its answers to START, STOP and ABORT."""
+    return [error for turn in (*record["errors"], record["startMarks"], record["endMarks"]) for error in turn if error]
+
+
+def faults_of_records(program, game, text, ids, players):
+    """Gives what is not as it should be in the records of a season: of each match there is to be one, which is lawful, has no error,
+    and has the moves that its players sent."""
+    try:
+        records = records_in(whole_lines(text)[0])
+    except ValueError as fault:
+        yield f"a line is no record: {fault}"
+        return
+    found = [record["matchId"] for record in records]
+    if sorted(found) != sorted(ids):
+        yield f"{len(ids)} matches: lost {sorted({*ids} - {*found})}, twice {sorted({match for match in found if found.count(match) > 1})}"
+    checked = run(program, ["verify", "--lines", *game], text.decode())
+    if checked.stdout != "lawful\n" * len(ids):
+        yield f"not every record is lawful: {checked.stderr.strip()}"
+    by_name = {player.name: player for player in players}
+    for record in records:
+        match = record["matchId"]
+        if errors := errors_of(record):
+            yield f"{match}: its players have errors: {errors}"
+        for place, (role, name) in enumerate(zip(ROLES, record["players"])):
+            seat = by_name[name].over.get(match)
+            moves = [turn[place] for turn in record["moves"]]
+            if seat is None or (seat.role, seat.sent) != (role, moves):
+                yield f"{match}: {name} sent {seat and seat.sent} as {seat and seat.role}, and {moves} was played"
