@@ -7,8 +7,8 @@ use clap::ArgMatches;
 use clap::error::ErrorKind;
 use game_core::Limits;
 use match_plans::{
-    CheckPlan, GameCommand, GameSource, MAX_AT_ONCE, MatchPlan, PlayerAddress, RecordOrder,
-    RulesSource, SeasonForm, decimal, player_address,
+    CheckPlan, GameCommand, GameSource, GameTask, MAX_AT_ONCE, MatchPlan, PlayerAddress,
+    RecordOrder, RulesSource, SeasonForm, decimal, player_address,
 };
 use std::alloc::{AllocError, AllocFailed, Global};
 
@@ -130,7 +130,11 @@ fn input_file<'a>(found: &ArgMatches<'a>) -> Option<&'a str> {
 }
 
 fn game_task<'a>(command: GameCommand, found: &ArgMatches<'a>) -> Result<Task<'a>, WrongValue<'a>> {
-    Ok(Task::Game(command, game_source(found)?, input_file(found)))
+    Ok(Task::Game(GameTask {
+        command,
+        game: game_source(found)?,
+        file: input_file(found),
+    }))
 }
 
 fn verify_command(found: &ArgMatches<'_>) -> GameCommand {

@@ -1,12 +1,12 @@
 //! The tasks of a command line.
 
-use match_plans::{CheckPlan, GameCommand, GameSource, MatchPlan, PlayerAddress, SeasonForm};
+use match_plans::{CheckPlan, GameSource, GameTask, MatchPlan, PlayerAddress, SeasonForm};
 
 /// The task of a command line. Its texts are words of the command line.
 #[derive(Drop)]
 pub enum Task<'a> {
-    /// Runs a command on one game. Its input is the file that is named, or standard input.
-    Game(GameCommand, GameSource<'a>, Option<&'a str>),
+    /// Runs a command on one game.
+    Game(GameTask<'a>),
     /// Plays matches of a game.
     Host(GameOptions<'a>, MatchTask<'a>),
     /// Asks a player whether it is free.

@@ -16,6 +16,7 @@ use Rattle.described_games.specs.Games.{IsDescribed, DescribesNone}
 use Rattle.record_reading.specs.LawfulRecord.{IsLawfulRecord}
 use Rattle.desk_scripts.specs.Script.{bad_lines, script_output}
 use Rattle.match_plans.specs.declared.game_source.GameCommand.{GameCommand}
+use Rattle.match_plans.specs.declared.game_source.GameTask.{GameTask}
 use Rattle.match_plans.specs.declared.game_source.GameCommand.TheVariants.{Desk, Verify, VerifyLines, Replay}
 use Rattle.match_plans.specs.declared.game_source.GameSource.{GameSource}
 use Rattle.match_plans.specs.declared.game_source.GameSource.TheVariants.{Countdown as OfCountdown, Described}
@@ -76,19 +77,19 @@ Fails remaining contents rules game command fault reader reader' writer writer' 
 
 -- All of the input was read, and the command's output for it was written. If a file is named, the input is the file's, which may have any
 -- bytes, and the reader stays as it is.
-abbrev pub AnswersInput : {G S M R F P W : Type 0} → (R → Option (List ℕ)) → (F → Option (List ℕ)) → (W → Option (List ℕ)) → (G → Rules S M) → G → GameCommand → Option P → Counting R → Counting R → Counting W → Counting W → Type 0
-AnswersInput remaining file_remaining contents rules game command file reader reader' writer writer' =
-    MatchOption file (Answers remaining contents rules game command 0 reader reader' writer writer')
-    (λ path. (reader' ≡ reader) × ((opened : Counting _) × (read : Counting _) × Answers file_remaining contents rules game command 0 opened read writer writer'))
+abbrev pub AnswersInput : {G S M R F W : Type 0} → (R → Option (List ℕ)) → (F → Option (List ℕ)) → (W → Option (List ℕ)) → (G → Rules S M) → G → GameTask → Counting R → Counting R → Counting W → Counting W → Type 0
+AnswersInput remaining file_remaining contents rules game task reader reader' writer writer' =
+    MatchOption task.file (Answers remaining contents rules game task.command 0 reader reader' writer writer')
+    (λ path. (reader' ≡ reader) × ((opened : Counting _) × (read : Counting _) × Answers file_remaining contents rules game task.command 0 opened read writer writer'))
 
 -- What a fault says about the input. If a file is named, it can't be opened, and nothing was written; or the fault is that of the command on
 -- the file's bytes, in the words for a file.
-abbrev pub FailsInput : {G S M R F P W : Type 0} → (R → Option (List ℕ)) → (F → Option (List ℕ)) → (W → Option (List ℕ)) → (G → Rules S M) → G → GameCommand → Option P → Fault → Counting R → Counting R → Counting W → Counting W → Type 0
-FailsInput remaining file_remaining contents rules game command file fault reader reader' writer writer' =
-    MatchOption file (Fails remaining contents rules game command fault reader reader' writer writer')
+abbrev pub FailsInput : {G S M R F W : Type 0} → (R → Option (List ℕ)) → (F → Option (List ℕ)) → (W → Option (List ℕ)) → (G → Rules S M) → G → GameTask → Fault → Counting R → Counting R → Counting W → Counting W → Type 0
+FailsInput remaining file_remaining contents rules game task fault reader reader' writer writer' =
+    MatchOption task.file (Fails remaining contents rules game task.command fault reader reader' writer writer')
     (λ path. (reader' ≡ reader) × ((IsFileFault Input fault × (writer' ≡ writer))
     ⊎ ((why : Fault) × (fault ≡ input_file_fault why)
-    × ((opened : Counting _) × (read : Counting _) × Fails file_remaining contents rules game command why opened read writer writer'))))
+    × ((opened : Counting _) × (read : Counting _) × Fails file_remaining contents rules game task.command why opened read writer writer'))))
 
 -- ---- the game of a source
 

@@ -11,7 +11,7 @@ use crate::replaying::replay_accounts;
 use crate::rules::{game_of, rules_text};
 use crate::script::run_script;
 use game_core::{Countdown, Counted, Game};
-use match_plans::{GameCommand, GameSource};
+use match_plans::{GameCommand, GameSource, GameTask};
 use std::alloc::Global;
 use std::io::{Read, Write};
 use std::rt::Files;
@@ -66,56 +66,53 @@ fn perform<G: Game + Drop, R: Read, W: Write>(
     }
 }
 
-/// Performs a command for this game. Its input is the file that is named, or the reader.
+/// Performs a task's command for this game. Its input is the file that is named, or the reader.
 fn perform_on<F: Files, G: Game + Drop, R: Read, W: Write>(
     files: &F,
     alloc: Global,
-    command: GameCommand,
+    task: GameTask<'_>,
     game: G,
-    file: Option<&str>,
     reader: &mut Counted<R>,
     writer: &mut Counted<W>,
     evidence: &mut Evidence,
 ) -> Result<(), Fault>
-    ensures answers { OnOk result (AnswersInput R.remaining F.File.remaining W.contents G.rules game command file.entry reader.old reader.new writer.old writer.new) }
-    ensures fails { IfErr result (λ fault. FailsInput R.remaining F.File.remaining W.contents G.rules game command file.entry fault reader.old reader.new writer.old writer.new) }
+    ensures answers { OnOk result (AnswersInput R.remaining F.File.remaining W.contents G.rules game task.entry reader.old reader.new writer.old writer.new) }
+    ensures fails { IfErr result (λ fault. FailsInput R.remaining F.File.remaining W.contents G.rules game task.entry fault reader.old reader.new writer.old writer.new) }
 {
-    let Some(path) = file else {
-        return perform(alloc, command, game, reader, writer, evidence);
+    let Some(path) = task.file else {
+        return perform(alloc, task.command, game, reader, writer, evidence);
     };
     let mut input = opened(files, NamedFile::Input, path)?;
-    match perform(alloc, command, game, &mut input, writer, evidence) {
+    match perform(alloc, task.command, game, &mut input, writer, evidence) {
         Ok(()) => Ok(()),
         Err(fault) => Err(input_file_fault(fault)),
     }
 }
 
-/// Performs a command for the game of the command line. Its input is the file that is named, or the reader.
+/// Performs a task for the game of its source.
 pub fn for_game<F: Files, R: Read, W: Write>(
     files: &F,
     alloc: Global,
-    command: GameCommand,
-    source: GameSource<'_>,
-    file: Option<&str>,
+    task: GameTask<'_>,
     reader: &mut Counted<R>,
     writer: &mut Counted<W>,
     evidence: &mut Evidence,
 ) -> Result<(), Fault>
-    ensures answers { OnOk result (HoldsOfGame source.entry (λ _ _ _ rules game. AnswersInput R.remaining F.File.remaining W.contents rules game command file.entry reader.old reader.new writer.old writer.new)) }
-    ensures fails { IfErr result (λ fault. (HasNoGame source.entry fault × (reader.new ≡ reader.old) × (writer.new ≡ writer.old))
-        ⊎ HoldsOfGame source.entry (λ _ _ _ rules game. FailsInput R.remaining F.File.remaining W.contents rules game command file.entry fault reader.old reader.new writer.old writer.new)) }
+    ensures answers { OnOk result (HoldsOfGame task.entry.game (λ _ _ _ rules game. AnswersInput R.remaining F.File.remaining W.contents rules game task.entry reader.old reader.new writer.old writer.new)) }
+    ensures fails { IfErr result (λ fault. (HasNoGame task.entry.game fault × (reader.new ≡ reader.old) × (writer.new ≡ writer.old))
+        ⊎ HoldsOfGame task.entry.game (λ _ _ _ rules game. FailsInput R.remaining F.File.remaining W.contents rules game task.entry fault reader.old reader.new writer.old writer.new)) }
 {
-    match source {
+    match task.game {
         GameSource::Countdown(size) => {
             let Some(game) = Countdown::new(size) else {
                 return Err(Fault::WrongUse);
             };
-            perform_on(files, alloc, command, game, file, reader, writer, evidence)
+            perform_on(files, alloc, task, game, reader, writer, evidence)
         }
         GameSource::Described(rules, limits) => {
             let text = rules_text(files, alloc, limits, rules)?;
             match game_of(alloc, limits, &text, evidence) {
-                Ok(game) => perform_on(files, alloc, command, game, file, reader, writer, evidence),
+                Ok(game) => perform_on(files, alloc, task, game, reader, writer, evidence),
                 Err(fault) => Err(fault),
             }
         }

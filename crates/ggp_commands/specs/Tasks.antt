@@ -85,8 +85,8 @@ FailsToPlay H is_reached handed remaining contents plan task reader reader' writ
 -- What a task that ended well has read and written.
 abbrev pub Performs : (H : Type 0) → {P R F W : Type 0} → (RolePlace → PlayerAddress → P → Type 0) → (P → Option (List Handed)) → (R → Option (List ℕ)) → (F → Option (List ℕ)) → (W → Option (List ℕ)) → Task → Counting R → Counting R → Counting W → Counting W → Type 0
 Performs H is_reached handed remaining file_remaining contents (Show text) reader reader' writer writer' = (reader' ≡ reader) × Appends (contents writer.stream) (contents writer'.stream) (string_bytes text)
-Performs H is_reached handed remaining file_remaining contents (Game command source file) reader reader' writer writer' =
-    HoldsOfGame source (λ _ _ _ rules game. AnswersInput remaining file_remaining contents rules game command file reader reader' writer writer')
+Performs H is_reached handed remaining file_remaining contents (Game task) reader reader' writer writer' =
+    HoldsOfGame task.game (λ _ _ _ rules game. AnswersInput remaining file_remaining contents rules game task reader reader' writer writer')
 Performs H is_reached handed remaining file_remaining contents (Info player) reader reader' writer writer' =
     (reader' ≡ reader) × ((answer : List ℕ) × Appends (contents writer.stream) (contents writer'.stream) (info_line (info_reading answer)))
 Performs H is_reached handed remaining file_remaining contents (Abort plan) reader reader' writer writer' =
@@ -97,9 +97,9 @@ Performs H is_reached handed remaining file_remaining contents (Host plan task) 
 abbrev pub Fails : (H : Type 0) → {P R F W : Type 0} → (RolePlace → PlayerAddress → P → Type 0) → (P → Option (List Handed)) → (R → Option (List ℕ)) → (F → Option (List ℕ)) → (W → Option (List ℕ)) → Task → Counting R → Counting R → Counting W → Counting W → Fault → Type 0
 Fails H is_reached handed remaining file_remaining contents (Show text) reader reader' writer writer' fault =
     (reader' ≡ reader) × (fault ≡ WriteFault) × AppendsPart (contents writer.stream) (contents writer'.stream) (string_bytes text)
-Fails H is_reached handed remaining file_remaining contents (Game command source file) reader reader' writer writer' fault =
-    (HasNoGame source fault × (reader' ≡ reader) × (writer' ≡ writer))
-    ⊎ HoldsOfGame source (λ _ _ _ rules game. FailsInput remaining file_remaining contents rules game command file fault reader reader' writer writer')
+Fails H is_reached handed remaining file_remaining contents (Game task) reader reader' writer writer' fault =
+    (HasNoGame task.game fault × (reader' ≡ reader) × (writer' ≡ writer))
+    ⊎ HoldsOfGame task.game (λ _ _ _ rules game. FailsInput remaining file_remaining contents rules game task fault reader reader' writer writer')
 Fails H is_reached handed remaining file_remaining contents (Info player) reader reader' writer writer' fault = (reader' ≡ reader)
     × ((writer' ≡ writer) ⊎ ((fault ≡ WriteFault) × ((answer : List ℕ) × AppendsPart (contents writer.stream) (contents writer'.stream) (info_line (info_reading answer)))))
 Fails H is_reached handed remaining file_remaining contents (Abort plan) reader reader' writer writer' fault =

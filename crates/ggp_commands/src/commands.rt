@@ -219,9 +219,9 @@ where
     let Surroundings { rt, alloc, .. } = *around;
     match task {
         Task::Show(text) => (show(text.as_str(), writer), writer),
-        Task::Game(command, game, file) => {
+        Task::Game(task) => {
             let evidence = &mut reports.evidence;
-            let performed = for_game(rt, alloc, *command, *game, *file, reader, writer, evidence);
+            let performed = for_game(rt, alloc, *task, reader, writer, evidence);
             (performed, writer)
         }
         Task::Info(player) => {

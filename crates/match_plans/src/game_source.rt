@@ -32,3 +32,11 @@ pub enum GameCommand {
     /// Makes the calls of an account again.
     Replay,
 }
+
+/// A command, the source of its game, and the file of its input, if one is named. Without it the input is standard input.
+#[derive(Clone, Copy)]
+pub struct GameTask<'a> {
+    pub command: GameCommand,
+    pub game: GameSource<'a>,
+    pub file: Option<&'a str>,
+}

@@ -16,7 +16,7 @@ mod season_form;
 mod shortages;
 
 pub use addresses::{PlayerAddress, player_address};
-pub use game_source::{GameCommand, GameSource, RulesSource};
+pub use game_source::{GameCommand, GameSource, GameTask, RulesSource};
 pub use numbers::{decimal, decimal_from};
 pub use plan::{CheckPlan, MatchPlan};
 pub use reach::{Reach, RolePlace};
