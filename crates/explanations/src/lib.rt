@@ -2,13 +2,12 @@
 //!
 //! Each function appends its lines to a text: `push_description` those about a description that describes no game,
 //! `push_first_bad_line` about a script, `push_refused_matches` about a schedule, `push_broken_rules` about one match, `push_bad_entry` about
-//! an account, `push_several_lines` about a text that is no record, `push_skipped_lines` about lines that were skipped, and
-//! `push_absent_players` about a match without some of its players. No proof rests on them.
+//! an account, `push_several_lines` about a text that is no record, and `push_skipped_lines` about lines that were skipped. No proof rests
+//! on them.
 //!
 //! Free functions take the allocator first.
 #![tactic(auto)]
 
-mod absent_players;
 mod bad_entries;
 mod bad_lines;
 mod excerpts;
@@ -22,7 +21,6 @@ mod scan;
 mod shared_faults;
 mod spots;
 
-pub use absent_players::push_absent_players;
 pub use bad_entries::push_bad_entry;
 pub use bad_lines::push_first_bad_line;
 pub use explaining::push_description;

@@ -12,7 +12,7 @@ use crate::explaining::{Subject, explain};
 use crate::faults::{argument_fault, command_end, status_of, task_end};
 use crate::loaded_game::{LoadedGame, host};
 use crate::matches::{ReadyTask, input_of, play_with_reports};
-use crate::surroundings::{Surroundings, Terminals};
+use crate::surroundings::Surroundings;
 use command_line::{
     AbortPlan, GameOptions, MatchTask, Task, has_own_word, read_arguments, refusal,
 };
@@ -45,7 +45,7 @@ struct Reports<E> {
 /// Performs the command of the words after the program's name, and returns the program's status. A fault is one line on `errors`, after
 /// the lines that explain it. A failed write to `errors` is skipped. On a terminal `errors` also shows the progress of matches. `--why`
 /// counts only if the terminals of `around` say that it is there.
-pub fn command<H, P, S, R: Read, W: Write, E: Write + Send>(
+pub fn command<H, S, R: Read, W: Write, E: Write + Send>(
     around: &Surroundings<'_, H, S>,
     words: &[String],
     reader: &mut Counted<R>,
@@ -54,8 +54,8 @@ pub fn command<H, P, S, R: Read, W: Write, E: Write + Send>(
 ) -> u8
 where
     H: Net + Clock + LockedFiles + Threads + Wait + Sync,
-    P: Player + Explains + Drop + Send,
-    S: Reach<P> + ReportsShortages + Sync,
+    S: Reach + ReportsShortages + Sync,
+    S::Player: Player + Explains + Drop + Send,
 {
     let mut reports = Reports {
         errors,
@@ -64,7 +64,7 @@ where
     let performed = match texts(around.alloc, words) {
         Ok(words) => match task_of(around.alloc, &words, &mut reports.evidence) {
             Ok(task) => {
-                let (performed, _writer) = perform_task::<Brand, H, P, S, R, W, &mut E>(
+                let (performed, _writer) = perform_task::<Brand, H, S, R, W, &mut E>(
                     around,
                     &task,
                     reader,
@@ -155,7 +155,7 @@ fn prepared<F: Files, R: Read>(
 }
 
 /// Plays the matches of a task. Hands the output back, so its content is known.
-fn play<'w, N: WriterBrand, H, P, S, R: Read, W: Write, E: Write + Send>(
+fn play<'w, N: WriterBrand, H, S, R: Read, W: Write, E: Write + Send>(
     around: &Surroundings<'_, H, S>,
     plan: &GameOptions<'_>,
     task: &MatchTask<'_>,
@@ -165,12 +165,12 @@ fn play<'w, N: WriterBrand, H, P, S, R: Read, W: Write, E: Write + Send>(
 ) -> (Result<(), Fault>, &'w mut Counted<W>)
 where
     H: Net + Clock + LockedFiles + Threads + Wait + Sync,
-    P: Player + Explains + Drop + Send,
-    S: Reach<P> + ReportsShortages + Sync,
+    S: Reach + ReportsShortages + Sync,
+    S::Player: Player + Explains + Drop + Send,
     requires picked { N.name ≡ writer.ghost_name }
     ensures output { result.1.ghost_name ≡ writer.entry.ghost_name }
-    ensures played { OnOk result.0 (Plays H (is_logged_reached H (S.is_reached around.now.reach.now)) (logged_handed H P.handed) R.remaining W.contents plan.now task.now reader.old reader.new writer.entry.now result.1.now 0) }
-    ensures at_fault { IfErr result.0 (FailsToPlay H (is_logged_reached H (S.is_reached around.now.reach.now)) (logged_handed H P.handed) R.remaining W.contents plan.now task.now reader.old reader.new writer.entry.now result.1.now) }
+    ensures played { OnOk result.0 (Plays H (is_logged_reached H (S.is_reached around.now.reach.now)) (logged_handed H S.Player.handed) R.remaining W.contents plan.now task.now reader.old reader.new writer.entry.now result.1.now 0) }
+    ensures at_fault { IfErr result.0 (FailsToPlay H (is_logged_reached H (S.is_reached around.now.reach.now)) (logged_handed H S.Player.handed) R.remaining W.contents plan.now task.now reader.old reader.new writer.entry.now result.1.now) }
 {
     let evidence = &mut reports.evidence;
     let (loaded_game, input) = match prepared(
@@ -189,7 +189,7 @@ where
         game: loaded_game.playable(),
         input: &input,
     };
-    let (held, writer) = play_with_reports::<N, H, P, S, W, E>(
+    let (held, writer) = play_with_reports::<N, H, S, W, E>(
         around,
         ready,
         plan.is_logged,
@@ -200,7 +200,7 @@ where
 }
 
 /// Performs a task. Hands the output back, so its content is known.
-fn perform_task<'w, N: WriterBrand, H, P, S, R: Read, W: Write, E: Write + Send>(
+fn perform_task<'w, N: WriterBrand, H, S, R: Read, W: Write, E: Write + Send>(
     around: &Surroundings<'_, H, S>,
     task: &Task<'_>,
     reader: &mut Counted<R>,
@@ -209,12 +209,12 @@ fn perform_task<'w, N: WriterBrand, H, P, S, R: Read, W: Write, E: Write + Send>
 ) -> (Result<(), Fault>, &'w mut Counted<W>)
 where
     H: Net + Clock + LockedFiles + Threads + Wait + Sync,
-    P: Player + Explains + Drop + Send,
-    S: Reach<P> + ReportsShortages + Sync,
+    S: Reach + ReportsShortages + Sync,
+    S::Player: Player + Explains + Drop + Send,
     requires picked { N.name ≡ writer.ghost_name }
     ensures output { result.1.ghost_name ≡ writer.entry.ghost_name }
-    ensures performed { OnOk result.0 (Performs H (is_logged_reached H (S.is_reached around.now.reach.now)) (logged_handed H P.handed) R.remaining H.File.remaining W.contents task.now reader.old reader.new writer.entry.now result.1.now) }
-    ensures at_fault { IfErr result.0 (Fails H (is_logged_reached H (S.is_reached around.now.reach.now)) (logged_handed H P.handed) R.remaining H.File.remaining W.contents task.now reader.old reader.new writer.entry.now result.1.now) }
+    ensures performed { OnOk result.0 (Performs H (is_logged_reached H (S.is_reached around.now.reach.now)) (logged_handed H S.Player.handed) R.remaining H.File.remaining W.contents task.now reader.old reader.new writer.entry.now result.1.now) }
+    ensures at_fault { IfErr result.0 (Fails H (is_logged_reached H (S.is_reached around.now.reach.now)) (logged_handed H S.Player.handed) R.remaining H.File.remaining W.contents task.now reader.old reader.new writer.entry.now result.1.now) }
 {
     let Surroundings { rt, alloc, .. } = *around;
     match task {
@@ -243,7 +243,7 @@ where
             (command_end(performed), writer)
         }
         Task::Host(plan, task) => {
-            play::<N, H, P, S, R, W, E>(around, plan, task, reader, writer, reports)
+            play::<N, H, S, R, W, E>(around, plan, task, reader, writer, reports)
         }
     }
 }

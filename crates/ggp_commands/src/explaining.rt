@@ -1,13 +1,12 @@
-//! The lines that explain a command's fault, or say what it skipped or who was missing.
+//! The lines that explain a command's fault, or say what it skipped.
 
 use command_line::{MatchTask, RunPlan};
 use described_games::DescriptionFault;
 use explanations::{
-    push_absent_players, push_bad_entry, push_broken_rules, push_description, push_first_bad_line,
+    push_bad_entry, push_broken_rules, push_description, push_first_bad_line,
     push_refused_matches, push_several_lines, push_skipped_lines,
 };
 use game_commands::Evidence;
-use game_core::Text;
 use std::alloc::Global;
 use std::fmt::Write as _;
 use std::io::Write;
@@ -24,8 +23,6 @@ pub enum Subject<'a> {
     Opening(&'a MatchTask<'a>, usize),
     /// The rule of a match's id, if this id breaks it.
     Id(&'a str),
-    /// The players of which every message failed, in a match with this record.
-    Record(&'a Text),
 }
 
 /// Appends the lines about this evidence to `lines`. The error means that memory was refused.
@@ -71,7 +68,6 @@ fn push_lines(
         }
         Subject::Opening(MatchTask::Season(_), _) => {}
         Subject::Id(id) => push_broken_rules(*id, [1, 1], 1, 1, lines)?,
-        Subject::Record(record) => push_absent_players(record.as_slice(), lines)?,
     }
     Ok(())
 }

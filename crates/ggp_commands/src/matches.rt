@@ -23,16 +23,16 @@ use command_line::{MatchTask, RunPlan, SeasonPlan};
 use game_commands::{Fault, NamedFile, file_text};
 use game_core::{Counted, Game};
 use match_log::{
-    ClearedOutput, LoggedPlayer, Logging, Notices, Progress, ReportStream, Reporting, StatusStream,
+    ClearedOutput, Logging, Notices, Progress, ReportStream, Reporting, StatusStream,
     WriterBrand,
 };
 use match_messages::Player;
 use match_plans::{CheckPlan, MatchPlan, Reach, ReportsShortages, SeasonForm};
-use match_play::{PlayableGame, PreparedMatch, ended_match, prepared_match};
+use match_play::{PlayableGame, ended_match, prepared_match};
 use match_season::{SeasonSurroundings, play_season};
 use network_players::Explains;
 use player_check::check_player;
-use process_streams::{LockedFiles, RecordsFile};
+use process_streams::LockedFiles;
 use std::alloc::Global;
 use std::io::{Read, Write};
 use std::marker::PhantomData;
@@ -83,21 +83,20 @@ pub struct ReadyTask<'t> {
     pub input: &'t [u8],
 }
 
-/// Plays a match, and writes its record, and its account if the plan wants it. Reports which players were not there.
-fn run<H, P, S, W: Write>(
+/// Plays a match, and writes its record, and its account if the plan wants it.
+fn run<H, S, W: Write>(
     around: &Surroundings<'_, H, S>,
     run: &RunPlan<'_>,
     game: PlayableGame<'_>,
     writer: &mut Counted<W>,
-    console: &Console,
 ) -> Result<(), Fault>
 where
     H: Threads + Wait + Sync,
-    P: Player + Drop + Send,
-    S: Reach<P> + ReportsShortages,
+    S: Reach + ReportsShortages,
+    S::Player: Player + Drop + Send,
     ensures clear { OnOk result (S.is_clear around.now.reach.now 0) }
-    ensures written { OnOk result (WritesRun (S.is_reached around.now.reach.now) P.handed game.entry run.now (W.contents writer.old.stream) (W.contents writer.new.stream)) }
-    ensures at_fault { IfErr result (WritesRunUpTo (S.is_reached around.now.reach.now) P.handed game.entry run.now (W.contents writer.old.stream) (W.contents writer.new.stream)) }
+    ensures written { OnOk result (WritesRun (S.is_reached around.now.reach.now) S.Player.handed game.entry run.now (W.contents writer.old.stream) (W.contents writer.new.stream)) }
+    ensures at_fault { IfErr result (WritesRunUpTo (S.is_reached around.now.reach.now) S.Player.handed game.entry run.now (W.contents writer.old.stream) (W.contents writer.new.stream)) }
 {
     let Surroundings {
         rt,
@@ -105,17 +104,11 @@ where
         reach,
         ..
     } = *around;
-    let prepared: PreparedMatch<P> = prepared_match(alloc, reach, game, 0, &run.plan)?;
+    let prepared = prepared_match(alloc, reach, game, 0, &run.plan)?;
     let ended = match ended_match(rt, alloc, reach, prepared, game, run.has_history) {
         Ok(ended) => ended,
         Err(fault) => return Err(match_fault(fault)),
     };
-    explain(
-        alloc,
-        console.terminals.explain(),
-        &Subject::Record(&ended.text),
-        &mut ReportStream::new(rt, &console.notices),
-    );
     Ok(write_all(writer, ended.text.as_slice())?)
 }
 
@@ -144,7 +137,7 @@ pub fn input_of<F: Files, R: Read>(
 
 /// Plays matches of a season, and writes their records. Returns the number of those without a record.
 #[tactic(auto, using(crate::proofs::SeasonEnds::same_output))]
-fn play_plans<'s, H, P, S, W: Write>(
+fn play_plans<'s, H, S, W: Write>(
     around: &Surroundings<'s, H, S>,
     form: SeasonForm,
     game: PlayableGame<'_>,
@@ -154,10 +147,10 @@ fn play_plans<'s, H, P, S, W: Write>(
 ) -> Result<u64, Fault>
 where
     H: Files + Threads + Wait + Sync,
-    P: Player + Drop + Send,
-    S: Reach<P> + ReportsShortages + Sync,
-    ensures written { IfOk result (λ missing. WritesPlans (S.is_reached around.now.reach.now) P.handed game.entry form plans.now missing (W.contents writer.old.stream) (W.contents writer.new.stream)) }
-    ensures at_fault { IfErr result (λ fault. WritesPlansUpTo (S.is_reached around.now.reach.now) P.handed game.entry form plans.now fault (W.contents writer.old.stream) (W.contents writer.new.stream)) }
+    S: Reach + ReportsShortages + Sync,
+    S::Player: Player + Drop + Send,
+    ensures written { IfOk result (λ missing. WritesPlans (S.is_reached around.now.reach.now) S.Player.handed game.entry form plans.now missing (W.contents writer.old.stream) (W.contents writer.new.stream)) }
+    ensures at_fault { IfErr result (λ fault. WritesPlansUpTo (S.is_reached around.now.reach.now) S.Player.handed game.entry form plans.now fault (W.contents writer.old.stream) (W.contents writer.new.stream)) }
 {
     let Surroundings {
         rt,
@@ -176,7 +169,7 @@ where
         errors: &errors,
     };
     let around = &surroundings;
-    let played = play_season::<H, P, S, W, ReportStream<'_, H>>(around, game, plans, form, writer);
+    let played = play_season(around, game, plans, form, writer);
     match played {
         Ok(missing) => Ok(missing),
         Err(fault) => Err(season_fault(fault)),
@@ -185,7 +178,7 @@ where
 
 /// Plays the matches of a season that the file at this path has no records of, and adds theirs to it. Returns the number of those without a
 /// record.
-fn play_into_file<H, P, S>(
+fn play_into_file<H, S>(
     around: &Surroundings<'_, H, S>,
     form: SeasonForm,
     game: PlayableGame<'_>,
@@ -195,21 +188,21 @@ fn play_into_file<H, P, S>(
 ) -> Result<u64, Fault>
 where
     H: LockedFiles + Threads + Wait + Sync,
-    P: Player + Drop + Send,
-    S: Reach<P> + ReportsShortages + Sync,
+    S: Reach + ReportsShortages + Sync,
+    S::Player: Player + Drop + Send,
     ensures written { IfOk result (λ missing. (left : List MatchPlan) × AreLeft game.entry.game.now (Some path.entry) plans.entry.items left
-        × ((before : Option (List ℕ)) × (after : Option (List ℕ)) × WritesPlans (S.is_reached around.now.reach.now) P.handed game.entry form left missing before after)) }
+        × ((before : Option (List ℕ)) × (after : Option (List ℕ)) × WritesPlans (S.is_reached around.now.reach.now) S.Player.handed game.entry form left missing before after)) }
     ensures at_fault { IfErr result (λ fault. (IsFileFault Records fault
         ⊎ ((fault ≡ WriteFault) × ((missing : ℕ) × (left : List MatchPlan) × AreLeft game.entry.game.now (Some path.entry) plans.entry.items left
-        × ((before : Option (List ℕ)) × (after : Option (List ℕ)) × WritesPlans (S.is_reached around.now.reach.now) P.handed game.entry form left missing before after))))
+        × ((before : Option (List ℕ)) × (after : Option (List ℕ)) × WritesPlans (S.is_reached around.now.reach.now) S.Player.handed game.entry form left missing before after))))
         ⊎ ((left : List MatchPlan) × AreLeft game.entry.game.now (Some path.entry) plans.entry.items left
-        × ((before : Option (List ℕ)) × (after : Option (List ℕ)) × WritesPlansUpTo (S.is_reached around.now.reach.now) P.handed game.entry form left fault before after))) }
+        × ((before : Option (List ℕ)) × (after : Option (List ℕ)) × WritesPlansUpTo (S.is_reached around.now.reach.now) S.Player.handed game.entry form left fault before after))) }
 {
     let Surroundings { rt, alloc, .. } = *around;
     let mut errors = ReportStream::new(rt, &console.notices);
     let mut file = Counted::new(records_file(rt, alloc, path, &mut errors)?);
     let left = undone(rt, alloc, game.game, Some(path), plans, &mut errors)?;
-    let played = play_plans::<H, P, S, RecordsFile<'_, H, <H as Files>::File>>(
+    let played = play_plans(
         around, form, game, &left, &mut file, console,
     );
     if file.end().is_kept() {
@@ -227,7 +220,7 @@ where
 }
 
 /// Plays the matches of a schedule, and writes their records. Returns the number of those without a record.
-fn season<H, P, S, W: Write>(
+fn season<H, S, W: Write>(
     around: &Surroundings<'_, H, S>,
     season: SeasonPlan<'_>,
     game: PlayableGame<'_>,
@@ -237,10 +230,10 @@ fn season<H, P, S, W: Write>(
 ) -> Result<u64, Fault>
 where
     H: LockedFiles + Threads + Wait + Sync,
-    P: Player + Drop + Send,
-    S: Reach<P> + ReportsShortages + Sync,
-    ensures written { IfOk result (λ missing. WritesSeason (S.is_reached around.now.reach.now) P.handed game.entry season.entry schedule.now missing (W.contents writer.old.stream) (W.contents writer.new.stream)) }
-    ensures at_fault { IfErr result (WritesSeasonUpTo (S.is_reached around.now.reach.now) P.handed game.entry season.entry schedule.now (W.contents writer.old.stream) (W.contents writer.new.stream)) }
+    S: Reach + ReportsShortages + Sync,
+    S::Player: Player + Drop + Send,
+    ensures written { IfOk result (λ missing. WritesSeason (S.is_reached around.now.reach.now) S.Player.handed game.entry season.entry schedule.now missing (W.contents writer.old.stream) (W.contents writer.new.stream)) }
+    ensures at_fault { IfErr result (WritesSeasonUpTo (S.is_reached around.now.reach.now) S.Player.handed game.entry season.entry schedule.now (W.contents writer.old.stream) (W.contents writer.new.stream)) }
 {
     let Surroundings { rt, alloc, .. } = *around;
     let mut errors = ReportStream::new(rt, &console.notices);
@@ -248,13 +241,13 @@ where
     let are_wanted = console.terminals.explain();
     explain(alloc, are_wanted, &Subject::Schedule(schedule), &mut errors);
     match season.records {
-        None => { play_plans::<H, P, S, W>(around, season.form, game, &plans, writer, console) }
-        Some(path) => { play_into_file::<H, P, S>(around, season.form, game, plans, path, console) }
+        None => { play_plans(around, season.form, game, &plans, writer, console) }
+        Some(path) => { play_into_file(around, season.form, game, plans, path, console) }
     }
 }
 
 /// Checks a player, and writes its table. Returns the number of bad answers.
-fn check<H, P, S, W: Write>(
+fn check<H, S, W: Write>(
     around: &Surroundings<'_, H, S>,
     plan: &CheckPlan<'_>,
     game: PlayableGame<'_>,
@@ -262,11 +255,11 @@ fn check<H, P, S, W: Write>(
 ) -> Result<u64, Fault>
 where
     H: Clock + Threads + Wait + Sync,
-    P: Player + Explains + Drop + Send,
-    S: Reach<P> + ReportsShortages,
+    S: Reach + ReportsShortages,
+    S::Player: Player + Explains + Drop + Send,
     ensures clear { OnOk result (S.is_clear around.now.reach.now 0) }
-    ensures written { IfOk result (λ bad. WritesCheck H (S.is_reached around.now.reach.now) P.handed game.entry plan.now bad (W.contents writer.old.stream) (W.contents writer.new.stream)) }
-    ensures at_fault { IfErr result (λ fault. (why : CheckFault) × (fault ≡ check_fault why) × EndsEarly H (S.is_reached around.now.reach.now) P.handed game.entry plan.now why (W.contents writer.old.stream) (W.contents writer.new.stream)) }
+    ensures written { IfOk result (λ bad. WritesCheck H (S.is_reached around.now.reach.now) S.Player.handed game.entry plan.now bad (W.contents writer.old.stream) (W.contents writer.new.stream)) }
+    ensures at_fault { IfErr result (λ fault. (why : CheckFault) × (fault ≡ check_fault why) × EndsEarly H (S.is_reached around.now.reach.now) S.Player.handed game.entry plan.now why (W.contents writer.old.stream) (W.contents writer.new.stream)) }
 {
     let Surroundings {
         rt,
@@ -274,14 +267,14 @@ where
         reach,
         ..
     } = *around;
-    match check_player::<H, P, S, W>(rt, alloc, reach, plan, game, writer) {
+    match check_player(rt, alloc, reach, plan, game, writer) {
         Ok(bad) => Ok(bad),
         Err(fault) => Err(check_fault(fault)),
     }
 }
 
 /// Performs a task on a game, and reports on its matches. Returns the number of matches without a record, or of bad answers.
-fn perform_match_task<H, P, S, W: Write>(
+fn perform_match_task<H, S, W: Write>(
     around: &Surroundings<'_, H, S>,
     ready: ReadyTask<'_>,
     writer: &mut Counted<W>,
@@ -289,10 +282,10 @@ fn perform_match_task<H, P, S, W: Write>(
 ) -> Result<u64, Fault>
 where
     H: Clock + LockedFiles + Threads + Wait + Sync,
-    P: Player + Explains + Drop + Send,
-    S: Reach<P> + ReportsShortages + Sync,
-    ensures written { IfOk result (λ count. WritesTask H (is_logged_reached H (S.is_reached around.now.reach.now)) (logged_handed H P.handed) ready.entry.game ready.entry.task.now ready.entry.input.now count (W.contents writer.old.stream) (W.contents writer.new.stream)) }
-    ensures at_fault { IfErr result (WritesTaskUpTo H (is_logged_reached H (S.is_reached around.now.reach.now)) (logged_handed H P.handed) ready.entry.game ready.entry.task.now ready.entry.input.now (W.contents writer.old.stream) (W.contents writer.new.stream)) }
+    S: Reach + ReportsShortages + Sync,
+    S::Player: Player + Explains + Drop + Send,
+    ensures written { IfOk result (λ count. WritesTask H (is_logged_reached H (S.is_reached around.now.reach.now)) (logged_handed H S.Player.handed) ready.entry.game ready.entry.task.now ready.entry.input.now count (W.contents writer.old.stream) (W.contents writer.new.stream)) }
+    ensures at_fault { IfErr result (WritesTaskUpTo H (is_logged_reached H (S.is_reached around.now.reach.now)) (logged_handed H S.Player.handed) ready.entry.game ready.entry.task.now ready.entry.input.now (W.contents writer.old.stream) (W.contents writer.new.stream)) }
 {
     let ReadyTask { task, game, input } = ready;
     let rt = around.rt;
@@ -302,12 +295,14 @@ where
         &Subject::Opening(task, game.game.roles()),
         &mut ReportStream::new(rt, &console.notices),
     );
+    let is_alone = matches!(task, MatchTask::Check(_));
     let logging = Logging {
         rt,
         reach: around.reach,
         reporting: console.reporting(),
         notices: &console.notices,
-        is_alone: matches!(task, MatchTask::Check(_)),
+        is_alone,
+        names_absent: !is_alone && console.terminals.explain(),
     };
     let logged = Surroundings {
         rt,
@@ -318,21 +313,21 @@ where
     match task {
         MatchTask::Run(plan) => {
             console.plan(rt, 1);
-            run::<H, LoggedPlayer<'_, H, P>, _, W>(&logged, plan, game, writer, console)?;
+            run(&logged, plan, game, writer)?;
             Ok(0)
         }
-        MatchTask::Season(plan) => season::<H, LoggedPlayer<'_, H, P>, _, W>(
+        MatchTask::Season(plan) => season(
             &logged, *plan, game, input, writer, console,
         ),
         MatchTask::Check(plan) => {
             console.plan(rt, game.game.roles());
-            check::<H, LoggedPlayer<'_, H, P>, _, W>(&logged, plan, game, writer)
+            check(&logged, plan, game, writer)
         }
     }
 }
 
 /// Performs the task while a thread writes the reports. Returns what the task returns.
-fn perform_beside_notices<H, P, S, W: Write, E: Write + Send>(
+fn perform_beside_notices<H, S, W: Write, E: Write + Send>(
     around: &Surroundings<'_, H, S>,
     ready: ReadyTask<'_>,
     writer: &mut Counted<W>,
@@ -341,10 +336,10 @@ fn perform_beside_notices<H, P, S, W: Write, E: Write + Send>(
 ) -> Result<u64, Fault>
 where
     H: Clock + LockedFiles + Threads + Wait + Sync,
-    P: Player + Explains + Drop + Send,
-    S: Reach<P> + ReportsShortages + Sync,
-    ensures written { IfOk result (λ count. WritesTask H (is_logged_reached H (S.is_reached around.now.reach.now)) (logged_handed H P.handed) ready.entry.game ready.entry.task.now ready.entry.input.now count (W.contents writer.old.stream) (W.contents writer.new.stream)) }
-    ensures at_fault { IfErr result (EndsTask H (is_logged_reached H (S.is_reached around.now.reach.now)) (logged_handed H P.handed) ready.entry.game ready.entry.task.now ready.entry.input.now (W.contents writer.old.stream) (W.contents writer.new.stream)) }
+    S: Reach + ReportsShortages + Sync,
+    S::Player: Player + Explains + Drop + Send,
+    ensures written { IfOk result (λ count. WritesTask H (is_logged_reached H (S.is_reached around.now.reach.now)) (logged_handed H S.Player.handed) ready.entry.game ready.entry.task.now ready.entry.input.now count (W.contents writer.old.stream) (W.contents writer.new.stream)) }
+    ensures at_fault { IfErr result (EndsTask H (is_logged_reached H (S.is_reached around.now.reach.now)) (logged_handed H S.Player.handed) ready.entry.game ready.entry.task.now ready.entry.input.now (W.contents writer.old.stream) (W.contents writer.new.stream)) }
 {
     let rt = around.rt;
     // The closure returns the output, so its content is known behind the scope.
@@ -354,8 +349,8 @@ where
         move |scope| -> (Result<u64, Fault>, &mut Counted<W>)
             requires sent { IsSync H.row × IsSend E.row }
             ensures stream { result.1.ghost_name ≡ writer.entry.ghost_name }
-            ensures written { IfOk result.0 (λ count. WritesTask H (is_logged_reached H (S.is_reached around.entry.now.reach.now)) (logged_handed H P.handed) ready.entry.game ready.entry.task.now ready.entry.input.now count (W.contents writer.entry.now.stream) (W.contents result.1.now.stream)) }
-            ensures at_fault { IfErr result.0 (EndsTask H (is_logged_reached H (S.is_reached around.entry.now.reach.now)) (logged_handed H P.handed) ready.entry.game ready.entry.task.now ready.entry.input.now (W.contents writer.entry.now.stream) (W.contents result.1.now.stream)) }
+            ensures written { IfOk result.0 (λ count. WritesTask H (is_logged_reached H (S.is_reached around.entry.now.reach.now)) (logged_handed H S.Player.handed) ready.entry.game ready.entry.task.now ready.entry.input.now count (W.contents writer.entry.now.stream) (W.contents result.1.now.stream)) }
+            ensures at_fault { IfErr result.0 (EndsTask H (is_logged_reached H (S.is_reached around.entry.now.reach.now)) (logged_handed H S.Player.handed) ready.entry.game ready.entry.task.now ready.entry.input.now (W.contents writer.entry.now.stream) (W.contents result.1.now.stream)) }
         {
             let writing = move || console
                 .notices
@@ -363,7 +358,7 @@ where
             if scope.spawn(writing).is_err() {
                 return (Err(Fault::Memory), writer);
             }
-            let performed = perform_match_task::<H, P, S, W>(around, ready, writer, console);
+            let performed = perform_match_task(around, ready, writer, console);
             console.notices.close(rt);
             (performed, writer)
         },
@@ -374,7 +369,7 @@ where
 /// Plays matches of a game and reports on them: each message if that is wanted, otherwise the progress if `errors` is a terminal. No match
 /// waits for a reader of the reports. Returns the number of matches without a record, or of bad answers. Hands the output back, so its
 /// content is known.
-pub fn play_with_reports<'w, N: WriterBrand, H, P, S, W: Write, E: Write + Send>(
+pub fn play_with_reports<'w, N: WriterBrand, H, S, W: Write, E: Write + Send>(
     around: &Surroundings<'_, H, S>,
     ready: ReadyTask<'_>,
     is_logged: bool,
@@ -383,12 +378,12 @@ pub fn play_with_reports<'w, N: WriterBrand, H, P, S, W: Write, E: Write + Send>
 ) -> (Result<u64, Fault>, &'w mut Counted<W>)
 where
     H: Clock + LockedFiles + Threads + Wait + Sync,
-    P: Player + Explains + Drop + Send,
-    S: Reach<P> + ReportsShortages + Sync,
+    S: Reach + ReportsShortages + Sync,
+    S::Player: Player + Explains + Drop + Send,
     requires picked { N.name ≡ writer.ghost_name }
     ensures output { result.1.ghost_name ≡ writer.entry.ghost_name }
-    ensures written { IfOk result.0 (λ count. WritesTask H (is_logged_reached H (S.is_reached around.now.reach.now)) (logged_handed H P.handed) ready.entry.game ready.entry.task.now ready.entry.input.now count (W.contents writer.entry.now.stream) (W.contents result.1.now.stream)) }
-    ensures at_fault { IfErr result.0 (EndsTask H (is_logged_reached H (S.is_reached around.now.reach.now)) (logged_handed H P.handed) ready.entry.game ready.entry.task.now ready.entry.input.now (W.contents writer.entry.now.stream) (W.contents result.1.now.stream)) }
+    ensures written { IfOk result.0 (λ count. WritesTask H (is_logged_reached H (S.is_reached around.now.reach.now)) (logged_handed H S.Player.handed) ready.entry.game ready.entry.task.now ready.entry.input.now count (W.contents writer.entry.now.stream) (W.contents result.1.now.stream)) }
+    ensures at_fault { IfErr result.0 (EndsTask H (is_logged_reached H (S.is_reached around.now.reach.now)) (logged_handed H S.Player.handed) ready.entry.game ready.entry.task.now ready.entry.input.now (W.contents writer.entry.now.stream) (W.contents result.1.now.stream)) }
 {
     let Surroundings {
         rt,
@@ -410,7 +405,7 @@ where
         shares_terminal: terminals.output && terminals.errors && !is_logged,
         brand: PhantomData,
     });
-    let performed = perform_beside_notices::<H, P, S, ClearedOutput<'_, 'w, N, H, W, &mut E>, E>(
+    let performed = perform_beside_notices(
         around,
         ready,
         &mut output,

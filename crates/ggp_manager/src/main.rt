@@ -6,7 +6,7 @@ ghost use Rattle.std.specs.Prelude.{◌<◌};
 use game_core::Counted;
 use ggp_commands::{Fault, Surroundings, Terminals, asks_why, command, report};
 use match_plans::MAX_SCHEDULED;
-use network_players::{RoundSignal, SocketPlayer, Sockets};
+use network_players::{RoundSignal, Sockets};
 use process_streams::{ERRORS, FILE_SIZE, INPUT, OUTPUT, Standard, hold_closed, limit_of};
 use std::io::{ErrorKind, IsTerminal, Write};
 use std::os::fd::AsFd;
@@ -76,7 +76,7 @@ fn main(rt: HostRuntime) -> ExitCode {
         reach: &reach,
         terminals,
     };
-    let status = command::<_, SocketPlayer<'_, HostRuntime>, _, _, _, _>(
+    let status = command(
         &around,
         &words,
         &mut reader,

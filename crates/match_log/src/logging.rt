@@ -66,6 +66,8 @@ pub struct Logging<'a, H, S> {
     /// Whether only one player of each match is reached through this. Then this player counts for the match, whatever its role.
     /// Otherwise the player of the first role counts.
     pub is_alone: bool,
+    /// Whether players of whom every message fails are reported.
+    pub names_absent: bool,
 }
 
 /// A player with logged messages.
@@ -82,11 +84,16 @@ pub struct LoggedPlayer<'a, H, P> {
     counts: bool,
     /// The number of messages that the player got.
     messages: u64,
+    /// Whether each of them failed, and the referee was not short of anything.
+    is_absent: bool,
+    names_absent: bool,
     reporting: Reporting<'a>,
     notices: &'a Notices,
 }
 
-impl<'a, H, P, S: Reach<P>> Reach<LoggedPlayer<'a, H, P>> for Logging<'a, H, S> {
+impl<'a, H, S: Reach> Reach for Logging<'a, H, S> {
+    type Player = LoggedPlayer<'a, H, S::Player>;
+
     ghost is_reached = { λ l at address p. S.is_reached l.reach.now at address p.player };
 
     fn player(
@@ -94,7 +101,7 @@ impl<'a, H, P, S: Reach<P>> Reach<LoggedPlayer<'a, H, P>> for Logging<'a, H, S> 
         alloc: Global,
         at: RolePlace<'_>,
         address: &PlayerAddress<'_>,
-    ) -> Result<LoggedPlayer<'a, H, P>, AllocError>
+    ) -> Result<LoggedPlayer<'a, H, S::Player>, AllocError>
         ensures named { IfOk result (λ p. (string_bytes p.id ≡ at.entry.id.now) × (string_bytes p.name ≡ address.now.name.now)) }
         ensures role { IfOk result (λ p. (p.role ≡ at.entry.role) × (p.counts ≡ self.now.is_alone || (at.entry.role == 0))) }
         ensures first { IfOk result (λ p. p.messages ≡ 0) }
@@ -111,6 +118,8 @@ impl<'a, H, P, S: Reach<P>> Reach<LoggedPlayer<'a, H, P>> for Logging<'a, H, S> 
             name,
             counts: self.is_alone || at.role == 0,
             messages: 0,
+            is_absent: true,
+            names_absent: self.names_absent,
             reporting: self.reporting,
             notices: self.notices,
         })
@@ -128,7 +137,8 @@ impl<H: Clock + Wait, P: Explains> LoggedPlayer<'_, H, P> {
     }
 
     /// Reports a message that was handed over at the time `began`.
-    fn tell(&self, message: &SharedText<'_>, answer: &Answer, began: Option<Instant>) {
+    fn tell(&mut self, message: &SharedText<'_>, answer: &Answer, began: Option<Instant>) {
+        self.is_absent = self.is_absent && self.has_failed(answer);
         match self.reporting {
             Reporting::Nothing => {}
             Reporting::Messages => self.tell_message(message, answer, time_since(self.rt, began)),
@@ -136,6 +146,30 @@ impl<H: Clock + Wait, P: Explains> LoggedPlayer<'_, H, P> {
                 progress.count(self.counts, MessageKind::of(message));
                 self.notices.move_on(self.rt);
             }
+        }
+    }
+
+    /// Whether a message with this answer failed through no shortage of the referee.
+    fn has_failed(&self, answer: &Answer) -> bool {
+        match (answer, self.player.why()) {
+            (Answer::Broken, Some(ContactFault::Shortage(_))) => false,
+            (Answer::Broken, _) => true,
+            _ => false,
+        }
+    }
+
+    /// Reports the player if every message to it failed. Skips the line when out of memory.
+    fn name_if_absent(&self) {
+        if !self.names_absent || !self.is_absent || self.messages == 0 {
+            return;
+        }
+        if let Ok(line) = format!(in self.alloc;
+            "ggp_manager: {} role {} {}: every message failed\n",
+            self.id,
+            self.role,
+            self.name,
+        ) {
+            self.notices.log(self.rt, line.as_bytes());
         }
     }
 
@@ -205,5 +239,6 @@ impl<H: Clock + Wait, P: Player + Explains> Player for LoggedPlayer<'_, H, P> {
 
     fn leave(&mut self) {
         self.player.leave();
+        self.name_if_absent();
     }
 }

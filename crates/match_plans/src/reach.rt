@@ -17,12 +17,15 @@ pub struct RolePlace<'a> {
 }
 
 /// Reaches players.
-pub trait Reach<P> {
+pub trait Reach {
+    /// The players that it reaches.
+    type Player;
+
     ghost use Rattle.match_plans.specs.declared.addresses.PlayerAddress.{PlayerAddress};
     ghost use Rattle.match_plans.specs.declared.reach.RolePlace.{RolePlace};
 
     /// It reaches this player at this address, for this role of a match. By default this says nothing.
-    ghost is_reached: { Self → RolePlace → PlayerAddress → P → Type 0 } = { λ s at address player. Unit {0} };
+    ghost is_reached: { Self → RolePlace → PlayerAddress → Self.Player → Type 0 } = { λ s at address player. Unit {0} };
 
     /// Makes the player at this address, for this role of a match. Nothing is asked of it yet. The error is out of memory.
     fn player(
@@ -30,6 +33,6 @@ pub trait Reach<P> {
         alloc: Global,
         at: RolePlace<'_>,
         address: &PlayerAddress<'_>,
-    ) -> Result<P, AllocError>
-        ensures { (player : P) → result ≡ Ok player → is_reached self.now at.entry address.now player };
+    ) -> Result<Self::Player, AllocError>
+        ensures { (player : Self.Player) → result ≡ Ok player → is_reached self.now at.entry address.now player };
 }

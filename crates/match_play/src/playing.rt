@@ -104,13 +104,15 @@ fn setup_of(alloc: Global, plan: &MatchPlan<'_>) -> Result<Setup, AllocError>
     })
 }
 
-fn players_of<P: Drop, S: Reach<P>>(
+fn players_of<S: Reach>(
     alloc: Global,
     reach: &S,
     longest_move: usize,
     place: usize,
     plan: &MatchPlan<'_>,
-) -> Result<Vec<P>, AllocError>
+) -> Result<Vec<S::Player>, AllocError>
+where
+    S::Player: Drop,
     ensures count { IfOk result (λ v. vec_len v ≡ vec_len plan.now.players) }
     ensures reached { IfOk result (λ v. AreReached (S.is_reached reach.now) longest_move place plan.now v.items) }
 {
@@ -137,13 +139,15 @@ pub struct PreparedMatch<P> {
 }
 
 /// Prepares a match of this game at this place of its season. The error is out of memory.
-pub fn prepared_match<P: Drop, S: Reach<P>>(
+pub fn prepared_match<S: Reach>(
     alloc: Global,
     reach: &S,
     game: PlayableGame<'_>,
     place: usize,
     plan: &MatchPlan<'_>,
-) -> Result<PreparedMatch<P>, AllocError>
+) -> Result<PreparedMatch<S::Player>, AllocError>
+where
+    S::Player: Drop,
     ensures setup { IfOk result (λ e. IsSetupOf plan.now e.setup) }
     ensures place { IfOk result (λ e. e.place ≡ place) }
     ensures reached { IfOk result (λ e. AreReached (S.is_reached reach.now) game.entry.longest_move place plan.now e.players.items) }
@@ -207,18 +211,18 @@ fn ran_out_of_memory<G: Game>(refereed: &Refereed<G>) -> bool
 
 /// Referees a prepared match of this game. Returns the closed desk. The error is `Shortage` if the referee was short of something in
 /// the match, and `Memory` also if the match did not end because a role's worker ran out of memory.
-fn refereed_match<'g, R, P, S: ReportsShortages>(
+fn refereed_match<'g, R, S: Reach + ReportsShortages>(
     rt: &R,
     alloc: Global,
     reach: &S,
-    prepared: PreparedMatch<P>,
+    prepared: PreparedMatch<S::Player>,
     game: PlayableGame<'g>,
 ) -> Result<Refereed<Lent<'g, PackedGame>>, MatchFault>
 where
     R: Threads + Wait + Sync,
-    P: Player + Drop + Send,
+    S::Player: Player + Drop + Send,
     ensures clear { IfOk result (λ r. S.is_clear reach.now prepared.place) }
-    ensures refereed { IfOk result (λ r. (left : List _) × IsRefereed ⟦<PackedGame as Game>⟧.rules P.handed game.entry.game.now prepared.setup game.entry.rules.now max_tries prepared.players.items left
+    ensures refereed { IfOk result (λ r. (left : List _) × IsRefereed ⟦<PackedGame as Game>⟧.rules S.Player.handed game.entry.game.now prepared.setup game.entry.rules.now max_tries prepared.players.items left
         r.closed.object r.closed.history.items r.closed.made_by_line.items r.ends.items) }
 
     // If a role's worker ran out of memory, the match has ended.
@@ -286,19 +290,19 @@ fn told_of<T: MatchReader>(
 
 /// Referees a prepared match of this game. Returns what `reader` tells of the match, once it is over. There is nothing if the opening is
 /// refused, if the match does not end, or if `reach` reports a shortage.
-pub fn told_match<R, P, S: ReportsShortages, T: MatchReader>(
+pub fn told_match<R, S: Reach + ReportsShortages, T: MatchReader>(
     rt: &R,
     alloc: Global,
     reach: &S,
-    prepared: PreparedMatch<P>,
+    prepared: PreparedMatch<S::Player>,
     game: PlayableGame<'_>,
     reader: &T,
 ) -> Result<T::Told, MatchFault>
 where
     R: Threads + Wait + Sync,
-    P: Player + Drop + Send,
+    S::Player: Player + Drop + Send,
     ensures clear { IfOk result (λ told. S.is_clear reach.now prepared.place) }
-    ensures told { IfOk result (λ told. IsEndedWith P.handed game.entry.game.now game.entry.rules.now max_tries prepared.setup prepared.players.items (λ held. T.is_told reader.now held told)) }
+    ensures told { IfOk result (λ told. IsEndedWith S.Player.handed game.entry.game.now game.entry.rules.now max_tries prepared.setup prepared.players.items (λ held. T.is_told reader.now held told)) }
 
     // If the match is refused, so is this call, for the same reason, unless memory runs out. No other fault is a refusal.
     ensures opens { OnOk result (packed_refusal game.entry.game.now prepared.setup ≡ None) }
@@ -327,19 +331,19 @@ fn match_text(
 
 /// Referees a prepared match of this game. Returns its output. There is none if the opening is refused, if the match does not end, or
 /// if `reach` reports a shortage.
-pub fn ended_match<R, P, S: ReportsShortages>(
+pub fn ended_match<R, S: Reach + ReportsShortages>(
     rt: &R,
     alloc: Global,
     reach: &S,
-    prepared: PreparedMatch<P>,
+    prepared: PreparedMatch<S::Player>,
     game: PlayableGame<'_>,
     has_account: bool,
 ) -> Result<EndedMatch, MatchFault>
 where
     R: Threads + Wait + Sync,
-    P: Player + Drop + Send,
+    S::Player: Player + Drop + Send,
     ensures clear { IfOk result (λ e. S.is_clear reach.now prepared.place) }
-    ensures played { IfOk result (λ e. (line : List ℕ) × (history : List (Entry DeskCall DeskReply)) × IsPlayedMatch P.handed game.entry.game.now game.entry.rules.now max_tries prepared.setup prepared.players.items line history × (e.text ≡ match_text line history has_account)) }
+    ensures played { IfOk result (λ e. (line : List ℕ) × (history : List (Entry DeskCall DeskReply)) × IsPlayedMatch S.Player.handed game.entry.game.now game.entry.rules.now max_tries prepared.setup prepared.players.items line history × (e.text ≡ match_text line history has_account)) }
 
     // If the match is refused, so is this call, for the same reason, unless memory runs out. No other fault is a refusal.
     ensures opens { OnOk result (packed_refusal game.entry.game.now prepared.setup ≡ None) }

@@ -42,28 +42,32 @@ fn was_short(outcome: &Result<EndedMatch, MatchFault>) -> bool
 
 /// The matches of a season, as its threads see them.
 #[derive(Drop)]
-struct Season<'f, 'a, P: Player, S: Reach<P>, N: OutputBrand> {
+struct Season<'f, 'a, S: Reach, N: OutputBrand>
+where
+    S::Player: Player,
+{
     alloc: Global,
     reach: &'f S,
     game: PlayableGame<'f>,
     plans: &'f [MatchPlan<'a>],
     form: SeasonForm,
     scheduler: Scheduler,
-    /// The type of the players. A player is made when its match begins.
-    players: PhantomData<Mutex<P>>,
     of: PhantomData<N>,
-    ghost named: { (place : ℕ) (text : List ℕ) → IsOutputOf (S.is_reached reach.now) P.handed game plans.now form.has_history place text → ∥ N.is_output place text ∥₁ },
+    ghost named: { (place : ℕ) (text : List ℕ) → IsOutputOf (S.is_reached reach.now) S.Player.handed game plans.now form.has_history place text → ∥ N.is_output place text ∥₁ },
 }
 
-impl<P: Player, S: Reach<P>, N: OutputBrand> Season<'_, '_, P, S, N> {
+impl<S: Reach, N: OutputBrand> Season<'_, '_, S, N>
+where
+    S::Player: Player,
+{
     /// Plays the match at this place.
     fn play<R>(&self, rt: &R, place: usize) -> Result<EndedMatch, MatchFault>
     where
         R: Threads + Wait + Sync,
-        P: Player + Drop + Send,
-        S: Reach<P> + ReportsShortages,
+        S: ReportsShortages,
+        S::Player: Drop + Send,
         ensures clear { IfOk result (λ ended. S.is_clear self.now.reach.now place) }
-        ensures played { IfOk result (λ ended. IsOutputOf (S.is_reached self.now.reach.now) P.handed self.now.game self.now.plans.now self.now.form.has_history place ended.text) }
+        ensures played { IfOk result (λ ended. IsOutputOf (S.is_reached self.now.reach.now) S.Player.handed self.now.game self.now.plans.now self.now.form.has_history place ended.text) }
     {
         let Some(plan) = self.plans.get(place) else {
             return Err(MatchFault::NotEnded);
@@ -83,8 +87,8 @@ impl<P: Player, S: Reach<P>, N: OutputBrand> Season<'_, '_, P, S, N> {
     fn play_matches<R>(&self, rt: &R, sender: &Sender<MatchResult<N>>)
     where
         R: Threads + Wait + Sync,
-        P: Player + Drop + Send,
-        S: Reach<P> + ReportsShortages,
+        S: ReportsShortages,
+        S::Player: Drop + Send,
     {
         self.scheduler.enter(rt);
         for _ in rt.forever() {
@@ -172,9 +176,9 @@ fn threads_for(form: SeasonForm, matches: usize) -> usize
 }
 
 /// Plays the matches of a season in threads, and writes their results.
-fn play_in_threads<N, R, P, S, W: Write, E: Write + Send>(
+fn play_in_threads<N, R, S, W: Write, E: Write + Send>(
     around: &SeasonSurroundings<'_, '_, R, S, E>,
-    season: &Season<'_, '_, P, S, N>,
+    season: &Season<'_, '_, S, N>,
     sender: &Sender<MatchResult<N>>,
     receiver: &Receiver<MatchResult<N>>,
     writer: &mut Counted<W>,
@@ -182,8 +186,8 @@ fn play_in_threads<N, R, P, S, W: Write, E: Write + Send>(
 where
     N: OutputBrand + Send + Sync,
     R: Threads + Wait + Sync,
-    P: Player + Drop + Send,
-    S: Reach<P> + ReportsShortages + Sync,
+    S: Reach + ReportsShortages + Sync,
+    S::Player: Player + Drop + Send,
     ensures written { IfOk result (λ missing. WritesAllBut N.is_output season.now.form.order missing (length season.now.plans.now) (W.contents writer.old.stream) (W.contents writer.new.stream)) }
     ensures at_fault { IfErr result (WritesUpTo N.is_output season.now.form.order (length season.now.plans.now) (W.contents writer.old.stream) (W.contents writer.new.stream)) }
     ensures faults { writer.new.faults ≡ faults_after result writer.old.faults }
@@ -222,7 +226,7 @@ where
 }
 
 /// Plays the matches of a season whose outputs are picked.
-fn play_named<'f, 'a, N, R, P, S, W: Write, E: Write + Send>(
+fn play_named<'f, 'a, N, R, S, W: Write, E: Write + Send>(
     around: &SeasonSurroundings<'f, '_, R, S, E>,
     game: PlayableGame<'f>,
     plans: &'f [MatchPlan<'a>],
@@ -232,9 +236,9 @@ fn play_named<'f, 'a, N, R, P, S, W: Write, E: Write + Send>(
 where
     N: OutputBrand + Send + Sync,
     R: Threads + Wait + Sync,
-    P: Player + Drop + Send,
-    S: Reach<P> + ReportsShortages + Sync,
-    requires named { (place : ℕ) (text : List ℕ) → IsOutputOf (S.is_reached around.now.reach.now) P.handed game plans.now form.has_history place text → N.is_output place text }
+    S: Reach + ReportsShortages + Sync,
+    S::Player: Player + Drop + Send,
+    requires named { (place : ℕ) (text : List ℕ) → IsOutputOf (S.is_reached around.now.reach.now) S.Player.handed game plans.now form.has_history place text → N.is_output place text }
     ensures written { IfOk result (λ missing. WritesAllBut N.is_output form.order missing (length plans.now) (W.contents writer.old.stream) (W.contents writer.new.stream)) }
     ensures at_fault { IfErr result (WritesUpTo N.is_output form.order (length plans.now) (W.contents writer.old.stream) (W.contents writer.new.stream)) }
     ensures faults { writer.new.faults ≡ faults_after result writer.old.faults }
@@ -242,14 +246,13 @@ where
     let scheduler = Scheduler::of(MatchQueue::of(around.alloc, plans, form)?);
     // All results find room, so no thread waits for a reader of the records.
     let (sender, receiver) = bounded(around.alloc, plans.len())?;
-    let season: Season<'f, 'a, P, S, N> = Season {
+    let season: Season<'f, 'a, S, N> = Season {
         alloc: around.alloc,
         reach: around.reach,
         game,
         plans,
         form,
         scheduler,
-        players: PhantomData,
         of: PhantomData,
     };
     play_in_threads(around, &season, &sender, &receiver, writer)
@@ -266,7 +269,7 @@ where
 /// If there is no room to count the records, or not a single thread can be made, the result is out of memory, and no match was begun.
 /// Otherwise each match without a record is reported. After a failed write no further match begins, and the output ends with a part, maybe
 /// none or all, of the output of one match. Whenever the result is out of memory, nothing was written.
-pub fn play_season<'f, 'a, R, P, S, W: Write, E: Write + Send>(
+pub fn play_season<'f, 'a, R, S, W: Write, E: Write + Send>(
     around: &SeasonSurroundings<'f, '_, R, S, E>,
     game: PlayableGame<'f>,
     plans: &'f [MatchPlan<'a>],
@@ -275,14 +278,14 @@ pub fn play_season<'f, 'a, R, P, S, W: Write, E: Write + Send>(
 ) -> Result<u64, SeasonFault>
 where
     R: Threads + Wait + Sync,
-    P: Player + Drop + Send,
-    S: Reach<P> + ReportsShortages + Sync,
-    ensures written { IfOk result (λ missing. WritesAllBut (IsOutputOf (S.is_reached around.now.reach.now) P.handed game.entry plans.now form.has_history) form.order missing (length plans.now) (W.contents writer.old.stream) (W.contents writer.new.stream)) }
-    ensures at_fault { IfErr result (WritesUpTo (IsOutputOf (S.is_reached around.now.reach.now) P.handed game.entry plans.now form.has_history) form.order (length plans.now) (W.contents writer.old.stream) (W.contents writer.new.stream)) }
+    S: Reach + ReportsShortages + Sync,
+    S::Player: Player + Drop + Send,
+    ensures written { IfOk result (λ missing. WritesAllBut (IsOutputOf (S.is_reached around.now.reach.now) S.Player.handed game.entry plans.now form.has_history) form.order missing (length plans.now) (W.contents writer.old.stream) (W.contents writer.new.stream)) }
+    ensures at_fault { IfErr result (WritesUpTo (IsOutputOf (S.is_reached around.now.reach.now) S.Player.handed game.entry plans.now form.has_history) form.order (length plans.now) (W.contents writer.old.stream) (W.contents writer.new.stream)) }
     ensures faults { writer.new.faults ≡ faults_after result writer.old.faults }
 {
     if plans.is_empty() {
         return Ok(0);
     }
-    play_named::<Brand, R, P, S, W, E>(around, game, plans, form, writer)
+    play_named::<Brand, R, S, W, E>(around, game, plans, form, writer)
 }

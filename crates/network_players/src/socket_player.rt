@@ -64,7 +64,9 @@ impl<H> ReportsShortages for Sockets<'_, H> {
     }
 }
 
-impl<'a, H: Net + Clock> Reach<SocketPlayer<'a, H>> for Sockets<'a, H> {
+impl<'a, H: Net + Clock> Reach for Sockets<'a, H> {
+    type Player = SocketPlayer<'a, H>;
+
     ghost use Rattle.network_players.specs.Players.{IsPlayerAt};
 
     ghost is_reached = { λ s at address p. IsPlayerAt at address p };

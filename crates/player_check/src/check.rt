@@ -157,7 +157,7 @@ fn push_rows<'a>(
 }
 
 /// Plays the match in which the player has this role, and appends its rows to the table. Returns the number of bad answers.
-fn check_role<H, P, S>(
+fn check_role<H, S>(
     alloc: Global,
     watching: &CheckReach<'_, H, S>,
     plan: &CheckPlan<'_>,
@@ -166,10 +166,10 @@ fn check_role<H, P, S>(
 ) -> Result<u64, CheckFault>
 where
     H: Clock + Threads + Wait + Sync,
-    P: Player + Explains + Drop + Send,
-    S: Reach<P> + ReportsShortages,
+    S: Reach + ReportsShortages,
+    S::Player: Player + Explains + Drop + Send,
     requires { watching.now.role < (⟦<PackedGame as Game>⟧.rules game.game.now).roles }
-    ensures told { IfOk result (λ bad. (rows : List ℕ) × IsToldOf (AreTurnsIn H (S.is_reached watching.now.reach.now) P.handed game.entry plan.now watching.now.role) ((⟦<PackedGame as Game>⟧.rules game.entry.game.now).role_name watching.now.role) rows bad
+    ensures told { IfOk result (λ bad. (rows : List ℕ) × IsToldOf (AreTurnsIn H (S.is_reached watching.now.reach.now) S.Player.handed game.entry plan.now watching.now.role) ((⟦<PackedGame as Game>⟧.rules game.entry.game.now).role_name watching.now.role) rows bad
         × (table.new.items ≡ table.old.items ++ rows)) }
     ensures clear { OnOk result (S.is_clear watching.now.reach.now 0) }
     ensures others { IfErr result (λ fault. fault ≢ faults.WriteFault) }
@@ -182,7 +182,7 @@ where
     } = *watching;
     let id = format!(in alloc; "check-{role}")?;
     let match_plan = match_plan(alloc, plan, id.as_str(), role, game.game.roles())?;
-    let prepared: PreparedMatch<CheckedPlayer<'_, H, P>> = prepared_match(
+    let prepared: PreparedMatch<CheckedPlayer<'_, H, S::Player>> = prepared_match(
         alloc,
         watching,
         game,
@@ -196,7 +196,7 @@ where
 
 /// Plays a match for each role of the game, one after another. Writes a row for each message to the player once its match is over.
 /// Returns the number of its bad answers.
-pub fn check_player<H, P, S, W: Write>(
+pub fn check_player<H, S, W: Write>(
     rt: &H,
     alloc: Global,
     reach: &S,
@@ -206,11 +206,11 @@ pub fn check_player<H, P, S, W: Write>(
 ) -> Result<u64, CheckFault>
 where
     H: Clock + Threads + Wait + Sync,
-    P: Player + Explains + Drop + Send,
-    S: Reach<P> + ReportsShortages,
-    ensures table { IfOk result (λ bad. WritesCheck H (S.is_reached reach.now) P.handed game.entry plan.now bad (W.contents writer.old.stream) (W.contents writer.new.stream)) }
+    S: Reach + ReportsShortages,
+    S::Player: Player + Explains + Drop + Send,
+    ensures table { IfOk result (λ bad. WritesCheck H (S.is_reached reach.now) S.Player.handed game.entry plan.now bad (W.contents writer.old.stream) (W.contents writer.new.stream)) }
     ensures clear { OnOk result (S.is_clear reach.now 0) }
-    ensures early { IfErr result (λ fault. EndsEarly H (S.is_reached reach.now) P.handed game.entry plan.now fault (W.contents writer.old.stream) (W.contents writer.new.stream)) }
+    ensures early { IfErr result (λ fault. EndsEarly H (S.is_reached reach.now) S.Player.handed game.entry plan.now fault (W.contents writer.old.stream) (W.contents writer.new.stream)) }
     ensures written { OnOk result (writer.new.faults ≡ writer.old.faults) }
     ensures failed { result ≡ Err faults.WriteFault → writer.new.faults ≡ one_more writer.old.faults }
     ensures others { IfErr result (λ fault. fault ≢ faults.WriteFault → writer.new.faults ≡ writer.old.faults) }
@@ -228,7 +228,7 @@ where
             signal: &signal,
             exchanges: &exchanges,
         };
-        let more = check_role::<H, P, S>(alloc, &watching, plan, game, &mut table)?;
+        let more = check_role(alloc, &watching, plan, game, &mut table)?;
         bad = bad.saturating_add(more);
         write_all(writer, &table)?;
         table.clear();

@@ -169,7 +169,9 @@ pub struct CheckedPlayer<'a, H, P> {
     watched: Option<P>,
 }
 
-impl<'a, H, P, S: Reach<P>> Reach<CheckedPlayer<'a, H, P>> for CheckReach<'a, H, S> {
+impl<'a, H, S: Reach> Reach for CheckReach<'a, H, S> {
+    type Player = CheckedPlayer<'a, H, S::Player>;
+
     ghost is_reached = { λ w at address p. (is_some p.watched ≡ (at.role == w.role)) × IfSome p.watched (S.is_reached w.reach.now at address) };
 
     fn player(
@@ -177,7 +179,7 @@ impl<'a, H, P, S: Reach<P>> Reach<CheckedPlayer<'a, H, P>> for CheckReach<'a, H,
         alloc: Global,
         at: RolePlace<'_>,
         address: &PlayerAddress<'_>,
-    ) -> Result<CheckedPlayer<'a, H, P>, AllocError> {
+    ) -> Result<CheckedPlayer<'a, H, S::Player>, AllocError> {
         let watched = if at.role == self.role {
             Some(self.reach.player(alloc, at, address)?)
         } else {
