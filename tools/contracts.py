@@ -19,7 +19,7 @@ def plain(head):
     """Returns the head of a block without its type parameters: `impl<G: Game> Object for Manager<G>` is of `Object for Manager`."""
     while GENERICS.search(head):
         head = GENERICS.sub("", head)
-    return " ".join(head.partition(" where ")[0].partition(":")[0].split())
+    return " ".join(head.split()).partition(" where ")[0].partition(":")[0].strip()
 
 
 def block_from(text, at):
