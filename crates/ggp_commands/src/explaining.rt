@@ -3,8 +3,8 @@
 use command_line::{MatchTask, RunPlan};
 use described_games::DescriptionFault;
 use explanations::{
-    push_bad_entry, push_broken_rules, push_description, push_first_bad_line,
-    push_refused_matches, push_several_lines, push_skipped_lines,
+    push_bad_entry, push_broken_rules, push_description, push_first_bad_line, push_refused_matches,
+    push_several_lines, push_skipped_lines,
 };
 use game_commands::Evidence;
 use std::alloc::Global;

@@ -23,8 +23,7 @@ use command_line::{MatchTask, RunPlan, SeasonPlan};
 use game_commands::{Fault, NamedFile, file_text};
 use game_core::{Counted, Game};
 use match_log::{
-    ClearedOutput, Logging, Notices, Progress, ReportStream, Reporting, StatusStream,
-    WriterBrand,
+    ClearedOutput, Logging, Notices, Progress, ReportStream, Reporting, StatusStream, WriterBrand,
 };
 use match_messages::Player;
 use match_plans::{CheckPlan, MatchPlan, Reach, ReportsShortages, SeasonForm};
@@ -202,9 +201,7 @@ where
     let mut errors = ReportStream::new(rt, &console.notices);
     let mut file = Counted::new(records_file(rt, alloc, path, &mut errors)?);
     let left = undone(rt, alloc, game.game, Some(path), plans, &mut errors)?;
-    let played = play_plans(
-        around, form, game, &left, &mut file, console,
-    );
+    let played = play_plans(around, form, game, &left, &mut file, console);
     if file.end().is_kept() {
         return played;
     }
@@ -316,9 +313,7 @@ where
             run(&logged, plan, game, writer)?;
             Ok(0)
         }
-        MatchTask::Season(plan) => season(
-            &logged, *plan, game, input, writer, console,
-        ),
+        MatchTask::Season(plan) => season(&logged, *plan, game, input, writer, console),
         MatchTask::Check(plan) => {
             console.plan(rt, game.game.roles());
             check(&logged, plan, game, writer)
@@ -405,13 +400,7 @@ where
         shares_terminal: terminals.output && terminals.errors && !is_logged,
         brand: PhantomData,
     });
-    let performed = perform_beside_notices(
-        around,
-        ready,
-        &mut output,
-        &console,
-        &stream,
-    );
+    let performed = perform_beside_notices(around, ready, &mut output, &console, &stream);
     let ClearedOutput { output, .. } = output.end();
     stream.lock(rt).clear();
     (performed, output)

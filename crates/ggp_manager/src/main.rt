@@ -76,12 +76,6 @@ fn main(rt: HostRuntime) -> ExitCode {
         reach: &reach,
         terminals,
     };
-    let status = command(
-        &around,
-        &words,
-        &mut reader,
-        &mut writer,
-        &mut errors,
-    );
+    let status = command(&around, &words, &mut reader, &mut writer, &mut errors);
     ExitCode::from(status)
 }

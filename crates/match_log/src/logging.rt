@@ -165,9 +165,7 @@ impl<H: Clock + Wait, P: Explains> LoggedPlayer<'_, H, P> {
         }
         if let Ok(line) = format!(in self.alloc;
             "ggp_manager: {} role {} {}: every message failed\n",
-            self.id,
-            self.role,
-            self.name,
+            self.id, self.role, self.name,
         ) {
             self.notices.log(self.rt, line.as_bytes());
         }
