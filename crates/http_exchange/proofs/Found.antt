@@ -13,14 +13,14 @@ use Rattle.http_exchange.specs.declared.head.HttpKind.{HttpKind}
 use Rattle.http_exchange.specs.declared.head.HttpKind.TheVariants.{Reply, Request}
 use Rattle.http_exchange.specs.declared.head.Frame.{Frame}
 use Rattle.http_exchange.specs.declared.head.Head.{Head}
-use Rattle.http_exchange.specs.declared.head.Head.TheVariants.{Unfinished, Whole, Refused}
+use Rattle.http_exchange.specs.declared.head.Head.TheVariants.{Unfinished, Whole, Bad, Refused}
 use Rattle.http_exchange.specs.declared.look.Look.{Look}
 use Rattle.http_exchange.specs.declared.look.Look.TheVariants as looks
 use Rattle.http_exchange.specs.declared.wire_fault.FrameFault.{FrameFault}
 use Rattle.http_exchange.specs.declared.wire_fault.FrameFault.TheVariants.{BadHead, NoLength, TooLong, CutShort}
 use Rattle.http_exchange.specs.declared.wire_fault.WireFault.TheVariants.{WriteFault, ReadFault, TooManyReads, Memory}
 use Rattle.http_exchange.specs.declared.wire_fault.WireFault.TheVariants as faults
-use Rattle.http_exchange.proofs.Heads.{placed, none_in_nothing, reads_on, reads_cut, framed_alone}
+use Rattle.http_exchange.proofs.Heads.{placed, none_in_nothing, reads_on, reads_cut, framed_alone, refused_first}
 
 -- ---- carried, so found
 
@@ -148,7 +148,12 @@ follows_from Request unsaid size s e given rest ended stands at whole = stands
 first_line_taken : (r : Option FrameFault) (head : Head) (have : ℕ) (ended : Bool) (s e : ℕ) → looks.Body s e ≡ look_past (unless_refused r head) have ended
     → (r ≡ None) × (looks.Body s e ≡ look_past head have ended)
 first_line_taken None head have ended s e h = (refl, h)
-first_line_taken (Some refusal) head have ended s e h = absurd (not_refused refusal s e h)
+first_line_taken (Some refusal) head have ended s e h =
+    let past : (other : Head) → unless_refused (Some refusal) head ≡ other → looks.Body s e ≡ look_past other have ended = λ other same. h ∙ ap (λ (first : Head). look_past first have ended) same in
+    elim (refused_first refusal head) [
+      | inl bad ↦ absurd (not_refused BadHead s e (past _ bad))
+      | inr other ↦ absurd (not_refused refusal s e (past _ other))
+    ]
 
 -- a head at the front stands before the rest of all the bytes
 reads_all : (kind : HttpKind) (given : List ℕ) (parts : Parts) (rest : List ℕ) → Reads kind (front given) parts rest
@@ -193,7 +198,7 @@ found_is_carried kind given ended s e is =
       | inl whole ↦ carried_from kind given ended s e whole.0 whole.1 whole.2 whole.3 (past (framed kind whole.0) whole.4)
       | inr other ↦
           elim other [
-            | inl hopeless ↦ absurd (not_refused BadHead s e (past (Refused BadHead) hopeless.1))
+            | inl hopeless ↦ absurd (not_refused BadHead s e (past (Bad hopeless.1) hopeless.3))
             | inr unfinished ↦ absurd (not_unfinished (length given) ended s e (past Unfinished unfinished.2))
           ]
     ]

@@ -1,18 +1,20 @@
 -- Heads at the front of bytes, of replies and of requests alike.
 use Rattle.std.proofs.Common.{◌≡◌, ℕ, zero, suc, ◌+◌, ◌-◌, ◌<◌, ◌≤◌, Bool, true, false, cond, List, [], ◌∷◌, ◌++◌, length, take, drop, Option, Some, None, refl, sym, ap, subst, ◌∙◌, arith, inl, inr, length-append, append_assoc, length-take}
-use Rattle.std.specs.Prelude.{nat_le}
+use Rattle.std.specs.Prelude.{◌⊎◌, nat_le}
 use Rattle.std.proofs.lemmas.List.{append-nil, drop_at, take_all}
 use Rattle.httparse.specs.Grammar.{ResponseHead, RequestHead, print_response, print_request}
 use Rattle.httparse.proofs.GrammarLemmas.{response_unique, request_unique}
 use Rattle.http_exchange.specs.BodyLength.{BodyLength, unsaid, said, wrong, body_length, length_fault}
-use Rattle.http_exchange.specs.HttpHead.{Parts, Reads, IsHopeless, HeadIs, framed, framed_by, unless_refused, reply_parts, request_parts, front, max_head, max_body, max_fields}
+use Rattle.http_exchange.specs.HttpHead.{Parts, Reads, IsHopeless, IsBadIn, NeverHasHead, HasManyFields, HeadIs, framed, framed_by, unless_refused, reply_parts, request_parts, front, max_head, max_body, max_fields}
 use Rattle.http_exchange.specs.Internal.Heads.{IsKnown, StartsWithin}
 use Rattle.http_exchange.specs.declared.head.HttpKind.{HttpKind}
 use Rattle.http_exchange.specs.declared.head.HttpKind.TheVariants.{Reply, Request}
 use Rattle.http_exchange.specs.declared.head.Head.{Head}
-use Rattle.http_exchange.specs.declared.head.Head.TheVariants.{Whole, Refused}
+use Rattle.http_exchange.specs.declared.head.HeadPart.{HeadPart}
+use Rattle.http_exchange.specs.declared.head.HeadPart.TheVariants.{Method}
+use Rattle.http_exchange.specs.declared.head.Head.TheVariants.{Whole, Bad, Refused}
 use Rattle.http_exchange.specs.declared.wire_fault.FrameFault.{FrameFault}
-use Rattle.http_exchange.specs.declared.wire_fault.FrameFault.TheVariants.{TooLong}
+use Rattle.http_exchange.specs.declared.wire_fault.FrameFault.TheVariants.{BadHead, BadStatus, TransferEncoding, NoNumber, TwoLengths, NoLength, TooLong, CutShort}
 
 -- the bytes of a head, and the rest
 pub record Split (kind : HttpKind) (bytes : List ℕ) (parts : Parts) (rest : List ℕ) : Type 0 where
@@ -97,6 +99,17 @@ reads_cut kind n bytes parts rest reads small =
     ap (take n) s.is ∙ front_split s.text n rest ∙ ap (λ l. l ++ take (n - length s.text) rest) whole ∙ ap (λ k. s.text ++ take (n - k) rest) s.size in
     subst (λ (l : List ℕ). Reads kind l parts (take (n - parts.size) rest)) (sym cut) (s.before_any (take (n - parts.size) rest))
 
+-- what a first line makes of a head, if it is refused
+pub refused_first : (r : FrameFault) (head : Head) → (unless_refused (Some r) head ≡ Bad Method) ⊎ (unless_refused (Some r) head ≡ Refused r)
+refused_first BadHead head = inl refl
+refused_first (BadStatus status) head = inr refl
+refused_first TransferEncoding head = inr refl
+refused_first NoNumber head = inr refl
+refused_first TwoLengths head = inr refl
+refused_first NoLength head = inr refl
+refused_first TooLong head = inr refl
+refused_first CutShort head = inr refl
+
 -- ---- where a body starts
 
 starts_by : (b : Bool) (size n m : ℕ) → size ≤ n → StartsWithin n (cond b (Whole (record { start = size; length = Some m })) (Refused TooLong))
@@ -111,7 +124,11 @@ starts_framed_by Request size n fault unsaid h = tt
 
 starts_unless : (r : Option FrameFault) (n : ℕ) (head : Head) → StartsWithin n head → StartsWithin n (unless_refused r head)
 starts_unless None n head h = h
-starts_unless (Some refusal) n head h = tt
+starts_unless (Some refusal) n head h =
+    elim (refused_first refusal head) [
+      | inl bad ↦ subst (StartsWithin n) (sym bad) tt
+      | inr other ↦ subst (StartsWithin n) (sym other) tt
+    ]
 
 pub starts : (kind : HttpKind) (bytes : List ℕ) (head : Head) → HeadIs kind bytes head → StartsWithin (length bytes) head
 starts kind bytes head is =
@@ -123,7 +140,7 @@ starts kind bytes head is =
           subst (StartsWithin (length bytes)) (sym whole.4) (starts_unless parts.refusal (length bytes) (framed_by kind parts.size (length_fault parts.fields) (body_length parts.fields)) (starts_framed_by kind parts.size (length bytes) (length_fault parts.fields) (body_length parts.fields) inside))
       | inr other ↦
           elim other [
-            | inl hopeless ↦ subst (StartsWithin (length bytes)) (sym hopeless.1) tt
+            | inl hopeless ↦ subst (StartsWithin (length bytes)) (sym hopeless.3) tt
             | inr unfinished ↦ subst (StartsWithin (length bytes)) (sym unfinished.2) tt
           ]
     ]
@@ -137,16 +154,31 @@ hopeless_on : (kind : HttpKind) (bytes more : List ℕ) → IsHopeless kind byte
 hopeless_on kind bytes more h later parts rest reads =
     h (more ++ later) parts rest (subst (λ (l : List ℕ). Reads kind l parts rest) (append_assoc bytes more later) reads)
 
+bad_on : (kind : HttpKind) (bytes more : List ℕ) (part : HeadPart) → IsBadIn kind bytes part → IsBadIn kind (bytes ++ more) part
+bad_on kind bytes more part h = (λ e. many_on (h.0 e), λ differs. never_on (h.1 differs))
+  where
+    never_on : NeverHasHead kind bytes → NeverHasHead kind (bytes ++ more)
+    never_on never later parts rest reads =
+        never (more ++ later) parts rest (subst (λ (l : List ℕ). Reads kind l parts rest) (append_assoc bytes more later) reads)
+
+    many_on : HasManyFields kind bytes → HasManyFields kind (bytes ++ more)
+    many_on many = (many.0, many.1 ++ more, ap (λ l. l ++ more) many.2 ∙ append_assoc many.0 many.1 more, many.3, many.4, many.5)
+
 pub head_stays : (kind : HttpKind) (bytes more : List ℕ) (head : Head) → HeadIs kind bytes head → IsKnown kind (bytes ++ more) head
 head_stays kind bytes more head is =
     let on = front_on bytes more in
+    let after = take (max_head - length bytes) more in
     elim is [
       | inl whole ↦
-          let reads = reads_on kind (front bytes) whole.0 whole.1 (take (max_head - length bytes) more) whole.2 in
-          inr (inl (whole.0, whole.1 ++ take (max_head - length bytes) more, subst (λ (l : List ℕ). Reads kind l whole.0 (whole.1 ++ take (max_head - length bytes) more)) (sym on) reads, whole.3, whole.4))
+          let reads = reads_on kind (front bytes) whole.0 whole.1 after whole.2 in
+          inr (inl (whole.0, whole.1 ++ after, subst (λ (l : List ℕ). Reads kind l whole.0 (whole.1 ++ after)) (sym on) reads, whole.3, whole.4))
       | inr other ↦
           elim other [
-            | inl hopeless ↦ inr (inr (inl (subst (IsHopeless kind) (sym on) (hopeless_on kind (front bytes) (take (max_head - length bytes) more) hopeless.0), hopeless.1)))
+            | inl hopeless ↦
+                let part = hopeless.1 in
+                let still = subst (IsHopeless kind) (sym on) (hopeless_on kind (front bytes) after hopeless.0) in
+                let bad = subst (λ (l : List ℕ). IsBadIn kind l part) (sym on) (bad_on kind (front bytes) after part hopeless.2) in
+                inr (inr (inl (still, part, bad, hopeless.3)))
             | inr unfinished ↦ inl unfinished.2
           ]
     ]

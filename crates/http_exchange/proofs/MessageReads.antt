@@ -14,7 +14,7 @@ use Rattle.http_exchange.specs.Internal.Reads.{Grows, ReadOnceStops}
 use Rattle.http_exchange.specs.declared.head.HttpKind.{HttpKind}
 use Rattle.http_exchange.specs.declared.head.HttpKind.TheVariants.{Reply}
 use Rattle.http_exchange.specs.declared.head.Head.{Head}
-use Rattle.http_exchange.specs.declared.head.Head.TheVariants.{Unfinished, Whole, Refused}
+use Rattle.http_exchange.specs.declared.head.Head.TheVariants.{Unfinished, Whole, Bad, Refused}
 use Rattle.http_exchange.specs.declared.look.Look.{Look}
 use Rattle.http_exchange.specs.declared.look.Look.TheVariants as looks
 use Rattle.http_exchange.specs.declared.wire_fault.FrameFault.{FrameFault}
@@ -85,6 +85,7 @@ no_more_from start None have h = neither (nat_lt (start + max_body Reply) have) 
 
 no_more_past : (head : Head) (have : ℕ) → looks.More ≡ look_past head have true → ⊥
 no_more_past Unfinished have h = neither (nat_le max_head have) _ _ (not_refused _) (not_refused _) h
+no_more_past (Bad part) have h = not_refused refusals.BadHead h
 no_more_past (Refused refusal) have h = not_refused refusal h
 no_more_past (Whole frame) have h = no_more_from frame.start frame.length have h
 

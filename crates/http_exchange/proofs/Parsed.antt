@@ -4,17 +4,22 @@ use Rattle.std.specs.Prelude.{◌==◌, not}
 use Rattle.std.proofs.lemmas.Bool.Decides.{nat_tests}
 use Rattle.std.specs.Str.{bytes_eq}
 use Rattle.std.proofs.lemmas.List.{length-map}
+use Rattle.httparse.specs.declared.Error.{Error}
+use Rattle.httparse.specs.declared.Error.TheVariants.{HeaderName, HeaderValue, NewLine, Status, Token, TooManyHeaders, Version}
 use Rattle.httparse.specs.declared.spans.HeaderSpan.{HeaderSpan}
 use Rattle.httparse.specs.declared.spans.ResponseSpans.{ResponseSpans}
 use Rattle.httparse.specs.declared.spans.RequestSpans.{RequestSpans}
-use Rattle.httparse.specs.Grammar.{Field, HasNoResponse, MayBecomeResponse, HasNoRequest, MayBecomeRequest}
-use Rattle.httparse.specs.Spans.{IsResponseOf, IsRequestOf, ResponseOverflows, RequestOverflows, AreFieldsAt, header_bytes, name_and_value, span_bytes}
+use Rattle.httparse.specs.Grammar.{Field, HasNoResponse, NeverHasResponse, MayBecomeResponse, HasNoRequest, NeverHasRequest, MayBecomeRequest}
+use Rattle.httparse.specs.Spans.{IsResponseOf, IsRequestOf, ResponseOverflows, RequestOverflows, ResponseExceeds, RequestExceeds, AreFieldsAt, header_bytes, name_and_value, span_bytes}
 use Rattle.http_exchange.specs.BodyLength.{body_length, length_fault}
-use Rattle.http_exchange.specs.HttpHead.{Parts, Reads, HeadIs, IsHopeless, MayBecomeHead, HasNoHead, reply_parts, request_parts, unless_refused, framed_by, front, good_status, post, max_fields}
+use Rattle.http_exchange.specs.HttpHead.{Parts, Reads, HeadIs, IsHopeless, IsBadIn, NeverHasHead, HasManyFields, MayBecomeHead, HasNoHead, reply_parts, request_parts, unless_refused, framed_by, front, good_status, post, max_fields}
+use Rattle.http_exchange.specs.Internal.Heads.{part_of}
 use Rattle.http_exchange.specs.declared.head.HttpKind.{HttpKind}
 use Rattle.http_exchange.specs.declared.head.HttpKind.TheVariants.{Reply, Request}
 use Rattle.http_exchange.specs.declared.head.Head.{Head}
-use Rattle.http_exchange.specs.declared.head.Head.TheVariants.{Unfinished, Refused}
+use Rattle.http_exchange.specs.declared.head.Head.TheVariants.{Unfinished, Bad, Refused}
+use Rattle.http_exchange.specs.declared.head.HeadPart.{HeadPart}
+use Rattle.http_exchange.specs.declared.head.HeadPart.TheVariants.{Method, FieldCount}
 use Rattle.http_exchange.specs.declared.wire_fault.FrameFault.TheVariants.{BadHead, BadStatus}
 
 few_fields : (text : List ℕ) (headers : List HeaderSpan) (count : ℕ) (fields : List Field) → AreFieldsAt text headers count fields
@@ -59,8 +64,10 @@ head_unfinished : (kind : HttpKind) (bytes text : List ℕ) → text ≡ front b
 head_unfinished kind bytes text is_front none may =
     inr (inr (subst (HasNoHead kind) is_front none, subst (MayBecomeHead kind) is_front may, refl))
 
-head_hopeless : (kind : HttpKind) (bytes text : List ℕ) → text ≡ front bytes → IsHopeless kind text → HeadIs kind bytes (Refused BadHead)
-head_hopeless kind bytes text is_front hopeless = inr (inl (subst (IsHopeless kind) is_front hopeless, refl))
+head_hopeless : (kind : HttpKind) (bytes text : List ℕ) (part : HeadPart) → text ≡ front bytes → IsHopeless kind text → IsBadIn kind text part
+    → HeadIs kind bytes (Bad part)
+head_hopeless kind bytes text part is_front hopeless bad =
+    inr (inl (subst (IsHopeless kind) is_front hopeless, part, subst (λ (l : List ℕ). IsBadIn kind l part) is_front bad, refl))
 
 pub reply_unfinished : (bytes text : List ℕ) → text ≡ front bytes → HasNoResponse text → MayBecomeResponse text → HeadIs Reply bytes Unfinished
 reply_unfinished bytes text is_front none may =
@@ -75,13 +82,38 @@ many parts fields is h =
     let same : length parts.fields ≡ length fields = ap length is ∙ simp length-map in
     omega arith
 
-pub reply_hopeless : (bytes text : List ℕ) → text ≡ front bytes → ResponseOverflows 64 text → HeadIs Reply bytes (Refused BadHead)
-reply_hopeless bytes text is_front over =
-    head_hopeless Reply bytes text is_front (λ more parts rest reads. many parts reads.0.fields (ap (λ (p : Parts). p.fields) reads.2) (over more reads.0 rest reads.1))
+too_many : (error : Error) → part_of error ≡ FieldCount → error ≡ TooManyHeaders
+too_many TooManyHeaders is = refl
+too_many HeaderName is = absurd (cc)
+too_many HeaderValue is = absurd (cc)
+too_many NewLine is = absurd (cc)
+too_many Status is = absurd (cc)
+too_many Token is = absurd (cc)
+too_many Version is = absurd (cc)
 
-pub request_hopeless : (bytes text : List ℕ) → text ≡ front bytes → RequestOverflows 64 text → HeadIs Request bytes (Refused BadHead)
-request_hopeless bytes text is_front over =
-    head_hopeless Request bytes text is_front (λ more parts rest reads. many parts reads.0.fields (ap (λ (p : Parts). p.fields) reads.2) (over more reads.0 rest reads.1))
+bad_in : (kind : HttpKind) (text : List ℕ) (error : Error) → (error ≢ TooManyHeaders → NeverHasHead kind text)
+    → (error ≡ TooManyHeaders → HasManyFields kind text) → IsBadIn kind text (part_of error)
+bad_in kind text error invalid exceeds = (λ is. exceeds (too_many error is), λ differs. invalid (λ is. differs (ap part_of is)))
+
+pub reply_hopeless : (bytes text : List ℕ) (error : Error) → text ≡ front bytes → ResponseOverflows 64 text
+    → (error ≢ TooManyHeaders → NeverHasResponse text) → (error ≡ TooManyHeaders → ResponseExceeds 64 text) → HeadIs Reply bytes (Bad (part_of error))
+reply_hopeless bytes text error is_front over invalid exceeds =
+    head_hopeless Reply bytes text (part_of error) is_front
+    (λ more parts rest reads. many parts reads.0.fields (ap (λ (p : Parts). p.fields) reads.2) (over more reads.0 rest reads.1))
+    (bad_in Reply text error (λ differs more parts rest reads. invalid differs more reads.0 rest reads.1) (λ is. exceeding (exceeds is)))
+  where
+    exceeding : ResponseExceeds 64 text → HasManyFields Reply text
+    exceeding it = (it.0, it.1, it.2, reply_parts it.3, (it.3, it.4, refl), many (reply_parts it.3) it.3.fields refl it.5)
+
+pub request_hopeless : (bytes text : List ℕ) (error : Error) → text ≡ front bytes → RequestOverflows 64 text
+    → (error ≢ TooManyHeaders → NeverHasRequest text) → (error ≡ TooManyHeaders → RequestExceeds 64 text) → HeadIs Request bytes (Bad (part_of error))
+request_hopeless bytes text error is_front over invalid exceeds =
+    head_hopeless Request bytes text (part_of error) is_front
+    (λ more parts rest reads. many parts reads.0.fields (ap (λ (p : Parts). p.fields) reads.2) (over more reads.0 rest reads.1))
+    (bad_in Request text error (λ differs more parts rest reads. invalid differs more reads.0 rest reads.1) (λ is. exceeding (exceeds is)))
+  where
+    exceeding : RequestExceeds 64 text → HasManyFields Request text
+    exceeding it = (it.0, it.1, it.2, request_parts it.3, (it.3, it.4, refl), many (request_parts it.3) it.3.fields refl it.5)
 
 -- ---- the first line
 
@@ -104,7 +136,7 @@ not_false true e = refl
 not_false false e = absurd (cc)
 
 pub bad_method : (differs : Bool) (seen method : List ℕ) (head : Head) → differs ≡ not (bytes_eq seen post) → seen ≡ method → differs ≡ true
-    → Refused BadHead ≡ unless_refused (cond (bytes_eq method post) None (Some BadHead)) head
+    → Bad Method ≡ unless_refused (cond (bytes_eq method post) None (Some BadHead)) head
 bad_method differs seen method head is same differing =
     let test : bytes_eq method post ≡ false = sym (ap (λ s. bytes_eq s post) same) ∙ not_true (bytes_eq seen post) (sym is ∙ differing) in
     ap (λ (b : Bool). unless_refused (cond b None (Some BadHead)) head) (sym test)

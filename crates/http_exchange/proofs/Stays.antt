@@ -9,8 +9,8 @@ use Rattle.http_exchange.specs.WireLaws.{LooksStay, IsUndecided}
 use Rattle.http_exchange.specs.declared.head.HttpKind.{HttpKind}
 use Rattle.http_exchange.specs.declared.head.HttpKind.TheVariants.{Reply}
 use Rattle.http_exchange.specs.declared.head.Head.{Head}
-use Rattle.http_exchange.specs.declared.head.Head.TheVariants.{Unfinished, Whole, Refused}
-use Rattle.http_exchange.specs.declared.wire_fault.FrameFault.TheVariants.{BadHead}
+use Rattle.http_exchange.specs.declared.head.Head.TheVariants.{Unfinished, Whole, Bad, Refused}
+use Rattle.http_exchange.specs.declared.head.HeadPart.{HeadPart}
 use Rattle.http_exchange.specs.declared.look.Look.TheVariants.{More}
 use Rattle.http_exchange.proofs.Heads.{head_stays, framed_alone, not_hopeless}
 
@@ -45,6 +45,7 @@ look_past_stays Unfinished have more ended h =
         let later : nat_le max_head (have + more) ≡ true = grind (arith, nat_tests) in
         rw (e, later) refl
     stays false e = absurd (h (rw e refl))
+look_past_stays (Bad part) have more ended h = refl
 look_past_stays (Refused refusal) have more ended h = refl
 look_past_stays (Whole frame) have more ended h = look_from_stays frame.start frame.length have more ended h
 
@@ -64,37 +65,47 @@ same_front kind bytes more head long is =
     let same : front (bytes ++ more) ≡ front bytes = take-append-le max_head bytes more long in
     rw same is
 
--- a head has one result, unless it is undecided
-head_alone : (kind : HttpKind) (bytes : List ℕ) (head other : Head) → HeadIs kind bytes head → HeadIs kind bytes other → (other ≡ head) ⊎ IsUndecided kind bytes
+-- the heads give one result, for any number of bytes; of bad ones the parts may differ
+abbrev AreAlike : Head → Head → Type 0
+AreAlike other head = (have : ℕ) (ended : Bool) → look_past other have ended ≡ look_past head have ended
+
+alike : (other head : Head) → other ≡ head → AreAlike other head
+alike other head same have ended = ap (λ (h : Head). look_past h have ended) same
+
+both_bad : (other head : Head) (one another : HeadPart) → other ≡ Bad one → head ≡ Bad another → AreAlike other head
+both_bad other head one another is also have ended = alike other (Bad one) is have ended ∙ sym (alike head (Bad another) also have ended)
+
+-- bytes have one result, unless they are undecided
+head_alone : (kind : HttpKind) (bytes : List ℕ) (head other : Head) → HeadIs kind bytes head → HeadIs kind bytes other → AreAlike other head ⊎ IsUndecided kind bytes
 head_alone kind bytes head other is also =
     elim is [
-      | inl whole ↦ inl (framed_alone kind bytes whole.0 whole.1 other whole.2 whole.3 also ∙ sym whole.4)
+      | inl whole ↦ inl (alike other head (framed_alone kind bytes whole.0 whole.1 other whole.2 whole.3 also ∙ sym whole.4))
       | inr rest ↦
           elim rest [
-            | inl hopeless ↦ where_hopeless hopeless.0 hopeless.1 also
+            | inl hopeless ↦ where_hopeless hopeless.0 hopeless.1 hopeless.3 also
             | inr unfinished ↦ where_unfinished unfinished.0 unfinished.1 unfinished.2 also
           ]
     ]
   where
-    where_hopeless : IsHopeless kind (front bytes) → head ≡ Refused BadHead → HeadIs kind bytes other → (other ≡ head) ⊎ IsUndecided kind bytes
-    where_hopeless hopeless same found =
+    where_hopeless : IsHopeless kind (front bytes) → (part : HeadPart) → head ≡ Bad part → HeadIs kind bytes other → AreAlike other head ⊎ IsUndecided kind bytes
+    where_hopeless hopeless part same found =
         elim found [
           | inl whole ↦ absurd (not_hopeless kind (front bytes) whole.0 whole.1 hopeless whole.2 whole.3)
           | inr rest ↦
               elim rest [
-                | inl again ↦ inl (again.1 ∙ sym same)
+                | inl again ↦ inl (both_bad other head again.1 part again.3 same)
                 | inr unfinished ↦ inr (record { unfinished = unfinished.1; hopeless = hopeless })
               ]
         ]
 
-    where_unfinished : HasNoHead kind (front bytes) → MayBecomeHead kind (front bytes) → head ≡ Unfinished → HeadIs kind bytes other → (other ≡ head) ⊎ IsUndecided kind bytes
+    where_unfinished : HasNoHead kind (front bytes) → MayBecomeHead kind (front bytes) → head ≡ Unfinished → HeadIs kind bytes other → AreAlike other head ⊎ IsUndecided kind bytes
     where_unfinished none may same found =
         elim found [
           | inl whole ↦ absurd (none whole.0 whole.1 whole.2)
           | inr rest ↦
               elim rest [
                 | inl hopeless ↦ inr (record { unfinished = may; hopeless = hopeless.0 })
-                | inr again ↦ inl (again.2 ∙ sym same)
+                | inr again ↦ inl (alike other head (again.2 ∙ sym same))
               ]
         ]
 
@@ -112,6 +123,6 @@ looks_stay kind bytes more ended look later now wanted then =
     let stays = look_past_stays head (length bytes) (length more) ended decided in
     elim (head_alone kind (bytes ++ more) head then.0 on then.1) [
       | inl same ↦
-          inl (then.2 ∙ ap (λ (h : Head). look_past h (length (bytes ++ more)) ended) same ∙ ap (λ n. look_past head n ended) (length-append bytes more) ∙ stays ∙ sym now.2)
+          inl (then.2 ∙ same (length (bytes ++ more)) ended ∙ ap (λ n. look_past head n ended) (length-append bytes more) ∙ stays ∙ sym now.2)
       | inr undecided ↦ inr undecided
     ]

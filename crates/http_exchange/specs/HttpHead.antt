@@ -1,13 +1,16 @@
 -- The heads of messages, by the grammar of `httparse`, and what they say of the body.
-use Rattle.std.specs.Prelude.{◌≡◌, ℕ, ◌<◌, ◌≤◌, ◌⊎◌, ◌==◌, nat_le, if◌then◌else◌, List, ◌++◌, length, take, map, codes, Option, Some, None}
+use Rattle.std.specs.Prelude.{◌≡◌, ◌≢◌, ℕ, ◌<◌, ◌≤◌, ◌⊎◌, ◌==◌, nat_le, if◌then◌else◌, List, [], ◌∷◌, ◌++◌, length, take, map, codes, Option, Some, None}
 use Rattle.std.specs.Str.{bytes_eq}
 use Rattle.httparse.specs.Grammar.{ResponseHead, ReadsResponse, MayBecomeResponse, print_response, status_code, RequestHead, ReadsRequest, MayBecomeRequest, print_request}
 use Rattle.httparse.specs.Spans.{name_and_value}
+use Rattle.game_core.specs.Bytes.{line_feed}
 use Rattle.http_exchange.specs.BodyLength.{Header, BodyLength, unsaid, said, wrong, body_length, length_fault}
 use Rattle.http_exchange.specs.declared.head.HttpKind.{HttpKind}
 use Rattle.http_exchange.specs.declared.head.HttpKind.TheVariants.{Reply, Request}
 use Rattle.http_exchange.specs.declared.head.Head.{Head}
-use Rattle.http_exchange.specs.declared.head.Head.TheVariants.{Unfinished, Whole, Refused}
+use Rattle.http_exchange.specs.declared.head.Head.TheVariants.{Unfinished, Whole, Bad, Refused}
+use Rattle.http_exchange.specs.declared.head.HeadPart.{HeadPart}
+use Rattle.http_exchange.specs.declared.head.HeadPart.TheVariants.{Method, FieldCount}
 use Rattle.http_exchange.specs.declared.wire_fault.FrameFault.{FrameFault}
 use Rattle.http_exchange.specs.declared.wire_fault.FrameFault.TheVariants.{BadHead, BadStatus, NoLength, TooLong}
 
@@ -73,6 +76,21 @@ IsHopeless kind bytes =
     (more : List ℕ) (parts : Parts) (rest : List ℕ) → Reads kind (bytes ++ more) parts rest
     → max_fields < length parts.fields
 
+-- no head stands at the front, whatever bytes follow
+abbrev pub NeverHasHead : HttpKind → List ℕ → Type 0
+NeverHasHead kind bytes = (more : List ℕ) → HasNoHead kind (bytes ++ more)
+
+-- with an empty line behind it, a part of the bytes from the front on is a head with too many fields
+abbrev pub HasManyFields : HttpKind → List ℕ → Type 0
+HasManyFields kind bytes =
+    (begun : List ℕ) × (others : List ℕ) × (bytes ≡ begun ++ others)
+    × (parts : Parts) × Reads kind (begun ++ (line_feed ∷ [])) parts [] × (max_fields < length parts.fields)
+
+-- This part of a hopeless head is not of HTTP: the number of fields, if too many are there; another part, if no bytes that follow make
+-- the bytes a head.
+abbrev pub IsBadIn : HttpKind → List ℕ → HeadPart → Type 0
+IsBadIn kind bytes part = (part ≡ FieldCount → HasManyFields kind bytes) × (part ≢ FieldCount → NeverHasHead kind bytes)
+
 -- The body after a head of this size, by the length that the fields give, or by the fault that they have. Without a length, a reply's
 -- body runs to the end of the stream.
 abbrev pub framed_by : HttpKind → ℕ → FrameFault → BodyLength → Head
@@ -82,8 +100,10 @@ framed_by kind size fault (said n) =
 framed_by Reply size fault unsaid = Whole (record { start = size; length = None })
 framed_by Request size fault unsaid = Refused NoLength
 
+-- a first line that is not of HTTP is so in its method
 abbrev pub unless_refused : Option FrameFault → Head → Head
 unless_refused None head = head
+unless_refused (Some BadHead) head = Bad Method
 unless_refused (Some refusal) head = Refused refusal
 
 -- what a whole head says: its first line is tested first, then its fields
@@ -100,5 +120,5 @@ abbrev pub HeadIs : HttpKind → List ℕ → Head → Type 0
 HeadIs kind bytes head =
     ((parts : Parts) × (rest : List ℕ) × Reads kind (front bytes) parts rest × (length parts.fields ≤ max_fields)
     × (head ≡ framed kind parts))
-    ⊎ ((IsHopeless kind (front bytes) × (head ≡ Refused BadHead))
+    ⊎ ((IsHopeless kind (front bytes) × (part : HeadPart) × IsBadIn kind (front bytes) part × (head ≡ Bad part))
     ⊎ (HasNoHead kind (front bytes) × MayBecomeHead kind (front bytes) × (head ≡ Unfinished)))

@@ -4,10 +4,10 @@ use Rattle.http_exchange.specs.HttpHead.{HeadIs, max_head, max_body}
 use Rattle.http_exchange.specs.declared.head.HttpKind.{HttpKind}
 use Rattle.http_exchange.specs.declared.head.HttpKind.TheVariants.{Reply}
 use Rattle.http_exchange.specs.declared.head.Head.{Head}
-use Rattle.http_exchange.specs.declared.head.Head.TheVariants.{Unfinished, Whole, Refused}
+use Rattle.http_exchange.specs.declared.head.Head.TheVariants.{Unfinished, Whole, Bad, Refused}
 use Rattle.http_exchange.specs.declared.look.Look.{Look}
 use Rattle.http_exchange.specs.declared.look.Look.TheVariants as looks
-use Rattle.http_exchange.specs.declared.wire_fault.FrameFault.TheVariants.{TooLong, CutShort}
+use Rattle.http_exchange.specs.declared.wire_fault.FrameFault.TheVariants.{BadHead, TooLong, CutShort}
 
 -- a body of this length from start on, or one that runs to the end of the stream
 abbrev pub look_from : ℕ → Option ℕ → ℕ → Bool → Look
@@ -22,6 +22,7 @@ look_from start None have ended =
 abbrev pub look_past : Head → ℕ → Bool → Look
 look_past Unfinished have ended =
     if nat_le max_head have then looks.Refused TooLong else (if ended then looks.Refused CutShort else looks.More)
+look_past (Bad part) have ended = looks.Refused BadHead
 look_past (Refused refusal) have ended = looks.Refused refusal
 look_past (Whole frame) have ended = look_from frame.start frame.length have ended
 

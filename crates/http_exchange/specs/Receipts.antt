@@ -19,6 +19,7 @@ body_receipt None come = receipts.OpenBody come
 abbrev pub receipt : Head → ℕ → Received
 receipt heads.Unfinished have = head_receipt have
 receipt (heads.Whole frame) have = body_receipt frame.length (have - frame.start)
+receipt (heads.Bad part) have = receipts.BadHead part have
 receipt (heads.Refused (BadStatus status)) have = receipts.Status status have
 receipt (heads.Refused TransferEncoding) have = receipts.TransferEncoding
 receipt (heads.Refused NoNumber) have = receipts.NoNumber

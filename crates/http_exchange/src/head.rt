@@ -3,13 +3,13 @@ ghost use Rattle.std.specs.Prelude.{◌≡◌, ◌<◌, ◌^◌, All, map, lengt
 ghost use Rattle.httparse.specs.Spans.{IsHeaderWithin, header_bytes};
 ghost use Rattle.http_exchange.specs.BodyLength.{body_length, length_fault};
 ghost use Rattle.http_exchange.specs.HttpHead.{HeadIs, framed_by, front, max_body};
-ghost use Rattle.http_exchange.specs.Internal.Heads.{IsKnown, StartsWithin};
+ghost use Rattle.http_exchange.specs.Internal.Heads.{IsKnown, StartsWithin, part_of};
 
 use crate::body_length::said_length;
 use crate::wire_fault::FrameFault;
 use game_core::numeral::number_up_to;
-use httparse::Status;
 use httparse::spans::{EMPTY_HEADER_SPAN, HeaderSpan, parse_request, parse_response};
+use httparse::{Error, Status};
 
 /// The kind of message that is read.
 #[derive(Clone, Copy)]
@@ -26,12 +26,33 @@ pub struct Frame {
     pub length: Option<usize>,
 }
 
+/// The part of a head that is not of HTTP.
+#[derive(Clone, Copy, PartialEq, Eq)]
+pub enum HeadPart {
+    /// The version is neither 1.0 nor 1.1, or a reply does not begin with it and a blank.
+    Version,
+    /// No status of three digits follows the version, or a control byte follows the status.
+    Status,
+    /// A request's method is not `POST`, or its target is no text.
+    Method,
+    /// A line before the empty one has no name with a colon right behind it.
+    FieldName,
+    /// The value of a field has a control byte.
+    FieldValue,
+    /// A line ends with neither CR LF nor LF.
+    LineEnd,
+    /// There are more than 64 fields.
+    FieldCount,
+}
+
 /// What the bytes read so far say of the head.
 #[derive(Clone, Copy)]
 pub enum Head {
     /// More bytes may make them a head.
     Unfinished,
     Whole(Frame),
+    /// This part is not of HTTP.
+    Bad(HeadPart),
     Refused(FrameFault),
 }
 
@@ -87,6 +108,21 @@ fn framed(kind: HttpKind, size: usize, buf: &[u8], headers: &[HeaderSpan]) -> He
     }
 }
 
+/// The part of a head that the parser refuses with this error.
+fn part_of(error: Error) -> HeadPart
+    ensures { result ≡ part_of error }
+{
+    match error {
+        Error::Version => HeadPart::Version,
+        Error::Status => HeadPart::Status,
+        Error::Token => HeadPart::Method,
+        Error::HeaderName => HeadPart::FieldName,
+        Error::HeaderValue => HeadPart::FieldValue,
+        Error::NewLine => HeadPart::LineEnd,
+        Error::TooManyHeaders => HeadPart::FieldCount,
+    }
+}
+
 /// The part of the bytes in which a head may stand.
 fn front_of(bytes: &[u8]) -> &[u8]
     ensures { result.now ≡ front bytes.now }
@@ -107,7 +143,7 @@ fn reply_head(bytes: &[u8]) -> Head
             framed(HttpKind::Reply, head.len, text, &headers[..head.headers])
         }
         Ok(Status::Partial) => Head::Unfinished,
-        Err(_) => Head::Refused(FrameFault::BadHead),
+        Err(error) => Head::Bad(part_of(error)),
     }
 }
 
@@ -119,12 +155,12 @@ fn request_head(bytes: &[u8]) -> Head
     match parse_request(text, &mut headers) {
         Ok(Status::Complete(head)) => {
             if head.method.of(text) != POST {
-                return Head::Refused(FrameFault::BadHead);
+                return Head::Bad(HeadPart::Method);
             }
             framed(HttpKind::Request, head.len, text, &headers[..head.headers])
         }
         Ok(Status::Partial) => Head::Unfinished,
-        Err(_) => Head::Refused(FrameFault::BadHead),
+        Err(error) => Head::Bad(part_of(error)),
     }
 }
 

@@ -20,5 +20,6 @@ mod sending;
 mod wire_fault;
 
 pub use exchanging::{exchange, exchange_shared, give_reply, take_request};
+pub use head::HeadPart;
 pub use received::Received;
 pub use wire_fault::WireFault;

@@ -61,6 +61,7 @@ pub(crate) fn look_past(head: Head, have: usize, ended: bool) -> Look
             }
         }
         Head::Whole(frame) => look_from(frame, have, ended),
+        Head::Bad(_) => Look::Refused(FrameFault::BadHead),
         Head::Refused(refusal) => Look::Refused(refusal),
     }
 }

@@ -3,7 +3,7 @@ ghost use Rattle.std.specs.Prelude.{◌≡◌};
 ghost use Rattle.http_exchange.specs.Internal.Heads.{StartsWithin};
 ghost use Rattle.http_exchange.specs.Receipts.{receipt};
 
-use crate::head::{Head, MAX_REPLY_BODY};
+use crate::head::{Head, HeadPart, MAX_REPLY_BODY};
 use crate::wire_fault::FrameFault;
 use std::fmt;
 
@@ -30,13 +30,29 @@ pub enum Received {
     LongLength,
     /// A whole head with this status, which is not 200, among so many bytes.
     Status(u16, usize),
-    /// So many bytes, whose head is refused.
+    /// So many bytes, and this part of their head is not of HTTP.
+    BadHead(HeadPart, usize),
+    /// So many bytes, whose head is refused for another reason.
     Refused(usize),
 }
 
 impl fmt::Display for Received {
     fn fmt<W: fmt::Write>(&self, f: &mut fmt::Formatter<W>) -> fmt::Result {
         match *self {
+            Received::BadHead(part, count) => {
+                let fault = match part {
+                    HeadPart::Version => "it does not begin with HTTP/1.0 or HTTP/1.1 and a blank",
+                    HeadPart::Status =>
+                        "its status is not three digits, or a control byte follows it",
+                    HeadPart::Method => "its method is not POST, or its target is no text",
+                    HeadPart::FieldName =>
+                        "a line before the empty one has no name with a colon right behind it",
+                    HeadPart::FieldValue => "a field's value has a control byte",
+                    HeadPart::LineEnd => "a line ends with neither CR LF nor LF",
+                    HeadPart::FieldCount => "it has more than 64 fields",
+                };
+                write!(f, "{fault}: {count} of ")?
+            }
             Received::Head(count)
             | Received::Body(count, _)
             | Received::OpenBody(count)
@@ -55,7 +71,9 @@ impl fmt::Display for Received {
             Received::NoNumber => "a Content-Length that is no number",
             Received::TwoLengths => "two lengths that differ",
             Received::LongLength => return write!(f, "a Content-Length above {MAX_REPLY_BODY}"),
-            Received::Status(..) | Received::Refused(_) => "the reply's bytes received",
+            Received::Status(..) | Received::BadHead(..) | Received::Refused(_) => {
+                "the reply's bytes received"
+            }
         };
         f.write_str(words)
     }
@@ -85,6 +103,7 @@ pub(crate) fn received_of(head: Head, have: usize) -> Received
             Some(length) => Received::Body(length.min(have - frame.start), length),
             None => Received::OpenBody(have - frame.start),
         },
+        Head::Bad(part) => Received::BadHead(part, have),
         Head::Refused(refusal) => match refusal {
             FrameFault::BadStatus(status) => Received::Status(status, have),
             FrameFault::TransferEncoding => Received::TransferEncoding,

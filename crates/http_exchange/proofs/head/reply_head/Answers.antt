@@ -1,4 +1,4 @@
-use Rattle.std.proofs.Common.{rules}
+use Rattle.std.proofs.Common.{ap, rules, Err}
 use Rattle.http_exchange.proofs.Parsed.{bad_status, status_is_good, reply_whole, reply_unfinished, reply_hopeless}
 use Rattle.http_exchange.proofs.head.reply_head.Goals as goal
 
@@ -8,7 +8,8 @@ returns-in-Ok-Partial c =
     (rw c.in-Ok-Partial.field-0-is at c.in-Ok-Partial.ensures.partial) (rw c.in-Ok-Partial.field-0-is at c.in-Ok-Partial.ensures.unfinished)
 
 pub returns-in-Err : goal.returns-in-Err
-returns-in-Err c = reply_hopeless c.args.bytes.now c.front_of-text.result.now c.front_of-text.ensures c.in-Err.ensures.no_room
+returns-in-Err c =
+    rw c.part_of.ensures (reply_hopeless c.args.bytes.now c.front_of-text.result.now c.in-Err.error c.front_of-text.ensures c.in-Err.ensures.no_room c.in-Err.ensures.invalid (λ is. c.in-Err.ensures.too_many (ap Err is)))
 
 pub returns-then-head-ne-GOOD_STATUS : goal.returns-then-head-ne-GOOD_STATUS
 returns-then-head-ne-GOOD_STATUS c =

@@ -1,4 +1,4 @@
-use Rattle.std.proofs.Common.{rules}
+use Rattle.std.proofs.Common.{ap, rules, Err}
 use Rattle.http_exchange.proofs.Parsed.{bad_method, method_is_post, request_whole, request_unfinished, request_hopeless}
 use Rattle.http_exchange.proofs.head.request_head.Goals as goal
 
@@ -8,7 +8,8 @@ returns-in-Ok-Partial c =
     (rw c.in-Ok-Partial.field-0-is at c.in-Ok-Partial.ensures.partial) (rw c.in-Ok-Partial.field-0-is at c.in-Ok-Partial.ensures.unfinished)
 
 pub returns-in-Err : goal.returns-in-Err
-returns-in-Err c = request_hopeless c.args.bytes.now c.front_of-text.result.now c.front_of-text.ensures c.in-Err.ensures.no_room
+returns-in-Err c =
+    rw c.part_of.ensures (request_hopeless c.args.bytes.now c.front_of-text.result.now c.in-Err.error c.front_of-text.ensures c.in-Err.ensures.no_room c.in-Err.ensures.invalid (λ is. c.in-Err.ensures.too_many (ap Err is)))
 
 pub returns-then-ne : goal.returns-then-ne
 returns-then-ne c =
