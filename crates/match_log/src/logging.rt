@@ -137,7 +137,9 @@ impl<H: Clock + Wait, P: Explains> LoggedPlayer<'_, H, P> {
     }
 
     /// Reports a message that was handed over at the time `began`.
-    fn tell(&mut self, message: &SharedText<'_>, answer: &Answer, began: Option<Instant>) {
+    fn tell(&mut self, message: &SharedText<'_>, answer: &Answer, began: Option<Instant>)
+        ensures { self.new.player ≡ self.old.player }
+    {
         self.is_absent = self.is_absent && self.has_failed(answer);
         match self.reporting {
             Reporting::Nothing => {}
