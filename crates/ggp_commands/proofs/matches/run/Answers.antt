@@ -15,6 +15,6 @@ returns-in_err-write_all-clause-at_fault g c =
     let same : c.as_slice.result.now ≡ match_text it.0 it.1 c.args.run.now.has_history = search rules in
     let part : AppendsPart old new (match_text it.0 it.1 c.args.run.now.has_history) = subst (AppendsPart old new) same c.in_err-write_all.ensures.prefix in
     rw passed.1 (
-    subst (λ fault. WritesRunUpTo (g.S.Reach.is_reached c.args.around.now.reach.now) g.S-Player.Player.handed c.args.game c.args.run.now old new fault) (sym passed.2)
+    subst (λ fault. WritesRunUpTo (g.S.Reach.is_reached c.args.around.now.reach.now) g.S.Player.Player.handed c.args.game c.args.run.now old new fault) (sym passed.2)
     (it.0, it.1, (prepared.setup, c.in_ok-prepared.ensures.setup, prepared.players.items, c.in_ok-prepared.ensures.reached, it.2), part)
     )
