@@ -1,40 +1,32 @@
 //! Why an answer names no legal move, in words.
 ghost use Rattle.std.specs.Prelude.{◌≡◌, ◌<◌, All, length};
-ghost use Rattle.ground_rules.specs.LoadedGame.{loaded_game};
-ghost use Rattle.packed_rules.specs.PackedGames.{tables_of};
 
-use game_core::{Game, Lent};
-use ground_rules::GroundMove;
+use game_core::Game;
 use match_book::{ILLEGAL_PREFIX, Match, place_of};
 use match_log::Shown;
-use packed_rules::{PackedGame, PackedState};
 use std::alloc::{AllocError, Global};
 
 /// The limit of bytes up to which legal moves are told. Two dots stand for the others.
 const TOLD: usize = 200;
 
 /// Whether a move with this text is legal for the role in the state.
-fn is_legal(
+fn is_legal<G: Game>(
     alloc: Global,
-    game: &Lent<'_, PackedGame>,
-    state: &PackedState,
+    game: &G,
+    state: &G::State,
     role: usize,
     text: &[u8],
 ) -> Result<bool, AllocError>
-    requires state { (loaded_game (tables_of game.now)).IsState state.now }
-    requires role { role < (loaded_game (tables_of game.now)).roles }
+    requires state { (G.rules game.now).IsState state.now }
+    requires role { role < (G.rules game.now).roles }
 {
     let moves = game.legal(alloc, state, role)?;
     Ok(place_of(game, &moves, text).is_some())
 }
 
 /// Appends the number of these legal moves, and the first of them.
-fn push_legal(
-    game: &Lent<'_, PackedGame>,
-    moves: &[GroundMove],
-    words: &mut String,
-) -> Result<(), AllocError>
-    requires { All (λ m. (loaded_game (tables_of game.now)).IsMove m) moves.now }
+fn push_legal<G: Game>(game: &G, moves: &[G::Move], words: &mut String) -> Result<(), AllocError>
+    requires { All (λ m. (G.rules game.now).IsMove m) moves.now }
 {
     write!(words, "legal were {}:", moves.len())?;
     let mut gap = " ";
@@ -52,17 +44,17 @@ fn push_legal(
 
 /// Appends the words on the role's answer in a recorded turn, if it named no legal move: the roles for which its move was legal, whether
 /// it was legal for this role a turn before, and the legal moves. There are none for any other answer.
-pub fn push_illegal_words<'g>(
+pub fn push_illegal_words<G: Game>(
     alloc: Global,
-    game: &Lent<'g, PackedGame>,
-    held: &Match<Lent<'g, PackedGame>>,
+    game: &G,
+    held: &Match<G>,
     turn: usize,
     role: usize,
     words: &mut String,
 ) -> Result<(), AllocError>
     requires game { held.now.game ≡ game.now }
     requires turn { turn < length held.now.value.turns }
-    requires role { role < (loaded_game (tables_of game.now)).roles }
+    requires role { role < (G.rules game.now).roles }
 {
     let Some(named) = held.error_at(turn, role).strip_prefix(ILLEGAL_PREFIX) else {
         return Ok(());

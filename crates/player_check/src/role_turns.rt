@@ -1,7 +1,5 @@
 //! The turns of a match for one of its roles.
 ghost use Rattle.std.specs.Prelude.{◌≡◌, ◌<◌, IfOk};
-ghost use Rattle.ground_rules.specs.LoadedGame.{loaded_game};
-ghost use Rattle.packed_rules.specs.PackedGames.{tables_of};
 ghost use Rattle.player_check.specs.RoleTurns.{AreTurnsOf};
 
 use crate::move_words::push_illegal_words;
@@ -24,15 +22,15 @@ pub struct RoleTurn {
 }
 
 /// The turns of a role in a match.
-fn turns_of<'g>(
+fn turns_of<G: Game>(
     alloc: Global,
-    game: &Lent<'g, PackedGame>,
-    held: &Match<Lent<'g, PackedGame>>,
+    game: &G,
+    held: &Match<G>,
     role: usize,
 ) -> Result<Vec<RoleTurn>, AllocError>
     requires game { held.now.game ≡ game.now }
-    requires role { role < (loaded_game (tables_of game.now)).roles }
-    ensures { IfOk result (λ told. AreTurnsOf (loaded_game (tables_of game.now)) held.now.value.turns role told.items) }
+    requires role { role < (G.rules game.now).roles }
+    ensures { IfOk result (λ told. AreTurnsOf (G.rules game.now) held.now.value.turns role told.items) }
 {
     let count = held.status().turns as usize;
     let mut turns = Vec::with_capacity(alloc, count)?;
@@ -52,7 +50,9 @@ fn turns_of<'g>(
 
 impl<H, S> MatchReader for CheckReach<'_, H, S> {
     ghost use Rattle.std.specs.Prelude.{◌≢◌, ◌≤◌, None, IfErr};
+    ghost use Rattle.ground_rules.specs.LoadedGame.{loaded_game};
     ghost use Rattle.match_play.specs.Matches.{reason_of};
+    ghost use Rattle.packed_rules.specs.PackedGames.{tables_of};
 
     type Told = Vec<RoleTurn>;
 

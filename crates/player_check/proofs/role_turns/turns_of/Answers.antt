@@ -1,7 +1,5 @@
 use Rattle.std.proofs.Common.{◌∙◌, [], ◌∷◌, length, length-append, Some, sym, ap, subst, arith}
 use Rattle.std.specs.Prelude.{option_map}
-use Rattle.ground_rules.specs.LoadedGame.{loaded_game}
-use Rattle.packed_rules.specs.PackedGames.{tables_of}
 use Rattle.player_check.proofs.Places.{EachAt-push}
 use Rattle.player_check.specs.RoleTurns.{IsTurnOf}
 use Rattle.player_check.specs.declared.role_turns.RoleTurn.{RoleTurn}
@@ -9,7 +7,7 @@ use Rattle.player_check.proofs.role_turns.turns_of.Goals as goal
 
 pub loop-turn-preserved : goal.loop-turn-preserved
 loop-turn-preserved g c =
-    let game = loaded_game (tables_of c.args.game.now) in
+    let game = g.G.Game.rules c.args.game.now in
     let turns = c.args.held.now.value.turns in
     let role = c.args.role in
     let was = c.loop-turn.invariant in

@@ -1,6 +1,4 @@
 use Rattle.std.proofs.Common.{◌≡◌, length}
-use Rattle.ground_rules.specs.LoadedGame.{loaded_game}
-use Rattle.packed_rules.specs.PackedGames.{tables_of}
 use Rattle.role_workers.specs.Places.{EachAt}
 use Rattle.player_check.specs.RoleTurns.{IsTurnOf}
 use Rattle.player_check.proofs.role_turns.turns_of.Given as goal
@@ -8,5 +6,5 @@ use Rattle.player_check.proofs.role_turns.turns_of.Given as goal
 abbrev pub invariant-loop-turn : goal.invariant-loop-turn
 invariant-loop-turn g l = record {
   count : length l.turns.items ≡ l.turn;
-  each : EachAt (IsTurnOf (loaded_game (tables_of l.game)) l.held.value.turns l.role) l.turns.items;
+  each : EachAt (IsTurnOf (g.G.Game.rules l.game) l.held.value.turns l.role) l.turns.items;
 }
