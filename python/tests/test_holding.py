@@ -13,6 +13,7 @@ from ggp_tools.holding.game import Game
 from ggp_tools.holding.positions import Whole
 from ggp_tools.holding.reading import NotFollowed
 from ggp_tools.holding.records import must_be_record, read_record
+from ggp_tools.holding.relations import LEGAL
 from ggp_tools.kif import expressions
 from tests.ground_matches import differs, played
 from tests.support import GAMES, TOP
@@ -114,11 +115,11 @@ class Followed(unittest.TestCase):
 
     RULES = "(role ann) (role bob) (init s) (legal ann go) (legal bob wait)"
 
-    def words(self, text, moves=(), errors=None, states=None, phase="playing", cause=None, goals=(), roles=("ann", "bob")):
+    def words(self, text, moves=(), errors=None, states=None, phase="playing", cause=None, goals=(), roles=("ann", "bob"), **more):
         moves = [list(turn) for turn in moves]
         record = {
             "roles": list(roles), "moves": moves, "errors": errors or [[""] * len(roles) for _ in moves], "states": states or [["s"]] * (len(moves) + 1),
-            "goalValues": list(goals), "phase": phase, "cause": cause,
+            "goalValues": list(goals), "phase": phase, "cause": cause, **more,
         }
         return differs(Game(text), record)
 
@@ -206,6 +207,11 @@ class Followed(unittest.TestCase):
         self.assertIn("the description has no end there", self.words(f"{self.RULES} (goal ann 5)", **given_up, cause="nogoal 1"))
         for cause in ("asked", "toolong", "allretired", "nolegal 0"):
             self.assertIn("the record goes on, and the match has ended", self.words(over, **given_up, cause=cause))
+
+    def test_a_match_that_has_not_begun_may_be_given_up_anywhere(self):
+        over = f"{self.RULES} (<= terminal (true s))"
+        self.assertIsNone(self.words(over, phase="aborted", cause="asked", startMarks=["", None]))
+        self.assertIn("the record goes on", self.words(over, phase="aborted", cause="asked", startMarks=["", "TO"]))
 
     def test_ends_without_legal_moves(self):
         given_up = {"phase": "aborted", "states": [["s"]]}
@@ -350,6 +356,12 @@ class Described(unittest.TestCase):
                     with self.assertRaises(NotFollowed) as why:
                         Game(f"(role a) {text}")
                     self.assertEqual(str(why.exception), f"{name} depends on {other}")
+
+    def test_sentences_that_give_something_are_looked_up_in_each_state_anew(self):
+        game = Game("(role a) (init s) (<= (legal a m) (true s)) (<= (legal a m) (true t)) (legal a n)")
+        for state, numbers in (("s", [2]), ("t", [3]), ("st", [2, 3]), ("", [])):
+            self.assertEqual(game.sources(LEGAL, ("a", "m"), frozenset(state)), numbers)
+        self.assertEqual(game.set_apart(LEGAL, 4, game.by_sentence(LEGAL)[4]), ("legal by sentence 4", 2))
 
     def test_goals_are_numbers_up_to_100(self):
         numbers = ["0", "7", "99", "100", "101", "007", "x", "(f 1)", "-1", "1000"]
