@@ -188,6 +188,10 @@ class All(WithProgram):
         with mock.patch.object(verify_many.threading.Thread, "start", side_effect=RuntimeError), self.assertRaises(MemoryError):
             self.all(b"ok\n")
 
+    def test_the_size_is_that_of_pieces(self):
+        with mock.patch.object(verify_many, "pieces", lambda size: [size]):
+            self.assertEqual(list(verify_many.Checking(["p"], 3, 9).pieces), [(0, 9)])
+
     def test_so_many_pieces_are_in_memory(self):
         started, start = [], verify_many.threading.Thread.start
         with mock.patch.object(verify_many.threading.Thread, "start", lambda thread: started.append(thread) or start(thread)):
