@@ -103,6 +103,10 @@ class Faults(unittest.TestCase):
     def test_no_object_and_a_list_of_texts(self):
         self.assertEqual(list(explanation("shape cause", Game(countdown(3)), b"[7]"))[-1], "found: no JSON object, but [7]")
         self.assertEqual(said_of("shape roles", {("roles",): ["red"]})[-1], 'found: ["red"]')
+        self.assertEqual(said_of("shape states", {("states",): [[]], ("moves",): 0})[-1], "found 1 member: [[]]")
+
+    def test_records_of_the_first_version_have_no_strikes(self):
+        self.assertEqual(said_of("x", {("version",): 1, ("strikes",): "gone", ("errors", 0, 1): "CE"})[0], "The interpreter finds no fault")
 
     def test_places_where_a_text_is_no_json(self):
         none = "Python finds no place. A value is nested more than 127 deep, a number is none or past the range of binary64, or a surrogate pair is not whole."
@@ -215,10 +219,11 @@ class Verdicts(WithStandIn):
 
     def test_lines_are_handed_over_some_megabytes_at_a_time(self):
         self.answers(b"lawful\n" * 2)
-        self.answers(b"lawful\n")
-        with mock.patch("ggp_tools.records.explain.BATCH", 6):
-            lines, said = self.lines_of(b"{}\n{ }  \n[]\n")
-        self.assertEqual((said, lines.words(), self.asked(0)[1], self.asked(1)[1]), ([], "3 lawful, 0 not lawful", b"{}\n{ }  \n", b"[]\n"))
+        self.answers(b"lawful\n" * 3)
+        self.answers()
+        with mock.patch("ggp_tools.records.explain.BATCH", 7):
+            lines, said = self.lines_of(b"{}\n{ }  \n[]\n[  ]\n{}\n")
+        self.assertEqual((said, lines.words(), self.asked(0)[1], self.asked(1)[1]), ([], "5 lawful, 0 not lawful", b"{}\n{ }  \n", b"[]\n[  ]\n{}\n"))
 
     def test_without_lines_the_words_are_looked_at(self):
         self.answers()
