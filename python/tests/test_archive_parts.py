@@ -114,6 +114,8 @@ class Checked(Made):
             (changed("cup/pages/index.html", more), "pages/index.html does not follow from the records"),
             (without("cup/pages/index.html"), "pages/index.html does not follow from the records"),
             (lambda files: packed({**files, "cup/pages/more.html": b""}), "pages/more.html does not follow from the records"),
+            (lambda files: packed({**files, "cup/pages.more": b""}), "pages.more is nothing of this competition"),
+            (lambda files: packed({name.replace("cup/", "cap/", 1): data for name, data in files.items()}), "its folder is cap, and the name of the competition cup"),
             (lambda files: packed({**files, "cup/GAPS.tsv": b""}), "GAPS.tsv is nothing of this competition"),
             (lambda files: packed({**files, "cup/games/other.kif": b"a"}), "games/other.kif is nothing of this competition"),
             (lambda files: packed({**files, "cup/rules/other.kif": b"a"}), "rules/other.kif is nothing of this competition"),
@@ -137,7 +139,8 @@ class Checked(Made):
 
     def test_all_that_is_wrong_is_told_at_once(self):
         self.publish()
-        files = {f"cup/{name.partition('/')[2]}": data for name, data in files_of(self.path).items()}
+        whole = {f"cup/{name.partition('/')[2]}": data for name, data in files_of(self.path).items()}
+        files = dict(whole)
         del files["cup/table.csv"], files["cup/CHECK.txt"], files["cup/records/cup-001.json"]
         files[f"cup/{SUMS}"] = files[f"cup/{SUMS}"].replace(b"  pages/index.html", b"  pages/other.html")
         files["cup/more/a"] = b""
@@ -145,6 +148,8 @@ class Checked(Made):
             "CHECK.txt is missing", "pages/other.html is missing", "records/cup-001.json is missing", "table.csv is missing",
             "more/a has no sum", "pages/index.html has no sum", "CHECK.txt is missing", "more/a is nothing of this competition",
         ])
+        pages = [f"pages/{letter}.html" for letter in "hgfedcba"]
+        self.assertEqual(self.check(packed({**whole, **{f"cup/{page}": b"" for page in pages}}))[0], [f"{page} does not follow from the records" for page in pages[::-1]])
 
     def test_what_the_referee_says_of_records(self):
         self.publish()
@@ -165,6 +170,7 @@ class Checked(Made):
         files = files_of(self.path)
         self.assertEqual(files["cup/GAPS.tsv"], b"id\tgame\tstart\tplay\tplayers\ncup-002\theap\t5\t5\tbob ann\n")
         self.assertEqual(self.check(without("cup/GAPS.tsv")(dict(files)))[0], ["cup-002: it has no record", "cup-002: its log is missing"])
+        self.assertEqual(self.check(without("cup/logs/cup-001.txt")(dict(files)))[0], ["cup-001: its log is missing"])
         self.assertEqual(self.check(changed("cup/GAPS.tsv", lambda data: data.replace(b"-002", b"-001"))(dict(files)))[0], ["GAPS.tsv does not follow from the records"])
 
     def test_the_archive_is_the_same_for_the_same_files(self):
@@ -189,6 +195,30 @@ class Checked(Made):
         self.plan.folder.journal.write_text("2026\n")
         self.assertNotEqual(published(), (digest, data))
         self.assertEqual(files_of(self.path)["cup/play.log"], b"2026\n")
+
+    def test_what_is_of_its_history_is_in_the_archive(self):
+        folder = self.plan.folder
+        folder.make(folder.earlier)
+        (folder.earlier / "2.toml").write_bytes(b"before")
+        folder.again.write_bytes(b"again")
+        self.publish()
+        files = files_of(self.path)
+        self.assertEqual((files["cup/earlier/2.toml"], files["cup/again.tsv"]), (b"before", b"again"))
+
+    def test_a_line_of_a_match_is_made_once(self):
+        known, results = Known(self.folder), self.results()
+        text = archive.matches_text(self.plan, results, known)
+        known.write()
+        with mock.patch.object(archive, "line_of") as made:
+            self.assertEqual((archive.matches_text(self.plan, results, Known(self.folder)), made.called), (text, False))
+        digest = "0" * 64
+        self.plan.folder.description_sums().write_text(f"{digest}  heap.kif\n")
+        sums = {(line["rules"], line["description"]) for line in map(json.loads, archive.matches_text(self.plan, results, Known(self.folder)).splitlines())}
+        self.assertEqual(sums, {(hashlib.sha256((self.folder / "rules/heap.kif").read_bytes()).hexdigest(), digest)})
+
+    def test_files_that_no_archive_may_stand_in_the_place_of(self):
+        names = "competition.toml", "schedule.tsv", "again.tsv", "matches.jsonl", "table.txt", "SHA256SUMS", "VERSION", "CHECK.txt", "GAPS.tsv", "heap.kif"
+        self.assertLessEqual({str(self.plan.folder.path / name) for name in names}, set(map(str, archive.own_files(self.plan))))
 
     def test_what_another_run_is_writing_is_none_of_the_pages(self):
         self.publish()

@@ -3,8 +3,10 @@
 import argparse
 import io
 import json
+import os
 import pathlib
 import subprocess
+import sys
 import unittest
 from unittest import mock
 
@@ -13,6 +15,7 @@ from ggp_tools.kif import expressions
 from ggp_tools.records import explain
 from ggp_tools.records.countdown import countdown
 from ggp_tools.records.explain import Lines, NoVerdict, explain_lines, explanation, judged, judged_lines, read, shown
+from tests.support import TOP
 from tests.test_examples import FAULTS, RECORD, changed
 from tests.test_referee import WithStandIn
 
@@ -72,6 +75,51 @@ class Faults(unittest.TestCase):
     def test_rules_that_ask_for_one_another_too_deeply(self):
         with mock.patch("ggp_tools.records.explain.Replay", side_effect=RecursionError):
             self.assertEqual(said_of("goals", {}), ["There is no explanation: the rules ask for one another too deeply for the interpreter."])
+
+    def test_one_legal_move_of_several(self):
+        moves = [f"m{number:02}" for number in range(23)]
+        rules = Game(expressions(f"(role red) (role blue) (init s) (next s) (legal blue n) {' '.join(f'(legal red {move})' for move in moves)}"))
+        places = {("moves",): [["x", "n"]], ("errors",): [["", ""]], ("states",): [["s"], ["s"]]}
+        self.assertEqual(said_of("illegal 0 0", places, rules), ["Turn 1, role red: the move is not legal.", f"expected one of 23: {', '.join(moves[:20])}, and 3 more", "found: x"])
+        for error, said in (("", None), ("TO", "beside the error TO the first legal move must stand"), ("IL m07", "beside the error IL m07 the first legal move must stand")):
+            found = said_of("notfirst 0 0", {**places, ("moves", 0, 0): "m05", ("errors", 0, 0): error, ("phase",): "playing", ("goalValues",): [], ("endMarks",): [None, None]}, rules)
+            self.assertEqual(found[0], f"Turn 1, role red: {said}." if said else "The interpreter finds no fault")
+
+    def test_a_role_without_a_move_or_a_goal(self):
+        for text, cause, said in (
+            ("(init s) (legal red m)", "nolegal 1", "the role blue has no legal move"),
+            ("(init s) (<= terminal (true s)) (goal red 1)", "nogoal 1", "the state is terminal, and the role blue has not exactly one goal"),
+        ):
+            rules = Game(expressions(f"(role red) (role blue) {text}"))
+            ended = {("moves",): [], ("errors",): [], ("states",): [["s"]], ("goalValues",): [], ("phase",): "aborted", ("cause",): cause}
+            self.assertEqual(said_of("end", ended, rules)[0], "The interpreter finds no fault")
+            self.assertEqual(said_of("end", {**ended, ("cause",): "asked"}, rules), [
+                f"At the end {said}, and 2 of 2 roles have an end mark.", f"expected: phase aborted, cause {cause} (the role blue)", "found: phase aborted, cause asked",
+            ])
+            goals = {**ended, ("phase",): "finished", ("cause",): None, ("goalValues",): [1, 0]}
+            if "goal" in text:
+                self.assertEqual(said_of("goals", goals, rules)[1:], ["expected: red 1, blue without exactly one goal", "found: red 1, blue 0"])
+
+    def test_no_object_and_a_list_of_texts(self):
+        self.assertEqual(list(explanation("shape cause", Game(countdown(3)), b"[7]"))[-1], "found: no JSON object, but [7]")
+        self.assertEqual(said_of("shape roles", {("roles",): ["red"]})[-1], 'found: ["red"]')
+        self.assertEqual(said_of("shape states", {("states",): [[]], ("moves",): 0})[-1], "found 1 member: [[]]")
+
+    def test_records_of_the_first_version_have_no_strikes(self):
+        self.assertEqual(said_of("x", {("version",): 1, ("strikes",): "gone", ("errors", 0, 1): "CE"})[0], "The interpreter finds no fault")
+
+    def test_places_where_a_text_is_no_json(self):
+        none = "Python finds no place. A value is nested more than 127 deep, a number is none or past the range of binary64, or a surrogate pair is not whole."
+        more = "More follows the first record: give one record at a time, without its account. With --lines each line is one."
+        for text, *lines in (
+            (b'{\n"\xff"', "The text is no JSON: line 2, byte 2 of it: no UTF-8."), (b'\xff', "The text is no JSON: line 1, byte 1 of it: no UTF-8."),
+            (b"\n\xff", "The text is no JSON: line 2, byte 1 of it: no UTF-8."), (b"{} x", "The text is no JSON: line 1, column 4: Extra data."),
+            (b"{}\n{}", "The text is no JSON: line 2, column 1: Extra data.", more), (b"{}\n0\topen m 0\topened\n", "The text is no JSON: line 2, column 1: Extra data.", more),
+            (b"[" * 99_999, none), (b"[]", none), (b'x{"cause":1', "The text is no JSON: line 1, column 1: Expecting value."),
+            (b'{"cause":{"cause":1}', "The text is no JSON: line 1, column 21: Expecting ',' delimiter.", "Another record begins at byte 10: what stands before it was cut off, as where a file was written to the end of a half line."),
+            (b"1} ", "The text is no JSON: line 1, column 2: Extra data."),
+        ):
+            self.assertEqual(list(explanation("json", Game(countdown(3)), text)), lines, text)
 
     def test_a_negative_nought_is_no_whole_number(self):
         data = RECORD.read_bytes().replace(b'"strikes":0', b'"strikes":-0')
@@ -171,10 +219,11 @@ class Verdicts(WithStandIn):
 
     def test_lines_are_handed_over_some_megabytes_at_a_time(self):
         self.answers(b"lawful\n" * 2)
-        self.answers(b"lawful\n")
-        with mock.patch("ggp_tools.records.explain.BATCH", 6):
-            lines, said = self.lines_of(b"{}\n{ }  \n[]\n")
-        self.assertEqual((said, lines.words(), self.asked(0)[1], self.asked(1)[1]), ([], "3 lawful, 0 not lawful", b"{}\n{ }  \n", b"[]\n"))
+        self.answers(b"lawful\n" * 3)
+        self.answers()
+        with mock.patch("ggp_tools.records.explain.BATCH", 7):
+            lines, said = self.lines_of(b"{}\n{ }  \n[]\n[  ]\n{}\n")
+        self.assertEqual((said, lines.words(), self.asked(0)[1], self.asked(1)[1]), ([], "5 lawful, 0 not lawful", b"{}\n{ }  \n", b"[]\n[  ]\n{}\n"))
 
     def test_without_lines_the_words_are_looked_at(self):
         self.answers()
@@ -195,6 +244,26 @@ class Verdicts(WithStandIn):
 
 
 class Commands(WithStandIn):
+    def test_which_limits_and_words_are_those_of_the_game(self):
+        read_up_to = []
+        with mock.patch.object(explain, "read", lambda file, most: read_up_to.append((file, most)) or b"(role red)"):
+            for large, options in ((False, []), (True, ["--large"])):
+                with explain.rules_of(argparse.Namespace(program="p", countdown=None, rules_file="f", large=large)) as (words, game):
+                    self.assertEqual((words[0].partition("=")[0], words[1:], game().roles, game() is game()), ("--rules-file", options, ["red"], True))
+            with explain.rules_of(argparse.Namespace(program="p", countdown="0", rules_file=None)) as (words, game):
+                self.assertEqual((words, len(game().roles)), (["--countdown=0"], 2))
+        self.assertEqual(read_up_to, [("f", 1 << 20), ("f", 4 << 20)])
+
+    def test_standard_input_and_output(self):
+        for words in ([], ["--lines"]):
+            ran = subprocess.run([sys.executable, TOP / "python/ggp-explain-record", "/none", *words, "--countdown=3"], preexec_fn=lambda: os.close(0), capture_output=True, text=True)
+            self.assertEqual((ran.returncode, ran.stdout, ran.stderr), (3, "", "ggp-explain-record: standard input can't be read: Bad file descriptor\n"))
+        self.answers(b"lawful\n")
+        words = sys.executable, TOP / "python/ggp-explain-record", self.referee.path, RECORD, "--countdown=3"
+        self.assertEqual(subprocess.run(words, capture_output=True).stdout, b"lawful\n")
+        with mock.patch.object(explain.sys, "stderr", None):
+            explain.say("x")
+
     def run_main(self, *words: str, answer=(b"lawful\n",)) -> tuple[int, str, str]:
         """Returns the status, what was printed and what was said of a run in this process."""
         self.begin_anew()

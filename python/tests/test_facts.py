@@ -297,7 +297,7 @@ class Files(unittest.TestCase):
 
     def test_a_log_may_be_a_pipe(self):
         os.mkfifo(self.folder / "pipe")
-        writer = threading.Thread(target=(self.folder / "pipe").write_text, args=(LOG,))
+        writer = threading.Thread(target=(self.folder / "pipe").write_text, args=(LOG,), daemon=True)
         writer.start()
         self.assertEqual(self.run_facts(said(BROKEN), "--log", self.folder / "pipe").returncode, 0)
         writer.join()

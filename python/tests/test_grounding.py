@@ -3,7 +3,9 @@
 import itertools
 import random
 import unittest
+from unittest import mock
 
+from ggp_tools.instantiating import rounds
 from ggp_tools.instantiating.grounding import ground, in_order, needed, possible, sentence_of, shortened
 from ggp_tools.instantiating.relations import Relations
 from ggp_tools.instantiating.sentences import Literal, Rule, all_rules
@@ -79,6 +81,101 @@ class Dependence(unittest.TestCase):
                     self.assertEqual(str(why.exception), f"{name} depends on {other}")
                 else:
                     Relations(rules(text)).refuse_dependence()
+
+
+class Circles(unittest.TestCase):
+    """Circles of sentences, and in how many rounds all is derived that can be."""
+
+    def rules_for(self, text):
+        found = {}
+        for rule in rules(text):
+            found.setdefault(rule.head, []).append(rule)
+        return found
+
+    def test_components_are_what_can_be_reached_from_each_other_those_below_first(self):
+        dice = random.Random(2)
+        for _ in range(200):
+            graph = {node: dict.fromkeys(dice.choices("abcdefgx", k=dice.randrange(4))) for node in dice.sample("abcdefg", 7)}
+            reached = {node: {node} for node in graph}
+            for _ in graph:
+                reached = {node: {node}.union(*(reached[other] for other in graph[node] if other in graph)) for node in graph}
+            found, wanted = rounds.components(graph), {tuple(sorted(other for other in reached[node] if node in reached[other])) for node in graph}
+            self.assertEqual(sorted(map(tuple, map(sorted, found))), sorted(wanted))
+            below = set()
+            for component in found:
+                below |= set(component)
+                self.assertLessEqual(set().union(*(reached[node] for node in component)), below)
+
+    def test_circles_are_of_several_or_of_one_that_asks_for_itself(self):
+        text = "(<= p q) (<= q r) (<= r q) (<= s s) (<= t (true t)) (<= u (does r u)) (<= v (not v)) (<= w (x y)) (<= (x y) p)"
+        self.assertEqual(rounds.circles(rules(text)), [["q", "r"], ["s"], ["v"]])
+
+    def test_a_denial_of_itself_is_refused(self):
+        with self.assertRaises(Refused) as why:
+            rounds.unrolled(rules("(<= (p a) q) (<= q (p a) (not (p a)))"))
+        self.assertEqual(str(why.exception), "a cycle: q depends on itself, through the denial of (p a)")
+        self.assertEqual(rounds.unrolled(rules("(<= p q (not r)) (<= q p)"))[1], [("p", 2, 1)])
+
+    def last(self, text):
+        rules_for = self.rules_for(text)
+        circle, = rounds.circles(rules(text))
+        return rounds.is_halved(circle, rules_for), rounds.last_round(circle, rules_for)
+
+    def closure(self, names, more=()):
+        """Returns the ways between all of these, each with its own first step, and made of any two that go on from each other."""
+        found = [f"(<= (w {start} {end}) (true (e {start} {end})))" for start, end in itertools.product(names, repeat=2)]
+        for start, middle, end in itertools.product(names, repeat=3):
+            found.append(f"(<= (w {start} {end}) {' '.join(dict.fromkeys([f'(w {start} {middle})', f'(w {middle} {end})']))})")
+        return " ".join([*found, *more])
+
+    def test_a_closure_is_halved(self):
+        for names, last in (("ab", 1), ("abc", 2), ("abcd", 2), ("abcde", 3)):
+            self.assertEqual(self.last(self.closure(names)), (True, last), names)
+        text = self.closure("abc")
+        for other in (
+            text.replace("(w a b) (w b c)", "(w a b) (w b c) (f x)"), text.replace("(<= (w a c) (w a b) (w b c))", ""),
+            text + "(<= (w a b) (w b c))", text + "(<= (w a b) (w a c) (w b c))", text + "(<= (w a b) (w b c) (w a c))", text + "(<= (w a b) (w c a) (w b c))",
+            text + "(<= (w a b) (w c b) (not (f x)))", text.replace("(w ", "(w z "), text + "(<= v (w a b)) (<= (w a b) v)", text + "(<= (w a b) (v a b)) (<= (v a b) (w a b) (w b b))",
+        ):
+            self.assertEqual(self.last(other)[0], False, other[-60:])
+
+    def test_ways_of_one_step_need_fewer_rounds_where_all_lead_to_all(self):
+        # Of three that can each be derived from both others it takes two.
+        text = " ".join(f"(<= {head} {other} (true {head}))" for head, other in itertools.permutations("abc", 2))
+        self.assertEqual(self.last(f"{text} (<= a (true s))"), (False, 1))
+        self.assertEqual(self.last(f"{text} (<= d a) (<= a d (true a))"), (False, 2))
+        self.assertEqual(self.last(f"{text} (<= a b c)"), (False, 2))
+        self.assertEqual(self.last(f"{text} (<= a b (true t))"), (False, 2))
+        self.assertEqual(self.last("(<= a b) (<= b c) (<= c a)"), (False, 2))
+        self.assertEqual(self.last("(<= a b) (<= b a) (<= a a (true x))"), (False, 1))
+
+    def test_what_can_be_derived_in_each_round(self):
+        text = "(<= a b) (<= b c) (<= c a) (<= c (true s)) (<= d e) (<= e d) (<= a d)"
+        rules_for = self.rules_for(text)
+        self.assertEqual(rounds.alive(["a", "b", "c"], rules_for, 1), [{"a", "c"}, {"a", "b", "c"}])
+        text = "(<= a b) (<= b c) (<= c a) (<= c (true s))"
+        self.assertEqual(rounds.alive(["a", "b", "c"], self.rules_for(text), 2), [{"c"}, {"c", "b"}, {"a", "b", "c"}])
+        self.assertEqual(rounds.alive(["a", "b", "c"], self.rules_for(text), 4), [{"c"}, {"c", "b"}, *[{"a", "b", "c"}] * 3])
+
+    def test_the_rules_of_all_rounds(self):
+        found, told = rounds.unrolled(rules("(<= a b) (<= b c) (<= c a) (<= c (true s)) (<= round1 a) (<= a (true t) b) (<= (next a) a)"))
+        self.assertEqual(told, [("a", 3, 2)])
+        self.assertEqual(texts(found), [
+            "(<= round1 a)", "(<= (next a) a)", "(<= a (round 1 b))", "(<= a (true t) (round 1 b))", "(<= b (round 1 c))", "(<= c (true s))",
+            "(<= (round 1 b) (round 0 c))", "(<= (round 1 c) (true s))", "(<= (round 0 c) (true s))",
+        ])
+
+    def test_rounds_that_are_too_many_are_refused(self):
+        text = "(<= a b) (<= b c) (<= c a) (<= c (true s)) (<= d a)"
+        for most, is_refused in ((8, True), (9, False)):
+            with mock.patch.object(rounds, "MOST_RULES", most):
+                if not is_refused:
+                    rounds.unrolled(rules(text))
+                    continue
+                with self.assertRaises(Refused) as why:
+                    rounds.unrolled(rules(text))
+                self.assertEqual(str(why.exception), "a cycle of 3 sentences, as a: its 3 rounds have over 8 rules")
+        self.assertEqual(rounds.MOST_RULES, 2_000_000)
 
 
 class Told(unittest.TestCase):

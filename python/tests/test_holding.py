@@ -8,9 +8,12 @@ import unittest
 from unittest import mock
 
 from ggp_tools.holding.command import MOST_CALLS, Holding, Late
+from ggp_tools.holding.following import Differs, Following, fits, place_of
 from ggp_tools.holding.game import Game
 from ggp_tools.holding.positions import Whole
 from ggp_tools.holding.reading import NotFollowed
+from ggp_tools.holding.records import must_be_record, read_record
+from ggp_tools.holding.relations import LEGAL
 from ggp_tools.kif import expressions
 from tests.ground_matches import differs, played
 from tests.support import GAMES, TOP
@@ -107,6 +110,138 @@ class Words(unittest.TestCase):
         self.assertEqual(differs(stuck, {**self.record, **first, "phase": "aborted", "cause": "asked", "goalValues": []}), said)
 
 
+class Followed(unittest.TestCase):
+    """Small games of one role or two, and a record that is laid down for each."""
+
+    RULES = "(role ann) (role bob) (init s) (legal ann go) (legal bob wait)"
+
+    def words(self, text, moves=(), errors=None, states=None, phase="playing", cause=None, goals=(), roles=("ann", "bob"), **more):
+        moves = [list(turn) for turn in moves]
+        record = {
+            "roles": list(roles), "moves": moves, "errors": errors or [[""] * len(roles) for _ in moves], "states": states or [["s"]] * (len(moves) + 1),
+            "goalValues": list(goals), "phase": phase, "cause": cause, **more,
+        }
+        return differs(Game(text), record)
+
+    def test_of_each_kind_five_are_told(self):
+        terms = [f"t{at}" for at in (3, 1, 6, 2, 7, 5, 4)]
+        inits = " ".join(f"(init {term})" for term in terms)
+        self.assertEqual(self.words(f"{self.RULES} {inits}", states=[["s"]]).splitlines(), [
+            f"the first state lacks t{at}, which sentence {5 + terms.index(f't{at}')}, line 1: (init t{at}) gives" for at in (1, 2, 3, 4, 5)
+        ])
+        self.assertEqual(self.words(self.RULES, states=[["s", *terms]]).splitlines(), [
+            f"the first state has t{at}, which no sentence of the description gives there" for at in (1, 2, 3, 4, 5)
+        ])
+        said = self.words(f"{self.RULES} {' (init s)' * 6}", states=[["x"]])
+        self.assertEqual(said.splitlines()[0].count("(init s) gives"), 5)
+
+    def test_roles_that_are_others(self):
+        said = "the roles are ann bob by the description, and ann eve in the record"
+        self.assertEqual(self.words(self.RULES, roles=("ann", "eve")), said)
+        ruled = "(player bob) (player ann) (<= (role ?x) (player ?x)) (init s) (legal ann go) (legal bob wait)"
+        self.assertIsNone(self.words(ruled))
+        self.assertIsNone(self.words(ruled, roles=("bob", "ann")))
+        self.assertEqual(self.words(ruled, roles=("ann", "eve")), "the roles are bob ann by the description, and ann eve in the record")
+
+    def test_a_text_that_is_not_canonical_is_told_in_part(self):
+        with self.assertRaises(NotFollowed) as why:
+            self.words(self.RULES, moves=[("X" * 101, "wait")])
+        self.assertEqual(str(why.exception), f"it is no record: {'X' * 100!r} is no canonical text")
+
+    def test_a_turn_behind_the_end(self):
+        text = f"{self.RULES}\n(<= terminal (true s))"
+        said = "turn 1 is played, and the match has ended before it: sentence 5, line 2: (<= terminal (true s)) gives `terminal`"
+        self.assertEqual(self.words(text, moves=[("go", "wait")]), said)
+
+    def test_what_follows_is_cited_by_the_moves(self):
+        text = f"{self.RULES} (<= (next t) (does ann go)) (<= (next t) (does bob go)) (<= (next u) (true s)) (<= (next t) (true s) (does bob wait))"
+        said = "after turn 1 the record lacks t, which sentence 5, line 1: (<= (next t) (does ann go)) gives and sentence 8, line 1: (<= (next t) (true s) (does bob wait)) gives"
+        self.assertEqual(self.words(text, moves=[("go", "wait")], states=[["s"], ["u"]]), said)
+        self.assertIsNone(self.words(text, moves=[("go", "wait")], states=[["s"], ["t", "u"]]))
+
+    def test_answers_that_were_not_taken(self):
+        text = f"{self.RULES} (legal ann stay) (<= (next s) (true s))"
+        said = "turn 1, ann: the answer stay was taken for illegal, and sentence 5, line 1: (legal ann stay) gives it"
+        self.assertEqual(self.words(text, [("go", "wait")], [["IL stay", ""]]), said)
+        for error in ("IL wait", "IL ?", "TO", "CE", "RT"):
+            self.assertIsNone(self.words(text, [("go", "wait")], [[error, ""]]), error)
+            said = "turn 1, ann: the record plays stay in the place of an answer, and go stands before it, by sentence 3, line 1: (legal ann go)"
+            self.assertEqual(self.words(text, [("stay", "wait")], [[error, ""]]), said)
+
+    def test_a_move_that_several_sentences_give_stands_by_the_first_that_was_seen_to(self):
+        rules = "(role ann) (init s) (<= (legal ann go) (true t)) (legal ann stay) (<= (legal ann go) (true s)) (<= (next t) (true s)) (<= (next s) (true t))"
+        turns = {"moves": [("go",)] * 3, "states": [["s"], ["t"], ["s"], ["t"]], "roles": ("ann",)}
+        # The sentence of the game that is the first for `go` may not give it here: then its place is open.
+        self.assertIsNone(self.words(rules, **turns, errors=[["TO"], [""], ["TO"]]))
+        turns["moves"] = [("stay",), ("go",), ("stay",)]
+        self.assertIsNone(self.words(rules, **turns, errors=[["TO"], [""], [""]]))
+        turns = {"moves": [("go",), ("stay",)], "states": [["s"], ["t"], ["s"]], "roles": ("ann",)}
+        said = "turn 2, ann: the record plays stay in the place of an answer, and go stands before it, by sentence 2, line 1: (<= (legal ann go) (true t))"
+        self.assertEqual(self.words(rules, **turns, errors=[[""], ["TO"]]), said)
+        # What a sentence was seen to give in one state has its place by it in the others.
+        turns = {"moves": [("stay",), ("stay",), ("stay",)], "states": [["s"], ["t"], ["s"], ["t"]], "roles": ("ann",)}
+        following = Following(Game(rules))
+        following.seen["ann", "go"] = 2
+        self.assertIn("turn 1, ann: the record plays stay", self.words_of(following, turns, [["TO"], [""], [""]]))
+        following = Following(Game(rules))
+        self.assertIsNone(self.words_of(following, {**turns, "moves": [("stay",)], "states": [["s"], ["t"]]}, [["TO"]]))
+        self.assertEqual(following.seen, {("ann", "go"): 4, ("ann", "stay"): 3})
+
+    def words_of(self, following, turns, errors):
+        record = {"goalValues": [], "phase": "playing", **turns, "moves": list(map(list, turns["moves"])), "roles": list(turns["roles"]), "errors": errors}
+        try:
+            following.follow(record)
+        except Differs as why:
+            return str(why)
+        return None
+
+    def test_ends_without_goals(self):
+        over = f"{self.RULES} (<= terminal (true s)) (goal ann 5)"
+        given_up = {"phase": "aborted", "states": [["s"]]}
+        self.assertIsNone(self.words(over, **given_up, cause="nogoal 1"))
+        said = "the record is given up since ann has no single goal, and by the description bob does"
+        self.assertEqual(self.words(over, **given_up, cause="nogoal 0"), said)
+        self.assertIsNone(self.words(f"{over} (goal ann 6)", **given_up, cause="nogoal 0"))
+        said = "the record is given up since bob has no single goal, and by the description ann does"
+        self.assertEqual(self.words(f"{over} (goal ann 6)", **given_up, cause="nogoal 1"), said)
+        self.assertIn("the description has no end there", self.words(f"{self.RULES} (goal ann 5)", **given_up, cause="nogoal 1"))
+        for cause in ("asked", "toolong", "allretired", "nolegal 0"):
+            self.assertIn("the record goes on, and the match has ended", self.words(over, **given_up, cause=cause))
+
+    def test_a_match_that_has_not_begun_may_be_given_up_anywhere(self):
+        over = f"{self.RULES} (<= terminal (true s))"
+        self.assertIsNone(self.words(over, phase="aborted", cause="asked", startMarks=["", None]))
+        self.assertIn("the record goes on", self.words(over, phase="aborted", cause="asked", startMarks=["", "TO"]))
+
+    def test_ends_without_legal_moves(self):
+        given_up = {"phase": "aborted", "states": [["s"]]}
+        for text, causes in ((self.RULES, ("asked", "toolong", "allretired")), (self.RULES.replace("(legal bob wait)", ""), ("nolegal 1", "toolong"))):
+            for cause in ("asked", "toolong", "allretired", "nolegal 0", "nolegal 1"):
+                self.assertEqual(self.words(text, **given_up, cause=cause) is None, cause in causes, cause)
+        said = "after the last turn ann has no legal move in the record, and by the description bob"
+        self.assertEqual(self.words(self.RULES.replace("(legal bob wait)", ""), **given_up, cause="nolegal 0"), said)
+
+    def test_goals_at_the_end(self):
+        over = {"phase": "finished", "states": [["s"]]}
+        text = f"{self.RULES} (<= terminal (true s)) (goal ann 5) (goal bob 6)"
+        self.assertIsNone(self.words(text, **over, goals=(5, 6)))
+        self.assertEqual(self.words(text.replace("(goal bob 6)", ""), **over, goals=(5, 6)), "bob has the goal 6 in the record, and by the description none")
+        said = "bob has the goal 6 in the record, and by the description sentence 7, line 1: (goal bob 6) gives 6; sentence 8, line 1: (goal bob 7) gives 7"
+        self.assertEqual(self.words(f"{text} (goal bob 7)", **over, goals=(5, 6)), said)
+
+    def test_what_fits_a_pattern(self):
+        for pattern, term, is_fit in (
+            ("?x", "a", True), ("?x", ("f", "a"), True), ("a", "a", True), ("a", "b", False), (("f", "?x", "?x"), ("f", "a", "a"), True),
+            (("f", "?x", "?x"), ("f", "a", "b"), False), (("f", "a"), ("f", "a", "b"), False), (("f", "?x", "?y"), ("f", "a"), False), ("a", ("a",), False),
+            (("f", "?x"), "f", False), (("f", "a"), ("g", "a"), False), (("f", ("g", "?x"), "?x"), ("f", ("g", "b"), "b"), True), (("?x", "?y"), "ab", False),
+        ):
+            self.assertEqual(fits(pattern, term, {}), is_fit, (pattern, term))
+
+    def test_the_order_of_terms(self):
+        wanted = ["0", "002", "02", "2", "10", "1a", "B", "a", "ab", ("2",), ("a", "9"), ("a", "10"), ("a", "10", "1"), ("a", ("b",))]
+        self.assertEqual(sorted(wanted[::-1], key=place_of), wanted)
+
+
 class Records(unittest.TestCase):
     """A text that is no record, and a record that lacks something, is neither the same game nor a fault of the program."""
 
@@ -125,6 +260,10 @@ class Records(unittest.TestCase):
             ({"roles": [None]}, "it is no record: roles are texts"),
             ({"errors": [["no"]]}, text),
             ({"errors": [["illegal"]]}, text),
+            ({"errors": [["", "no"]]}, text),
+            ({"moves": [["go"], "go"]}, "it is no record: moves are lists of texts"),
+            ({"roles": ["ann", None]}, "it is no record: roles are texts"),
+            ({"errors": []}, "it is no record: moves, errors and states do not fit together"),
             ({"moves": [], "errors": []}, "it is no record: moves, errors and states do not fit together"),
             ({"moves": [["go", "go"]]}, "it is no record: a turn has not one move for each role"),
             ({"phase": "over"}, "it is no record: its phase is none"),
@@ -141,9 +280,35 @@ class Records(unittest.TestCase):
         ]:
             with self.subTest(changes):
                 self.assertEqual(self.words(**changes), f"not followed: {words}")
-        for line in ("[" * 200_000, '{"roles":' * 90_000, "", "5", "[1"):
-            self.assertTrue(self.holding.held(line)[1].startswith("not followed: it is no record: "))
+        for line in ("[" * 200_000, '{"roles":' * 90_000, "", "[1"):
+            self.assertEqual(self.holding.held(line)[1], "not followed: it is no record: it is no JSON")
+        self.assertEqual(self.holding.held("5")[1], "not followed: it is no record: one object of JSON is wanted")
         self.assertEqual(self.words(), "the same: 1 turns")
+
+    def test_marks_causes_and_goals_that_fit_the_phase(self):
+        none = {"moves": [], "errors": [], "states": self.record["states"][:1], "goalValues": []}
+        whole, marks = {**self.record, "goalValues": []}, "it is no record: startMarks do not fit its phase"
+        for changes, words in [
+            ({**none, "phase": "starting", "startMarks": [None]}, None), ({**none, "phase": "aborted", "cause": "asked", "startMarks": [None]}, None),
+            ({**none, "phase": "playing", "startMarks": [None]}, marks), ({**none, "phase": "aborting", "cause": "toolong", "startMarks": [None]}, marks),
+            ({**whole, "phase": "starting", "startMarks": [None]}, marks), ({**whole, "phase": "aborted", "cause": "asked", "startMarks": [None]}, marks),
+            ({**none, "phase": "starting", "startMarks": [""]}, marks), ({**none, "phase": "playing", "startMarks": ["TO"]}, None),
+            *(({**whole, "phase": "aborted", "cause": cause}, None) for cause in ("asked", "toolong", "allretired", "nogoal 0", "nolegal 0")),
+            ({"goalValues": [50, "50"], "roles": ["ann", "bob"], "moves": [["go"] * 2], "errors": [[""] * 2]}, "it is no record: goalValues do not fit its phase"),
+            ({"errors": [["TO"]]}, None), ({"errors": [["IL x"]]}, None),
+        ]:
+            with self.subTest(changes):
+                try:
+                    self.assertEqual((must_be_record({**self.record, **changes}), words), (None, None))
+                except NotFollowed as why:
+                    self.assertEqual(str(why), words)
+
+    def test_lists_in_one_another_have_little_room(self):
+        self.addCleanup(sys.setrecursionlimit, sys.getrecursionlimit())
+        for limit, wanted in ((5_000, 1_000), (900, 900)):
+            sys.setrecursionlimit(limit)
+            with mock.patch("json.loads", lambda _: sys.getrecursionlimit()):
+                self.assertEqual((read_record("1"), sys.getrecursionlimit()), (wanted, limit))
 
     def test_what_was_broken_off_is_looked_up_anew(self):
         for fault in (Late, MemoryError):
@@ -178,6 +343,31 @@ class Described(unittest.TestCase):
             with self.subTest(text), self.assertRaises(NotFollowed) as why:
                 Game(text)
             self.assertEqual(str(why.exception), words)
+
+    def test_what_is_asked_between_turns_depends_on_no_moves(self):
+        heads = {"legal": "(legal a m)", "goal": "(goal a 1)", "terminal": "terminal", "init": "(init a)", "role": "(role a)", "next": "(next a)"}
+        wrong = {("legal", "does"), ("goal", "does"), ("terminal", "does"), ("init", "does"), ("init", "true"), ("role", "does"), ("role", "true")}
+        for name, head in heads.items():
+            for other, body in (("true", "(true a)"), ("does", "(does a m)")):
+                for text in (f"(<= {head} {body})", f"(<= {head} y) (<= x {body}) (<= y z (not x) z) (<= z y)"):
+                    if (name, other) not in wrong:
+                        Game(f"(role a) {text}".replace("(not x)", "x"))
+                        continue
+                    with self.assertRaises(NotFollowed) as why:
+                        Game(f"(role a) {text}")
+                    self.assertEqual(str(why.exception), f"{name} depends on {other}")
+
+    def test_sentences_that_give_something_are_looked_up_in_each_state_anew(self):
+        game = Game("(role a) (init s) (<= (legal a m) (true s)) (<= (legal a m) (true t)) (legal a n)")
+        for state, numbers in (("s", [2]), ("t", [3]), ("st", [2, 3]), ("", [])):
+            self.assertEqual(game.sources(LEGAL, ("a", "m"), frozenset(state)), numbers)
+        self.assertEqual(game.set_apart(LEGAL, 4, game.by_sentence(LEGAL)[4]), ("legal by sentence 4", 2))
+
+    def test_goals_are_numbers_up_to_100(self):
+        numbers = ["0", "7", "99", "100", "101", "007", "x", "(f 1)", "-1", "1000"]
+        game = Game("(role a) (role b) (goal b 3) " + " ".join(f"(goal a {number})" for number in numbers))
+        position = game.position(game.initial)
+        self.assertEqual((game.goals(position, "a"), game.goals(position, "b"), game.goals(position, "c")), ([0, 7, 99, 100], [3], []))
 
     def test_forms(self):
         text = "(role a) (n 1) (n 2) (n 3) (less 1 2) (less 2 3) (init (c 1)) (init (c 2)) (init s)"

@@ -2,6 +2,7 @@
 that is found by trying all of it."""
 
 import contextlib
+import hashlib
 import io
 import itertools
 import random
@@ -14,7 +15,7 @@ from ggp_tools.instantiating.grounding import sentence_of
 from ggp_tools.instantiating.sentences import GAME, Literal, Rule, all_rules
 from ggp_tools.instantiating.splitting import MOST_LITERALS, split
 from ggp_tools.instantiating.for_players import text_for_players
-from ggp_tools.kif import Refused, expressions, put, relation, variables
+from ggp_tools.kif import Refused, expressions, put, relation, spelled, variables
 from tests.support import GAMES
 
 STATE = ["a", "b", "c", "d"]
@@ -93,6 +94,90 @@ class Folding(unittest.TestCase):
         text = "(<= (next s) (does r a)) " + " ".join(f"(<= (next {t}) p{k} p{k + 1})" for k, t in enumerate("abcdefgh"))
         text += " ".join(f"(<= p{k} (true a) (true b{k})) (<= p{k} (not (true c)) (true d{k}) (true e{k}))" for k in range(9))
         self.assertRegex(refused(all_rules(expressions(text)), 12, 500), r"^bytes \(at least \d+ of 500, since \d+ of 18 sentences have to stand in others\)$")
+
+    def test_what_is_refused_early_has_its_figures(self):
+        text = "(<= (next s) (does r a)) " + " ".join(f"(<= (next {t}) p{k} p{k + 1})" for k, t in enumerate("abcdefgh"))
+        text += " ".join(f"(<= p{k} (true a) (true b{k})) (<= p{k} (not (true c)) (true d{k}) (true e{k}))" for k in range(9))
+        rules = all_rules(expressions(text))
+        for most, most_bytes, words in (
+            (8, 500, "sentences (at least 9 of 8)"), (9, 1_121, "bytes (at least 1,122 of 1,121, since 9 of 18 sentences have to stand in others)"),
+            (12, 500, "bytes (at least 828 of 500, since 6 of 18 sentences have to stand in others)"),
+            (17, 0, "bytes (at least 434 of 0, since 1 of 18 sentences have to stand in others)"), (9, 1_122, None), (18, 0, None),
+        ):
+            self.assertEqual(refused(rules, most, most_bytes), words)
+        with unittest.mock.patch.object(folding, "MOST_DEEP", 6):
+            self.assertEqual(refused(rules, 12, 1 << 20), "sentences (at least 18 of 12)")
+
+    def test_what_games_by_dice_come_to(self):
+        # Sentences, bytes and the beginning of the sum of the text: whatever folds otherwise shows here.
+        for seed, most, most_bytes, *figures in (
+            (0, 10_000, 1 << 20, 42, 1_441, "0978b570"), (0, 20, 1 << 20, 20, 1_471, "d823b622"), (0, 0, 0, 12, 8_518, "0193cc32"),
+            (1, 10_000, 1 << 20, 44, 1_510, "dc99034a"), (1, 20, 1 << 20, 20, 1_575, "f6e8ec2f"), (1, 0, 0, 12, 7_326, "75f1bb39"),
+            (2, 10_000, 1 << 20, 28, 985, "9d19918f"), (2, 20, 1 << 20, 20, 1_026, "16d8ccef"), (2, 0, 0, 11, 3_911, "6c23f4a4"),
+            (3, 10_000, 1 << 20, 42, 1_395, "410003ec"), (3, 20, 1 << 20, 20, 1_465, "1868759f"), (3, 0, 0, 12, 4_639, "010299d4"),
+        ):
+            game = folding.folded(dice_game(random.Random(seed)), most, most_bytes)
+            text = "\n".join(f"{number} {spelled(sentence)}" for number, sentence in game.written())
+            self.assertEqual([game.sentences(), game.bytes(), hashlib.sha256(text.encode()).hexdigest()[:8]], figures, (seed, most))
+        for deep, figures in ((5, (30, 1_066)), (6, (27, 1_099)), (10, (22, 1_035)), (13, (18, 1_146)), (14, (13, 1_170)), (24, (12, 1_292)), (25, (11, 3_911))):
+            with unittest.mock.patch.object(folding, "MOST_DEEP", deep):
+                game = folding.folded(dice_game(random.Random(2)), 0, 0)
+                self.assertEqual((game.sentences(), game.bytes()), figures, deep)
+
+    def written(self, text, most=10_000, most_bytes=1 << 20):
+        """Returns what is written of a game behind the sentences of its role and its moves."""
+        moves = [f"(legal r m{k})" for k in range(8)]
+        game = folding.folded(all_rules(expressions(f"(role r) {' '.join(moves)} {text}")), most, most_bytes)
+        return [f"{number} {spelled(sentence)}" for number, sentence in game.written()][9:]
+
+    def test_bodies_and_formulas_become_parts_where_that_is_shorter(self):
+        body, longer = (f"(true a) (true {'b' * count})" for count in (15, 16))
+        self.assertEqual(self.written(f"(<= (next s) {body}) (<= (next t) {body})"), [f"9 (<= (next s) {body})", f"10 (<= (next t) {body})"])
+        self.assertEqual(self.written(f"(<= (next s) {longer}) (<= (next t) {longer})"), ["9 (<= (next s) part1)", "10 (<= (next t) part1)", f"9 (<= part1 {longer})"])
+        self.assertEqual(len(self.written(f"(<= (next s) {longer}) (<= (next t) {longer})", 11)), 2)
+        alone = [f"(<= (next s{k}) (true {'a' * 50}))" for k in range(5)]
+        self.assertEqual(self.written(" ".join(alone)), [f"{number} {sentence}" for number, sentence in enumerate(alone, 9)])
+        either, longer = (f"(or (true a) (true {'b' * count}))" for count in (10, 11))
+        self.assertEqual(self.written(f"(<= (next s) {either} (true c)) (<= (next t) {either} (true d))")[0], f"9 (<= (next s) (true c) {either})")
+        self.assertEqual(self.written(f"(<= (next s) {longer} (true c)) (<= (next t) {longer} (true d))"), [
+            "9 (<= (next s) (true c) part1)", "10 (<= (next t) (true d) part1)", f"9 (<= part1 {longer})",
+        ])
+
+    def test_where_there_is_room_for_one_part_it_is_the_one_that_gains_most(self):
+        one, two = f"(or (true {'a' * 24}) (true b))", f"(or (true {'c' * 32}) (true d))"
+        text = f"(<= (next s) {one} (true e)) (<= (next t) {one} (true f)) (<= (next u) {two} (true g)) (<= (next v) {two} (true h))"
+        self.assertEqual(self.written(text, 14), [
+            f"9 (<= (next s) (true e) {one})", f"10 (<= (next t) (true f) {one})", "11 (<= (next u) (true g) part1)", "12 (<= (next v) (true h) part1)", f"11 (<= part1 {two})",
+        ])
+
+    def test_parts_stand_in_parts(self):
+        long = [f"(true {letter * 30})" for letter in "acd"]
+        inner = f"(or {long[0]} (true b))"
+        first, second = (f"(or (not {inner}) {atom})" for atom in long[1:])
+        self.assertEqual(self.written(f"(<= (next s) (not {first}) (true e)) (<= (next t) {first} (true f)) (<= (next u) {second} (true g)) (<= (next v) {second} (true h))"), [
+            f"9 (<= (next s) (not {long[1]}) (true e) part1)", "10 (<= (next t) (true f) part2)", f"10 (<= (next t) {long[1]} (true f))", "11 (<= (next u) (true g) part2)",
+            f"11 (<= (next u) (true g) {long[2]})", "12 (<= (next v) (true h) part2)", f"12 (<= (next v) {long[2]} (true h))", f"9 (<= part1 {inner})", "10 (<= part2 (not part1))",
+        ])
+
+    def test_denials_are_one(self):
+        self.assertEqual(self.written("(<= (next s) (not (does r m0)) (not (does r m1)) (not (true s)))"), ["9 (<= (next s) (not (or (does r m0) (does r m1) (true s))))"])
+
+    def test_long_names_become_short_where_bytes_are_too_many(self):
+        name, body = "(a-long-name-of-a-relation x)", " ".join(f"(true {letter * 9})" for letter in "abcdefg")
+        text = f"(<= {name} {body}) (<= (next s) {name} (true t)) (<= (next t) (not {name}))"
+        self.assertEqual(self.written(text, 10_000, 0), [f"9 (<= part1 {body})", "10 (<= (next s) (true t) part1)", "11 (<= (next t) (not part1))"])
+        self.assertIn(name, self.written(text)[0])
+
+    def test_what_bodies_share_stands_once_up_to_a_depth(self):
+        bodies = [[*(("true", str(k)) for k in range(count)), ("true", f"z{count}")] for count in range(1, 11)]
+        game = folding.Folded([Rule(0, "p", tuple(Literal(True, atom) for atom in body)) for body in bodies])
+        (bodies,) = game.bodies.values()
+        text = spelled(game.formulas.expression(game.factored(bodies)))
+        self.assertEqual([text.count(f"(true {k})") for k in range(10)], [1, 1, 1, 1, 1, 1, 1, 3, 2, 1])
+
+    def test_how_often_formulas_stand_in_the_text(self):
+        self.assertEqual(folding.Folded(all_rules(expressions("(<= (next a) (true b)) (<= (next c) (not (or p q)))"))).uses(), [0, 0, 0, 1, 0, 1, 1, 1, 1])
+        self.assertEqual(folding.Folded(all_rules(expressions("(<= (next a) (not p))"))).uses(), [0, 0, 0, 1, 1])
 
     def test_the_sentences_that_cost_most(self):
         # A frame rule of many moves becomes one short sentence, and the rule that sets the cell stays long.

@@ -4,7 +4,7 @@ import html
 import re
 import unittest
 
-from ggp_tools.records.marks import LONGEST, marks_of
+from ggp_tools.records.marks import LONGEST, Mark, marks_of, numbered, shortened
 from ggp_tools.records.show import board_page, board_places, boards_of, marks_of_board
 
 KING, PAWN, MAN, CROWNED, STONE = "\u265a", "\u265f\ufe0e", "\u26c2", "\u26c3", "\u25cf"
@@ -21,6 +21,24 @@ class Glyphs(unittest.TestCase):
         self.assertEqual(shown("black man", "black king"), {"black man": (MAN, "black"), "black king": (CROWNED, "black")})
         self.assertEqual(shown("wk", "bk", "bp"), {"wk": (KING, "white"), "bk": (KING, "black"), "bp": (PAWN, "black")})
         self.assertEqual(shown("whitepawn", "black_king"), {"whitepawn": (PAWN, "white"), "black_king": (KING, "black")})
+
+    def test_which_set_a_piece_is_of(self):
+        # Chess has kings without men, and a man among pieces of chess is a word.
+        self.assertEqual(shown("white king", "black king"), {"white king": (KING, "white"), "black king": (KING, "black")})
+        self.assertEqual(shown("white man", "black queen"), {"white man": ("whi\u2026an", ""), "black queen": ("\u265b", "black")})
+        for codes in (("wk", "bk"), ("wk", "wq", "wp")):
+            self.assertEqual(shown(*codes), {code: (code, "") for code in codes})
+        self.assertEqual(shown("wk", "bk", "bp", "wq")["wq"], ("\u265b", "white"))
+
+    def test_glyphs_are_drawn_larger_than_words(self):
+        marks = marks_of(["x", "red", "2 spades", "white king", "wall", "blank"])
+        self.assertEqual({label: mark.is_glyph for label, mark in marks.items()}, {"x": True, "red": True, "2 spades": True, "white king": True, "wall": False, "blank": False})
+        self.assertEqual([mark.kinds() for mark in (Mark("x"), Mark("x", "red"), Mark("x", "", True), Mark("x", "red", True))], [[], ["red"], ["glyph"], ["glyph", "red"]])
+
+    def test_words_beside_stones_and_marks(self):
+        self.assertEqual((shown("x", "wall")["wall"], shown("w", "b", "wall")["wall"], shown("big spade")), (("wall", ""), ("wall", ""), {"big spade": ("big\u2026de", "")}))
+        self.assertEqual((shown("blank"), shown("empty")), ({"blank": ("\u00b7", "")}, {"empty": ("\u00b7", "")}))
+        self.assertEqual((shown("2 spades"), shown("clubs_ace")), ({"2 spades": ("2\u2660", "")}, {"clubs_ace": ("A\u2663", "")}))
 
     def test_stones_marks_and_cards(self):
         self.assertEqual(shown("white", "red"), {"white": (STONE, "white"), "red": (STONE, "red")})
@@ -41,6 +59,23 @@ class Texts(unittest.TestCase):
     def test_the_difference_is_kept(self):
         self.assertEqual(shown("house_of_cards", "house_of_cats")["house_of_cats"], ("hou\u2026ts", ""))
         self.assertEqual(shown("a black man stands", "a black dog stands")["a black dog stands"], ("\u2026dog", ""))
+
+    def test_where_a_text_is_cut(self):
+        for pair, cuts in (
+            (("aaa1zzzzzy", "aaa2zzzzzx"), ("aaa\u2026zy", "aaa\u2026zx")), (("aaaa1zz", "aaaa2zz"), ("aa\u20261zz", "aa\u20262zz")),
+            (("aaa1zzzz", "aaa2zzzz"), ("aaa1\u2026z", "aaa2\u2026z")), (("aaaa1zzz", "aaaa2zzz"), ("a\u20261zzz", "a\u20262zzz")),
+            (("aaaa123456zzzz", "aaaabcdefgzzzz"), ("\u202612345", "\u2026bcdef")), (("aaaaaaa", "aaaaaaaa"), ("\u2026", "\u2026a")),
+        ):
+            self.assertEqual(shortened(pair), dict(zip(pair, cuts)))
+
+    def test_a_cut_is_no_text_that_is_there(self):
+        self.assertEqual(shown("a white king", "a w\u2026ng")["a white king"], ("a \u2026ing", ""))
+        self.assertEqual(shown("aaaa1zzzz", "aaaa2zzzz", "\u20261"), {"aaaa1zzzz": ("aa\u20261", ""), "aaaa2zzzz": ("\u20262", ""), "\u20261": ("\u20261", "")})
+
+    def test_numbers_where_nothing_else_helps(self):
+        self.assertEqual(numbered(["abc", "abd", "xyz"], {"ab\u20262"}), {"abc": "ab\u20261", "abd": "ab\u20263", "xyz": "xy\u20264"})
+        texts = [f"aaaabbbbb{letter}zzzz" for letter in "cdefghij"]
+        self.assertEqual(shortened([*texts[::-1], "aaaaczzzz", *texts]), {text: f"aa\u2026{at}" for at, text in enumerate(texts, 1)} | {"aaaaczzzz": "\u2026c"})
 
     def test_no_two_look_alike(self):
         long = [f"{'a' * 40}{number:012b}{'c' * 40}" for number in range(3_000)]

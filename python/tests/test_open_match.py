@@ -495,6 +495,7 @@ class OnHosts(WithMatch):
         self.assertEqual(self.freed(2, 0), (2, ["answered", "answered"]))
         self.assertEqual(self.freed(0, 3), (3, ["answered", "answered"]))
         self.assertEqual(self.freed(0, 10**9), (5, ["answered", "no answer"]))
+        self.assertEqual(self.freed(10**9, 0), (5, ["no answer", "answered"]))
 
     def test_so_many_connections_are_made_at_a_time(self):
         self.hosts.connecting["near"] = 4

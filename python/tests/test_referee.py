@@ -11,7 +11,7 @@ from unittest import mock
 from ggp_tools.competition.schedule import Match
 from ggp_tools.referee import (
     BadRules, NoReferee, Referee, Unchecked, find_program, is_no_answer, is_not_lawful, is_not_replayed, last_line, read_records, records_replayed,
-    rules_file,
+    is_text_list, rules_file,
 )
 
 # It keeps the words and the input of each run, and gives the answer that is laid down for it.
@@ -125,7 +125,7 @@ class Replays(WithStandIn):
 
 
 class Rules(WithStandIn):
-    BAD = b"ggp_manager: line 2, column 1: no such thing: (x)\nggp_manager: bad description\n"
+    BAD = b"before\nggp_manager: line 2, column 1: no such thing: (x)\nggp_manager: bad description\n"
 
     def test_the_roles_are_those_of_the_facts_in_their_order(self):
         self.answers()
@@ -192,6 +192,10 @@ class Lines(unittest.TestCase):
         self.assertIsNone(read_records(said(b'{"a":' + b"[" * 100_000)))
 
 
+    def test_lists_of_texts(self):
+        self.assertEqual([is_text_list(value) for value in ([], ["a"], ["a", 1], [1], "ab", None)], [True, True, False, False, False, False])
+
+
 class Words(WithStandIn):
     MATCH = Match("cup-1", "nim", 10, 5, ("ann", "bob"))
 
@@ -231,7 +235,7 @@ class Finding(unittest.TestCase):
         self.enterContext(mock.patch.object(sys, "argv", [str(self.folder / "python/ggp_competition"), "play"]))
         # Where the repository has a program of its own, it is not to be found here.
         self.is_executable = os.access
-        self.enterContext(mock.patch("os.access", lambda path, mode: str(path).startswith(str(self.folder)) and self.is_executable(path, mode)))
+        self.enterContext(mock.patch("os.access", lambda path, mode: os.fspath(path).startswith(str(self.folder)) and self.is_executable(path, mode)))
 
     def program_in(self, name: str, mode: int = 0o755) -> str:
         path = self.folder / name / "ggp_manager"

@@ -2,9 +2,11 @@
 a digit for one of an account."""
 
 import contextlib
+import io
 import itertools
 import os
 import pathlib
+import signal
 import subprocess
 import sys
 import tempfile
@@ -71,7 +73,9 @@ class Pieces(unittest.TestCase):
         with mock.patch.object(verify_many, "LONGEST_LINE", 4):
             self.assertEqual(self.pieces(99, b"a\n", b"bb", b"bb", b"b", b"\nc\n"), [b"", b"a\nbbbbb"])
             self.assertEqual(self.pieces(99, b"a\n", b"bb", b"bb", b"\nc\n"), [b"", b"a\nbbbb\nc\n"])
+            self.assertEqual(self.pieces(99, b"aa", b"aa", b"\nc\n"), [b"", b"aaaa\nc\n"])
             self.assertEqual(self.pieces(99, b"aaaaa\nbb", b"bb", b"\n"), [b"", b"aaaaa\nbbbb\n"])
+        self.assertEqual(verify_many.LONGEST_LINE, 68_719_476_736)
 
     def test_where_reading_fails_whole_lines_are_checked_first(self):
         *found, fault = self.pieces(99, b"a\nb", b"c", OSError(5, "bad"))
@@ -184,6 +188,16 @@ class All(WithProgram):
         with mock.patch.object(verify_many.threading.Thread, "start", side_effect=RuntimeError), self.assertRaises(MemoryError):
             self.all(b"ok\n")
 
+    def test_the_size_is_that_of_pieces(self):
+        with mock.patch.object(verify_many, "pieces", lambda size: [size]):
+            self.assertEqual(list(verify_many.Checking(["p"], 3, 9).pieces), [(0, 9)])
+
+    def test_so_many_pieces_are_in_memory(self):
+        started, start = [], verify_many.threading.Thread.start
+        with mock.patch.object(verify_many.threading.Thread, "start", lambda thread: started.append(thread) or start(thread)):
+            self.all(b"ok\n", jobs=3)
+        self.assertEqual(len(started), 5)
+
     def test_no_more_processes_at_a_time_than_were_asked_for(self):
         counting = self.stand_in("counting", '#!/bin/sh\ncd "$(dirname "$0")"\nmkdir run.$$\nls -d run.* | wc -l >> counts\nsleep 0.05\nrmdir run.$$\ncat > /dev/null\n')
         self.all(b"ok\n" * 12, 2, 1, counting)
@@ -203,9 +217,16 @@ class Commands(WithProgram):
         self.assertEqual((given.jobs, given.piece, options), (len(os.sched_getaffinity(0)), 4_194_304, []))
         for words in (["--jobs", "1024", "--piece", str(1 << 30)], ["--jobs", "1"]):
             arguments([*words, "program", "--"])
+        with mock.patch("os.sched_getaffinity", lambda process: () if process else range(7)):
+            self.assertEqual(arguments(["program", "--"])[0].jobs, 7)
+        with mock.patch("sys.stdout", io.StringIO()) as out, self.assertRaises(SystemExit), mock.patch.dict(os.environ, {"COLUMNS": "500"}):
+            arguments(["--help"])
+        lines = out.getvalue().splitlines()
+        self.assertEqual(lines[0], "usage: ggp-verify-records [--jobs N] [--piece BYTES] PROGRAM -- OPTIONS < records > verdicts")
+        self.assertEqual((lines[2], lines[-1][-35:]), (verify_many.__doc__.splitlines()[0], "It needs only Python 3.11 or later."))
 
     def test_words_that_are_none(self):
-        for words in (["program"], ["--"], ["--jobs", "0", "p", "--"], ["--jobs", "1025", "p", "--"], ["--piece", "0", "p", "--"], ["--piece", str((1 << 30) + 1), "p", "--"], ["--jobs", "x", "p", "--"], ["--jobs", "-1", "p", "--"]):
+        for words in (["program"], ["--"], ["--jobs", "0", "p", "--"], ["--jobs", "1025", "p", "--"], ["--piece", "0", "p", "--"], ["--piece", str((1 << 30) + 1), "p", "--"], ["--jobs", "x", "p", "--"], ["--jobs", "-1", "p", "--"], ["--jobs", "1_0", "p", "--"]):
             with self.assertRaises(SystemExit) as why, mock.patch("sys.stderr"):
                 arguments(words)
             self.assertEqual(why.exception.code, 2, words)
@@ -217,6 +238,29 @@ class Commands(WithProgram):
         self.assertEqual((self.folder / "words").read_text().splitlines()[-1], "verify --lines x")
         self.assertEqual(self.run_command(self.program, "--", text=b"ok\n"), (0, b"lawful\n", b""))
         self.assertEqual(self.run_command(self.program, "--", text=b"short\n"), (3, b"", b"ggp_manager: want of memory\n"))
+
+    def ended(self, *words, fault=None, handler=None):
+        """Returns the status of a run whose check comes to this fault, what is checked, what is said, and the signals that are set."""
+        checked, said, signals = mock.Mock(side_effect=fault), [], mock.Mock()
+        with contextlib.ExitStack() as stack:
+            for name, other in (("check_all", checked), ("say", said.append), ("hold_closed_streams", mock.Mock())):
+                stack.enter_context(mock.patch.object(verify_many, name, other))
+            for name, other in (("sys.argv", ["x", *words]), ("os._exit", sys.exit), ("signal.signal", signals), ("signal.getsignal", lambda _: handler)):
+                stack.enter_context(mock.patch(name, other))
+            with self.assertRaises(SystemExit) as why:
+                verify_many.main()
+        return why.exception.code, checked.call_args.args, b"".join(said), [call.args for call in signals.call_args_list]
+
+    def test_how_a_run_ends(self):
+        words, more = ("--jobs", "3", "--piece", "9", "p", "--"), (["p", "verify", "--lines"], 3, 9)
+        self.assertEqual(self.ended(*words), (0, more, b"", []))
+        # Ctrl-C ends it as it ends the program, unless it is ignored.
+        self.assertEqual(self.ended(*words, handler=signal.default_int_handler)[3], [(signal.SIGINT, signal.SIG_DFL)])
+        for fault, said, status, with_why in (
+            (Fault(b"ggp_manager: records not lawful 1\n"), b"ggp_manager: records not lawful 1\n", 1, 1), (Fault(b"bad\n", 3), b"bad\n", 3, 2),
+            (MemoryError(), b"ggp_manager: want of memory\n", 3, 2),
+        ):
+            self.assertEqual((self.ended(*words, fault=fault), self.ended(*words, "--why", fault=fault)[::2]), ((status, more, said, []), (with_why, said)))
 
     def test_streams_that_are_closed(self):
         words = f"{sys.executable} {TOP}/python/ggp-verify-records {self.program} --"
