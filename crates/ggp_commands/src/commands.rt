@@ -58,7 +58,7 @@ where
     S::Player: Player + Explains + Drop + Send,
 {
     let mut reports = Reports {
-        errors,
+        errors: &mut *errors,
         evidence: Evidence::Nothing,
     };
     let performed = match texts(around.alloc, words) {
@@ -77,18 +77,15 @@ where
         },
         Err(AllocError) => Err(Fault::Memory),
     };
-    let Reports {
-        mut errors,
-        evidence,
-    } = reports;
+    let Reports { evidence, .. } = reports;
     let are_wanted = around.terminals.explain() || has_own_word(words);
     explain(
         around.alloc,
         are_wanted,
         &Subject::Evidence(&evidence),
-        &mut errors,
+        errors,
     );
-    end(performed, around.terminals.why, &mut errors)
+    end(performed, around.terminals.why, errors)
 }
 
 /// The words as texts.
