@@ -3,7 +3,6 @@ state, on moves and on themselves, denials, and `or`s in one another."""
 
 import itertools
 import random
-import re
 import unittest
 from unittest import mock
 
@@ -179,38 +178,6 @@ class ByDice(unittest.TestCase):
     def test_conditions_that_are_met_in_functions_of_their_own(self):
         with mock.patch.object(compiling, "MOST_DEPTH", 1):
             self.look_at(range(3))
-
-
-class Compiled(unittest.TestCase):
-    """What is written of a rule, and what is kept from one state to the next."""
-
-    def sources(self, text):
-        """Returns the sources that are compiled where all is asked of a game in two states."""
-        written = []
-        with mock.patch.object(compiling, "compile", lambda source, *more: written.append(source) or compile(source, *more), create=True):
-            game = Game(text)
-            for state in ("s", "t"):
-                position = game.position(frozenset(state))
-                game.moves(position, "r")
-        return "".join(written)
-
-    def test_what_compares_stands_before_what_looks_up(self):
-        text = "(role r) (q a) (q b) (f a) (<= (g ?x) (q ?x) (true s)) (<= (legal r ?x) (q ?x) (g ?x) (or (f ?x) (g ?x)) (f ?x) (distinct ?x b))"
-        lines = [re.sub(r"\b([fkpv])\d+", r"\1", line.strip()) for line in self.sources(text).splitlines()]
-        at = lines.index("if not p != 'b': continue")
-        self.assertEqual(lines[at + 1 : at + 5], [*["if not ((p,) in k): continue"] * 2, "if not ((((p,) in k)) or (f(D, p))): continue", "if not f(D, p): continue"])
-
-    def test_what_depends_on_no_state_is_found_once(self):
-        facts = "(role r) (e a b) (e b c) (<= (far ?x ?y) (e ?x ?y)) (<= (far ?x ?z) (far ?x ?y) (e ?y ?z))"
-        moving = "(<= (near ?x ?y) (true (e ?x ?y))) (<= (near ?x ?z) (near ?x ?y) (true (e ?y ?z)))"
-        game = Game(f"{facts} {moving} (<= (legal r ?x) (far a ?x)) (<= (legal r ?x) (near a ?x)) (init s)")
-        for state, found in (([], ["b", "c"]), ([("e", "a", "d"), ("e", "d", "f")], ["b", "c", "d", "f"]), ([("e", "a", "g")], ["b", "c", "g"])):
-            self.assertEqual(sorted(game.moves(game.position(frozenset(state)), "r")), found)
-        first, second = (game.position(frozenset()) for _ in range(2))
-        for position in (first, second):
-            game.moves(position, "r")
-        kept = [whole for one, whole in zip(first.tables, second.tables) if one is whole and any(isinstance(value, compiling.positions.Whole) for value in one.values())]
-        self.assertEqual(len(kept), 1)
 
 
 if __name__ == "__main__":
