@@ -4,7 +4,9 @@ state, on moves and on themselves, denials, and `or`s in one another."""
 import itertools
 import random
 import unittest
+from unittest import mock
 
+from ggp_tools.holding import compiling
 from ggp_tools.holding.game import Game
 from ggp_tools.kif import expressions, put, spelled, variables
 
@@ -172,6 +174,10 @@ class ByDice(unittest.TestCase):
 
     def test_the_last_games(self):
         self.look_at(range(12, 16))
+
+    def test_conditions_that_are_met_in_functions_of_their_own(self):
+        with mock.patch.object(compiling, "MOST_DEPTH", 1):
+            self.look_at(range(3))
 
 
 if __name__ == "__main__":

@@ -128,6 +128,19 @@ class Circles(unittest.TestCase):
             found.append(f"(<= (w {start} {end}) {' '.join(dict.fromkeys([f'(w {start} {middle})', f'(w {middle} {end})']))})")
         return " ".join([*found, *more])
 
+    def both(self, names):
+        """Returns the ways of a relation that begin with one of its own and go on by one of another."""
+        first, then = names
+        return " ".join(f"(<= ({first} {start} {end}) ({first} {start} {middle}) ({then} {middle} {end}))" for start, middle, end in itertools.product("ab", repeat=3))
+
+    def test_halves_and_cliques(self):
+        ways = ("w", "a", "b"), ("w", "b", "c")
+        self.assertTrue(rounds.halves(("w", "a", "c"), *ways) and rounds.halves(("w", "a", "c"), *ways[::-1]))
+        for whole, first, second in (("ac", "ab", "dc"), ("ac", "ab", "bd"), ("ac", "db", "bc"), ("ca", "ab", "bc")):
+            self.assertFalse(rounds.halves(*(("w", *way) for way in (whole, first, second))))
+        self.assertEqual(rounds.cliques(list("acd"), {"a": {"d"}, "d": {"c", "a"}, "c": {"a"}}), [["a", "d"], ["c"]])
+        self.assertEqual(rounds.cliques(list("adc"), {"a": {"d", "c"}, "d": {"c"}, "c": {"a", "d"}}), [["a", "c"], ["d"]])
+
     def test_a_closure_is_halved(self):
         for names, last in (("ab", 1), ("abc", 2), ("abcd", 2), ("abcde", 3)):
             self.assertEqual(self.last(self.closure(names)), (True, last), names)
@@ -135,7 +148,7 @@ class Circles(unittest.TestCase):
         for other in (
             text.replace("(w a b) (w b c)", "(w a b) (w b c) (f x)"), text.replace("(<= (w a c) (w a b) (w b c))", ""),
             text + "(<= (w a b) (w b c))", text + "(<= (w a b) (w a c) (w b c))", text + "(<= (w a b) (w b c) (w a c))", text + "(<= (w a b) (w c a) (w b c))",
-            text + "(<= (w a b) (w c b) (not (f x)))", text.replace("(w ", "(w z "), text + "(<= v (w a b)) (<= (w a b) v)", text + "(<= (w a b) (v a b)) (<= (v a b) (w a b) (w b b))",
+            text + "(<= (w a b) (w c b) (not (f x)))", f"{self.closure('ab')} {self.closure('ab').replace('(w ', '(x ')} {self.both('wx')} {self.both('xw')}", text.replace("(w ", "(w z "), text + "(<= v (w a b)) (<= (w a b) v)", text + "(<= (w a b) (v a b)) (<= (v a b) (w a b) (w b b))",
         ):
             self.assertEqual(self.last(other)[0], False, other[-60:])
 

@@ -111,7 +111,7 @@ class Folding(unittest.TestCase):
     def test_what_games_by_dice_come_to(self):
         # Sentences, bytes and the beginning of the sum of the text: whatever folds otherwise shows here.
         for seed, most, most_bytes, *figures in (
-            (0, 10_000, 1 << 20, 42, 1_441, "0978b570"), (0, 20, 1 << 20, 20, 1_471, "d823b622"), (0, 0, 0, 12, 8_518, "0193cc32"),
+            (0, 10_000, 1 << 20, 42, 1_441, "0978b570"), (0, 20, 1 << 20, 20, 1_471, "d823b622"), (0, 0, 0, 12, 8_518, "0193cc32"), (0, 14, 1 << 20, 14, 2_405, "67a8290d"),
             (1, 10_000, 1 << 20, 44, 1_510, "dc99034a"), (1, 20, 1 << 20, 20, 1_575, "f6e8ec2f"), (1, 0, 0, 12, 7_326, "75f1bb39"),
             (2, 10_000, 1 << 20, 28, 985, "9d19918f"), (2, 20, 1 << 20, 20, 1_026, "16d8ccef"), (2, 0, 0, 11, 3_911, "6c23f4a4"),
             (3, 10_000, 1 << 20, 42, 1_395, "410003ec"), (3, 20, 1 << 20, 20, 1_465, "1868759f"), (3, 0, 0, 12, 4_639, "010299d4"),
@@ -195,8 +195,8 @@ class Folding(unittest.TestCase):
         game = folding.folded(all_rules(expressions(text)), 3, 1 << 20)
         self.assertEqual(game.sentences(), 3)
         costs = game.costs(True)
-        self.assertGreater(costs[3], 10 * costs[2])
-        self.assertEqual(round(costs.total()), game.bytes())
+        self.assertEqual({sentence: round(cost) for sentence, cost in costs.items()}, {0: 9, 1: 12, 2: 25, 3: 468})
+        self.assertEqual((round(costs.total()), game.costs(False).total()), (game.bytes(), 3))
 
     def test_parts_cost_those_who_ask_for_them(self):
         # Two rules of one head; only the second has the body that all the others share, which becomes a part.

@@ -1,11 +1,13 @@
-"""The second reader of published descriptions: sentences with their lines, the rules that they come to, what is looked up first, and records
-that are followed."""
+"""The second reader of published descriptions: sentences with their lines, the rules that they come to, what is looked up first, how rules are
+compiled, and records that are followed."""
 
 import itertools
 import random
+import re
 import unittest
 from unittest import mock
 
+from ggp_tools.holding import compiling
 from ggp_tools.holding.following import Differs, Following, fits, must_be_record, place_of
 from ggp_tools.holding.game import Game
 from ggp_tools.holding.planning import Sizes, is_known, is_test
@@ -406,6 +408,76 @@ class Followed(unittest.TestCase):
             self.assertEqual(Following(Game(text)).follow(record), 1)
         with self.assertRaises(Differs):
             Following(Game(text)).follow({**record, "moves": [["(m a)", "(m b)"]]})
+
+
+class Compiled(unittest.TestCase):
+    """What is written of a rule, and what is kept from one state to the next."""
+
+    def sources(self, text):
+        """Returns the sources that are compiled where all is asked of a game in two states."""
+        written = []
+        with mock.patch.object(compiling, "compile", lambda source, *more: written.append(source) or compile(source, *more), create=True):
+            game = Game(text)
+            for state in ("s", "t"):
+                position = game.position(frozenset(state))
+                game.moves(position, "r")
+        return "".join(written)
+
+    def test_what_compares_stands_before_what_looks_up(self):
+        text = "(role r) (q a) (q b) (f a) (<= (g ?x) (q ?x) (true s)) (<= (legal r ?x) (q ?x) (g ?x) (or (f ?x) (g ?x)) (f ?x) (distinct ?x b))"
+        lines = [re.sub(r"\b([fkpv])\d+", r"\1", line.strip()) for line in self.sources(text).splitlines()]
+        at = lines.index("if not p != 'b': continue")
+        self.assertEqual(lines[at + 1 : at + 5], [*["if not ((p,) in k): continue"] * 2, "if not ((((p,) in k)) or (f(D, p))): continue", "if not f(D, p): continue"])
+
+    def moves(self, text):
+        game = Game(f"(role r) (init s) {text}")
+        return sorted(game.moves(game.position(game.initial), "r"))
+
+    def test_lists_are_told_apart_by_all_their_members(self):
+        facts = "(p (f a)) (p (g b)) (p (f c d)) (p e) (h (f a c)) (h (f b d)) (h (g a e))"
+        self.assertEqual(self.moves(f"{facts} (<= (legal r ?x) (p (f ?x)))"), ["a"])
+        self.assertEqual(self.moves(f"{facts} (<= (legal r ?y) (h (f a ?y)))"), ["c"])
+        self.assertEqual(self.moves(f"{facts} (<= (legal r ?y) (h (f ?x ?y)))"), ["c", "d"])
+        self.assertEqual(self.moves(f"{facts} (<= (q ?x) (p ?x) (true s)) (<= (legal r ?x) (q (f ?x)))"), ["a"])
+
+    def test_moves_that_depend_on_others(self):
+        self.assertEqual(self.moves("(e a b) (e b c) (e d f) (legal r x) (<= (legal r a) (true s)) (<= (legal r ?x) (legal r ?y) (e ?y ?x))"), ["a", "b", "c", "x"])
+
+    def test_who_makes_no_move_has_done_nothing(self):
+        game = Game("(role r) (init s) (legal r m) (<= (next (did ?m)) (does nobody ?m)) (<= (next (done ?m)) (does r ?m))")
+        self.assertEqual(list(game.following(game.position(game.initial, ("m",)))), [("done", "m")])
+
+    def test_roles_may_be_lists(self):
+        game = Game("(role (o 1)) (role (o 2)) (role x) (init s) (<= (legal ?r m) (role ?r)) (<= (next (did ?n ?m)) (does (o ?n) ?m))")
+        self.assertEqual(sorted(game.following(game.position(game.initial, ("m", "n", "m")))), [("did", "1", "m"), ("did", "2", "n")])
+
+    def test_what_has_the_fewest_answers_is_looped_over(self):
+        lines = [line.strip() for line in self.sources("(role r) (few a) (init a) (init b) (init c) (<= (legal r ?x) (true ?x) (few ?x))").splitlines()]
+        self.assertFalse([line for line in lines if line.endswith(" in D.state:")])
+        self.assertTrue([line for line in lines if line.endswith(" in D.state): continue")])
+
+    def test_what_only_has_to_be_possible_is_asked_apart(self):
+        lines = self.sources("(role r) (q a) (e a b) (e a c) (<= (legal r ?x) (q ?x) (e ?x ?y))").splitlines()
+        self.assertEqual(len([line for line in lines if line.startswith("def h")]), 1)
+
+    def test_so_many_loops_stand_in_one_another(self):
+        links = " ".join(f"(e ?v{at} ?v{at + 1})" for at in range(15))
+        lines = self.sources(f"(role r) (e a a) (<= (legal r ?v15) {links})").splitlines()
+        self.assertEqual(max((len(line) - len(line.lstrip())) // 4 for line in lines if line.lstrip().startswith("for")), 13)
+        # Of what is bound only the last variable is handed over.
+        self.assertEqual({line.count(",") for line in lines if line.startswith("def h")}, {2})
+
+    def test_what_depends_on_no_state_is_found_once(self):
+        facts = "(role r) (e a b) (e b c) (<= (far ?x ?y) (e ?x ?y)) (<= (far ?x ?z) (far ?x ?y) (e ?y ?z))"
+        moving = "(<= (near ?x ?y) (true (e ?x ?y))) (<= (near ?x ?z) (near ?x ?y) (true (e ?y ?z)))"
+        game = Game(f"{facts} {moving} (<= (legal r ?x) (far a ?x)) (<= (legal r ?x) (near a ?x)) (init s)")
+        for state, found in (([], ["b", "c"]), ([("e", "a", "d"), ("e", "d", "f")], ["b", "c", "d", "f"]), ([("e", "a", "g")], ["b", "c", "g"])):
+            self.assertEqual(sorted(game.moves(game.position(frozenset(state)), "r")), found)
+        first, second = (game.position(frozenset()) for _ in range(2))
+        for position in (first, second):
+            game.moves(position, "r")
+        kept = [whole for one, whole in zip(first.tables, second.tables) if one is whole and any(isinstance(value, compiling.positions.Whole) for value in one.values())]
+        self.assertEqual(len(kept), 1)
 
 
 if __name__ == "__main__":

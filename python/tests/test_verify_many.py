@@ -189,8 +189,10 @@ class All(WithProgram):
             self.all(b"ok\n")
 
     def test_the_size_is_that_of_pieces(self):
-        with mock.patch.object(verify_many, "pieces", lambda size: [size]):
-            self.assertEqual(list(verify_many.Checking(["p"], 3, 9).pieces), [(0, 9)])
+        sizes = []
+        with mock.patch.object(verify_many, "pieces", lambda size: sizes.append(size) or iter(())):
+            self.all(b"", jobs=3, size=9)
+        self.assertEqual(sizes, [9])
 
     def test_so_many_pieces_are_in_memory(self):
         started, start = [], verify_many.threading.Thread.start
