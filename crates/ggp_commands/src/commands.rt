@@ -45,12 +45,12 @@ struct Reports<E> {
 /// Performs the command of the words after the program's name, and returns the program's status. A fault is one line on `errors`, after
 /// the lines that explain it. A failed write to `errors` is skipped. On a terminal `errors` also shows the progress of matches. `--why`
 /// counts only if the terminals of `around` say that it is there.
-pub fn command<H, S, R: Read, W: Write, E: Write + Send>(
+pub fn command<H, S, R: Read, W: Write, E: Write + Send + Drop>(
     around: &Surroundings<'_, H, S>,
     words: &[String],
     reader: &mut Counted<R>,
     writer: &mut Counted<W>,
-    errors: &mut E,
+    errors: E,
 ) -> u8
 where
     H: Net + Clock + LockedFiles + Threads + Wait + Sync,
@@ -58,13 +58,13 @@ where
     S::Player: Player + Explains + Drop + Send,
 {
     let mut reports = Reports {
-        errors: &mut *errors,
+        errors,
         evidence: Evidence::Nothing,
     };
     let performed = match texts(around.alloc, words) {
         Ok(words) => match task_of(around.alloc, &words, &mut reports.evidence) {
             Ok(task) => {
-                let (performed, _writer) = perform_task::<Brand, H, S, R, W, &mut E>(
+                let (performed, _writer) = perform_task::<Brand, H, S, R, W, E>(
                     around,
                     &task,
                     reader,
@@ -77,15 +77,18 @@ where
         },
         Err(AllocError) => Err(Fault::Memory),
     };
-    let Reports { evidence, .. } = reports;
+    let Reports {
+        mut errors,
+        evidence,
+    } = reports;
     let are_wanted = around.terminals.explain() || has_own_word(words);
     explain(
         around.alloc,
         are_wanted,
         &Subject::Evidence(&evidence),
-        errors,
+        &mut errors,
     );
-    end(performed, around.terminals.why, errors)
+    end(performed, around.terminals.why, &mut errors)
 }
 
 /// The words as texts.
