@@ -159,6 +159,12 @@ class Folding(unittest.TestCase):
             f"11 (<= (next u) (true g) {long[2]})", "12 (<= (next v) (true h) part2)", f"12 (<= (next v) {long[2]} (true h))", f"9 (<= part1 {inner})", "10 (<= part2 (not part1))",
         ])
 
+    def test_no_more_is_placed_than_has_to_be(self):
+        asked = " ".join(f"(<= p{k} (true a{k}) (true b{k})) (<= (next s{k}) p{k} (true c)) (<= (next t{k}) p{k} (true d))" for k in range(3))
+        for most, left in ((18, 3), (17, 2), (16, 1), (15, 0)):
+            found = self.written(asked, most)
+            self.assertEqual((len(found), len([line for line in found if "(<= p" in line])), (most - 9, left))
+
     def test_denials_are_one(self):
         self.assertEqual(self.written("(<= (next s) (not (does r m0)) (not (does r m1)) (not (true s)))"), ["9 (<= (next s) (not (or (does r m0) (does r m1) (true s))))"])
 
