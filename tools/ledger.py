@@ -4,7 +4,7 @@ whose prover it was, and counts while that is one of those with which the gate p
 
 The sum of an edit is over the edit, the kit's logic, and
 
-- its crate's `src/` (without plain comments), `specs/` and `proofs/`, its row in crates.txt, and HANDLES;
+- its crate's `src/` (without comments, also doc comments), `specs/` and `proofs/`, its row in crates.txt, and HANDLES;
 - of each crate below: its row in crates.txt, `specs/`, and what a crate above sees of `src/`, which is all but the bodies of functions
   and comments.
 
@@ -74,9 +74,14 @@ def sum_from_above(name: str) -> str:
     return sum_of(row_of(name), sum_of_files(name, ("specs",)), *code)
 
 
+def code_of(source: str) -> str:
+    """Returns the tokens of a file that a check reads: doc comments are none."""
+    return " ".join(token.text for token in tokens(source) if token.kind != "doc")
+
+
 def sum_of_own(name: str) -> str:
     """Returns the sum of what a check of this crate reads of itself."""
-    code = [word for path in texts_of(name, ("src",)) for word in (path, " ".join(token.text for token in tokens(read(path).decode())))]
+    code = [word for path in texts_of(name, ("src",)) for word in (path, code_of(read(path).decode()))]
     return sum_of(row_of(name), sum_of_files(name, ("specs", "proofs")), *code)
 
 

@@ -21,8 +21,8 @@ RESERVES = ("with_capacity", "with_capacity_in", "reserve", "reserve_exact", "tr
 RESERVES += ("repeat", "repeat_n")
 # Rings of the kit have as many slots as their second argument says.
 RING = "RingBuffer"
-# A constant up to this is no large size.
-LARGEST = 1_024
+# A constant up to this is no large size. The limit of matches of a desk is larger.
+LARGEST = 128
 # Behind these an expression begins.
 OPENERS = ("=", ",", ";", "=>")
 CONSTANT = re.compile(r"[A-Z][A-Z0-9_]*")

@@ -1,5 +1,6 @@
 """What the wrong bodies of `rt plant` came to, in tools/plants.json: of each crate how many were tried and refused, under a sum of what its
-check rests on, and those that its contracts let through, each with a sentence: which test finds it, or why it is right or harmless."""
+check rests on, and those that its contracts let through, each with a sentence: which test finds it, or why it is right or harmless. The
+functions of which no body that gives up could be judged are named without one."""
 import json
 import re
 from collections.abc import Iterator
@@ -15,10 +16,12 @@ LAST = re.compile(r"plants crate=(\w+) (.*)")
 
 
 class Result(NamedTuple):
-    """What `rt plant` said of a crate: its numbers, by their names, and its findings, without the lines at which they stand."""
+    """What `rt plant` said of a crate: its numbers, by their names, its findings, without the lines at which they stand, and the functions
+    of which no body that gives up could be judged."""
 
     numbers: dict[str, int]
     findings: list[str]
+    untested: list[str]
 
 
 def result_of(said: str) -> Result | None:
@@ -27,8 +30,9 @@ def result_of(said: str) -> Result | None:
     if last is None:
         return None
     numbers = {name: int(count) for name, count in (word.split("=") for word in last[2].split())}
-    found = [FINDING.fullmatch(line.strip()) for line in said.splitlines()]
-    return Result(numbers, sorted({f"{line[1]} {line[2]} {line[3].strip()}" for line in found if line}))
+    found = [line for line in map(FINDING.fullmatch, map(str.strip, said.splitlines())) if line]
+    findings = sorted({f"{line[1]} {line[2]} {line[3].strip()}" for line in found if line[1] != "untested"})
+    return Result(numbers, findings, sorted({f"{line[2]} {line[3].strip()}" for line in found if line[1] == "untested"}))
 
 
 def read_ledger(file: str = LEDGER) -> dict[str, dict]:
@@ -47,7 +51,8 @@ def keep(name: str, result: Result, sum_of_text: str, file: str = LEDGER) -> Non
     """Keeps what a crate came to, with the sentences on findings that were there before."""
     ledger = read_ledger(file)
     before = ledger.get(name, {}).get("findings", {})
-    ledger[name] = {"sum": sum_of_text, "numbers": result.numbers, "findings": {found: before.get(found, "") for found in result.findings}}
+    findings = {found: before.get(found, "") for found in result.findings}
+    ledger[name] = {"sum": sum_of_text, "numbers": result.numbers, "findings": findings, "untested": result.untested}
     with open(file, "w", encoding="utf-8") as text:
         text.write(json.dumps(ledger, indent=1, sort_keys=True) + "\n")
 

@@ -19,8 +19,8 @@ from collections.abc import Callable
 from concurrent.futures import Future
 from http.server import BaseHTTPRequestHandler, ThreadingHTTPServer
 
-# No message of the referee is longer, or has more lists in one another: START is the longest, with rules of at most 4,194,304 bytes (those
-# of a large game) before they are printed, which may add a space for each atom and each list.
+# No message of the referee is longer, or has more lists in one another. START is the longest: its rules have at most 4,194,304 bytes (those
+# of a large game) before they are printed, and that may add a space for each atom and each list.
 MOST_BYTES, MOST_LISTS = 16_777_216, 66
 # No longer answer counts.
 MOST_ANSWER = 4_096

@@ -254,6 +254,15 @@ class Commands(unittest.TestCase):
             rows = database.execute("SELECT strikes, match_id FROM matches ORDER BY number").fetchall()
         self.assertEqual((rows[0][0], rows[1][1]), (1e30, "\\ud800"))
 
+    def test_a_database_takes_the_numbers_beside_its_largest(self):
+        numbers, whole = [(1 << 63) - 1, 1 << 63, (1 << 64) - 1], json.loads(record(LAWFUL[1]))
+        self.pile.write_text("".join(json.dumps({**whole, "strikes": number}) + "\n" for number in numbers), encoding="ascii")
+        said = self.run_records("sqlite", str(self.folder / "o.db"), str(self.pile))
+        self.assertEqual((said.returncode, said.stderr), (1, "ggp-records: 3 not lawful\n"))
+        with contextlib.closing(sqlite3.connect(self.folder / "o.db")) as database:
+            rows = database.execute("SELECT strikes FROM matches ORDER BY number").fetchall()
+        self.assertEqual([row[0] for row in rows], [numbers[0], *map(float, numbers[1:])])
+
     def test_a_database_takes_no_file_that_is_there(self):
         beside = self.folder / "o.db.new"
         beside.write_text("mine", encoding="ascii")

@@ -23,6 +23,7 @@ MISTAKES = [
     ("start = 30", f"start = 0x{'f' * 5_000}", [(2, "start", "the number is not from 1 to 86,400")]),
     ("start = 30", "start = 86401", [(2, "start", "is not from")]),
     ("start = 30", "start = true", [(2, "start", "a whole number")]),
+    ("start = 30", 'start = "1:75:00"', [(2, "start", "a whole number")]),
     ("strikes = 3", "strikes = 256", [(3, "strikes", "is not from 0 to 255")]),
     ("strikes = 3", "tries = 1001", [(3, "tries", "is not from 1 to 1,000")]),
     ("strikes = 3", "wait = 86401", [(3, "wait", "is not from 0 to 86,400")]),

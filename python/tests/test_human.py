@@ -129,13 +129,14 @@ class Seats(unittest.TestCase):
     def test_messages_of_another_receiver_are_not_this_roles(self):
         self.assertEqual(self.seat.answer(f"(START M xplayer ({RULES}) 60 60)", "ann"), "ready")
         self.assertEqual(self.seat.answer(f"(START M oplayer ({RULES}) 60 60)", "bob"), "busy")
-        self.assertEqual(self.seat.answer("(PLAY M NIL)", "bob"), "busy")
+        for message in ("(PLAY M NIL)", "(STOP M NIL)", "(ABORT M)"):
+            self.assertEqual(self.seat.answer(message, "bob"), "busy", message)
         self.assertEqual((self.seat.view["role"], self.seat.view["phase"]), ("xplayer", "ready"))
 
     def test_a_message_that_does_not_fit_the_match_changes_nothing(self):
         self.assertEqual(self.seat.answer(f"(START M nobody ({RULES}) 60 60)"), "busy")
         self.assertIn("no role nobody", self.seat.view["note"])
-        for clock in ("x", "-1", "9" * 400, "(1)"):
+        for clock in ("x", "-1", "1:75:00", "9" * 400, "(1)"):
             self.assertRaises(Unread, self.seat.answer, f"(START M xplayer ({RULES}) 60 {clock})")
         self.begin()
         for moves in ("foo", "(a)", "((mark 1 1))", "(a b c)"):
@@ -150,8 +151,8 @@ class Seats(unittest.TestCase):
     def test_a_seat_is_busy_in_a_match_and_free_behind_it(self):
         self.begin()
         self.assertEqual(self.seat.answer("(INFO)"), "busy")
-        self.assertEqual(self.seat.answer("(PLAY N NIL)"), "busy")
-        self.assertEqual(self.seat.answer("(ABORT m)"), "busy")
+        for message in ("(PLAY N NIL)", "(STOP m NIL)", "(ABORT m)"):
+            self.assertEqual(self.seat.answer(message), "busy", message)
         self.assertEqual(self.seat.answer("(ABORT M)"), "aborted")
         self.assertEqual(self.seat.answer("(INFO)"), "available")
 
@@ -220,6 +221,10 @@ class Pages(unittest.TestCase):
         self.assertEqual(self.request("POST", "/move", "{}", named).status, 403)
         own = {"Origin": f"http://{here}", "Sec-Fetch-Site": "same-origin", "X-Player": "human"}
         self.assertEqual(self.request("POST", "/move", "{}", own).status, 409)
+
+    def test_a_message_may_have_16_mib(self):
+        self.assertEqual(self.request("POST", "/", "(INFO)".ljust(16_777_216)).read(), b"available")
+        self.assertEqual(self.request("POST", "/", headers={"Content-Length": "16777217"}).status, 400)
 
     def test_bytes_beyond_ascii_come_back_as_they_came(self):
         self.seat.waits_for_page = False

@@ -320,6 +320,9 @@ class Looked(unittest.TestCase):
         for more in ({"startClock": 7}, {"goalValues": [1]}, {"strikes": 1}):
             self.write(match, **more)
             self.assertIsNone(result_in_file(self.folder, competition, match), more)
+        self.write(match)
+        with mock.patch.object(kept, "MOST_OF_RECORD", self.folder.record(match.id).stat().st_size - 1):
+            self.assertIsNotNone(result_in_file(self.folder, competition, match))
         self.folder.record(match.id).unlink()
         self.assertIsNone(result_in_file(self.folder, competition, match))
 

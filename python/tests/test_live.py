@@ -386,6 +386,12 @@ class States(InRoom):
         board = self.board(self.play(2, "NIL", ["(take 1)", SILENT]) + self.play(3, "((take 1) noop)", ["noop"], [0]), strikes=1)
         self.assertEqual((board.turn, board.turns[-1].errors, self.heap(board)), (2, ("", "RT"), "(heap 1)"))
 
+    def test_strikes_count_in_a_row(self):
+        # Between the turns in which its move is replaced blue answers for itself.
+        log = self.play(2, "NIL", ["(take 1)", SILENT]) + self.play(3, "((take 1) noop)", ["noop", "(take 1)"]) + self.play(4, "(noop (take 1))", ["(take 1)", SILENT])
+        board = self.board(log, strikes=2)
+        self.assertEqual((board.turn, board.rows), (3, [(0, 0), (1, 1)]))
+
     def test_a_line_that_is_missing_is_no_strike(self):
         # Nobody knows what red answered in turns 1 and 2: what was played is its first legal move, and then another one.
         log = self.play(2, "NIL", ["", "noop"], [1]) + self.play(3, "((take 1) noop)", ["", "(take 1)"], [1]) + self.play(4, "(noop (take 1))", ["", "noop"], [1])

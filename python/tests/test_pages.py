@@ -16,7 +16,7 @@ from ggp_tools.competition import pages as pages_module
 from ggp_tools.competition.competition_file import read_competition
 from ggp_tools.descriptions.loading import Rules
 from ggp_tools.competition.files import Folder
-from ggp_tools.competition.pages import Pages, made_side_by_side, spelt
+from ggp_tools.competition.pages import Pages, made_side_by_side, seconds_between, spelt
 from ggp_tools.competition.plan import Plan
 from ggp_tools.competition.results import result_of
 from ggp_tools.competition.schedule import planned
@@ -53,6 +53,12 @@ def number_text(number):
 
 def killed(_):
     os._exit(1)
+
+
+class Seconds(unittest.TestCase):
+    def test_a_time_that_no_clock_shows_tells_nothing(self):
+        for end, words in (("2026-01-01T01:15:00.500Z", "4500.5"), ("2026-01-01T01:75:00.500Z", ""), (None, "")):
+            self.assertEqual(seconds_between({"begin": "2026-01-01T00:00:00.000Z", "end": end, "isSetBack": False}), words, end)
 
 
 class SideBySide(unittest.TestCase):

@@ -254,6 +254,17 @@ class Going(WithMatches):
         self.assertEqual(self.reporter.lines, ["no more matches begin; 2 are played to their ends, or ended by one more Ctrl-C"])
         self.assertEqual([standing.may_begin for standing in Standing.begun], [False, False])
 
+    def test_a_second_interrupt_ends_those_that_the_first_one_let_go_on(self):
+        def interrupt(match):
+            self.playing.interrupts += 1
+
+        self.begin(at_once=2)
+        Standing.laid_down = {"cup-001": ["playing", interrupt, "playing", interrupt, "playing", won], "cup-003": ["asking"] * 5 + [won]}
+        self.wait_for_all()
+        self.playing.go()
+        self.assertEqual((self.begun(), self.playing.results, [standing.is_ended for standing in Standing.begun]), (["cup-001", "cup-003"], {}, [True, True]))
+        self.assertEqual((self.playing.left, [list(places) for places, _ in self.aborted]), ({"cup-001": "it was ended before its end"}, [["cup-001"]]))
+
     def test_who_ends_open_matches_tells_their_players(self):
         self.begin(at_once=9)
         for match in ("cup-001", "cup-003"):

@@ -211,6 +211,7 @@ class Began(unittest.TestCase):
             ([f"began {first}", f"{third} x", f"{second} y", f"ended {third}"], True), ([f"began {first}", f"{second} x", f"ended {first}"], True),
             # What was before the match began again is another run.
             ([f"began {second}", f"{first} x", f"began {second}", f"ended {third}"], False),
+            ([f"began {first}", f"began {third}", f"{second} x", f"began {second}", f"ended {third}"], False),
             ([f"began {third}", f"{third} x", f"began {second}", f"{first} x"], True),
             ([f"began {second}", f"x {first}", "host one"], False),
         ):

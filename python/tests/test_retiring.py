@@ -142,6 +142,12 @@ class Gaps(SomeRoles):
         self.play(4, {1: "a"}, "(x a)")
         self.assert_left([0], 0)
 
+    def test_turns_without_lines_may_have_ended_a_row(self):
+        self.begin(2, 3)
+        self.play(1, {0: SILENT, 1: "a"})
+        self.play(3, {0: SILENT, 1: "a"}, "(x a)")
+        self.assertEqual(self.retiring.rows[0], (0, 2))
+
     def test_a_line_that_is_missing_may_have_been_a_replaced_move(self):
         self.begin(2, 2)
         self.play(1, {0: "a", 1: "a"})

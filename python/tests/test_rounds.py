@@ -256,6 +256,9 @@ class Refusals(unittest.TestCase):
             found = paired("abcdef", Counter(map(frozenset, met.split())))
             self.assertEqual(" ".join(map("".join, found)), wanted)
 
+    def test_where_all_have_met_each_meets_whom_it_has_met_least(self):
+        self.assertEqual(paired("abcd", Counter(map(frozenset, "ba ba ca da cb db dc".split()))), [("a", "c"), ("b", "d")])
+
     def test_how_many_rounds_and_matches_are_to_come(self):
         players, games = [(f"p{at}", f"h:{at + 1}") for at in range(7)], [("one", "f"), ("two", "f")]
         first = [Round(1, (("p0", "p1"), ("p2", "p3"), ("p4", "p5")), ("p6",))]

@@ -2,9 +2,11 @@
 
 import itertools
 import math
+import types
 import unittest
 from collections import Counter
 
+from ggp_tools.competition.command import said_of_game
 from ggp_tools.competition.competition_file import Mistaken, read_competition
 from ggp_tools.competition.schedule import MOST_MATCHES, circle_steps, planned, refuse_too_many, schedule_text
 from tests.support import toml
@@ -84,6 +86,10 @@ class Schedule(unittest.TestCase):
         # So many players and roles, and how often each two meet: as many pairs as the matches seat, by the pairs that there are.
         for count, roles, wanted in ((7, 3, 2), (9, 4, 3), (5, 2, 2)):
             self.assertEqual(set(meetings(matches(count, roles)).values()), {wanted})
+
+    def test_two_players_meet_in_whatever_seats_they_sit(self):
+        plan = types.SimpleNamespace(competition=read_competition(toml([(f"p{at}", f"h:{at + 1}") for at in range(3)], [("g0", "f")]).encode()), roles=lambda _: ("a", "b"))
+        self.assertEqual(said_of_game(plan, matches(3, 2)), "6 matches, roles a b; each player in each seat: 2; each two players: 2")
 
     def test_a_game_of_one_role_is_played_by_each_player_alone(self):
         for form in ('kind = "round_robin"', 'kind = "gauntlet"\none = "p1"'):

@@ -2,6 +2,7 @@
 
 import unittest
 
+from ggp_tools.records import show
 from ggp_tools.records.shapes import is_error, is_expression, is_list, is_text
 
 
@@ -26,6 +27,12 @@ class Shapes(unittest.TestCase):
     def test_the_text_of_an_answer_has_at_most_8192_characters(self):
         self.assertTrue(is_error("IL " + "a" * 8_192))
         self.assertFalse(is_error("IL " + "a" * 8_193))
+
+    def test_a_record_may_have_16_mib_before_its_line_s_end(self):
+        for size, end, words in ((1 << 24, b"\n", "it is JSON, and no object"), (1 << 24, b"", "it is JSON, and no object"), ((1 << 24) + 1, b"\n", "it is longer than 16 MiB")):
+            with self.assertRaises(show.NoRecord) as why:
+                show.read_record(b"[]".ljust(size) + end)
+            self.assertEqual(str(why.exception), words, size)
 
     def test_lists_of_members_and_of_lengths(self):
         self.assertTrue(is_list([], is_text) and is_list(["a"], is_text) and is_list(["a", "b"], is_text, [0, 2]) and is_list([], is_text, [0, 2]))

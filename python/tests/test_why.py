@@ -154,6 +154,14 @@ class Why(InFolder):
             told.record = {"states": states}
             self.assertEqual(told.illegal_words(0, 0, "IL noop", "noop"), "")
 
+    def test_turns_in_a_row_without_a_move_of_its_own(self):
+        plan = plan_in(str(self.folder), ["ann", "bob"])
+        told = Told(plan, plan.matches[0])
+        errors = [["TO", ""], ["", ""], ["TO", ""], ["TO", ""]]
+        told.record = {"states": [["(heap 3)"]] * 5, "moves": [["noop", "noop"]] * 4, "errors": errors, "strikes": 2}
+        said = [re.findall(r"turn \d in a row|retired", told.turn_words(0, turn, "")) for turn in range(4)]
+        self.assertEqual(said, [[], [], [], ["turn 2 in a row", "retired"]])
+
     def test_a_player_with_the_name_of_a_match(self):
         plan = plan_in(str(self.folder), ["cup-001", "bob"])
         lines = [
@@ -161,6 +169,8 @@ class Why(InFolder):
             "begin cup-001 heap cup-001 bob", "end cup-002 heap bob 100, cup-001 0, 3.1 s", "no answer to abort cup-001: h:1",
             "stopped heap is not played on, since cup-001 is no match of its description; 3 matches of it do not begin",
             "round 1 of 2: cup-001 to cup-002", "missing 20 matches, cup-001 to cup-020: it was ended before its end",
+            # In a competition that has grown an id may begin with that of another match.
+            "begin cup-0010 heap cup-001 bob", "stopped heap is not played on, since cup-0010 is no match of its description", "round 10 of 12: cup-001 to cup-002",
         ]
         plan.folder.journal.write_text("".join(f"2026-01-01T00:00:00.000Z {line}\n" for line in lines))
         told = Told(plan, plan.matches[0])

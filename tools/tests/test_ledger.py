@@ -2,7 +2,7 @@
 import tempfile
 import unittest
 
-from ledger import Counts, Entry, count, read_ledger, tried, write_ledger
+from ledger import Counts, Entry, code_of, count, read_ledger, tried, write_ledger
 from needs import KITS
 
 ENTRIES = {
@@ -26,6 +26,11 @@ class Ledger(unittest.TestCase):
         words = tried(SUMS, ENTRIES)
         self.assertEqual(words, {"edits/low/a.edit": "goal", "edits/low/b.edit": "proved"})
         self.assertEqual(count(SUMS, words), Counts(tried=2, refused=1, left=3))
+
+    def test_comments_are_no_part_of_what_a_check_reads(self):
+        code = "/// Twice the number.\nfn twice(number: u8) -> u8 {\n    // It may wrap.\n    number * 2\n}\n"
+        self.assertEqual(code_of(code), code_of("//! Numbers.\nfn twice(number: u8) -> u8 { number * 2 }"))
+        self.assertNotEqual(code_of(code), code_of(code.replace("* 2", "* 3")))
 
 
 if __name__ == "__main__":

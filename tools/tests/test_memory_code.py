@@ -121,7 +121,7 @@ class Reserved(unittest.TestCase):
 
     def test_a_size_that_is_no_length(self):
         lengths = "texts.len() * 4", "texts.len() + MANY", "texts.len() << role"
-        for size in ("role", "MANY", "MANY as usize", *lengths, "1_000_000", "self.most", "UNKNOWN"):
+        for size in ("role", "MANY", "MANY as usize", *lengths, "1_000_000", "129", "self.most", "UNKNOWN"):
             self.is_found(f"let held = Vec::with_capacity(alloc, {size})?;")
             self.is_found(f"held.reserve({size})?;")
 
@@ -152,6 +152,7 @@ class Reserved(unittest.TestCase):
             "let held = Vec::with_capacity(alloc, FEW + (texts[0].len() + 3))?;",
             "let count = texts.len() as u64;\nlet held = Vec::with_capacity(alloc, count as usize)?;",
             "held.reserve(1)?;",
+            "held.reserve(128)?;",
             "let (sender, receiver) = bounded(alloc, plans.len())?;",
             "let held = vec![in alloc; 1, 2, 3];",
             "let held: Vec<usize> = (0..texts.len()).map(|x| (x..MANY)).collect(alloc)?;",

@@ -12,13 +12,13 @@ untested    src/lib.rt:7 take()
 note: some plants may not have been tried: raise --max or --minutes, or give --only
 plants crate=clocks planted-in=9 untested=1 no-ensures=1 proves=1 same=2 refused=30 elsewhere=1 not-judged=0 not-source=4 not-run=2
 """
-FINDINGS = ["no-ensures src/clock.rt Clock::ring()", "proves src/clock.rt Clock::left: { 0 }", "untested src/lib.rt take()"]
+FINDINGS = ["no-ensures src/clock.rt Clock::ring()", "proves src/clock.rt Clock::left: { 0 }"]
 
 
 class Plants(unittest.TestCase):
     def test_findings_stand_without_their_lines(self):
         result = result_of(SAID)
-        self.assertEqual(result.findings, FINDINGS)
+        self.assertEqual((result.findings, result.untested), (FINDINGS, ["src/lib.rt take()"]))
         self.assertEqual((result.numbers["planted-in"], result.numbers["refused"], result.numbers["not-run"]), (9, 30, 2))
 
     def test_a_run_that_came_to_no_end_has_no_result(self):
@@ -33,7 +33,7 @@ class Plants(unittest.TestCase):
             ledger["clocks"]["findings"][FINDINGS[0]] = "it only rings"
             with open(file, "w", encoding="utf-8") as text:
                 json.dump(ledger, text)
-            keep("clocks", Result({"proves": 1, "not-run": 0}, [FINDINGS[0], "proves src/clock.rt Clock::end: { 1 }"]), "2", file)
+            keep("clocks", Result({"proves": 1, "not-run": 0}, [FINDINGS[0], "proves src/clock.rt Clock::end: { 1 }"], []), "2", file)
             kept = read_ledger(file)["clocks"]
         self.assertEqual(kept["findings"], {FINDINGS[0]: "it only rings", "proves src/clock.rt Clock::end: { 1 }": ""})
         self.assertEqual(kept["sum"], "2")

@@ -40,18 +40,33 @@ pub enum ArgumentFault<'a> {
 }
 
 impl From<AllocError> for ArgumentFault<'_> {
+    ghost use Rattle.std.specs.Prelude.{◌≡◌};
+    ghost use Rattle.command_line.specs.declared.arguments.ArgumentFault.TheVariants.{Memory};
+
+    ghost from_gives = { λ _ fault. fault ≡ Memory };
+
     fn from(_: AllocError) -> Self {
         ArgumentFault::Memory
     }
 }
 
 impl<T: Drop> From<AllocFailed<T>> for ArgumentFault<'_> {
+    ghost use Rattle.std.specs.Prelude.{◌≡◌};
+    ghost use Rattle.command_line.specs.declared.arguments.ArgumentFault.TheVariants.{Memory};
+
+    ghost from_gives = { λ _ fault. fault ≡ Memory };
+
     fn from(_: AllocFailed<T>) -> Self {
         ArgumentFault::Memory
     }
 }
 
 impl<'a> From<WrongValue<'a>> for ArgumentFault<'a> {
+    ghost use Rattle.std.specs.Prelude.{◌≡◌};
+    ghost use Rattle.command_line.specs.declared.arguments.ArgumentFault.TheVariants.{Value};
+
+    ghost from_gives = { λ wrong fault. fault ≡ Value wrong };
+
     fn from(wrong: WrongValue<'a>) -> ArgumentFault<'a> {
         ArgumentFault::Value(wrong)
     }

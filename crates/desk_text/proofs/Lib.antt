@@ -2,6 +2,7 @@ pub mod Accounts
 pub mod Bytes
 pub mod CallTexts
 pub mod Digits
+pub mod EntryLines
 pub mod EscapedTexts
 pub mod LineLemmas
 pub mod Names

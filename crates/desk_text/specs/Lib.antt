@@ -2,4 +2,5 @@ pub mod Words
 pub mod ScriptLines
 pub mod Escapes
 pub mod Account
+pub mod AccountLines
 pub mod Replaying

@@ -1,10 +1,11 @@
 //! Laws of accounts, for any desk.
-ghost use Rattle.std.specs.Prelude.{◌≡◌, List, Some};
+ghost use Rattle.std.specs.Prelude.{◌≡◌, List, Some, true};
 ghost use Rattle.std.specs.List.{AllByRecursion};
 ghost use Rattle.std.specs.Str.Lines.{lines};
 ghost use Rattle.call_history.specs.declared.journal.Entry.{Entry};
 ghost use Rattle.desk_calls.specs.declared.call.Call.{Call};
-ghost use Rattle.desk_text.specs.Account.{IsCall, IsEntry, Tell, account_call, call_text, history_text};
+ghost use Rattle.desk_text.specs.Account.{IsCall, IsEntry, Tell, account_call, call_text, entry_text, history_text};
+ghost use Rattle.desk_text.specs.AccountLines.{HasReplyNumbers, is_account_line};
 
 /// A call can be read from its text, so no two calls have the same text.
 pub fn calls_are_read()
@@ -14,4 +15,9 @@ pub fn calls_are_read()
 /// The lines of a history's text are the texts of its entries, and each entry can be read from its line.
 pub fn histories_are_read()
     ensures { (history : List (Entry _ _)) → AllByRecursion IsEntry history → Tell (lines (history_text history)) history }
+{}
+
+/// The line of each entry has the form of an account's, so where lines are told apart by it, none is taken for a record.
+pub fn entries_have_their_form()
+    ensures { (e : _) → IsEntry e → HasReplyNumbers e.reply → is_account_line (entry_text e) ≡ true }
 {}

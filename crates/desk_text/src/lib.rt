@@ -7,6 +7,7 @@
 #![tactic(auto)]
 
 mod account;
+mod account_lines;
 mod entry_calls;
 mod escapes;
 pub mod laws;
@@ -18,6 +19,7 @@ mod script_lines;
 mod words;
 
 pub use account::push_history;
+pub use account_lines::is_account_line;
 pub use line_fault::{FaultKind, LineFault};
 pub use lines::first_line;
 pub use replaying::{ReplayFault, Replayed, replay};

@@ -1,9 +1,11 @@
 //! The lines of standard error that explain the fault of an input, before the fault's own line.
 //!
-//! Each function appends its lines to a text: `push_description` those about a description that describes no game,
-//! `push_first_bad_line` about a script, `push_refused_matches` about a schedule, `push_broken_rules` about one match, `push_bad_entry` about
-//! an account, `push_several_lines` about a text that is no record, and `push_skipped_lines` about lines that were skipped. No proof rests
-//! on them.
+//! Each function appends its lines to a text, and no proof rests on them. The lines are about
+//!
+//! - a description that describes no game: `push_description`;
+//! - a script: `push_first_bad_line`; a schedule: `push_refused_matches`; one match: `push_broken_rules`;
+//! - an account: `push_bad_entry`; a text that is no record: `push_several_lines`;
+//! - lines that were skipped: `push_skipped_lines`.
 //!
 //! Free functions take the allocator first.
 #![tactic(auto)]

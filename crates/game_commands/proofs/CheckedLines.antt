@@ -1,5 +1,5 @@
 -- Lines that are checked one after another.
-use Rattle.std.proofs.Common.{◌≡◌, ◌<◌, ◌+◌, ℕ, Bool, List, [], ◌∷◌, ◌++◌, length, Option, sym, ap, subst, ◌∙◌, inl, inr, arith, cond, zero-add}
+use Rattle.std.proofs.Common.{◌≡◌, ◌+◌, ℕ, Bool, List, [], ◌∷◌, ◌++◌, length, Option, sym, ap, subst, ◌∙◌, inl, inr, arith, cond, zero-add}
 use Rattle.std.specs.Prelude.{count_by}
 use Rattle.std.proofs.lemmas.List.Sums.{sum_by_push}
 use Rattle.std.proofs.lemmas.List.{append_assoc, flat_map_more}
@@ -8,33 +8,21 @@ use Rattle.std.proofs.KnownBytes.{Appends-trans}
 use Rattle.std.specs.Str.Lines.{lines}
 use Rattle.game_core.specs.Counting.{Counting, CallsMade, one_more, max_stream_calls}
 use Rattle.game_core.specs.Play.{Rules}
+use Rattle.command_faults.specs.Limits.{max_line}
 use Rattle.game_commands.specs.declared.verdicts.Verdict.{Verdict}
 use Rattle.whole_streams.specs.Streams.{StopsReading, InputFails}
-use Rattle.whole_streams.specs.Lines.{HasNoLineFeed, BeginsWithLine}
+use Rattle.whole_streams.specs.Lines.{BeginsWithLines, HasNoLineFeed}
 use Rattle.whole_streams.specs.declared.whole.InputFault.{InputFault}
 use Rattle.whole_streams.specs.declared.whole.InputFault.TheVariants.{ReadFault, TooLong, Memory}
-use Rattle.whole_streams.specs.Laws.{FirstLineIsTaken, LastLineIsWhole}
-use Rattle.game_commands.specs.declared.fault.Fault.{Fault}
-use Rattle.game_commands.specs.Faults.{input_fault}
+use Rattle.command_faults.specs.declared.fault.Fault.{Fault}
+use Rattle.command_faults.specs.Faults.{input_fault}
 use Rattle.game_commands.specs.Verdicts.{IsVerdict, AreVerdicts, verdict_line, verdict_lines}
-use Rattle.game_commands.specs.Checks.{BeginsWithLines, HasFirstLine, TellsVerdicts, LineFails, CheckStops, max_line}
+use Rattle.game_commands.specs.Checks.{HasFirstLine, TellsVerdicts, LineFails, CheckStops}
 
 -- more of the input was read
 pub begins_more : (text : List ℕ) (first : List (List ℕ)) (left given : List ℕ) → BeginsWithLines text first left → BeginsWithLines (text ++ given) first (left ++ given)
 begins_more text first left given begins more =
     ap lines (append_assoc text given more) ∙ begins (given ++ more) ∙ ap (λ l. first ++ lines l) (sym (append_assoc left given more))
-
--- one line more is taken
-pub begins_line : FirstLineIsTaken → (text : List ℕ) (first : List (List ℕ)) (bytes line left : List ℕ) → BeginsWithLines text first bytes → BeginsWithLine bytes line left
-    → BeginsWithLines text (first ++ line ∷ []) left
-begins_line first_line text first bytes line left begins next more =
-    begins more ∙ ap (λ l. first ++ l) (first_line bytes line left more next) ∙ sym (append_assoc first (line ∷ []) (lines (left ++ more)))
-
--- the last line is taken
-pub begins_last : LastLineIsWhole → (text : List ℕ) (first : List (List ℕ)) (left given line : List ℕ) → BeginsWithLines text first left → 0 < length (left ++ given) → line ≡ left ++ given → HasNoLineFeed (left ++ given)
-    → lines (text ++ given) ≡ first ++ line ∷ []
-begins_last last_line text first left given line begins some is feedless =
-    begins given ∙ ap (λ l. first ++ l) (last_line (left ++ given) some feedless ∙ ap (λ l. l ∷ []) (sym is))
 
 pub verdicts_push : {S M : Type 0} (g : Rules S M) (texts : List (List ℕ)) (verdicts : List Verdict) (text : List ℕ) (verdict : Verdict)
     → AreVerdicts g texts verdicts → IsVerdict g text verdict → AreVerdicts g (texts ++ text ∷ []) (verdicts ++ verdict ∷ [])

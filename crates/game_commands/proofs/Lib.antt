@@ -1,7 +1,3 @@
 mod CheckedLines
-mod DoneLines
-mod DoneNames
-mod NotedNames
 mod OpenMatches
-mod AccountLines
-mod EntryLines
+mod ReadAccounts

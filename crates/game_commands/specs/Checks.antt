@@ -7,20 +7,17 @@ use Rattle.game_core.specs.Counting.{Counting, last_count, one_more}
 use Rattle.game_core.specs.Play.{Rules}
 use Rattle.match_record.specs.LawfulRecord.{IsLawfulRecord}
 use Rattle.record_check.specs.Verified.{FailsFirst}
+use Rattle.command_faults.specs.Limits.{max_line}
 use Rattle.game_commands.specs.declared.verdicts.Verdict.{Verdict}
 use Rattle.whole_streams.specs.Streams.{StopsReading}
 use Rattle.whole_streams.specs.Lines.{HasNoLineFeed, BeginsWithLine}
 use Rattle.game_commands.specs.Verdicts.{IsVerdict, verdict_line, verdict_lines}
-use Rattle.game_commands.specs.declared.fault.Fault.{Fault}
-use Rattle.game_commands.specs.declared.fault.Fault.TheVariants.{ReadFault, InputTooLong, Memory, NotLawful, WriteFault}
+use Rattle.command_faults.specs.declared.fault.Fault.{Fault}
+use Rattle.command_faults.specs.declared.fault.Fault.TheVariants.{ReadFault, InputTooLong, Memory, NotLawful, WriteFault}
 
 -- the limit of a record's bytes, if the input is one record
 abbrev pub max_record : ℕ
 max_record = 16777216
-
--- the limit of a line's bytes
-abbrev pub max_line : ℕ
-max_line = 68719476736
 
 -- the output for a lawful record
 abbrev pub lawful_line : List ℕ
@@ -38,10 +35,6 @@ CheckFails remaining contents g WriteFault given reader reader' writer writer' =
     (reader'.faults ≡ reader.faults) × (writer'.faults ≡ one_more writer.faults) × IsAtEnd (remaining reader'.stream) × IsLawfulRecord g given
     × ((taken : ℕ) × (taken ≤ length lawful_line) × Appends (contents writer.stream) (contents writer'.stream) (take taken lawful_line))
 CheckFails remaining contents g fault given reader reader' writer writer' = ⊥
-
--- For each continuation of the text, its lines are these and then those of the bytes that are left.
-abbrev pub BeginsWithLines : List ℕ → List (List ℕ) → List ℕ → Type 0
-BeginsWithLines text first left = (more : List ℕ) → lines (text ++ more) ≡ first ++ lines (left ++ more)
 
 -- the first line of these bytes. It may be the last one, without a line feed.
 abbrev pub HasFirstLine : Option (List ℕ) → List ℕ → List ℕ → Type 0

@@ -22,16 +22,17 @@ use Rattle.match_plans.specs.declared.game_source.GameSource.{GameSource}
 use Rattle.match_plans.specs.declared.game_source.GameSource.TheVariants.{Countdown as OfCountdown, Described}
 use Rattle.match_plans.specs.declared.game_source.RulesSource.{RulesSource}
 use Rattle.match_plans.specs.declared.game_source.RulesSource.TheVariants.{Text, File}
-use Rattle.game_commands.specs.declared.fault.Fault.{Fault}
-use Rattle.game_commands.specs.declared.fault.Fault.TheVariants.{WrongUse, Memory, BadDescription, BadLines, UnlawfulRecords}
-use Rattle.game_commands.specs.declared.files.NamedFile.TheVariants.{Input, Rules as RulesFile}
+use Rattle.command_faults.specs.declared.fault.Fault.{Fault}
+use Rattle.command_faults.specs.declared.fault.Fault.TheVariants.{WrongUse, Memory, BadDescription, BadLines, UnlawfulRecords}
+use Rattle.command_faults.specs.declared.files.NamedFile.TheVariants.{Input, Rules as RulesFile}
 use Rattle.game_commands.specs.declared.verdicts.Verdict.{Verdict}
-use Rattle.game_commands.specs.Faults.{IsFileFault, input_file_fault}
+use Rattle.command_faults.specs.Faults.{IsFileFault, input_file_fault}
+use Rattle.whole_streams.specs.Lines.{BeginsWithLines}
 use Rattle.game_commands.specs.ScriptFaults.{ScriptFails}
 use Rattle.game_commands.specs.Verdicts.{AreVerdicts, verdict_lines, count_unlawful}
 use Rattle.game_commands.specs.Replays.{accounts, AreReplayed, ReplayFails}
 use Rattle.game_commands.specs.Whole.{ReadsAndWrites}
-use Rattle.game_commands.specs.Checks.{lawful_line, CheckFails, BeginsWithLines, CheckStops}
+use Rattle.game_commands.specs.Checks.{lawful_line, CheckFails, CheckStops}
 
 -- ---- a command's output
 

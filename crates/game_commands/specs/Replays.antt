@@ -16,9 +16,11 @@ use Rattle.desk_text.specs.declared.replaying.ReplayFault.{ReplayFault}
 use Rattle.desk_text.specs.declared.replaying.ReplayFault.TheVariants.{Memory as ReplayMemory, NoEntry as ReplayNoEntry, Differs as ReplayDiffers}
 use Rattle.desk_scripts.specs.Script.{records}
 use Rattle.whole_streams.specs.Streams.{StopsReading}
-use Rattle.game_commands.specs.declared.fault.Fault.{Fault}
-use Rattle.game_commands.specs.declared.fault.Fault.TheVariants.{Memory, NoEntry, Differs, ReadFault, InputTooLong, WriteFault}
-use Rattle.game_commands.specs.Checks.{BeginsWithLines, HasOpenLine, max_line}
+use Rattle.command_faults.specs.declared.fault.Fault.{Fault}
+use Rattle.command_faults.specs.declared.fault.Fault.TheVariants.{Memory, NoEntry, Differs, ReadFault, InputTooLong, WriteFault}
+use Rattle.whole_streams.specs.Lines.{BeginsWithLines}
+use Rattle.command_faults.specs.Limits.{max_line}
+use Rattle.game_commands.specs.Checks.{HasOpenLine}
 
 -- whether a match of a desk has finished or was aborted
 abbrev pub is_over : {G S M : Type 0} → (G → Rules S M) → ManagerValue G M → DeskMatch M → Bool

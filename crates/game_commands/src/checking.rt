@@ -5,11 +5,12 @@ ghost use Rattle.std.specs.Str.Lines.{lines};
 ghost use Rattle.match_record.specs.LawfulRecord.{IsLawfulRecord};
 ghost use Rattle.game_commands.specs.declared.verdicts.Verdict.{Verdict as LineVerdict};
 ghost use Rattle.game_commands.specs.Verdicts.{IsVerdict, AreVerdicts, verdict_line, verdict_lines, count_skipped, count_unlawful};
-ghost use Rattle.game_commands.specs.Checks.{lawful_line, CheckFails, BeginsWithLines, LineFails, CheckStops};
+ghost use Rattle.whole_streams.specs.Lines.{BeginsWithLines};
+ghost use Rattle.game_commands.specs.Checks.{lawful_line, CheckFails, LineFails, CheckStops};
 
 use crate::evidence::Evidence;
-use crate::fault::Fault;
 use crate::verdicts::{Verdict, count_skipped, count_unlawful, verdict_line, verdict_on};
+use command_faults::{Fault, MAX_LINE};
 use game_core::{Counted, Game};
 use match_record::VerifyFault;
 use record_check::verify;
@@ -20,23 +21,6 @@ use whole_streams::{LineBuffer, NextLine, read_to_end, write_all};
 
 /// The limit of a record's bytes, if the input is one record: 16 MiB.
 const MAX_RECORD: usize = 16_777_216;
-
-/// The limit of a line's bytes: 64 GiB, which no record of a match has.
-pub const MAX_LINE: usize = 68_719_476_736;
-
-impl From<VerifyFault> for Fault {
-    ghost use Rattle.std.specs.Prelude.{◌≡◌};
-    ghost use Rattle.game_commands.specs.Faults.{check_fault};
-
-    ghost from_gives = { λ fault given. given ≡ check_fault fault };
-
-    fn from(fault: VerifyFault) -> Fault {
-        match fault {
-            VerifyFault::Memory => Fault::Memory,
-            fault => Fault::NotLawful(fault),
-        }
-    }
-}
 
 /// Reads a record, checks it by the game, and writes `lawful`. For an unlawful record the fault is the first test that it fails. A text
 /// that is no JSON is kept as evidence.

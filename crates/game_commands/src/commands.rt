@@ -1,15 +1,14 @@
 //! The commands for one game, over an input and standard output.
 ghost use Rattle.std.specs.Prelude.{◌≡◌, ◌≢◌, ◌⊎◌, ◌∷◌, [], IfErr, IfOk, OnOk};
 ghost use Rattle.game_commands.specs.Commands.{Answers, AnswersInput, Fails, FailsInput, HasNoGame, HoldsOfGame};
-ghost use Rattle.game_commands.specs.declared.fault.Fault.TheVariants.{Memory};
+ghost use Rattle.command_faults.specs.declared.fault.Fault.TheVariants.{Memory};
 
 use crate::checking::{check_record, check_records};
 use crate::evidence::Evidence;
-use crate::fault::Fault;
-use crate::files::{NamedFile, input_file_fault, opened};
 use crate::replaying::replay_accounts;
 use crate::rules::{game_of, rules_text};
 use crate::script::run_script;
+use command_faults::{Fault, NamedFile, input_file_fault, opened};
 use game_core::{Countdown, Counted, Game};
 use match_plans::{GameCommand, GameSource, GameTask};
 use std::alloc::Global;

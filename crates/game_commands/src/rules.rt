@@ -2,12 +2,11 @@
 ghost use Rattle.std.specs.Prelude.{◌≡◌, ◌⊎◌, IfErr, IfOk};
 ghost use Rattle.std.specs.Cow.{cow_slice_items};
 ghost use Rattle.described_games.specs.Games.{IsDescribed};
-ghost use Rattle.game_commands.specs.declared.fault.Fault.TheVariants.{BadPlayerRules, Memory};
+ghost use Rattle.command_faults.specs.declared.fault.Fault.TheVariants.{BadPlayerRules, Memory};
 ghost use Rattle.game_commands.specs.Commands.{HasNoText, HasNoSourceText, IsRefused, IsTextOf, IsSourceText, limits_of};
 
 use crate::evidence::Evidence;
-use crate::fault::Fault;
-use crate::files::{NamedFile, file_text};
+use command_faults::{Fault, NamedFile, file_text};
 use described_games::{DescriptionFault, countdown_rules, described_game};
 use game_core::{Countdown, Limits};
 use kif_text::KifFault;

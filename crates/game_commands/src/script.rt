@@ -6,7 +6,7 @@ ghost use Rattle.desk_scripts.specs.Script.{bad_lines, script_output};
 ghost use Rattle.game_commands.specs.ScriptFaults.{ScriptFails};
 
 use crate::evidence::Evidence;
-use crate::fault::Fault;
+use command_faults::Fault;
 use desk_scripts::answer_script;
 use game_core::{Counted, Game};
 use std::alloc::Global;

@@ -10,11 +10,12 @@ use Rattle.match_play.specs.declared.playable_game.PlayableGame.{PlayableGame}
 use Rattle.match_season.specs.Outputs.{IsOutputOf}
 use Rattle.match_season.specs.Seasons.{WritesAllBut}
 use Rattle.command_line.specs.declared.tasks.SeasonPlan.{SeasonPlan}
-use Rattle.game_commands.specs.Faults.{IsFileFault}
-use Rattle.game_commands.specs.declared.fault.Fault.{Fault}
-use Rattle.game_commands.specs.declared.fault.Fault.TheVariants.{WriteFault}
-use Rattle.game_commands.specs.declared.files.NamedFile.TheVariants.{Records}
-use Rattle.ggp_commands.specs.Schedules.{AreLeft, AreToPlay, AreUndone, GoesTo, HasNoPlans, WritesPlans, WritesPlansUpTo}
+use Rattle.command_faults.specs.Faults.{IsFileFault}
+use Rattle.command_faults.specs.declared.fault.Fault.{Fault}
+use Rattle.command_faults.specs.declared.fault.Fault.TheVariants.{WriteFault}
+use Rattle.command_faults.specs.declared.files.NamedFile.TheVariants.{Records}
+use Rattle.ggp_commands.specs.Schedules.{GoesTo, WritesPlans, WritesPlansUpTo}
+use Rattle.matches_to_play.specs.ToPlay.{AreLeft, AreToPlay, AreUndone, HasNoPlans}
 
 -- Fewer matches at once change nothing of what is written.
 pub same_output : {P : Type 0} (is_reached : RolePlace → PlayerAddress → P → Type 0) (handed : P → Option (List Handed)) (game : PlayableGame) (whole form : SeasonForm) (plans : List MatchPlan) (missing : ℕ) (old new : Option (List ℕ))

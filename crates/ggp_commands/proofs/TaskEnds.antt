@@ -3,7 +3,7 @@ use Rattle.std.proofs.Common.{◌≡◌, ◌≢◌, ◌⊎◌, ◌∙◌, ℕ, i
 use Rattle.std.specs.Prelude.{OnErr, OnOk, Result, Ok, Err}
 use Rattle.command_line.specs.declared.tasks.MatchTask.{MatchTask}
 use Rattle.command_line.specs.declared.tasks.MatchTask.TheVariants.{Run, Season, Check}
-use Rattle.game_commands.specs.declared.fault.Fault.{Fault}
+use Rattle.command_faults.specs.declared.fault.Fault.{Fault}
 use Rattle.ggp_commands.specs.Faults.{task_fault}
 
 same_fault : (task : MatchTask) (fault : Fault) → task_fault task (Err fault) ≡ fault

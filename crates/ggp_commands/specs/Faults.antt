@@ -13,9 +13,9 @@ use Rattle.command_line.specs.declared.tasks.MatchTask.{MatchTask}
 use Rattle.command_line.specs.declared.tasks.MatchTask.TheVariants.{Check}
 use Rattle.command_line.specs.declared.arguments.ArgumentFault.{ArgumentFault}
 use Rattle.command_line.specs.declared.arguments.ArgumentFault.TheVariants.{Memory as ArgumentMemory}
-use Rattle.game_commands.specs.declared.fault.Fault.{Fault}
-use Rattle.game_commands.specs.declared.fault.Fault.TheVariants.{WrongUse, Memory, WriteFault, NoAnswer, NotSent, Refused, MatchNotEnded, Shortage, NoRecords, NotLawful, UnlawfulRecords, NoEntry, Differs, BadLines, BadAnswers}
-use Rattle.game_commands.specs.Faults.{status_of as plain_status}
+use Rattle.command_faults.specs.declared.fault.Fault.{Fault}
+use Rattle.command_faults.specs.declared.fault.Fault.TheVariants.{WrongUse, Memory, WriteFault, NoAnswer, NotSent, Refused, MatchNotEnded, Shortage, NoRecords, NotLawful, UnlawfulRecords, NoEntry, Differs, BadLines, BadAnswers}
+use Rattle.command_faults.specs.Faults.{status_of as plain_status}
 
 -- The fault is an answer: no. The command did all that it had to do, and what it judged or asked is not as it should be.
 abbrev pub is_no : Fault → Bool

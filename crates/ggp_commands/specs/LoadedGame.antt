@@ -9,10 +9,10 @@ use Rattle.packed_rules.specs.PackedGames.{sentences_of}
 use Rattle.packed_rules.specs.declared.packed_game.PackedGame.{PackedGame}
 use Rattle.command_line.specs.declared.tasks.GameOptions.{GameOptions}
 use Rattle.game_commands.specs.Commands.{HasNoSourceText, IsRefused, IsSourceText, limits_of}
-use Rattle.game_commands.specs.declared.fault.Fault.{Fault}
-use Rattle.game_commands.specs.declared.fault.Fault.TheVariants.{BadPlayerRules, Memory}
-use Rattle.game_commands.specs.declared.files.NamedFile.TheVariants.{PlayerRules}
-use Rattle.game_commands.specs.Faults.{IsFileFault}
+use Rattle.command_faults.specs.declared.fault.Fault.{Fault}
+use Rattle.command_faults.specs.declared.fault.Fault.TheVariants.{BadPlayerRules, Memory}
+use Rattle.command_faults.specs.declared.files.NamedFile.TheVariants.{PlayerRules}
+use Rattle.command_faults.specs.Faults.{IsFileFault}
 
 -- the rules are the sentences that this text spells, printed without capitals
 abbrev pub AreSpelled : List ℕ → List ℕ → Type 0

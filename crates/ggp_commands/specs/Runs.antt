@@ -12,8 +12,8 @@ use Rattle.match_play.specs.PlayedMatches.{IsPlannedMatch, IsSetupOf, packed_ref
 use Rattle.match_play.specs.declared.playable_game.PlayableGame.{PlayableGame}
 use Rattle.whole_streams.specs.Streams.{AppendsPart}
 use Rattle.command_line.specs.declared.tasks.RunPlan.{RunPlan}
-use Rattle.game_commands.specs.declared.fault.Fault.{Fault}
-use Rattle.game_commands.specs.declared.fault.Fault.TheVariants.{Refused, WriteFault}
+use Rattle.command_faults.specs.declared.fault.Fault.{Fault}
+use Rattle.command_faults.specs.declared.fault.Fault.TheVariants.{Refused, WriteFault}
 
 -- From one content of a stream to the other the record of a match was written, and its account if the plan wants it. The match has this
 -- plan and is of this game. Its players were reached at the addresses of their roles, and got the game's rules.

@@ -1,24 +1,14 @@
 -- The matches of a season that are played.
-use Rattle.std.specs.Prelude.{◌≡◌, ◌⊎◌, ℕ, Bool, true, false, List, MatchOption, Option, filter, is_some, length, map, not}
-use Rattle.std.specs.List.{AllZip}
-use Rattle.std.specs.Str.Lines.{lines}
-use Rattle.ground_rules.specs.LoadedGame.{loaded_game}
-use Rattle.packed_rules.specs.PackedGames.{tables_of}
-use Rattle.packed_rules.specs.declared.packed_game.PackedGame.{PackedGame}
-use Rattle.game_commands.specs.Done.{AreDone, is_noted, match_names}
-use Rattle.game_commands.specs.Faults.{IsFileFault, schedule_fault}
-use Rattle.game_commands.specs.declared.done.DoneMatches.{DoneMatches}
-use Rattle.game_commands.specs.declared.fault.Fault.{Fault}
-use Rattle.game_commands.specs.declared.fault.Fault.TheVariants.{Memory, WriteFault}
-use Rattle.game_commands.specs.declared.files.NamedFile.TheVariants.{Records}
+use Rattle.std.specs.Prelude.{◌≡◌, ◌⊎◌, ℕ, Bool, true, false, List, MatchOption, Option, is_some, length, not}
+use Rattle.command_faults.specs.declared.fault.Fault.{Fault}
+use Rattle.command_faults.specs.declared.fault.Fault.TheVariants.{WriteFault}
+use Rattle.matches_to_play.specs.ToPlay.{AreToPlay, HasNoPlans}
 use Rattle.command_line.specs.declared.tasks.MatchTask.{MatchTask}
 use Rattle.command_line.specs.declared.tasks.MatchTask.TheVariants.{Season}
 use Rattle.command_line.specs.declared.tasks.SeasonPlan.{SeasonPlan}
-use Rattle.match_plans.specs.Schedules.{cut_lines, match_lines, IsBadLine, IsPlanned}
 use Rattle.match_plans.specs.declared.addresses.PlayerAddress.{PlayerAddress}
 use Rattle.match_plans.specs.declared.plan.MatchPlan.{MatchPlan}
 use Rattle.match_plans.specs.declared.reach.RolePlace.{RolePlace}
-use Rattle.match_plans.specs.declared.schedule_fault.ScheduleFault.{ScheduleFault}
 use Rattle.match_plans.specs.declared.season_form.SeasonForm.{SeasonForm}
 use Rattle.match_messages.specs.Handing.{Handed}
 use Rattle.match_play.specs.declared.playable_game.PlayableGame.{PlayableGame}
@@ -31,39 +21,6 @@ use Rattle.ggp_commands.specs.Faults.{season_fault}
 abbrev pub has_schedule : MatchTask → Bool
 has_schedule (Season plan) = true
 has_schedule task = false
-
--- the match is not noted: none with its id and its players is over
-abbrev pub is_left : DoneMatches → MatchPlan → Bool
-is_left noted plan = not (is_noted noted (match_names plan.id.now (map (λ p. p.name.now) plan.players.items)))
-
--- these matches without those that are noted, in their order
-abbrev pub left_of : DoneMatches → List MatchPlan → List MatchPlan
-left_of noted plans = filter (is_left noted) plans
-
--- If a file of finished matches is given, these are the others of all matches: without those that are over by their records in the lines
--- of a text.
-abbrev pub AreLeft : {F : Type 0} → PackedGame → Option F → List MatchPlan → List MatchPlan → Type 0
-AreLeft game file all plans =
-    MatchOption file (plans ≡ all) (λ name. (noted : DoneMatches) × ((records : List ℕ) × AreDone (loaded_game (tables_of game)) (lines records) noted) × (plans ≡ left_of noted all))
-
--- The matches of a schedule with this number of strikes, without those that are over by a file of finished matches, if one is given.
-abbrev pub AreUndone : {F : Type 0} → PackedGame → ℕ → Option F → List ℕ → List MatchPlan → Type 0
-AreUndone game strikes done schedule plans = (all : List MatchPlan) × AllZip (IsPlanned strikes) (match_lines schedule) all × AreLeft game done all plans
-
--- The same, without those that are over by the file that records are added to, if there is one.
-abbrev pub AreToPlay : {F G : Type 0} → PackedGame → ℕ → Option F → Option G → List ℕ → List MatchPlan → Type 0
-AreToPlay game strikes done records schedule plans = (undone : List MatchPlan) × AreUndone game strikes done schedule undone × AreLeft game records undone plans
-
--- Why there are no undone matches: out of memory, the schedule's first bad line, or the file of the finished matches that is named can't be
--- read.
-abbrev pub HasNoUndone : {F : Type 0} → PackedGame → ℕ → Option F → List ℕ → Fault → Type 0
-HasNoUndone game strikes done schedule fault = (fault ≡ Memory)
-    ⊎ (((bad : ScheduleFault) × (fault ≡ schedule_fault bad) × IsBadLine (loaded_game (tables_of game)).roles strikes (cut_lines schedule) bad)
-    ⊎ ((is_some done ≡ true) × IsFileFault Records fault))
-
--- Why there are no matches to play: the same, or the file that records are added to can't be read or added to.
-abbrev pub HasNoPlans : {F G : Type 0} → PackedGame → ℕ → Option F → Option G → List ℕ → Fault → Type 0
-HasNoPlans game strikes done records schedule fault = HasNoUndone game strikes done schedule fault ⊎ ((is_some records ≡ true) × IsFileFault Records fault)
 
 -- From one content of a stream to the other the output of each of these matches was written, as the form asks, but for the missing ones.
 -- Each match is of this game. Its players were reached at the addresses of their roles, and got the game's rules.

@@ -13,10 +13,10 @@ use Rattle.command_line.specs.declared.tasks.GameOptions.{GameOptions}
 use Rattle.command_line.specs.declared.tasks.Task.{Task}
 use Rattle.command_line.specs.declared.tasks.Task.TheVariants.{Game, Host, Info, Abort, Show}
 use Rattle.game_commands.specs.Commands.{AnswersInput, FailsInput, HasNoGame, HoldsOfGame}
-use Rattle.game_commands.specs.Faults.{IsFileFault, input_fault}
-use Rattle.game_commands.specs.declared.fault.Fault.{Fault}
-use Rattle.game_commands.specs.declared.fault.Fault.TheVariants.{Memory, NoAnswer, WriteFault}
-use Rattle.game_commands.specs.declared.files.NamedFile.TheVariants.{Input}
+use Rattle.command_faults.specs.Faults.{IsFileFault, input_fault}
+use Rattle.command_faults.specs.declared.fault.Fault.{Fault}
+use Rattle.command_faults.specs.declared.fault.Fault.TheVariants.{Memory, NoAnswer, WriteFault}
+use Rattle.command_faults.specs.declared.files.NamedFile.TheVariants.{Input}
 use Rattle.whole_streams.specs.Streams.{AppendsPart}
 use Rattle.whole_streams.specs.Streams.{InputFails}
 use Rattle.whole_streams.specs.declared.whole.InputFault.{InputFault}
@@ -74,8 +74,8 @@ Plays H is_reached handed remaining contents plan task reader reader' writer wri
     × IsLoadedGame plan game.game.now game.rules.now × ReadsInput remaining task input reader reader'
     × WritesTask H is_reached handed game task input count (contents writer.stream) (contents writer'.stream)
 
--- Why the task was not performed, or not well: without its game or its input it was not begun, and nothing was written; otherwise matches are
--- missing or answers bad, and the fault has their number, or it ended with the fault.
+-- Why the task was not performed, or not well. Without its game or its input it was not begun, and nothing was written. Otherwise matches
+-- are missing or answers bad, and the fault has their number, or it ended with the fault.
 abbrev pub FailsToPlay : (H : Type 0) → {P R W : Type 0} → (RolePlace → PlayerAddress → P → Type 0) → (P → Option (List Handed)) → (R → Option (List ℕ)) → (W → Option (List ℕ)) → GameOptions → MatchTask → Counting R → Counting R → Counting W → Counting W → Fault → Type 0
 FailsToPlay H is_reached handed remaining contents plan task reader reader' writer writer' fault = (IsNotBegun remaining plan task fault reader reader' × (writer' ≡ writer))
     ⊎ (((count : ℕ) × (count ≢ 0) × (fault ≡ task_fault task (Ok count)) × Plays H is_reached handed remaining contents plan task reader reader' writer writer' count)

@@ -3,20 +3,21 @@ ghost use Rattle.std.specs.Prelude.{◌≡◌, IfErr, IfOk, OnOk};
 ghost use Rattle.std.specs.Io.KnownBytes.{Appends};
 ghost use Rattle.match_log.specs.LoggedPlayers.{is_logged_reached, logged_handed};
 ghost use Rattle.whole_streams.specs.Streams.{AppendsPart};
-ghost use Rattle.game_commands.specs.declared.fault.Fault.TheVariants.{WriteFault};
+ghost use Rattle.command_faults.specs.declared.fault.Fault.TheVariants.{WriteFault};
 ghost use Rattle.ggp_commands.specs.Faults.{status_of};
 ghost use Rattle.ggp_commands.specs.LoadedGame.{IsLoadedGame};
 ghost use Rattle.ggp_commands.specs.Tasks.{Fails, FailsToPlay, IsNotBegun, Performs, Plays, ReadsInput};
 
 use crate::explaining::{Subject, explain};
 use crate::faults::{argument_fault, command_end, status_of, task_end};
-use crate::loaded_game::{LoadedGame, host};
+use crate::loaded_game::{LoadedGame, load};
 use crate::matches::{ReadyTask, input_of, play_with_reports};
 use crate::surroundings::Surroundings;
+use command_faults::Fault;
 use command_line::{
     AbortPlan, GameOptions, MatchTask, Task, has_own_word, read_arguments, refusal,
 };
-use game_commands::{Evidence, Fault, for_game};
+use game_commands::{Evidence, for_game};
 use game_core::Counted;
 use match_log::WriterBrand;
 use match_messages::Player;
@@ -149,7 +150,7 @@ fn prepared<F: Files, R: Read>(
     ensures read { IfOk result (λ prepared. ReadsInput R.remaining task.now prepared.1.items reader.old reader.new) }
     ensures fault { IfErr result (λ fault. IsNotBegun R.remaining plan.now task.now fault reader.old reader.new) }
 {
-    let loaded_game = host(files, alloc, *plan, evidence)?;
+    let loaded_game = load(files, alloc, *plan, evidence)?;
     let input = input_of(files, alloc, task, reader)?;
     Ok((loaded_game, input))
 }

@@ -1,12 +1,12 @@
 //! The program's fault where a part of its work fails.
 ghost use Rattle.std.specs.Prelude.{◌≡◌, ◌≢◌, Err, IfErr, IsOk, MatchResult, Ok, OnErr, OnOk};
-ghost use Rattle.game_commands.specs.Faults.{IsFileFault};
-ghost use Rattle.game_commands.specs.declared.files.NamedFile.TheVariants.{Records};
+ghost use Rattle.command_faults.specs.Faults.{IsFileFault};
+ghost use Rattle.command_faults.specs.declared.files.NamedFile.TheVariants.{Records};
 ghost use Rattle.ggp_commands.specs.Faults.{argument_fault, check_fault, command_fault, match_fault, season_fault, status_of, task_fault};
 
+use command_faults::{Fault, FileFault, NamedFile};
 use command_line::{ArgumentFault, MatchTask};
 use desk_calls::Refusal;
-use game_commands::{Fault, FileFault, NamedFile};
 use match_play::MatchFault;
 use match_season::SeasonFault;
 use player_check::CheckFault;

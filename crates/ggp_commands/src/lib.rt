@@ -15,10 +15,9 @@ mod faults;
 mod loaded_game;
 mod matches;
 mod records_file;
-mod schedules;
 mod surroundings;
 
+pub use command_faults::{Fault, FileFault, NamedFile};
 pub use command_line::asks_why;
 pub use commands::{command, report};
-pub use game_commands::{Fault, FileFault, NamedFile};
 pub use surroundings::{Surroundings, Terminals};

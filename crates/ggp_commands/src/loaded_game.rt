@@ -4,11 +4,9 @@ ghost use Rattle.described_games.specs.Games.{IsDescribed};
 ghost use Rattle.game_commands.specs.Commands.{IsRefused};
 ghost use Rattle.ggp_commands.specs.LoadedGame.{AreRulesFor, AreSpelled, HasNoRules, IsLoadedGame, IsNotLoadedGame, IsPlayerRulesFault};
 
+use command_faults::{Fault, MAX_PLAYER_RULES, NamedFile, file_text};
 use command_line::GameOptions;
-use game_commands::{
-    Evidence, Fault, MAX_PLAYER_RULES, NamedFile, file_text, game_of, limits_of,
-    player_rules_fault, source_text,
-};
+use game_commands::{Evidence, game_of, limits_of, player_rules_fault, source_text};
 use game_core::Limits;
 use match_messages::PrintedRules;
 use match_play::{PlayableGame, other_rules, own_rules};
@@ -86,7 +84,7 @@ fn loaded_game_of<F: Files>(
 }
 
 /// The game of a plan, and the rules for its players.
-pub fn host<F: Files>(
+pub fn load<F: Files>(
     files: &F,
     alloc: Global,
     plan: GameOptions<'_>,

@@ -7,20 +7,20 @@ ghost use Rattle.match_log.specs.LoggedPlayers.{is_logged_reached, logged_handed
 ghost use Rattle.player_check.specs.Checks.{EndsEarly, WritesCheck};
 ghost use Rattle.player_check.specs.declared.check.CheckFault.{CheckFault};
 ghost use Rattle.match_plans.specs.declared.plan.MatchPlan.{MatchPlan};
-ghost use Rattle.game_commands.specs.Faults.{IsFileFault};
-ghost use Rattle.game_commands.specs.declared.fault.Fault.TheVariants.{WriteFault};
-ghost use Rattle.game_commands.specs.declared.files.NamedFile.TheVariants.{Records};
-ghost use Rattle.ggp_commands.specs.Schedules.{AreLeft, WritesPlans, WritesPlansUpTo, WritesSeason, WritesSeasonUpTo, has_schedule};
+ghost use Rattle.command_faults.specs.Faults.{IsFileFault};
+ghost use Rattle.command_faults.specs.declared.fault.Fault.TheVariants.{WriteFault};
+ghost use Rattle.command_faults.specs.declared.files.NamedFile.TheVariants.{Records};
+ghost use Rattle.ggp_commands.specs.Schedules.{WritesPlans, WritesPlansUpTo, WritesSeason, WritesSeasonUpTo, has_schedule};
+ghost use Rattle.matches_to_play.specs.ToPlay.{AreLeft};
 ghost use Rattle.ggp_commands.specs.Tasks.{EndsTask, HasNoInput, ReadsInput, WritesTask, WritesTaskUpTo};
 
 use crate::descriptors::allowed_form;
 use crate::explaining::{Subject, explain};
 use crate::faults::{check_fault, match_fault, season_fault};
 use crate::records_file::{records_file, tell_of_file};
-use crate::schedules::{plans_of, undone};
 use crate::surroundings::{Surroundings, Terminals};
+use command_faults::{Fault, NamedFile, file_text};
 use command_line::{MatchTask, RunPlan, SeasonPlan};
-use game_commands::{Fault, NamedFile, file_text};
 use game_core::{Counted, Game};
 use match_log::{
     ClearedOutput, Logging, Notices, Progress, ReportStream, Reporting, StatusStream, WriterBrand,
@@ -29,6 +29,7 @@ use match_messages::Player;
 use match_plans::{CheckPlan, MatchPlan, Reach, ReportsShortages, SeasonForm};
 use match_play::{PlayableGame, ended_match, prepared_match};
 use match_season::{SeasonSurroundings, play_season};
+use matches_to_play::{plans_of, undone};
 use network_players::Explains;
 use player_check::check_player;
 use process_streams::LockedFiles;

@@ -1,10 +1,10 @@
 //! The file that the records of a season are added to.
 ghost use Rattle.std.specs.Prelude.{IfErr};
-ghost use Rattle.game_commands.specs.Faults.{IsFileFault};
-ghost use Rattle.game_commands.specs.declared.files.NamedFile.TheVariants.{Records};
+ghost use Rattle.command_faults.specs.Faults.{IsFileFault};
+ghost use Rattle.command_faults.specs.declared.files.NamedFile.TheVariants.{Records};
 
 use crate::faults::records_fault;
-use game_commands::Fault;
+use command_faults::Fault;
 use process_streams::{FILE_SIZE, LockedFiles, RecordsFault, RecordsFile, limit_of, open_records};
 use std::alloc::Global;
 use std::fmt::Write as _;

@@ -45,6 +45,22 @@ pub enum HeadPart {
     FieldCount,
 }
 
+impl HeadPart {
+    /// What is wrong with this part.
+    pub(crate) fn words(self) -> &'static str {
+        match self {
+            HeadPart::Version => "it does not begin with HTTP/1.0 or HTTP/1.1 and a blank",
+            HeadPart::Status => "its status is not three digits, or a control byte follows it",
+            HeadPart::Method => "its method is not POST, or its target is no text",
+            HeadPart::FieldName =>
+                "a line before the empty one has no name with a colon right behind it",
+            HeadPart::FieldValue => "a field's value has a control byte",
+            HeadPart::LineEnd => "a line ends with neither CR LF nor LF",
+            HeadPart::FieldCount => "it has more than 64 fields",
+        }
+    }
+}
+
 /// What the bytes read so far say of the head.
 #[derive(Clone, Copy)]
 pub enum Head {

@@ -36,46 +36,54 @@ pub enum Received {
     Refused(usize),
 }
 
-impl fmt::Display for Received {
-    fn fmt<W: fmt::Write>(&self, f: &mut fmt::Formatter<W>) -> fmt::Result {
-        match *self {
-            Received::BadHead(part, count) => {
-                let fault = match part {
-                    HeadPart::Version => "it does not begin with HTTP/1.0 or HTTP/1.1 and a blank",
-                    HeadPart::Status =>
-                        "its status is not three digits, or a control byte follows it",
-                    HeadPart::Method => "its method is not POST, or its target is no text",
-                    HeadPart::FieldName =>
-                        "a line before the empty one has no name with a colon right behind it",
-                    HeadPart::FieldValue => "a field's value has a control byte",
-                    HeadPart::LineEnd => "a line ends with neither CR LF nor LF",
-                    HeadPart::FieldCount => "it has more than 64 fields",
-                };
-                write!(f, "{fault}: {count} of ")?
-            }
+impl Received {
+    /// How many bytes came, where the words begin with their number.
+    fn count(self) -> Option<usize> {
+        match self {
             Received::Head(count)
             | Received::Body(count, _)
             | Received::OpenBody(count)
             | Received::Status(_, count)
-            | Received::Refused(count) => write!(f, "{count} of ")?,
-            _ => {}
+            | Received::BadHead(_, count)
+            | Received::Refused(count) => Some(count),
+            _ => None,
         }
-        let words = match *self {
+    }
+
+    /// The words behind that number, up to a length or a limit.
+    fn words(self) -> &'static str {
+        match self {
             Received::Unconnected => "no connection was made",
             Received::Unsent => "the request was not written whole",
             Received::Nothing => "nothing received",
             Received::Head(_) => "the head's bytes received",
-            Received::Body(_, length) => return write!(f, "the body's {length} bytes received"),
+            Received::Body(..) => "the body's ",
             Received::OpenBody(_) => "the body's bytes received, and no Content-Length",
             Received::TransferEncoding => "a Transfer-Encoding, which is not taken",
             Received::NoNumber => "a Content-Length that is no number",
             Received::TwoLengths => "two lengths that differ",
-            Received::LongLength => return write!(f, "a Content-Length above {MAX_REPLY_BODY}"),
+            Received::LongLength => "a Content-Length above ",
             Received::Status(..) | Received::BadHead(..) | Received::Refused(_) => {
                 "the reply's bytes received"
             }
-        };
-        f.write_str(words)
+        }
+    }
+}
+
+impl fmt::Display for Received {
+    fn fmt<W: fmt::Write>(&self, f: &mut fmt::Formatter<W>) -> fmt::Result {
+        if let Received::BadHead(part, _) = *self {
+            write!(f, "{}: ", part.words())?;
+        }
+        if let Some(count) = self.count() {
+            write!(f, "{count} of ")?;
+        }
+        f.write_str(self.words())?;
+        match *self {
+            Received::Body(_, length) => write!(f, "{length} bytes received"),
+            Received::LongLength => write!(f, "{MAX_REPLY_BODY}"),
+            _ => Ok(()),
+        }
     }
 }
 

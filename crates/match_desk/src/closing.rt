@@ -39,7 +39,7 @@ pub fn close_desk<G: Game, L: Ledger>(
 
 /// Closes a desk of matches over rings if the ends of all its lines are handed in and all their calls were served.
 ///
-/// What is known of it then is what `close_desk` says of a desk behind a lock, and each line's own calls: its part of the history
+/// What is known of it then is what `close_desk` says of a desk behind a lock, and each line's own calls. Its part of the history
 /// has exactly the calls that it posted, and the replies that it took are the first of those to its calls. The laws of
 /// `call_history` say that the ends stay those of the desk's lines.
 pub fn close_rings<G: Game>(

@@ -16,8 +16,8 @@ pub fn messages_read_back()
 }
 
 /// The text of an owed message is read back as what it says to the role, with role, rules and moves
-/// folded, if the role's name and the texts of the moves are canonical texts and the message's text
-/// is within the limits.
+/// folded. The role's name and the texts of the moves have to be canonical texts, and the message's
+/// text within the limits.
 pub fn owed_messages_read_back()
     ensures { OwedMessagesReadBack }
 {

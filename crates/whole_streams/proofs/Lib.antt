@@ -1,2 +1,3 @@
-pub mod LineLemmas
+mod LineLemmas
+mod LinesTaken
 mod Ranges

@@ -5,8 +5,7 @@ use Rattle.std.specs.Str.Lines.{lines, lines_of_parts, strip_carriage_return}
 use Rattle.std.proofs.lemmas.List.{append_assoc}
 use Rattle.std.proofs.lemmas.List.Splits.{length-slice_split}
 use Rattle.game_core.specs.Bytes.{line_feed}
-use Rattle.whole_streams.specs.Lines.{HasNoLineFeed}
-use Rattle.whole_streams.specs.Laws.{FirstLineIsTaken, LastLineIsWhole}
+use Rattle.whole_streams.specs.Lines.{BeginsWithLine, HasNoLineFeed}
 
 abbrev is_feed : ℕ → Bool
 is_feed b = eqb b 10
@@ -46,10 +45,10 @@ lines_cut whole left h =
     ap lines_of_parts (parts_cut whole left h) ∙ parts_more whole (slice_split is_feed left) some
 
 -- bytes that begin with a line have it as their first line, whatever follows
-pub lines_begin : FirstLineIsTaken
+pub lines_begin : (bytes line left more : List ℕ) → BeginsWithLine bytes line left → lines (bytes ++ more) ≡ line ∷ lines (left ++ more)
 lines_begin bytes line left more (whole, cut, feedless, is) =
     ap (λ l. lines (l ++ more)) cut ∙ ap lines (append_assoc whole (line_feed ∷ left) more) ∙ lines_cut whole (left ++ more) feedless ∙ ap (λ l. l ∷ lines (left ++ more)) (sym is)
 
 -- bytes without a line feed are one line
-pub lines_last : LastLineIsWhole
+pub lines_last : (bytes : List ℕ) → 0 < length bytes → HasNoLineFeed bytes → lines bytes ≡ bytes ∷ []
 lines_last bytes some feedless = ap lines_of_parts (parts_whole bytes feedless) ∙ one_part bytes some

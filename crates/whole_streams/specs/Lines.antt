@@ -1,7 +1,7 @@
 -- Reading an input line by line. The bytes at hand were read, but belong to no line yet.
 use Rattle.std.specs.Prelude.{◌≡◌, ◌≢◌, ℕ, ◌<◌, ◌≤◌, Bool, true, false, List, [], ◌∷◌, ◌++◌, length, All, Option}
 use Rattle.std.specs.Io.KnownBytes.{IsAtEnd}
-use Rattle.std.specs.Str.Lines.{strip_carriage_return}
+use Rattle.std.specs.Str.Lines.{lines, strip_carriage_return}
 use Rattle.game_core.specs.Bytes.{line_feed}
 use Rattle.whole_streams.specs.declared.lines.NextLine.{NextLine}
 use Rattle.whole_streams.specs.declared.lines.NextLine.TheVariants.{Ended, Last, Nothing}
@@ -14,6 +14,10 @@ HasNoLineFeed bytes = All (λ b. b ≢ line_feed) bytes
 -- these bytes begin with this line, without its line feed and one carriage return before that; `left` is the rest after it
 abbrev pub BeginsWithLine : List ℕ → List ℕ → List ℕ → Type 0
 BeginsWithLine bytes line left = (whole : List ℕ) × (bytes ≡ whole ++ line_feed ∷ left) × HasNoLineFeed whole × (line ≡ strip_carriage_return whole)
+
+-- For each continuation of the text, its lines are these and then those of the bytes that are left.
+abbrev pub BeginsWithLines : List ℕ → List (List ℕ) → List ℕ → Type 0
+BeginsWithLines text first left = (more : List ℕ) → lines (text ++ more) ≡ first ++ lines (left ++ more)
 
 -- The next part of an input with these bytes at hand, and the bytes at hand after it. Only a last line may have no line feed, and
 -- it is kept as it is.

@@ -1,9 +1,8 @@
 //! What holds of the definitions, whatever the bytes.
-ghost use Rattle.whole_streams.specs.Laws.{FirstLineIsTaken, LastLineIsWhole};
+ghost use Rattle.whole_streams.specs.Laws.{LastLineIsTaken, NextLineIsTaken};
 
-/// The lines of bytes that begin with a line are that line, and then the lines of what follows it. Bytes without a line feed are
-/// one line.
+/// Where lines of a text are taken one after another, they are its lines: each by its line feed, and the last one by the text's end.
 pub fn lines_are_taken()
-    ensures first { FirstLineIsTaken }
-    ensures last { LastLineIsWhole }
+    ensures next { NextLineIsTaken }
+    ensures last { LastLineIsTaken }
 {}

@@ -66,7 +66,7 @@ class Handler(BaseHTTPRequestHandler):
     def body(self, most: int) -> bytes | None:
         """Returns the body of a request, none where its length is not given, or too large."""
         size = self.headers["Content-Length"] or ""
-        if not re.fullmatch("[0-9]{1,7}", size) or int(size) > most:
+        if not re.fullmatch("[0-9]{1,8}", size) or int(size) > most:
             return None
         return self.rfile.read(int(size))
 

@@ -8,12 +8,12 @@ use Rattle.record_check.specs.Verified.{FailsFirst}
 use Rattle.record_reading.specs.declared.verify_fault.VerifyFault.{VerifyFault}
 use Rattle.record_reading.specs.declared.verify_fault.VerifyFault.TheVariants.{NotJson, BadShape, Illegal, NotFirst, WrongRetired, WrongState, WrongGoals, WrongEnd, Memory}
 use Rattle.game_commands.specs.Checks.{CheckFails, max_record}
-use Rattle.game_commands.specs.Faults.{check_fault}
+use Rattle.command_faults.specs.Faults.{verify_fault}
 use Rattle.game_commands.proofs.checking.check_record.Goals as goal
 
 check_fails : {S M R W : Type 0} (remaining : R → Option (List ℕ)) (contents : W → Option (List ℕ)) (g : Rules S M) (text : List ℕ) (reader reader' : Counting R) (writer : Counting W) (fault : VerifyFault)
     → length text ≤ max_record → reader'.faults ≡ reader.faults → IsAtEnd (remaining reader'.stream) → (fault ≢ Memory → ¬ IsLawfulRecord g text) → FailsFirst g text fault
-    → CheckFails remaining contents g (check_fault fault) text reader reader' writer writer
+    → CheckFails remaining contents g (verify_fault fault) text reader reader' writer writer
 check_fails remaining contents g text reader reader' writer NotJson short read ended unlawful first = (short, read, refl, ended, unlawful (λ same. absurd cc), first)
 check_fails remaining contents g text reader reader' writer (BadShape key) short read ended unlawful first = (short, read, refl, ended, unlawful (λ same. absurd cc), first)
 check_fails remaining contents g text reader reader' writer (Illegal turn role) short read ended unlawful first = (short, read, refl, ended, unlawful (λ same. absurd cc), first)

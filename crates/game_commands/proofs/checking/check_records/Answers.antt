@@ -6,7 +6,7 @@ use Rattle.std.specs.Str.Lines.{lines}
 use Rattle.whole_streams.specs.Lines.{BeginsWithLine, IsNextLine}
 use Rattle.game_commands.specs.Verdicts.{AreVerdicts, is_skipped, is_unlawful, count_skipped, count_unlawful}
 use Rattle.game_commands.specs.Checks.{CheckStops}
-use Rattle.game_commands.proofs.CheckedLines.{begins_more, begins_line, begins_last, verdicts_push, lines_push, count_push, calls_on, read_stops, tell_stops}
+use Rattle.game_commands.proofs.CheckedLines.{begins_more, verdicts_push, lines_push, count_push, calls_on, read_stops, tell_stops}
 use Rattle.game_commands.proofs.checking.check_records.Goals as goal
 
 pub loop-place-init : goal.loop-place-init
@@ -42,7 +42,7 @@ loop-place-preserved g c =
         was.1 ++ c.deref.result.now ∷ [],
         all,
         Consumes-trans _ _ _ _ _ was.3 next.1,
-        begins_line c.lines_are_taken.ensures.first (was.0 ++ next.0) was.1 bytes c.deref.result.now left (begins_more was.0 was.1 c.loop-place.buffer next.0 was.4) line,
+        c.lines_are_taken.ensures.next was.0 was.1 c.loop-place.buffer next.0 c.deref.result.now left was.4 line,
         verdicts_push _ was.1 was.2 c.deref.result.now verdict was.5 told.0,
         lines_push _ _ _ was.2 verdict was.6 told.1,
         unlawful,
@@ -66,7 +66,7 @@ returns-in-Ok-check_line-clause-verdicts g c =
     let same : c.deref-in-Ok-Last.result.now ≡ c.in-Ok-Last.line.items = search rules in
     let verdict = c.in-Ok-check_line.verdict in
     let all = was.2 ++ verdict ∷ [] in
-    let cut = begins_last c.lines_are_taken.ensures.last was.0 was.1 c.loop-place.buffer next.0 c.deref-in-Ok-Last.result.now was.4 last.0 (same ∙ last.1) last.2 in
+    let cut = c.lines_are_taken.ensures.last was.0 was.1 c.loop-place.buffer next.0 c.deref-in-Ok-Last.result.now was.4 last.0 (same ∙ last.1) last.2 in
     let verdicts = verdicts_push _ was.1 was.2 c.deref-in-Ok-Last.result.now verdict was.5 told.0 in
     let unlawful = ap (λ n. n + c.count_unlawful.result) was.7 ∙ ap (λ n. count_unlawful was.2 + n) c.count_unlawful.ensures.count ∙ sym (count_push is_unlawful was.2 verdict) in
     let skipped = ap (λ n. n + c.count_skipped.result) was.8 ∙ ap (λ n. count_skipped was.2 + n) c.count_skipped.ensures.count ∙ sym (count_push is_skipped was.2 verdict) in (

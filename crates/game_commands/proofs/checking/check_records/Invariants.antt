@@ -1,9 +1,9 @@
 use Rattle.std.proofs.Common.{◌≡◌, ◌≤◌, ℕ, List, length}
 use Rattle.std.specs.Io.KnownBytes.{Consumes, Appends}
 use Rattle.game_core.specs.Counting.{CallsMade}
+use Rattle.whole_streams.specs.Lines.{BeginsWithLines}
 use Rattle.game_commands.specs.declared.verdicts.Verdict.{Verdict}
 use Rattle.game_commands.specs.Verdicts.{AreVerdicts, verdict_lines, count_skipped, count_unlawful}
-use Rattle.game_commands.specs.Checks.{BeginsWithLines}
 use Rattle.game_commands.proofs.checking.check_records.Given as goal
 
 abbrev pub invariant-loop-place : goal.invariant-loop-place

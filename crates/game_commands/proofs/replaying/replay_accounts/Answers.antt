@@ -2,11 +2,10 @@ use Rattle.std.proofs.Common.{rules, refl, Result, Ok, Err, OnOk, ◌≡◌, ◌
 use Rattle.std.proofs.lemmas.Result.{IfErr-weaker, on_ok_weaker, err_from_is_err_and}
 use Rattle.std.proofs.KnownBytes.{Consumes-nil, Consumes-trans, Appends-nil, Appends-trans}
 use Rattle.std.specs.Str.Lines.{lines}
-use Rattle.whole_streams.specs.Lines.{HasNoLineFeed, BeginsWithLine, IsNextLine}
-use Rattle.game_commands.specs.Checks.{BeginsWithLines}
+use Rattle.whole_streams.specs.Lines.{HasNoLineFeed, BeginsWithLine, IsNextLine, BeginsWithLines}
 use Rattle.game_commands.specs.Replays.{begins_as_record, AreReplayed, StopsInput}
-use Rattle.game_commands.proofs.CheckedLines.{begins_more, begins_line, begins_last, calls_on}
-use Rattle.game_commands.proofs.AccountLines.{accounts_are, last_line, lines_of, no_line, text_of_line, text_of_record, reads_line, reads_record, grouped_line, grouped_record, grouped_all, size_push, replayed_last, stops_push, stops_line}
+use Rattle.game_commands.proofs.CheckedLines.{begins_more, calls_on}
+use Rattle.game_commands.proofs.ReadAccounts.{accounts_are, last_line, lines_of, no_line, text_of_line, text_of_record, reads_line, reads_record, grouped_line, grouped_record, grouped_all, size_push, replayed_last, stops_push, stops_line}
 use Rattle.game_commands.proofs.replaying.replay_accounts.Goals as goal
 use Rattle.game_commands.proofs.replaying.replay_accounts.Goals.{then-branch+in_ok-end-in-Ok-Ended, else-branch}
 
@@ -58,7 +57,7 @@ returns-in_err-push-in-Ok-Ended-clause-fails g c =
     let begins = subst (λ n. IsNextLine (g.R.Read.remaining c.next_line.new.reader.stream) bytes n left) c.in-Ok-Ended.field-0-is next.2 in
     let same : c.deref.result.now ≡ c.in-Ok-Ended.line.items = search rules in
     let line = subst (λ l. BeginsWithLine bytes l left) (sym same) begins in
-    let taken = begins_line c.lines_are_taken.ensures.first (reads.0 ++ next.0) was.seen bytes c.deref.result.now left (begins_more reads.0 was.seen c.loop-place.buffer next.0 was.begins) line in
+    let taken = c.lines_are_taken.ensures.next reads.0 was.seen c.loop-place.buffer next.0 c.deref.result.now left was.begins line in
     let fails = c.in_err-push-in-Ok-Ended.ensures.fails in
     let passed = err_from_is_err_and c.from_residual.result c.from_residual.ensures.1 in
     let read = c.in-Ok-Ended.ensures.no_fault ∙ c.loop-place.invariant.read in
@@ -103,7 +102,7 @@ returns-in_err-end-in-Ok-Ended-clause-fails g c =
     let begins = subst (λ n. IsNextLine (g.R.Read.remaining c.next_line.new.reader.stream) bytes n left) c.in-Ok-Ended.field-0-is next.2 in
     let same : c.deref.result.now ≡ c.in-Ok-Ended.line.items = search rules in
     let line = subst (λ l. BeginsWithLine bytes l left) (sym same) begins in
-    let taken = begins_line c.lines_are_taken.ensures.first (reads.0 ++ next.0) was.seen bytes c.deref.result.now left (begins_more reads.0 was.seen c.loop-place.buffer next.0 was.begins) line in
+    let taken = c.lines_are_taken.ensures.next reads.0 was.seen c.loop-place.buffer next.0 c.deref.result.now left was.begins line in
     let is : begins_as_record c.deref.result.now ≡ true = sym c.in_ok-push-in-Ok-Ended.ensures.told ∙ c.if-branch.true in
     let text = text_of_record c.loop-place.account.text.items c.push.new.self.text.items c.deref.result.now c.in_ok-push-in-Ok-Ended.ensures.pushed is in
     let are = ap lines text ∙ lines_of c.loop-place.account.text.items was.account was.text in
@@ -140,7 +139,7 @@ returns-in_err-push-in-Ok-Last-clause-fails g c =
     let last = subst (λ n. IsNextLine (g.R.Read.remaining c.next_line.new.reader.stream) bytes n c.next_line.new.self) c.in-Ok-Last.field-0-is next.2 in
     let same : c.deref-in-Ok-Last.result.now ≡ c.in-Ok-Last.line.items = search rules in
     let whole = same ∙ last.1 in
-    let cut = begins_last c.lines_are_taken.ensures.last reads.0 was.seen c.loop-place.buffer next.0 c.deref-in-Ok-Last.result.now was.begins last.0 whole last.2 in
+    let cut = c.lines_are_taken.ensures.last reads.0 was.seen c.loop-place.buffer next.0 c.deref-in-Ok-Last.result.now was.begins last.0 whole last.2 in
     let feedless = subst HasNoLineFeed (sym whole) last.2 in
     let fails = c.in_err-push-in-Ok-Last.ensures.fails in
     let passed = err_from_is_err_and c.from_residual-in_err-push-in-Ok-Last.result c.from_residual-in_err-push-in-Ok-Last.ensures.1 in
@@ -176,9 +175,9 @@ end-requires-in-Ok-Last g c =
     let last = subst (λ n. IsNextLine (g.R.Read.remaining c.next_line.new.reader.stream) bytes n c.next_line.new.self) c.in-Ok-Last.field-0-is next.2 in
     let same : c.deref-in-Ok-Last.result.now ≡ c.in-Ok-Last.line.items = search rules in
     let whole = same ∙ last.1 in
-    let cut = begins_last c.lines_are_taken.ensures.last reads.0 was.seen c.loop-place.buffer next.0 c.deref-in-Ok-Last.result.now was.begins last.0 whole last.2 in
+    let cut = c.lines_are_taken.ensures.last reads.0 was.seen c.loop-place.buffer next.0 c.deref-in-Ok-Last.result.now was.begins last.0 whole last.2 in
     let feedless = subst HasNoLineFeed (sym whole) last.2 in
-    let end = last_line _ _ _ _ _ _ _ _ _ was c.lines_are_taken.ensures.first c.deref-in-Ok-Last.result.now c.push-in-Ok-Last.new.self feedless c.in_ok-push-in-Ok-Last.ensures.pushed in
+    let end = last_line _ _ _ _ _ _ _ _ _ was c.lines_are_taken.ensures.next c.deref-in-Ok-Last.result.now c.push-in-Ok-Last.new.self feedless c.in_ok-push-in-Ok-Last.ensures.pushed in
     let kept = c.in_ok-push-in-Ok-Last.ensures.same in
     omega (arith, ap length end.lines, end.few, kept, was.before, was.few, c.loop-place-test.true)
 
@@ -191,9 +190,9 @@ returns-in-Ok-Last-clause-replayed g c =
     let last = subst (λ n. IsNextLine (g.R.Read.remaining c.next_line.new.reader.stream) bytes n c.next_line.new.self) c.in-Ok-Last.field-0-is next.2 in
     let same : c.deref-in-Ok-Last.result.now ≡ c.in-Ok-Last.line.items = search rules in
     let whole = same ∙ last.1 in
-    let cut = begins_last c.lines_are_taken.ensures.last reads.0 was.seen c.loop-place.buffer next.0 c.deref-in-Ok-Last.result.now was.begins last.0 whole last.2 in
+    let cut = c.lines_are_taken.ensures.last reads.0 was.seen c.loop-place.buffer next.0 c.deref-in-Ok-Last.result.now was.begins last.0 whole last.2 in
     let feedless = subst HasNoLineFeed (sym whole) last.2 in
-    let end = last_line _ _ _ _ _ _ _ _ _ was c.lines_are_taken.ensures.first c.deref-in-Ok-Last.result.now c.push-in-Ok-Last.new.self feedless c.in_ok-push-in-Ok-Last.ensures.pushed in
+    let end = last_line _ _ _ _ _ _ _ _ _ was c.lines_are_taken.ensures.next c.deref-in-Ok-Last.result.now c.push-in-Ok-Last.new.self feedless c.in_ok-push-in-Ok-Last.ensures.pushed in
     let given = reads.0 ++ next.0 in
     let are = accounts_are given (was.seen ++ c.deref-in-Ok-Last.result.now ∷ []) was.done end.account end.rest cut end.grouped end.none in
     on_ok_weaker c.end-in-Ok-Last.result (λ ended. (
@@ -219,9 +218,9 @@ returns-in-Ok-Last-clause-fails g c =
     let last = subst (λ n. IsNextLine (g.R.Read.remaining c.next_line.new.reader.stream) bytes n c.next_line.new.self) c.in-Ok-Last.field-0-is next.2 in
     let same : c.deref-in-Ok-Last.result.now ≡ c.in-Ok-Last.line.items = search rules in
     let whole = same ∙ last.1 in
-    let cut = begins_last c.lines_are_taken.ensures.last reads.0 was.seen c.loop-place.buffer next.0 c.deref-in-Ok-Last.result.now was.begins last.0 whole last.2 in
+    let cut = c.lines_are_taken.ensures.last reads.0 was.seen c.loop-place.buffer next.0 c.deref-in-Ok-Last.result.now was.begins last.0 whole last.2 in
     let feedless = subst HasNoLineFeed (sym whole) last.2 in
-    let end = last_line _ _ _ _ _ _ _ _ _ was c.lines_are_taken.ensures.first c.deref-in-Ok-Last.result.now c.push-in-Ok-Last.new.self feedless c.in_ok-push-in-Ok-Last.ensures.pushed in
+    let end = last_line _ _ _ _ _ _ _ _ _ was c.lines_are_taken.ensures.next c.deref-in-Ok-Last.result.now c.push-in-Ok-Last.new.self feedless c.in_ok-push-in-Ok-Last.ensures.pushed in
     let given = reads.0 ++ next.0 in
     IfErr-weaker c.end-in-Ok-Last.result _ _ (λ fault fails. (
       given,
@@ -354,7 +353,7 @@ loop-place-preserved g c =
             reads = (
               given,
               consumed,
-              rw (w.account-is, w.writer-is) (reads_record _ _ _ _ _ _ _ _ _ was c.lines_are_taken.ensures.first next.0 c.deref.result.now left c.push.new.self w.end.new.self w.end.new.writer replayed.0 line is
+              rw (w.account-is, w.writer-is) (reads_record _ _ _ _ _ _ _ _ _ was c.lines_are_taken.ensures.next next.0 c.deref.result.now left c.push.new.self w.end.new.self w.end.new.writer replayed.0 line is
                   text c.in_ok-push-in-Ok-Ended.ensures.same ended.0 ended.1 replayed.1 replayed.2 w.in_ok-end-in-Ok-Ended.ensures.no_fault),
             );
             calls = calls;
@@ -367,7 +366,7 @@ loop-place-preserved g c =
             reads = (
               given,
               consumed,
-              rw (w.account-is, w.writer-is) (reads_line _ _ _ _ _ _ _ _ _ was c.lines_are_taken.ensures.first next.0 c.deref.result.now left c.push.new.self line is
+              rw (w.account-is, w.writer-is) (reads_line _ _ _ _ _ _ _ _ _ was c.lines_are_taken.ensures.next next.0 c.deref.result.now left c.push.new.self line is
                   text c.in_ok-push-in-Ok-Ended.ensures.same c.in_ok-push-in-Ok-Ended.ensures.within),
             );
             calls = calls;

@@ -1,7 +1,7 @@
 use Rattle.std.proofs.Common.{◌≡◌, ◌∷◌, [], ℕ, List}
 use Rattle.std.specs.Io.KnownBytes.{Consumes}
 use Rattle.game_core.specs.Counting.{CallsMade}
-use Rattle.game_commands.proofs.AccountLines.{Reads}
+use Rattle.game_commands.proofs.ReadAccounts.{Reads}
 use Rattle.game_commands.proofs.replaying.replay_accounts.Given as goal
 
 abbrev pub invariant-loop-place : goal.invariant-loop-place

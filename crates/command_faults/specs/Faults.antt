@@ -1,0 +1,52 @@
+-- The program's fault for a fault of one of its parts, and its status.
+use Rattle.std.specs.Prelude.{◌≡◌, ◌⊎◌, ℕ}
+use Rattle.match_plans.specs.declared.schedule_fault.ScheduleFault.{ScheduleFault}
+use Rattle.match_plans.specs.declared.schedule_fault.ScheduleFault.TheVariants.{BadLine, Memory as ScheduleMemory}
+use Rattle.record_reading.specs.declared.verify_fault.VerifyFault.{VerifyFault}
+use Rattle.record_reading.specs.declared.verify_fault.VerifyFault.TheVariants.{Memory as CheckMemory}
+use Rattle.whole_streams.specs.declared.whole.InputFault.{InputFault}
+use Rattle.whole_streams.specs.declared.whole.InputFault.TheVariants.{ReadFault as InputReadFault, TooLong, Memory as InputMemory}
+use Rattle.command_faults.specs.declared.fault.Fault.{Fault}
+use Rattle.command_faults.specs.declared.fault.Fault.TheVariants.{WrongUse, Memory, File, ReadFault, InputTooLong, BadSchedule, NotLawful}
+use Rattle.command_faults.specs.declared.files.NamedFile.{NamedFile}
+use Rattle.command_faults.specs.declared.files.NamedFile.TheVariants.{Input}
+use Rattle.command_faults.specs.declared.files.FileFault.{FileFault}
+use Rattle.command_faults.specs.declared.files.FileFault.TheVariants.{Unread, TooLong as FileTooLong}
+
+-- an input that can't be read
+abbrev pub input_fault : InputFault → Fault
+input_fault InputReadFault = ReadFault
+input_fault TooLong = InputTooLong
+input_fault InputMemory = Memory
+
+-- a file that can't be read
+abbrev pub reading_fault : NamedFile → InputFault → Fault
+reading_fault named InputReadFault = File named Unread
+reading_fault named TooLong = File named FileTooLong
+reading_fault named InputMemory = Memory
+
+-- the fault of a command whose input is a file
+abbrev pub input_file_fault : Fault → Fault
+input_file_fault ReadFault = File Input Unread
+input_file_fault InputTooLong = File Input FileTooLong
+input_file_fault fault = fault
+
+-- out of memory, or why the file that is named for this could not be read
+abbrev pub IsFileFault : NamedFile → Fault → Type 0
+IsFileFault named fault = (fault ≡ Memory) ⊎ ((why : FileFault) × (fault ≡ File named why))
+
+-- a record that fails a test is not lawful
+abbrev pub verify_fault : VerifyFault → Fault
+verify_fault CheckMemory = Memory
+verify_fault fault = NotLawful fault
+
+-- a schedule with a bad line is a bad one
+abbrev pub schedule_fault : ScheduleFault → Fault
+schedule_fault (BadLine number why) = BadSchedule number why
+schedule_fault ScheduleMemory = Memory
+
+-- The program's status for a fault. Without one it is 0.
+abbrev pub status_of : Fault → ℕ
+status_of WrongUse = 2
+status_of Memory = 3
+status_of fault = 1

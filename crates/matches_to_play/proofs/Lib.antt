@@ -1,0 +1,3 @@
+mod DoneLines
+mod DoneNames
+mod NotedNames

@@ -1,0 +1,13 @@
+//! The matches of a schedule that are still to be played: those that no lawful record of a file shows to be over.
+//!
+//! `plans_of` reads a schedule and leaves out the matches that are over by the file of `--done`, and `undone` does so by one more file.
+//! `DoneMatches` holds the names of the matches that are over.
+//!
+//! Free functions take the allocator first, behind a handle for files.
+#![tactic(auto)]
+
+mod done;
+mod schedules;
+
+pub use done::{DoneMatches, done_matches};
+pub use schedules::{plans_of, undone};
