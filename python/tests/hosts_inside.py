@@ -7,6 +7,7 @@ its processes:
 HOSTS_MATCHES=400 before it has what a match costs measured with so many open."""
 
 import collections
+import contextlib
 import os
 import pathlib
 import re
@@ -96,8 +97,10 @@ class Machine:
     def end(self):
         """Ends all that runs there: where the line is cut, an sshd waits for hours."""
         for process, _ in list(self.processes()):
-            if process != self.holder.pid:
-                os.kill(process, signal.SIGKILL)
+            # What ended by itself since it was looked at need not be killed.
+            with contextlib.suppress(ProcessLookupError):
+                if process != self.holder.pid:
+                    os.kill(process, signal.SIGKILL)
         self.holder.kill()
         for process in filter(None, (self.sshd, self.holder)):
             process.wait()

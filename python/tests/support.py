@@ -100,6 +100,14 @@ def program_but(path, asked, done):
     return path
 
 
+def command_of(process):
+    """Returns the command of a process, of no bytes where it has ended; it may end while it is looked at."""
+    try:
+        return pathlib.Path(f"/proc/{process}/cmdline").read_bytes()
+    except OSError:
+        return b""
+
+
 def call(*words, data=b""):
     """Returns what the referee prints."""
     return subprocess.run([program(), *map(str, words)], input=data, capture_output=True).stdout

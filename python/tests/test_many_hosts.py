@@ -4,7 +4,6 @@ tests runs all of it on this computer; `test_hosts` has machines with an sshd ea
 import collections
 import json
 import os
-import pathlib
 import re
 import signal
 import subprocess
@@ -19,7 +18,7 @@ from ggp_tools.competition.hosts import Hosts, destination, remote_words
 from ggp_tools.moments import MOMENT
 from tests.fake_ssh import calls, lose, write_ssh
 from tests.players import TestPlayer
-from tests.support import GAMES, TOP, InFolder, program, program_but, run, start
+from tests.support import GAMES, TOP, InFolder, command_of, program, program_but, run, start
 
 HEAD = "start = 5\nplay = 5\nstrikes = 1\nwait = 0\ninfo = 5\ntries = 3\n"
 # The command with another silence after which a match on a lost host has ended, since the tests need not wait for it.
@@ -214,11 +213,11 @@ class ManyHosts(InFolder):
             time.sleep(0.01)
         playing.send_signal(signal.SIGKILL)
         playing.communicate()
-        process = pathlib.Path("/proc") / (self.folder / "process").read_text().strip()
+        process = (self.folder / "process").read_text().strip()
         until = time.monotonic() + hosts.SILENCE
-        while (process / "cmdline").exists() and (process / "cmdline").read_bytes() and time.monotonic() < until:
+        while command_of(process) and time.monotonic() < until:
             time.sleep(0.05)
-        self.assertFalse((process / "cmdline").exists() and (process / "cmdline").read_bytes())
+        self.assertEqual(command_of(process), b"")
 
 
 if __name__ == "__main__":
