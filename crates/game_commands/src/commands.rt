@@ -1,7 +1,6 @@
 //! The commands for one game, over an input and standard output.
 ghost use Rattle.std.specs.Prelude.{◌≡◌, ◌≢◌, ◌⊎◌, ◌∷◌, [], IfErr, IfOk, OnOk};
 ghost use Rattle.game_commands.specs.Commands.{Answers, AnswersInput, Fails, FailsInput, HasNoGame, HoldsOfGame};
-ghost use Rattle.command_faults.specs.declared.fault.Fault.TheVariants.{Memory};
 
 use crate::checking::{check_record, check_records};
 use crate::evidence::Evidence;
@@ -11,7 +10,7 @@ use crate::script::run_script;
 use command_faults::{Fault, NamedFile, input_file_fault, opened};
 use game_core::{Countdown, Counted, Game};
 use match_plans::{GameCommand, GameSource, GameTask};
-use std::alloc::Global;
+use std::alloc::{AllocError, Global};
 use std::io::{Read, Write};
 use std::rt::Files;
 
@@ -27,9 +26,8 @@ fn fail_if_any(count: u64, fault: Fault) -> Result<(), Fault>
 }
 
 /// A list of this game alone. Its number is 0.
-fn alone<G: Drop>(alloc: Global, game: G) -> Result<Vec<G>, Fault>
-    ensures list { IfOk result (λ games. games.items ≡ game ∷ []) }
-    ensures memory { IfErr result (λ fault. fault ≡ Memory) }
+fn alone<G: Drop>(alloc: Global, game: G) -> Result<Vec<G>, AllocError>
+    ensures { IfOk result (λ games. games.items ≡ game ∷ []) }
 {
     let mut games = Vec::new(alloc);
     games.push(game)?;

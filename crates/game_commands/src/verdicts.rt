@@ -1,9 +1,7 @@
 //! The verdicts on the lines of a file of records, and their lines of output.
-ghost use Rattle.std.specs.Prelude.{◌≡◌, ◌≤◌, ◌-◌, ◌∷◌, [], IfOk, IfErr, length, slice_get, string_bytes};
-ghost use Rattle.command_faults.specs.declared.fault.Fault.TheVariants.{Memory};
+ghost use Rattle.std.specs.Prelude.{◌≡◌, ◌≤◌, ◌-◌, ◌∷◌, [], IfOk, length, slice_get, string_bytes};
 ghost use Rattle.game_commands.specs.Verdicts.{IsVerdict, count_skipped, count_unlawful, verdict_line};
 
-use command_faults::Fault;
 use desk_text::is_account_line;
 use game_core::Game;
 use match_record::VerifyFault;
@@ -22,16 +20,15 @@ pub enum Verdict {
 }
 
 /// The verdict on a line.
-pub fn verdict_on<G: Game>(alloc: Global, game: &G, text: &[u8]) -> Result<Verdict, Fault>
-    ensures verdict { IfOk result (IsVerdict (G.rules game.now) text.now) }
-    ensures memory { IfErr result (λ fault. fault ≡ Memory) }
+pub fn verdict_on<G: Game>(alloc: Global, game: &G, text: &[u8]) -> Result<Verdict, AllocError>
+    ensures { IfOk result (IsVerdict (G.rules game.now) text.now) }
 {
     if is_account_line(text) {
         return Ok(Verdict::Account);
     }
     match verify(alloc, game, text) {
         Ok(()) => Ok(Verdict::Lawful),
-        Err(VerifyFault::Memory) => Err(Fault::Memory),
+        Err(VerifyFault::Memory) => Err(AllocError),
         Err(fault) => Ok(Verdict::Unlawful(fault)),
     }
 }

@@ -28,6 +28,14 @@ fn places(words: &[String]) -> usize
     }
 }
 
+/// The fault where the command line can't be read.
+fn fault_of(error: &io::Error) -> Fault {
+    match error.kind() {
+        ErrorKind::OutOfMemory => Fault::Memory,
+        _ => Fault::WrongUse,
+    }
+}
+
 /// Reports a fault before any command. Returns the program's status.
 fn ended<E: Write>(errors: &mut E, fault: Fault, why: bool) -> ExitCode {
     ExitCode::from(report(errors, fault, why))
@@ -50,13 +58,7 @@ fn main(rt: HostRuntime) -> ExitCode {
     };
     let words = match words {
         Ok(words) => words,
-        Err(error) => {
-            let fault = match error.kind() {
-                ErrorKind::OutOfMemory => Fault::Memory,
-                _ => Fault::WrongUse,
-            };
-            return ended(&mut rt.stderr(), fault, why);
-        }
+        Err(error) => return ended(&mut rt.stderr(), fault_of(&error), why),
     };
     let Ok(signals) = RoundSignal::many(rt.alloc(), places(&words)) else {
         return ended(&mut rt.stderr(), Fault::Memory, why);

@@ -6,7 +6,6 @@ ghost use Rattle.game_core.specs.Bytes.{space};
 ghost use Rattle.desk_calls.specs.Phases.{is_last};
 ghost use Rattle.matches_to_play.specs.Done.{AreDone, AreNamesOf, is_noted, match_names};
 ghost use Rattle.command_faults.specs.Faults.{IsFileFault};
-ghost use Rattle.command_faults.specs.declared.fault.Fault.TheVariants.{Memory};
 ghost use Rattle.command_faults.specs.declared.files.NamedFile.TheVariants.{Records};
 
 use command_faults::{Fault, FileFault, MAX_LINE, NamedFile, opened, reading_fault};
@@ -65,9 +64,8 @@ fn planned_names(alloc: Global, plan: &MatchPlan<'_>) -> Result<Vec<u8>, AllocEr
 }
 
 /// The names of a record's match, if the match is over.
-fn names_if_over(alloc: Global, parts: &RecordParts) -> Result<Option<Vec<u8>>, Fault>
-    ensures names { IfOk result (λ o. option_map (λ names. names.items) o ≡ if is_last parts.now.phase then Some (match_names parts.now.id parts.now.players) else None) }
-    ensures memory { IfErr result (λ fault. fault ≡ Memory) }
+fn names_if_over(alloc: Global, parts: &RecordParts) -> Result<Option<Vec<u8>>, AllocError>
+    ensures { IfOk result (λ o. option_map (λ names. names.items) o ≡ if is_last parts.now.phase then Some (match_names parts.now.id parts.now.players) else None) }
 {
     if parts.phase.is_last() {
         Ok(Some(recorded_names(alloc, parts)?))
@@ -83,15 +81,14 @@ fn done_names<G: Game>(
     game: &G,
     line: &[u8],
     other_lines: &mut u64,
-) -> Result<Option<Vec<u8>>, Fault>
-    ensures names { IfOk result (λ o. AreNamesOf (G.rules game.now) line.now (option_map (λ names. names.items) o)) }
-    ensures memory { IfErr result (λ fault. fault ≡ Memory) }
+) -> Result<Option<Vec<u8>>, AllocError>
+    ensures { IfOk result (λ o. AreNamesOf (G.rules game.now) line.now (option_map (λ names. names.items) o)) }
 {
     lawful_parts_have_shape(game);
     holds_one_parts_at_most(game);
     match lawful_parts(alloc, game, line) {
         Ok(parts) => names_if_over(alloc, &parts),
-        Err(VerifyFault::Memory) => Err(Fault::Memory),
+        Err(VerifyFault::Memory) => Err(AllocError),
         Err(_) => {
             if !is_account_line(line) {
                 *other_lines = other_lines.saturating_add(1);
@@ -117,9 +114,8 @@ impl DoneMatches {
 
     /// Notes the match of a line, if the line is its lawful record and the match is over. Any other line is skipped, and counted if it is
     /// neither a lawful record nor one of an account.
-    fn note<G: Game>(&mut self, alloc: Global, game: &G, line: &[u8]) -> Result<(), Fault>
-        ensures noted { OnOk result ((first : List (List ℕ)) → AreDone (G.rules game.now) first self.old → AreDone (G.rules game.now) (first ++ line.now ∷ []) self.new) }
-        ensures memory { IfErr result (λ fault. fault ≡ Memory) }
+    fn note<G: Game>(&mut self, alloc: Global, game: &G, line: &[u8]) -> Result<(), AllocError>
+        ensures { OnOk result ((first : List (List ℕ)) → AreDone (G.rules game.now) first self.old → AreDone (G.rules game.now) (first ++ line.now ∷ []) self.new) }
     {
         match done_names(alloc, game, line, &mut self.other_lines) {
             Ok(Some(names)) => self.add(names),
@@ -129,9 +125,8 @@ impl DoneMatches {
     }
 
     /// Adds the names of a match.
-    fn add(&mut self, names: Vec<u8>) -> Result<(), Fault>
-        ensures added { OnOk result ((others : List ℕ) → IsTrue (is_noted self.new others) ↔ (IsTrue (is_noted self.old others) ⊎ (names.items ≡ others))) }
-        ensures memory { IfErr result (λ fault. fault ≡ Memory) }
+    fn add(&mut self, names: Vec<u8>) -> Result<(), AllocError>
+        ensures { OnOk result ((others : List ℕ) → IsTrue (is_noted self.new others) ↔ (IsTrue (is_noted self.old others) ⊎ (names.items ≡ others))) }
     {
         self.names.insert(names)?;
         Ok(())
@@ -173,7 +168,7 @@ fn done_in<G: Game, R: Read>(
 
 /// The matches of the game that are over, by the file of records at this path. Each line is one record. Other lines are skipped, and so
 /// are those of accounts.
-pub fn done_matches<F: Files, G: Game>(
+pub(crate) fn done_matches<F: Files, G: Game>(
     files: &F,
     alloc: Global,
     game: &G,

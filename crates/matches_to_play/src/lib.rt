@@ -9,5 +9,5 @@
 mod done;
 mod schedules;
 
-pub use done::{DoneMatches, done_matches};
+pub use done::DoneMatches;
 pub use schedules::{plans_of, undone};

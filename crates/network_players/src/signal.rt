@@ -223,8 +223,7 @@ impl<'a> Pace<'a> {
 
     /// Notes that the player gets no further message.
     pub fn leave(&mut self)
-        ensures left { IsTrue self.new.has_left }
-        ensures messages { self.new.messages ≡ self.old.messages }
+        ensures { self.new ≡ record self.old { has_left = true } }
     {
         if !self.has_left {
             self.has_left = true;

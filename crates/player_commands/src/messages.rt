@@ -1,10 +1,11 @@
 //! Single messages to players: a question whether one is free, and ABORT for a match whose referee is gone.
-ghost use Rattle.std.specs.Prelude.{◌≡◌, ◌≢◌, ◌⊎◌, ℕ, List, false, Err, IfErr, IfOk, OnOk, string_bytes};
+ghost use Rattle.std.specs.Prelude.{◌≡◌, ◌≢◌, ◌⊎◌, ◌↔◌, ℕ, List, false, Err, IfErr, IfOk, OnOk, string_bytes};
 ghost use Rattle.std.specs.Io.KnownBytes.{Appends};
+ghost use Rattle.desk_calls.specs.Names.{is_name};
 ghost use Rattle.match_messages.specs.InfoReading.{info_reading};
 ghost use Rattle.whole_streams.specs.Streams.{AppendsPart};
 ghost use Rattle.player_commands.specs.Lines.{TellsAnswers, abort_line, abort_text, aborted_lines, info_line};
-ghost use Rattle.player_commands.specs.declared.fault.CommandFault.TheVariants.{NoAnswer, WriteFault};
+ghost use Rattle.player_commands.specs.declared.fault.CommandFault.TheVariants.{BadId, NoAnswer, WriteFault};
 
 use crate::fault::{CommandFault, contact_fault};
 use crate::reasons::Reasons;
@@ -29,7 +30,9 @@ fn answer_to<N: Net + Clock, E: Write>(
     player: &PlayerAddress<'_>,
     message: &[u8],
     reasons: &mut Reasons<E>,
-) -> Result<Text, CommandFault> {
+) -> Result<Text, CommandFault>
+    ensures { IfErr result (λ fault. fault ≢ BadId) }
+{
     match contact(rt, alloc, player, SECONDS, message) {
         Ok(answer) => Ok(answer),
         Err(fault) => {
@@ -106,7 +109,7 @@ fn abort_player<N: Net + Clock, W: Write, E: Write>(
     reasons: &mut Reasons<E>,
 ) -> Result<bool, CommandFault>
     ensures told { IfOk result (λ is_answered. Appends (W.contents writer.old.stream) (W.contents writer.new.stream) (abort_line player.now.name.now is_answered)) }
-    ensures others { IfErr result (λ fault. fault ≢ NoAnswer) }
+    ensures others { IfErr result (λ fault. (fault ≢ NoAnswer) × (fault ≢ BadId)) }
 {
     let is_answered = match answer_to(rt, alloc, player, message.as_slice(), reasons) {
         Ok(_) => true,
@@ -128,6 +131,7 @@ pub fn abort<N: Net + Clock, W: Write, E: Write + Drop>(
     writer: &mut Counted<W>,
     reasons: Reasons<E>,
 ) -> Result<(), CommandFault>
+    ensures bad_id { (result ≡ Err BadId) ↔ (is_name id.now ≡ false) }
     ensures all { OnOk result (Appends (W.contents writer.old.stream) (W.contents writer.new.stream) (aborted_lines players.now)) }
     ensures some { result ≡ Err NoAnswer → TellsAnswers players.now false (W.contents writer.old.stream) (W.contents writer.new.stream) }
 {

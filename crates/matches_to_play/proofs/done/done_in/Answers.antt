@@ -23,7 +23,7 @@ loop-preserved g c =
       was.1 ++ c.deref.result.now ∷ [],
       Consumes-trans _ _ _ _ _ was.2 next.1,
       c.lines_are_taken.ensures.next was.0 was.1 c.loop.buffer next.0 c.deref.result.now left was.3 line,
-      c.in_ok-note-in-Ok-Ended.ensures.noted was.1 was.4,
+      c.in_ok-note-in-Ok-Ended.ensures was.1 was.4,
     )
 
 pub returns-in-Ok-Last-clause-done : goal.returns-in-Ok-Last-clause-done
@@ -36,7 +36,7 @@ returns-in-Ok-Last-clause-done g c =
       was.0 ++ next.0,
       Consumes-trans _ _ _ _ _ was.2 next.1,
       last.4,
-      subst (λ ls. AreDone (g.G.Game.rules c.args.game.now) ls c.note-in-Ok-Last.new.self) (sym cut) (c.in_ok-note-in-Ok-Last.ensures.noted was.1 was.4),
+      subst (λ ls. AreDone (g.G.Game.rules c.args.game.now) ls c.note-in-Ok-Last.new.self) (sym cut) (c.in_ok-note-in-Ok-Last.ensures was.1 was.4),
     )
 
 pub returns-in-Ok-Nothing-clause-done : goal.returns-in-Ok-Nothing-clause-done
