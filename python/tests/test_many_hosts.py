@@ -8,6 +8,7 @@ import re
 import signal
 import subprocess
 import sys
+import tempfile
 import time
 import unittest
 import unittest.mock
@@ -77,10 +78,10 @@ class Room(unittest.TestCase):
 class OnHost(unittest.TestCase):
     """The words for a host, which a shell of this computer runs."""
 
-    def start(self, words, silence):
+    def start(self, words, silence, **more):
         with unittest.mock.patch.object(hosts, "SILENCE", silence):
             command = remote_words("one", words)[-1]
-        return subprocess.Popen(["sh", "-c", command], stdin=subprocess.PIPE, stdout=subprocess.PIPE, stderr=subprocess.PIPE, text=True)
+        return subprocess.Popen(["sh", "-c", command], stdin=subprocess.PIPE, stdout=subprocess.PIPE, stderr=subprocess.PIPE, text=True, **more)
 
     def test_what_is_said_and_the_status(self):
         for status in (0, 1, 3):
@@ -107,6 +108,14 @@ class OnHost(unittest.TestCase):
         self.assertEqual(begun.wait(60), 254)
         for stream in (begun.stdout, begun.stderr):
             stream.close()
+
+    def test_whoever_ends_it_may_take_a_while_to_end_too(self):
+        with tempfile.NamedTemporaryFile("w") as file:
+            file.write('kill() { builtin kill "$@"; sleep 0.5; }')
+            file.flush()
+            begun = self.start(["sleep", "600"], 600, env={**os.environ, "BASH_ENV": file.name})
+            begun.communicate()
+        self.assertEqual(begun.returncode, 254)
 
 
 class ManyHosts(InFolder):
