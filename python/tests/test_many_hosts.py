@@ -187,7 +187,7 @@ class ManyHosts(InFolder):
             [sys.executable, "-c", QUICK, "play", "--program", program()],
             cwd=self.folder, env=self.environment, text=True, stdout=subprocess.PIPE, stderr=subprocess.PIPE,
         )
-        while not self.players[0].matches:
+        while not all(player.matches for player in self.players):
             time.sleep(0.01)
         lose(self.folder, "a")
         out, said = playing.communicate(timeout=600)
