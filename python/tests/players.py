@@ -33,6 +33,8 @@ class TestPlayer(threading.Thread):
         self.begun, self.aborted, self.clashes = [], [], []
         self.told = {}
         self.status, self.is_gone = None, False
+        # So many seconds it thinks before each move.
+        self.thinks = 0.0
         self.at = at
         self.socket = socket.create_server((at, 0), backlog=64)
         self.port = self.socket.getsockname()[1]
@@ -78,8 +80,7 @@ class TestPlayer(threading.Thread):
             self.die(connection)
             return
         answer = self.answer(message)
-        if self.kind == "slow":
-            time.sleep(SLOW)
+        time.sleep(SLOW * (self.kind == "slow") + self.thinks * is_play)
         if self.kind == "closing" and is_play:
             return
         reply = f"HTTP/1.0 200 OK\r\nContent-Length: {len(answer)}\r\n\r\n{answer}".encode()
