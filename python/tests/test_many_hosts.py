@@ -183,6 +183,8 @@ class ManyHosts(InFolder):
 
     def test_a_host_that_is_lost_under_a_match(self):
         self.planned('["a", "b"]', kind="slow")
+        for player in self.players:
+            player.thinks = 1
         playing = subprocess.Popen(
             [sys.executable, "-c", QUICK, "play", "--program", program()],
             cwd=self.folder, env=self.environment, text=True, stdout=subprocess.PIPE, stderr=subprocess.PIPE,
@@ -190,6 +192,8 @@ class ManyHosts(InFolder):
         while not all(player.matches for player in self.players):
             time.sleep(0.01)
         lose(self.folder, "a")
+        for player in self.players:
+            player.thinks = 0
         out, said = playing.communicate(timeout=600)
         self.assertEqual((playing.returncode, said, len(lines(out, "end"))), (0, "", 1), out)
         self.assertEqual([player.begun for player in self.players], [["cup-001"] * 2] * 2)
@@ -215,7 +219,9 @@ class ManyHosts(InFolder):
         self.assertEqual(self.play()[0], 0)
 
     def test_a_killed_play_leaves_no_match_on_a_host(self):
-        self.planned('["a"]', kind="slow")
+        self.planned('["a"]', head=HEAD.replace("start = 5\nplay = 5", "start = 600\nplay = 600"))
+        for player in self.players:
+            player.thinks = 600
         words = f"echo $$ > {self.folder}/process"
         playing = start(self.folder, "play", "--program", program_but(self.folder / "told", '"$1" = run', words), env=self.environment)
         while not self.players[0].matches:
