@@ -27,6 +27,8 @@ from ggp_tools.records.show import LONGEST_RECORD, NoRecord, read_record
 SHARE = 10
 # Files that are written anew in their places are looked for at most once in so many seconds.
 LOOK_AGAIN = 2.0
+# Two changes of a folder within so many seconds may give it the same time: many systems count it by the ticks of their clock.
+TICK = 0.1
 # A match whose room names its players alone: they are sent ABORT for a run that was ended.
 WAITING = "waiting"
 FAULT = "these pages have a fault, so what they show of it may be wrong: {!r}"
@@ -169,7 +171,7 @@ class Seen:
         changed = os.stat(self.room).st_mtime_ns
         if changed == self.room_changed:
             return
-        self.room_changed, stage = changed, stage_of(self.room)
+        self.room_changed, stage = settled(changed), stage_of(self.room)
         if stage != self.stage:
             self.stage, self.version = stage, self.version + 1
             self.set_since(changed / 1e9)
@@ -203,6 +205,11 @@ def stage_of(room: str) -> str:
     if os.path.exists(f"{room}/played"):
         return "playing"
     return WAITING if os.path.exists(f"{room}/{PLAYERS}") and not os.path.exists(f"{room}/info-0") else "asking"
+
+
+def settled(changed: int) -> int:
+    """Returns the time of the last change of a folder; no such time where another change may have the same."""
+    return changed if abs(time.time() - changed / 1e9) > TICK else -1
 
 
 def identity(found: os.stat_result) -> tuple[int, int, int]:
@@ -297,8 +304,8 @@ class Reader:
             changed = None
         if began < self.next or changed == self.records_time and began < self.next_again:
             return
-        # A record that comes while the folder is read changes it again.
-        self.records_time = changed
+        # A record that comes while the folder is read changes it again, or it is read again anyway.
+        self.records_time = None if changed is None else settled(changed)
         there = self.records_there() if changed is not None else {}
         for name in [name for name in self.results if name not in there]:
             self.forget(name)
