@@ -93,6 +93,10 @@ class Lines(InRoom):
         self.assertFalse(live.is_held(folder))
         with held(folder):
             self.assertTrue(live.is_held(folder))
+            # Where other locks go while the list is read, a lock may be missing in it.
+            for missed, is_held in ((4, True), (5, False)):
+                with patch.object(live, "locks", side_effect=[*[[]] * missed, live.locks()]):
+                    self.assertEqual(live.is_held(folder), is_held)
             # A folder of another disk may have the same number.
             with patch.object(live, "lock_place", lambda found: f"ff:fff:{os.stat(found).st_ino}"):
                 self.assertFalse(live.is_held(folder))

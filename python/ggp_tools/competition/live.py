@@ -27,6 +27,8 @@ from ggp_tools.records.show import LONGEST_RECORD, NoRecord, read_record
 SHARE = 10
 # Files that are written anew in their places are looked for at most once in so many seconds.
 LOOK_AGAIN = 2.0
+# The list of many locks is read in pieces, and may lack one where others go meanwhile. So in so many lists it has to be missing.
+LOOKS = 5
 # Two changes of a folder within so many seconds may give it the same time: many systems count it by the ticks of their clock.
 TICK = 0.1
 # A match whose room names its players alone: they are sent ABORT for a run that was ended.
@@ -217,13 +219,18 @@ def identity(found: os.stat_result) -> tuple[int, int, int]:
     return found.st_ino, found.st_size, found.st_mtime_ns
 
 
+def locks() -> list[str]:
+    """Returns the lines of the locks of this computer."""
+    return pathlib.Path("/proc/locks").read_text("ascii").splitlines()
+
+
 def is_held(folder: pathlib.Path) -> bool:
     """Returns whether a run holds the folder, without trying to hold it."""
     try:
-        place, locks = lock_place(folder), pathlib.Path("/proc/locks").read_text("ascii")
+        place = lock_place(folder)
+        return any(f" {place} " in line and "FLOCK" in line and " WRITE " in line for _ in range(LOOKS) for line in locks())
     except (OSError, UnicodeDecodeError):
         return False
-    return any(f" {place} " in line and "FLOCK" in line and " WRITE " in line for line in locks.splitlines())
 
 
 class Reader:
