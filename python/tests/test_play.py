@@ -156,7 +156,7 @@ class Play(InFolder):
         # It is waited for as long as INFO may take, and said after that.
         self.planned(["good", "good"], head='start = 5\nplay = 5\ninfo = 10\nabsent = "play"\n')
         unsent = "ggp_manager: not sent: out of ports"
-        short = program_but(self.folder / "short", '"$1" = info && "$3" = p0*', f"sleep 10.2; echo '{unsent}' >&2; exit 1")
+        short = program_but(self.folder / "short", '"$1" = info && "$3" = p0*', f"sleep 10; echo '{unsent}' >&2; exit 1")
         status, out, _ = run(self.folder, "play", "--program", short)
         told = [f"no record {planned[0]}: p0 could not be asked: {unsent}" for planned in self.schedule]
         self.assertEqual((status, lines(out, "no record"), lines(out, "begin")), (1, told, []), out)
