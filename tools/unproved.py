@@ -9,7 +9,8 @@ import time
 
 from crates import TOP, spell
 
-PATIENCE = 600
+# A compilation takes some minutes, and ten times as long on a busy computer. What hangs is ended then.
+PATIENCE = 3_600
 LAST_LINES = 20
 
 

@@ -97,12 +97,13 @@ def asked_with_closed_pipe(program, words, text=b""):
     return Said(ran.returncode, b"", ran.stderr.decode())
 
 
-def read_to_close(end):
-    """Returns all that comes out of a terminal until the program has closed its other end."""
+def read_to_close(end, look=lambda said: None):
+    """Returns all that comes out of a terminal until the program has closed its other end. What has come by then is looked at as it comes."""
     said = b""
     try:
         while piece := os.read(end, 4096):
             said += piece
+            look(said)
     except OSError:
         # The other end is closed.
         pass
@@ -110,8 +111,9 @@ def read_to_close(end):
     return said.decode().replace("\r\n", "\n")
 
 
-def asked_in_terminal(program, words, stream="stderr", text=b""):
-    """Returns the status, and what comes of the standard stream that is a terminal, and of the other one."""
+def asked_in_terminal(program, words, stream="stderr", text=b"", look=lambda said: None):
+    """Returns the status, and what comes of the standard stream that is a terminal, and of the other one. What comes of the terminal is
+    looked at as it comes."""
     other = "stdout" if stream == "stderr" else "stderr"
     ours, theirs = pty.openpty()
     with tempfile.TemporaryFile() as given, tempfile.TemporaryFile() as kept:
@@ -119,7 +121,7 @@ def asked_in_terminal(program, words, stream="stderr", text=b""):
         given.seek(0)
         with begun([program, *words], stdin=given, **{stream: theirs, other: kept}) as child:
             os.close(theirs)
-            shown = read_to_close(ours)
+            shown = read_to_close(ours, look)
         kept.seek(0)
         return child.returncode, shown, kept.read().decode()
 

@@ -50,8 +50,10 @@ def little_room(size: int, reaction: Callable | signal.Handlers | int | None) ->
 
 
 def closed_port() -> socket.socket:
-    """Returns a socket whose port takes no connection. The port is nobody else's as long as the socket is open."""
+    """Returns a socket whose port takes no connection. The port is nobody else's as long as the socket is open, but a server of this process
+    may listen there now and then."""
     endpoint = socket.socket()
+    endpoint.setsockopt(socket.SOL_SOCKET, socket.SO_REUSEADDR, 1)
     endpoint.bind(("127.0.0.1", 0))
     return endpoint
 

@@ -143,8 +143,14 @@ class Hosts(Machines):
         self.players = [TestPlayer(f"p{number}", "slow", number, at=PLAYERS_AT) for number in range(count)]
         self.schedule = self.plan([(player.name, player.place()) for player in self.players], [game], head=HEAD)
 
+    def let_think(self, seconds):
+        """Has the players think so long before each move. A match has two moves of each at least."""
+        for player in self.players:
+            player.thinks = seconds
+
     def begun(self):
-        """Begins the competition; returns when a match is played on the first machine."""
+        """Begins the competition; returns when a match is played on the first machine. It goes on for some seconds."""
+        self.let_think(1)
         playing = start(self.folder, "play", "--at-once", "2", env=self.environment)
         while not any(match in player.matches for match in self.machines[0].runs() for player in self.players):
             self.assertIsNone(playing.poll())
@@ -162,6 +168,7 @@ class Hosts(Machines):
         self.planned()
         playing = self.begun()
         self.machines[0].take_away()
+        self.let_think(0)
         out, said = playing.communicate(timeout=900)
         self.assertEqual((playing.returncode, said), (0, ""), out)
         self.assert_whole()
@@ -183,6 +190,7 @@ class Hosts(Machines):
             playing = self.begun()
             playing.send_signal(number)
             playing.communicate()
+            self.let_think(0)
             if number == signal.SIGTERM:
                 self.assertEqual((playing.returncode, [player.matches for player in self.players]), (1, [{}] * 4))
             until = time.monotonic() + 120

@@ -14,6 +14,16 @@ KINDS = ("good", "slow", "closing", "dripping", "lying", "dying")
 SLOW, DRIP, AWAY = 0.12, 0.3, 1.0
 # A player that dies does so at each PLAY of such a number.
 LIFE = 7
+# Sockets that take no connection, of which each holds the port of a player: while that is away, or gone, the port is nobody else's.
+HELD = []
+
+
+def held_port(at):
+    """Returns a port of an address at which nobody but a player listens as long as the tests run."""
+    HELD.append(socket.socket())
+    HELD[-1].setsockopt(socket.SOL_SOCKET, socket.SO_REUSEADDR, 1)
+    HELD[-1].bind((at, 0))
+    return HELD[-1].getsockname()[1]
 
 
 class TestPlayer(threading.Thread):
@@ -33,9 +43,10 @@ class TestPlayer(threading.Thread):
         self.begun, self.aborted, self.clashes = [], [], []
         self.told = {}
         self.status, self.is_gone = None, False
-        self.at = at
-        self.socket = socket.create_server((at, 0), backlog=64)
-        self.port = self.socket.getsockname()[1]
+        # So many seconds it thinks before each move.
+        self.thinks = 0.0
+        self.at, self.port = at, held_port(at)
+        self.come_back()
         self.start()
 
     def place(self):
@@ -62,7 +73,9 @@ class TestPlayer(threading.Thread):
             try:
                 connection, _ = self.socket.accept()
             except OSError:
-                continue  # it leaves
+                # It is away, or leaves.
+                time.sleep(0.01)
+                continue
             with connection:
                 try:
                     self.serve(connection)
@@ -78,8 +91,7 @@ class TestPlayer(threading.Thread):
             self.die(connection)
             return
         answer = self.answer(message)
-        if self.kind == "slow":
-            time.sleep(SLOW)
+        time.sleep(SLOW * (self.kind == "slow") + self.thinks * is_play)
         if self.kind == "closing" and is_play:
             return
         reply = f"HTTP/1.0 200 OK\r\nContent-Length: {len(answer)}\r\n\r\n{answer}".encode()
@@ -96,7 +108,7 @@ class TestPlayer(threading.Thread):
         self.socket.close()
         time.sleep(AWAY)
         self.matches.clear()
-        self.socket = socket.create_server((self.at, self.port), backlog=64)
+        self.come_back()
 
     def answer(self, message):
         match message:

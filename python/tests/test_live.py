@@ -93,6 +93,10 @@ class Lines(InRoom):
         self.assertFalse(live.is_held(folder))
         with held(folder):
             self.assertTrue(live.is_held(folder))
+            # Where other locks go while the list is read, a lock may be missing in it.
+            for missed, is_held in ((4, True), (5, False)):
+                with patch.object(live, "locks", side_effect=[*[[]] * missed, live.locks()]):
+                    self.assertEqual(live.is_held(folder), is_held)
             # A folder of another disk may have the same number.
             with patch.object(live, "lock_place", lambda found: f"ff:fff:{os.stat(found).st_ino}"):
                 self.assertFalse(live.is_held(folder))
@@ -254,6 +258,24 @@ class Lines(InRoom):
         self.plan.folder.record(self.match.id).unlink()
         reader.look()
         self.assertEqual(reader.results, {})
+
+    def test_what_comes_into_a_folder_without_changing_its_time_is_seen(self):
+        first, second = self.plan.matches[:2]
+        room, moment = self.plan.folder.open / self.plan.matches[2].id, time.time()
+        room.mkdir()
+        reader, found = Reader(self.plan), []
+        with patch.object(live, "TICK", 3_600):
+            for name in ("info-0", "played", "verified"):
+                (room / name).touch()
+                os.utime(room, (moment, moment))
+                reader.look()
+                found.append(reader.open[room.name].stage)
+            for match in (first, second):
+                end(self.plan, match, record_of(match, [], [], [50, 50]))
+                os.utime(self.plan.folder.records, (moment, moment))
+                reader.look()
+                found.append(len(reader.results))
+        self.assertEqual(found, ["asking", "playing", "checking", 1, 2])
 
     def test_a_record_that_was_replaced_between_two_looks(self):
         first, second = self.plan.matches[:2]

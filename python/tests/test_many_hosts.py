@@ -8,6 +8,7 @@ import re
 import signal
 import subprocess
 import sys
+import tempfile
 import time
 import unittest
 import unittest.mock
@@ -77,10 +78,10 @@ class Room(unittest.TestCase):
 class OnHost(unittest.TestCase):
     """The words for a host, which a shell of this computer runs."""
 
-    def start(self, words, silence):
+    def start(self, words, silence, **more):
         with unittest.mock.patch.object(hosts, "SILENCE", silence):
             command = remote_words("one", words)[-1]
-        return subprocess.Popen(["sh", "-c", command], stdin=subprocess.PIPE, stdout=subprocess.PIPE, stderr=subprocess.PIPE, text=True)
+        return subprocess.Popen(["sh", "-c", command], stdin=subprocess.PIPE, stdout=subprocess.PIPE, stderr=subprocess.PIPE, text=True, **more)
 
     def test_what_is_said_and_the_status(self):
         for status in (0, 1, 3):
@@ -107,6 +108,14 @@ class OnHost(unittest.TestCase):
         self.assertEqual(begun.wait(60), 254)
         for stream in (begun.stdout, begun.stderr):
             stream.close()
+
+    def test_whoever_ends_it_may_take_a_while_to_end_too(self):
+        with tempfile.NamedTemporaryFile("w") as file:
+            file.write('kill() { builtin kill "$@"; sleep 0.5; }')
+            file.flush()
+            begun = self.start(["sleep", "600"], 600, env={**os.environ, "BASH_ENV": file.name})
+            begun.communicate()
+        self.assertEqual(begun.returncode, 254)
 
 
 class ManyHosts(InFolder):
@@ -174,13 +183,17 @@ class ManyHosts(InFolder):
 
     def test_a_host_that_is_lost_under_a_match(self):
         self.planned('["a", "b"]', kind="slow")
+        for player in self.players:
+            player.thinks = 1
         playing = subprocess.Popen(
             [sys.executable, "-c", QUICK, "play", "--program", program()],
             cwd=self.folder, env=self.environment, text=True, stdout=subprocess.PIPE, stderr=subprocess.PIPE,
         )
-        while not self.players[0].matches:
+        while not all(player.matches for player in self.players):
             time.sleep(0.01)
         lose(self.folder, "a")
+        for player in self.players:
+            player.thinks = 0
         out, said = playing.communicate(timeout=600)
         self.assertEqual((playing.returncode, said, len(lines(out, "end"))), (0, "", 1), out)
         self.assertEqual([player.begun for player in self.players], [["cup-001"] * 2] * 2)
@@ -206,7 +219,9 @@ class ManyHosts(InFolder):
         self.assertEqual(self.play()[0], 0)
 
     def test_a_killed_play_leaves_no_match_on_a_host(self):
-        self.planned('["a"]', kind="slow")
+        self.planned('["a"]', head=HEAD.replace("start = 5\nplay = 5", "start = 600\nplay = 600"))
+        for player in self.players:
+            player.thinks = 600
         words = f"echo $$ > {self.folder}/process"
         playing = start(self.folder, "play", "--program", program_but(self.folder / "told", '"$1" = run', words), env=self.environment)
         while not self.players[0].matches:

@@ -1,5 +1,6 @@
 """How matches are played: players that are busy, silent, or sit in several matches; Ctrl-C; a full disk; two runs in one folder."""
 
+import contextlib
 import json
 import os
 import pathlib
@@ -25,6 +26,16 @@ HEAD = "start = 5\nplay = 5\nstrikes = 1\nwait = 1\ninfo = 5\ntries = 2\n"
 
 def lines(out, word):
     return [line for line in out.splitlines() if line.startswith(word)]
+
+
+def read_to_close(terminal):
+    """Returns all that comes out of a terminal until its other end is closed."""
+    said = b""
+    with contextlib.suppress(OSError):
+        while piece := os.read(terminal, 4096):
+            said += piece
+    os.close(terminal)
+    return said.decode()
 
 
 class Play(InFolder):
@@ -145,7 +156,7 @@ class Play(InFolder):
         # It is waited for as long as INFO may take, and said after that.
         self.planned(["good", "good"], head='start = 5\nplay = 5\ninfo = 10\nabsent = "play"\n')
         unsent = "ggp_manager: not sent: out of ports"
-        short = program_but(self.folder / "short", '"$1" = info && "$3" = p0*', f"sleep 10.2; echo '{unsent}' >&2; exit 1")
+        short = program_but(self.folder / "short", '"$1" = info && "$3" = p0*', f"sleep 10; echo '{unsent}' >&2; exit 1")
         status, out, _ = run(self.folder, "play", "--program", short)
         told = [f"no record {planned[0]}: p0 could not be asked: {unsent}" for planned in self.schedule]
         self.assertEqual((status, lines(out, "no record"), lines(out, "begin")), (1, told, []), out)
@@ -229,9 +240,15 @@ class Play(InFolder):
         self.assertEqual(([line.split()[0] for line in said], playing.returncode), (["back"] * 6, 0), out)
         self.assertEqual((lines(out, "no record"), len(lines(out, "end"))), ([], 6))
 
+    def let_think(self, seconds):
+        """Has the players think so long before each move. A match has two moves of each at least."""
+        for player in self.players:
+            player.thinks = seconds
+
     def interrupted(self, *signals):
-        """Plays among slow players, and sends it these signals."""
+        """Plays among slow players, and sends it these signals while the first matches are open."""
         self.planned(["slow"] * 4, head="start = 5\nplay = 5\n")
+        self.let_think(1)
         # The tests themselves may run under nohup.
         playing = start(self.folder, "play", preexec_fn=lambda: signal.signal(signal.SIGHUP, signal.SIG_DFL))
         while len(list((self.folder / "open").glob("*/players"))) < 2:
@@ -241,6 +258,7 @@ class Play(InFolder):
             time.sleep(0.1)
         out, said = playing.communicate(timeout=600)
         self.assertEqual((playing.returncode, said), (1, ""))
+        self.let_think(0)
         return out
 
     def test_one_interrupt_waits_for_open_matches(self):
@@ -263,11 +281,13 @@ class Play(InFolder):
 
     def test_a_run_after_a_killed_one_tells_at_once_for_whom_it_waits(self):
         self.planned(["slow", "slow"])
+        self.let_think(1)
         playing = start(self.folder, "play")
         while not self.players[0].matches:
             time.sleep(0.02)
         playing.kill()
         playing.communicate()
+        self.let_think(0)
         # It comes before anything is looked at or sent.
         waiting = program_but(self.folder / "waiting", '"$1" = abort', "sleep 60")
         playing = start(self.folder, "play", "--program", waiting)
@@ -345,14 +365,15 @@ class Play(InFolder):
         return sum(b"\0run\0" in command and os.fsencode(self.folder) in command for command in commands)
 
     def test_a_killed_run_leaves_no_match_at_play(self):
-        self.planned(["slow"] * 4)
+        self.planned(["slow"] * 4, head="start = 600\nplay = 600\n")
+        self.let_think(600)
         playing = start(self.folder, "play")
         while not self.at_play():
             time.sleep(0.01)
         playing.kill()
         playing.communicate()
         # On a busy computer the end of a process takes a moment; a match takes longer.
-        end = time.monotonic() + 2
+        end = time.monotonic() + 120
         while self.at_play() and time.monotonic() < end:
             time.sleep(0.01)
         self.assertEqual(self.at_play(), 0)
@@ -364,11 +385,13 @@ class Play(InFolder):
     def test_an_abort_without_an_answer_is_due_until_it_is_answered(self):
         self.planned(["slow", "slow"], head=HEAD.replace("tries = 2", "tries = 1"), form='kind = "schedule"\nlines = ["countdown p0 p1"]')
         away, players = self.players[0], self.folder / "open/cup-001/players"
+        self.let_think(1)
         playing = start(self.folder, "play")
         while not away.matches:
             time.sleep(0.02)
         playing.kill()
         playing.communicate()
+        self.let_think(0)
         away.go_away()
         unanswered = [f"no answer to abort cup-001: p0@{away.place()}"]
         status, out, _ = run(self.folder, "play")
@@ -635,6 +658,7 @@ class Play(InFolder):
 
     def test_a_reader_that_wants_no_more_ends_no_open_match(self):
         self.planned(["slow"] * 4)
+        self.let_think(1)
         playing = start(self.folder, "play", "--at-once", "2")
         self.assertIn("begin", playing.stdout.readline())
         self.assertIn("begin", playing.stdout.readline())
@@ -708,11 +732,10 @@ class Play(InFolder):
     def test_progress_on_a_terminal(self):
         self.planned(["slow", "slow"])
         ours, theirs = pty.openpty()
-        words = [pathlib.Path(__file__).parent.parent / "ggp_competition", "play", "--program", program()]
-        subprocess.run(words, cwd=self.folder, stdout=subprocess.PIPE, stderr=theirs, check=True)
+        playing = start(self.folder, "play", stdout=subprocess.DEVNULL, stderr=theirs)
         os.close(theirs)
-        said = os.read(ours, 65536).decode()
-        os.close(ours)
+        said = read_to_close(ours)
+        self.assertEqual(playing.wait(), 0)
         self.assertRegex(said, r"over 0, open 1, to come 1, left unknown")
         self.assertRegex(said, r"over 1, open [01], to come [01], left 0:00:\d\d")
 

@@ -20,10 +20,10 @@ class SomeSeats(unittest.TestCase):
 
     def test_asked_for_several_matches_at_once_is_one_try(self):
         for goes_on in (True, True, False):
-            asked = time.monotonic()
+            before = asked = time.monotonic()
             self.assertEqual([self.seats.was_not_there("p0", asked) for _ in range(4)], [goes_on] * 4)
-            rests = self.seats.rested["p0"] - time.monotonic()
-            self.assertTrue(4 < rests <= 5 if goes_on else rests <= 0, rests)
+            rests = self.seats.rested["p0"]
+            self.assertTrue(before + 5 <= rests <= time.monotonic() + 5 if goes_on else rests <= time.monotonic(), rests)
         self.assertFalse(self.seats.was_not_there("p0", time.monotonic()))
         self.seats.was_there("p0")
         self.assertTrue(self.seats.was_not_there("p0", time.monotonic()))
@@ -70,9 +70,10 @@ class SomeSeats(unittest.TestCase):
         self.assertEqual([self.begins(moment) for moment in (now, now)], [(None, len(self.waiting)), (None, 0)])
         self.assertEqual(self.begins(now + 5.1)[1], 1)
         # A second try in vain gives another time of rest.
-        self.assertTrue(self.seats.was_not_there("p0", time.monotonic()))
+        asked = time.monotonic()
+        self.assertTrue(self.seats.was_not_there("p0", asked))
         self.assertLess(self.seats.idle_until, math.inf)
-        self.assertEqual([begun[0] for begun in (self.begins(now), self.begins(time.monotonic() + 4))], [None, None])
+        self.assertEqual([begun[0] for begun in (self.begins(now), self.begins(asked + 4.9))], [None, None])
 
 
 class Moments(unittest.TestCase):

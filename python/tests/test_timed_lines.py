@@ -11,6 +11,9 @@ from ggp_tools.competition.timed_lines import LineReader, untimed
 from ggp_tools.moments import MOMENT
 from ggp_tools.reporting import Journal
 
+# What does not come within these never comes.
+SECONDS = 600
+
 
 class Lines(unittest.TestCase):
     def setUp(self):
@@ -24,7 +27,9 @@ class Lines(unittest.TestCase):
         return theirs, reader.read(open(ours, "rb", buffering=0), self.file, *beaten)
 
     def wait_for(self, is_so):
+        until = time.monotonic() + SECONDS
         while not is_so():
+            self.assertLess(time.monotonic(), until)
             time.sleep(0.005)
 
     def test_each_line_has_the_time_when_it_came(self):
@@ -101,10 +106,9 @@ class Lines(unittest.TestCase):
     def test_how_often_something_was_written_is_counted(self):
         theirs, lines = self.read(LineReader())
         self.assertEqual((lines.count, lines.is_over), (0, False))
-        for at, part in enumerate((b"one\ntwo\n", b"three", b"\nfour\n"), 1):
+        for part, *found in ((b"one\ntwo\n", 1, b""), (b"three", 1, b"three"), (b"\nfour\n", 2, b"")):
             os.write(theirs, part)
-            self.wait_for(lambda: lines.rest or lines.count >= (1, 1, 2)[at - 1])
-        self.assertEqual(lines.count, 2)
+            self.wait_for(lambda: [lines.count, lines.rest] == found)
         os.close(theirs)
         self.wait_for(lambda: lines.is_over)
         self.assertEqual((lines.count, lines.pipe.closed, lines.file.closed, lines.rest), (2, True, True, b""))

@@ -50,8 +50,28 @@ class Why(InFolder):
         self.assertIn("it is legal, and was played: ", both)
         self.assertIn(said.partition("\n\n")[2].strip(), both)
 
+    def answers_after_its_lines(self, player):
+        """Has a player answer each message of the match some milliseconds after the line of the one before was written."""
+        answer, log, answered = player.answer, self.folder / "open/cup-001/played.said", []
+
+        def lines():
+            try:
+                return log.read_text().count(f" {player.name} message ")
+            except FileNotFoundError:
+                return 0
+
+        def later(message):
+            while lines() < len(answered):
+                time.sleep(0.01)
+            time.sleep(0.01)
+            answered.extend([message] * (message[0] != "info"))
+            return answer(message)
+
+        player.answer = later
+
     def test_each_message_has_a_time_of_its_own(self):
-        self.planned("good", "slow")
+        self.planned("good", "good", head=HEAD.replace("start = 5\nplay = 5", "start = 60\nplay = 60"))
+        self.answers_after_its_lines(self.players[1])
         self.assertEqual(run(self.folder, "play")[0], 0)
         log = (self.folder / "logs/cup-001.txt").read_text().splitlines()
         times = [line.partition(" ")[0] for line in log if " role 1 p1 message " in line]
@@ -81,9 +101,9 @@ class Why(InFolder):
 
     def test_a_player_that_lets_the_seconds_pass_is_silent(self):
         self.planned("good", "good", head=HEAD.replace("info = 5", "info = 1"))
-        self.players[1].serve = lambda connection: time.sleep(1.5)
+        self.players[1].serve = lambda connection: time.sleep(3_600)
         self.assertEqual(run(self.folder, "play")[0], 1)
-        self.assertRegex(self.why("cup-001", "p1"), r"info cup-001 p1: silent for 1\.\d s\n")
+        self.assertRegex(self.why("cup-001", "p1"), r"info cup-001 p1: silent for [1-9]\d*\.\d s\n")
 
     def test_a_play_with_nothing_to_do_adds_nothing_to_the_journal(self):
         self.planned("good", "good")

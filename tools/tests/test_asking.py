@@ -1,6 +1,6 @@
 """How the drivers run a program that may not end: each is killed, and says so by its status."""
 import subprocess
-import time
+import threading
 import unittest
 import unittest.mock
 
@@ -28,11 +28,13 @@ class Patience(unittest.TestCase):
                 raise KeyError
         self.assertEqual(child.returncode, KILLED)
 
-    def test_one_that_ends_keeps_its_status(self):
-        with asking.begun(["sh", "-c", "exit 3"]) as child:
-            pass
-        time.sleep(0.2)
+    def test_one_that_ends_keeps_its_status_and_nobody_waits_to_kill_it(self):
+        with unittest.mock.patch.object(asking, "PATIENCE", 600):
+            with asking.begun(["sh", "-c", "exit 3"]) as child:
+                pass
         self.assertEqual(child.returncode, 3)
+        waiting = [thread for thread in threading.enumerate() if isinstance(thread, threading.Timer) and not thread.finished.is_set()]
+        self.assertEqual(waiting, [])
 
     def test_one_that_reads_nothing(self):
         self.assertEqual(asking.asked_by_bytes(*sleeping(), 1_000_000).status, KILLED)

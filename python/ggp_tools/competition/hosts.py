@@ -18,15 +18,17 @@ CONNECTED = "ggp_competition: connected"
 SILENCE = 20
 # The statuses of an ssh without a connection, of a match that heard nothing, and of a shell that can't run the program.
 LOST = 255, 254, 127, 126
+# The watch takes no signal any more once it ends the match: so its status tells whether it did, however long it takes to end itself.
 ON_HOST = """exec 3<&0 < /dev/null
 echo {said} >&2
 {run} 3<&- &
 match=$!
-{{ while read -r -t {silence} -u 3; do :; done; kill -KILL $match; }} > /dev/null 2>&1 &
+{{ while read -r -t {silence} -u 3; do :; done; trap '' TERM; kill -KILL $match; }} > /dev/null 2>&1 &
 watch=$!
 wait $match
 status=$?
-kill $watch 2> /dev/null || status=254
+kill $watch 2> /dev/null
+wait $watch 2> /dev/null && status=254
 exit $status"""
 
 

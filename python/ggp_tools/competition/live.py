@@ -27,6 +27,10 @@ from ggp_tools.records.show import LONGEST_RECORD, NoRecord, read_record
 SHARE = 10
 # Files that are written anew in their places are looked for at most once in so many seconds.
 LOOK_AGAIN = 2.0
+# The list of many locks is read in pieces, and may lack one where others go meanwhile. So in so many lists it has to be missing.
+LOOKS = 5
+# Two changes of a folder within so many seconds may give it the same time: many systems count it by the ticks of their clock.
+TICK = 0.1
 # A match whose room names its players alone: they are sent ABORT for a run that was ended.
 WAITING = "waiting"
 FAULT = "these pages have a fault, so what they show of it may be wrong: {!r}"
@@ -169,7 +173,7 @@ class Seen:
         changed = os.stat(self.room).st_mtime_ns
         if changed == self.room_changed:
             return
-        self.room_changed, stage = changed, stage_of(self.room)
+        self.room_changed, stage = settled(changed), stage_of(self.room)
         if stage != self.stage:
             self.stage, self.version = stage, self.version + 1
             self.set_since(changed / 1e9)
@@ -205,18 +209,28 @@ def stage_of(room: str) -> str:
     return WAITING if os.path.exists(f"{room}/{PLAYERS}") and not os.path.exists(f"{room}/info-0") else "asking"
 
 
+def settled(changed: int) -> int:
+    """Returns the time of the last change of a folder; no such time where another change may have the same."""
+    return changed if abs(time.time() - changed / 1e9) > TICK else -1
+
+
 def identity(found: os.stat_result) -> tuple[int, int, int]:
     """Returns what is another where a file was replaced or written anew."""
     return found.st_ino, found.st_size, found.st_mtime_ns
 
 
+def locks() -> list[str]:
+    """Returns the lines of the locks of this computer."""
+    return pathlib.Path("/proc/locks").read_text("ascii").splitlines()
+
+
 def is_held(folder: pathlib.Path) -> bool:
     """Returns whether a run holds the folder, without trying to hold it."""
     try:
-        place, locks = lock_place(folder), pathlib.Path("/proc/locks").read_text("ascii")
+        place = lock_place(folder)
+        return any(f" {place} " in line and "FLOCK" in line and " WRITE " in line for _ in range(LOOKS) for line in locks())
     except (OSError, UnicodeDecodeError):
         return False
-    return any(f" {place} " in line and "FLOCK" in line and " WRITE " in line for line in locks.splitlines())
 
 
 class Reader:
@@ -297,8 +311,8 @@ class Reader:
             changed = None
         if began < self.next or changed == self.records_time and began < self.next_again:
             return
-        # A record that comes while the folder is read changes it again.
-        self.records_time = changed
+        # A record that comes while the folder is read changes it again, or it is read again anyway.
+        self.records_time = None if changed is None else settled(changed)
         there = self.records_there() if changed is not None else {}
         for name in [name for name in self.results if name not in there]:
             self.forget(name)
