@@ -247,13 +247,15 @@ class Refusals(unittest.TestCase):
             self.assertEqual(set(sums), {len(seeds) - 1} if sums else set())
 
     def test_pairs_that_have_met_exchange_with_the_nearest_ones(self):
-        for met, wanted in (
+        for order, met, wanted in (
             # c has met all that stand below it: its pair is the second of three.
-            ("cd ce cf", "ac bd ef"),
+            ("abcdef", "cd ce cf", "ac bd ef"),
             # From e and f both new pairs of c come; only then can c and d exchange, with the pair just below.
-            ("ac cd ce cf ef", "ae fd bc"),
+            ("abcdef", "ac cd ce cf ef", "ae fd bc"),
+            # g and h exchange with c and d. Then e and f could with the pair just below, and do so with the one far above.
+            ("abcdefgh", "ce ef eg eh gh", "ae cg bf dh"),
         ):
-            found = paired("abcdef", Counter(map(frozenset, met.split())))
+            found = paired(order, Counter(map(frozenset, met.split())))
             self.assertEqual(" ".join(map("".join, found)), wanted)
 
     def test_where_all_have_met_each_meets_whom_it_has_met_least(self):
