@@ -217,6 +217,14 @@ class Verdicts(WithStandIn):
         self.assertEqual(said, ["line 2: no record: it is longer than 16 MiB"])
         self.assertEqual((lines.lawful, lines.unlawful, len(self.asked()[1])), (1, 1, most + 1))
 
+    def test_lines_behind_one_that_is_too_long_have_their_own_verdicts(self):
+        self.answers(b"lawful\nnot lawful: json\nlawful\n", b"", 1)
+        with mock.patch.object(explain, "LONGEST_RECORD", 4):
+            lines, said = self.lines_of(b"{}\n{   }\n[]\n{   }\n{ }\n")
+        named = ["line 2: no record: it is longer than 16 MiB", "line 3: not lawful: json", "line 4: no record: it is longer than 16 MiB"]
+        self.assertEqual([line for line in said if not line.startswith("\t")], named)
+        self.assertEqual((lines.lawful, lines.unlawful, self.asked()[1]), (2, 3, b"{}\n[]\n{ }\n"))
+
     def test_lines_are_handed_over_some_megabytes_at_a_time(self):
         self.answers(b"lawful\n" * 2)
         self.answers(b"lawful\n" * 3)
