@@ -194,6 +194,19 @@ class Why(InFolder):
                 found = re.findall(r"begin|START was|turn \d|the clock was set back|end ", said)
                 self.assertEqual(found, [*["begin"] * begun, "START was", "turn 1", "the clock was set back", "turn 2", "turn 3", "end "])
 
+    def test_each_beginning_in_the_log_is_told_however_many_were_noted(self):
+        plan = plan_in(str(self.folder), ["ann", "bob"])
+        match = plan.matches[0]
+        times = [f"2026-01-01T10:0{minute}:00.000Z" for minute in range(4)]
+        starts = (line(match, 0, 1, f"(START {match.id})", answer) for answer in ("one", "two", "three"))
+        plan.folder.log(match.id).write_text("".join(f"began {time}\n{time} {start}" for time, start in zip(times, starts)) + f"ended {times[3]}\n")
+        for count, wanted in enumerate((
+            "one two three", "begin one two three", "begin one two begin three", "begin one begin two begin three", "begin begin one begin two begin three",
+        )):
+            plan.folder.journal.write_text("".join(f"{times[0]} {word} {match.id} heap\n" for word in ("info", *["begin"] * count, "end")))
+            said = "\n".join(Told(plan, match).lines(["ann"]))
+            self.assertEqual(re.findall(r"info|begin|(?<=answered `)\w+|end ", said), ["info", *wanted.split(), "end "] if count else ["info", "end ", *wanted.split()], count)
+
     def test_a_match_begun_again_has_the_times_of_its_last_beginning(self):
         message = "m role 0 a message {} (START m a (x)): ready, {} ms\n"
         times = [f"2026-01-01T00:00:0{second}.000Z" for second in range(6)]
