@@ -211,6 +211,11 @@ class Checked(Made):
         known.write()
         with mock.patch.object(archive, "line_of") as made:
             self.assertEqual((archive.matches_text(self.plan, results, Known(self.folder)), made.called), (text, False))
+        # A line is known of the same log alone: an archive with that of another one would be refused.
+        file = self.plan.folder.log(self.plan.matches[0].id)
+        file.write_bytes(file.read_bytes().replace(ENDED, b""))
+        text = archive.matches_text(self.plan, results)
+        self.assertEqual((archive.matches_text(self.plan, results, Known(self.folder)), json.loads(text.splitlines()[0])["end"]), (text, None))
         digest = "0" * 64
         self.plan.folder.description_sums().write_text(f"{digest}  heap.kif\n")
         sums = {(line["rules"], line["description"]) for line in map(json.loads, archive.matches_text(self.plan, results, Known(self.folder)).splitlines())}
