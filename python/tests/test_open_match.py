@@ -274,6 +274,8 @@ class Asking(WithMatch):
     def test_a_fault_of_this_computer_is_none_of_a_player(self):
         self.assertEqual(self.asked((3, b"", "x\nggp_manager: want of memory"), NO_ANSWER), (False, "ann could not be asked: ggp_manager: want of memory", []))
         self.assertEqual(self.seats.failed, {"ann": 0, "bob": 0})
+        # What asks the other one is ended too.
+        self.assertEqual([process.is_ended for process in Process.begun], [True, True])
         self.begin(self.HEAD)
         self.assertEqual(self.asked(NO_ANSWER, (1, b"", "ggp_manager: other")), (False, "bob could not be asked: ggp_manager: other", []))
 
