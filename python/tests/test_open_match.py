@@ -513,23 +513,28 @@ class OnHosts(WithMatch):
 
     def test_while_it_is_not_connected_it_is_counted(self):
         Process.laid_down["played"] = [(0, self.record + self.account, "", 12)]
-        counts = []
+        counts, lines = [], self.SAID.splitlines(keepends=True)
 
         def meanwhile():
-            counts.append((self.open.stage, self.hosts.connecting["near"]))
+            counts.append((self.open.stage, self.hosts.connecting["near"], list(self.reporter.begun)))
             for process in Process.begun:
-                if process.name == "played" and len(counts) == 3:
-                    process.said.write_text(self.SAID)
+                # It is connected, and only later has a player answered.
+                if process.name == "played" and len(counts) in (3, 6):
+                    process.said.write_text("".join(lines[: len(counts) // 3 + 1]))
                     process.lines.count += 1
 
         self.go(meanwhile=meanwhile)
-        self.assertEqual(sorted(set(counts)), [("asking", 0), ("over", 0), ("playing", 0), ("playing", 1)])
+        begun = [("cup-001", "near")]
+        self.assertEqual(counts[:6], [("asking", 0, []), *[("playing", 1, [])] * 2, *[("playing", 0, begun)] * 3])
+        self.assertEqual({(count, said == begun) for _, count, said in counts[6:]}, {(0, True)})
 
     def test_a_match_that_is_lost_with_its_host_begins_again_on_another(self):
         lost = (255, b"", f"{self.SAID}2026-01-02T03:04:08.000Z Connection closed\n")
         began, times = Process.now, []
         with mock.patch.object(self.reporter, "line", lambda text: times.append(Process.now) or self.reporter.lines.append(text)):
-            self.play(lost, self.whole())
+            seen = self.play(lost, self.whole())
+        # Meanwhile another match may see whether the host is there again.
+        self.assertEqual([open_there["near"] for host, _, open_there in seen if host is None][:20], [0] * 20)
         self.assertEqual([process.began - times[0] for process in Process.begun if process.name.startswith("abort")], [20, 20])
         played = [process for process in Process.begun if process.name == "played"]
         self.assertEqual([process.words[-2] for process in played], ["near", "far"])
