@@ -141,7 +141,8 @@ class Followed(unittest.TestCase):
         ruled = "(player bob) (player ann) (<= (role ?x) (player ?x)) (init s) (legal ann go) (legal bob wait)"
         self.assertIsNone(self.words(ruled))
         self.assertIsNone(self.words(ruled, roles=("bob", "ann")))
-        self.assertEqual(self.words(ruled, roles=("ann", "eve")), "the roles are bob ann by the description, and ann eve in the record")
+        for roles in (("ann", "eve"), ("bob", "ann", "ann")):
+            self.assertEqual(self.words(ruled, roles=roles), f"the roles are bob ann by the description, and {' '.join(roles)} in the record")
 
     def test_a_text_that_is_not_canonical_is_told_in_part(self):
         with self.assertRaises(NotFollowed) as why:
