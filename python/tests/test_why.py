@@ -194,6 +194,15 @@ class Why(InFolder):
                 found = re.findall(r"begin|START was|turn \d|the clock was set back|end ", said)
                 self.assertEqual(found, [*["begin"] * begun, "START was", "turn 1", "the clock was set back", "turn 2", "turn 3", "end "])
 
+    def test_a_clock_that_is_set_back_while_no_line_has_a_time(self):
+        plan = plan_in(str(self.folder), ["ann", "bob"])
+        match = plan.matches[0]
+        start = line(match, 0, 1, f"(START {match.id})", "ready")
+        plan.folder.log(match.id).write_text(f"began 2026-01-01T10:00:00.000Z\n{start}ended 2026-01-01T09:00:05.000Z\n")
+        said = "\n".join(Told(plan, match).lines(["ann"]))
+        words = "(no time) START was", "the clock was set back: the line before has 2026-01-01T10:00:00.000Z", "ended "
+        self.assertEqual(re.findall("|".join(map(re.escape, words)), said), list(words))
+
     def test_each_beginning_in_the_log_is_told_however_many_were_noted(self):
         plan = plan_in(str(self.folder), ["ann", "bob"])
         match = plan.matches[0]
