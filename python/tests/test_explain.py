@@ -32,6 +32,13 @@ class Faults(unittest.TestCase):
         for places, word, *lines in FAULTS:
             self.assertEqual(said_of(word, places), lines, places)
 
+    def test_each_state_is_looked_at_up_to_the_last(self):
+        count = len(json.loads(RECORD.read_text())["states"])
+        said = [said_of(f"state {at}", {("states", at): []})[0] for at in range(count)]
+        self.assertEqual(said, ["The state before turn 1 is not what the rules make it.", *(
+            f"The state after turn {at} is not what the rules and the moves make it." for at in range(1, count)
+        )])
+
     def test_another_fault_than_the_interpreter_finds(self):
         self.assertEqual(said_of("goals", {}), ["The interpreter finds no fault", REPORT])
         self.assertEqual(said_of("goals", {("states", 0): []}), ["The interpreter finds state 0: The state before turn 1 is not what the rules make it.", REPORT])
