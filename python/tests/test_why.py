@@ -157,10 +157,10 @@ class Why(InFolder):
     def test_turns_in_a_row_without_a_move_of_its_own(self):
         plan = plan_in(str(self.folder), ["ann", "bob"])
         told = Told(plan, plan.matches[0])
-        errors = [["TO", ""], ["", ""], ["TO", ""], ["TO", ""]]
-        told.record = {"states": [["(heap 3)"]] * 5, "moves": [["noop", "noop"]] * 4, "errors": errors, "strikes": 2}
-        said = [re.findall(r"turn \d in a row|retired", told.turn_words(0, turn, "")) for turn in range(4)]
-        self.assertEqual(said, [[], [], [], ["turn 2 in a row", "retired"]])
+        errors = [["TO", ""], ["", ""], ["TO", ""], ["TO", ""], ["RT", ""]]
+        told.record = {"states": [["(heap 3)"]] * 6, "moves": [["noop", "noop"]] * 5, "errors": errors, "strikes": 2}
+        said = [re.findall(r"turn \d in a row|so it is retired", told.turn_words(0, turn, "")) for turn in range(5)]
+        self.assertEqual(said, [[], [], [], ["turn 2 in a row", "so it is retired"], ["turn 3 in a row"]])
 
     def test_a_player_with_the_name_of_a_match(self):
         plan = plan_in(str(self.folder), ["cup-001", "bob"])
