@@ -72,6 +72,12 @@ class OrderedAgain(unittest.TestCase):
         self.assertEqual(self.order("cup-001").id, "cup-004")
         self.assertEqual(self.folder.again.read_text().splitlines()[1:], ["cup-003\tcup-002\tfirst", "cup-004\tcup-001\tthe network was down"])
 
+    def test_the_schedule_is_written_last(self):
+        written = []
+        with mock.patch("ggp_tools.competition.again.write_whole", lambda file, _: written.append(file)):
+            self.order("cup-001")
+        self.assertEqual(written, [self.folder.again, self.folder.schedule])
+
     def test_no_other_run_changes_the_plan_once_it_is_read(self):
         def read(path, _):
             with self.assertRaises(Refused), held(path):
