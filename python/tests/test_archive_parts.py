@@ -1,5 +1,6 @@
 """What an archive is made of, and how each part of it is checked. The referee is a stand-in here, and the matches are made up."""
 
+import dataclasses
 import errno
 import gzip
 import hashlib
@@ -204,6 +205,12 @@ class Checked(Made):
         self.publish()
         files = files_of(self.path)
         self.assertEqual((files["cup/earlier/2.toml"], files["cup/again.tsv"]), (b"before", b"again"))
+
+    def test_beside_ground_rules_the_description_is_in_the_archive(self):
+        competition = self.plan.competition
+        self.plan.competition = dataclasses.replace(competition, games=(dataclasses.replace(competition.games[0], described="general.kif"),))
+        files = dict(archive.contents(self.plan, self.referee, [], None))
+        self.assertEqual(files["games/heap.kif"], self.plan.folder.path / "general.kif")
 
     def test_a_line_of_a_match_is_made_once(self):
         known, results = Known(self.folder), self.results()
