@@ -9,7 +9,7 @@ from unittest import mock
 
 from ggp_tools.competition.again import order_again, refuse_match
 from ggp_tools.competition.competition_file import read_competition
-from ggp_tools.competition.files import Folder, Refused
+from ggp_tools.competition.files import Folder, Refused, held
 from ggp_tools.competition.growth import Again, History
 from ggp_tools.competition.plan import Plan, schedule_of
 from tests.support import toml
@@ -71,6 +71,21 @@ class OrderedAgain(unittest.TestCase):
         self.plan = dataclasses.replace(self.plan, matches=list(matches), history=History((), (order,)))
         self.assertEqual(self.order("cup-001").id, "cup-004")
         self.assertEqual(self.folder.again.read_text().splitlines()[1:], ["cup-003\tcup-002\tfirst", "cup-004\tcup-001\tthe network was down"])
+
+    def test_the_schedule_is_written_last(self):
+        written = []
+        with mock.patch("ggp_tools.competition.again.write_whole", lambda file, _: written.append(file)):
+            self.order("cup-001")
+        self.assertEqual(written, [self.folder.again, self.folder.schedule])
+
+    def test_no_other_run_changes_the_plan_once_it_is_read(self):
+        def read(path, _):
+            with self.assertRaises(Refused), held(path):
+                pass
+            return self.plan
+
+        with mock.patch("ggp_tools.competition.again.read_plan", read):
+            self.assertEqual(order_again(str(self.folder.path), Lawful(), "cup-001", "late").id, "cup-003")
 
     def test_a_reason_is_printable_and_of_some_length(self):
         for reason in ("", " x", "x ", "x" * 201, "a\tb", "a\nb", "\xe4"):

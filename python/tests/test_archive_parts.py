@@ -1,5 +1,6 @@
 """What an archive is made of, and how each part of it is checked. The referee is a stand-in here, and the matches are made up."""
 
+import dataclasses
 import errno
 import gzip
 import hashlib
@@ -205,12 +206,23 @@ class Checked(Made):
         files = files_of(self.path)
         self.assertEqual((files["cup/earlier/2.toml"], files["cup/again.tsv"]), (b"before", b"again"))
 
+    def test_beside_ground_rules_the_description_is_in_the_archive(self):
+        competition = self.plan.competition
+        self.plan.competition = dataclasses.replace(competition, games=(dataclasses.replace(competition.games[0], described="general.kif"),))
+        files = dict(archive.contents(self.plan, self.referee, [], None))
+        self.assertEqual(files["games/heap.kif"], self.plan.folder.path / "general.kif")
+
     def test_a_line_of_a_match_is_made_once(self):
         known, results = Known(self.folder), self.results()
         text = archive.matches_text(self.plan, results, known)
         known.write()
         with mock.patch.object(archive, "line_of") as made:
             self.assertEqual((archive.matches_text(self.plan, results, Known(self.folder)), made.called), (text, False))
+        # A line is known of the same log alone: an archive with that of another one would be refused.
+        file = self.plan.folder.log(self.plan.matches[0].id)
+        file.write_bytes(file.read_bytes().replace(ENDED, b""))
+        text = archive.matches_text(self.plan, results)
+        self.assertEqual((archive.matches_text(self.plan, results, Known(self.folder)), json.loads(text.splitlines()[0])["end"]), (text, None))
         digest = "0" * 64
         self.plan.folder.description_sums().write_text(f"{digest}  heap.kif\n")
         sums = {(line["rules"], line["description"]) for line in map(json.loads, archive.matches_text(self.plan, results, Known(self.folder)).splitlines())}

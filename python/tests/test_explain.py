@@ -32,6 +32,13 @@ class Faults(unittest.TestCase):
         for places, word, *lines in FAULTS:
             self.assertEqual(said_of(word, places), lines, places)
 
+    def test_each_state_is_looked_at_up_to_the_last(self):
+        count = len(json.loads(RECORD.read_text())["states"])
+        said = [said_of(f"state {at}", {("states", at): []})[0] for at in range(count)]
+        self.assertEqual(said, ["The state before turn 1 is not what the rules make it.", *(
+            f"The state after turn {at} is not what the rules and the moves make it." for at in range(1, count)
+        )])
+
     def test_another_fault_than_the_interpreter_finds(self):
         self.assertEqual(said_of("goals", {}), ["The interpreter finds no fault", REPORT])
         self.assertEqual(said_of("goals", {("states", 0): []}), ["The interpreter finds state 0: The state before turn 1 is not what the rules make it.", REPORT])
@@ -216,6 +223,14 @@ class Verdicts(WithStandIn):
         lines, said = self.lines_of(b"{" + b" " * (most - 2) + b"}\n" + b"{" + b" " * (most - 1) + b"}\n")
         self.assertEqual(said, ["line 2: no record: it is longer than 16 MiB"])
         self.assertEqual((lines.lawful, lines.unlawful, len(self.asked()[1])), (1, 1, most + 1))
+
+    def test_lines_behind_one_that_is_too_long_have_their_own_verdicts(self):
+        self.answers(b"lawful\nnot lawful: json\nlawful\n", b"", 1)
+        with mock.patch.object(explain, "LONGEST_RECORD", 4):
+            lines, said = self.lines_of(b"{}\n{   }\n[]\n{   }\n{ }\n")
+        named = ["line 2: no record: it is longer than 16 MiB", "line 3: not lawful: json", "line 4: no record: it is longer than 16 MiB"]
+        self.assertEqual([line for line in said if not line.startswith("\t")], named)
+        self.assertEqual((lines.lawful, lines.unlawful, self.asked()[1]), (2, 3, b"{}\n[]\n{ }\n"))
 
     def test_lines_are_handed_over_some_megabytes_at_a_time(self):
         self.answers(b"lawful\n" * 2)

@@ -177,6 +177,8 @@ class Circles(unittest.TestCase):
             "(<= round1 a)", "(<= (next a) a)", "(<= a (round 1 b))", "(<= a (true t) (round 1 b))", "(<= b (round 1 c))", "(<= c (true s))",
             "(<= (round 1 b) (round 0 c))", "(<= (round 1 c) (true s))", "(<= (round 0 c) (true s))",
         ])
+        # Of each head the first rule alone has the place of the first that it had; c had one that is left out.
+        self.assertEqual([rule.sentence for rule in found], [4, 6, 0, 5, 1, 2, 1, 3, 3])
 
     def test_rounds_that_are_too_many_are_refused(self):
         text = "(<= a b) (<= b c) (<= c a) (<= c (true s)) (<= d a)"

@@ -2,6 +2,7 @@
 
 import argparse
 import contextlib
+import gc
 import io
 import json
 import os
@@ -161,7 +162,10 @@ class Streams(unittest.TestCase):
             with mock.patch("sys.argv", words), mock.patch("sys.stderr", said), mock.patch.object(command, "limit_memory"), mock.patch.object(command.sys, "setrecursionlimit"), mock.patch.object(command, "put", out.append):
                 # The process that the command is for ends with it, and its files with the process.
                 with warnings.catch_warnings(action="ignore", category=ResourceWarning):
-                    return command.main(), out, said.getvalue()
+                    status = command.main()
+                    # Else a later run may say that these files are open.
+                    gc.collect()
+                return status, out, said.getvalue()
 
     def test_the_worst_of_all_is_the_status(self):
         for lines, status in (((), 0), ((RECORD,), 0), ((RECORD, WRONG), 3), ((WRONG, RECORD, OTHER), 1), ((OTHER, RECORD), 1)):

@@ -141,7 +141,8 @@ class Followed(unittest.TestCase):
         ruled = "(player bob) (player ann) (<= (role ?x) (player ?x)) (init s) (legal ann go) (legal bob wait)"
         self.assertIsNone(self.words(ruled))
         self.assertIsNone(self.words(ruled, roles=("bob", "ann")))
-        self.assertEqual(self.words(ruled, roles=("ann", "eve")), "the roles are bob ann by the description, and ann eve in the record")
+        for roles in (("ann", "eve"), ("bob", "ann", "ann")):
+            self.assertEqual(self.words(ruled, roles=roles), f"the roles are bob ann by the description, and {' '.join(roles)} in the record")
 
     def test_a_text_that_is_not_canonical_is_told_in_part(self):
         with self.assertRaises(NotFollowed) as why:
@@ -167,6 +168,10 @@ class Followed(unittest.TestCase):
             self.assertIsNone(self.words(text, [("go", "wait")], [[error, ""]]), error)
             said = "turn 1, ann: the record plays stay in the place of an answer, and go stands before it, by sentence 3, line 1: (legal ann go)"
             self.assertEqual(self.words(text, [("stay", "wait")], [[error, ""]]), said)
+
+    def test_a_move_of_another_role_has_a_place_of_its_own(self):
+        text = "(role ann) (role bob) (init s) (<= (next s) (true s)) (legal ann wait) (legal bob go) (legal bob wait)"
+        self.assertIsNone(self.words(text, moves=[("wait", "go")], errors=[["TO", "TO"]]))
 
     def test_a_move_that_several_sentences_give_stands_by_the_first_that_was_seen_to(self):
         rules = "(role ann) (init s) (<= (legal ann go) (true t)) (legal ann stay) (<= (legal ann go) (true s)) (<= (next t) (true s)) (<= (next s) (true t))"

@@ -12,7 +12,7 @@ from dataclasses import replace
 from unittest import mock
 
 from ggp_tools.competition import kept
-from ggp_tools.competition.files import Folder, Refused, held, write_whole
+from ggp_tools.competition.files import UNFINISHED, Folder, Refused, held, write_whole
 from ggp_tools.competition.kept import (
     batches, fault_of_files, free_ending, has_shape, is_of_one_match, judged, keep, look_at_records, looked_at, read_at_most, read_or_none, result_in_file,
     set_aside, strangers,
@@ -314,6 +314,19 @@ class Looked(unittest.TestCase):
         known = Known(self.folder.path)
         self.assertEqual((self.look(known)[1], self.referee.counts), ({"cup-0": "its account is missing"}, []))
 
+    def test_a_file_that_can_not_be_read_is_not_missing(self):
+        for file in (self.folder.account("cup-0"), self.folder.record("cup-1")):
+            data = file.read_bytes()
+            file.unlink()
+            file.mkdir()
+            # A verdict would have the match played again.
+            with self.assertRaises(IsADirectoryError) as why:
+                self.look()
+            self.assertEqual(why.exception.filename, str(file))
+            file.rmdir()
+            file.write_bytes(data)
+        self.assertEqual(len(self.look()[0]), 4)
+
     def test_the_result_in_a_file_is_not_verified(self):
         match, competition = self.plan.matches[0], self.plan.competition
         self.assertEqual(repr(result_in_file(self.folder, competition, match)), repr(self.look()[0]["cup-0"]))
@@ -402,6 +415,27 @@ class Files(unittest.TestCase):
             self.assertEqual((file, file.read_bytes()), (folder.records / name, b"record"))
             ending = name.removeprefix("m.json")
             self.assertEqual([(kind / f"m.txt{ending}").read_bytes() for kind in (folder.accounts, folder.logs)], [b"account", b"log"])
+
+    def test_each_file_is_on_the_disk_before_the_next_one_is_written(self):
+        folder, steps = Folder(self.folder), []
+        folder.make(folder.records, folder.accounts, folder.logs)
+
+        def syncing(opened):
+            place = pathlib.Path(f"/proc/self/fd/{opened}").readlink()
+            steps.append(("on the disk", place.name.removeprefix(f"{UNFINISHED}{os.getpid()}-"), place.read_bytes() if place.is_file() else None))
+
+        def renaming(old, new):
+            rename(old, new)
+            steps.append(("renamed", new.name))
+
+        rename = os.replace
+        with mock.patch("os.fsync", syncing), mock.patch("os.replace", renaming):
+            keep(folder, "m", b"record", b"account", b"log")
+        wanted = []
+        # Where the machine is lost at any moment, what has a record has the others.
+        for place, name, data in (("logs", "m.txt", b"log"), ("accounts", "m.txt", b"account"), ("records", "m.json", b"record")):
+            wanted += [("on the disk", name, data), ("renamed", name), ("on the disk", place, None)]
+        self.assertEqual(steps, wanted)
 
     def test_what_counts_stays_where_it_was_not_all_written(self):
         folder = Folder(self.folder)

@@ -274,6 +274,8 @@ class Asking(WithMatch):
     def test_a_fault_of_this_computer_is_none_of_a_player(self):
         self.assertEqual(self.asked((3, b"", "x\nggp_manager: want of memory"), NO_ANSWER), (False, "ann could not be asked: ggp_manager: want of memory", []))
         self.assertEqual(self.seats.failed, {"ann": 0, "bob": 0})
+        # What asks the other one is ended too.
+        self.assertEqual([process.is_ended for process in Process.begun], [True, True])
         self.begin(self.HEAD)
         self.assertEqual(self.asked(NO_ANSWER, (1, b"", "ggp_manager: other")), (False, "bob could not be asked: ggp_manager: other", []))
 
@@ -511,23 +513,28 @@ class OnHosts(WithMatch):
 
     def test_while_it_is_not_connected_it_is_counted(self):
         Process.laid_down["played"] = [(0, self.record + self.account, "", 12)]
-        counts = []
+        counts, lines = [], self.SAID.splitlines(keepends=True)
 
         def meanwhile():
-            counts.append((self.open.stage, self.hosts.connecting["near"]))
+            counts.append((self.open.stage, self.hosts.connecting["near"], list(self.reporter.begun)))
             for process in Process.begun:
-                if process.name == "played" and len(counts) == 3:
-                    process.said.write_text(self.SAID)
+                # It is connected, and only later has a player answered.
+                if process.name == "played" and len(counts) in (3, 6):
+                    process.said.write_text("".join(lines[: len(counts) // 3 + 1]))
                     process.lines.count += 1
 
         self.go(meanwhile=meanwhile)
-        self.assertEqual(sorted(set(counts)), [("asking", 0), ("over", 0), ("playing", 0), ("playing", 1)])
+        begun = [("cup-001", "near")]
+        self.assertEqual(counts[:6], [("asking", 0, []), *[("playing", 1, [])] * 2, *[("playing", 0, begun)] * 3])
+        self.assertEqual({(count, said == begun) for _, count, said in counts[6:]}, {(0, True)})
 
     def test_a_match_that_is_lost_with_its_host_begins_again_on_another(self):
         lost = (255, b"", f"{self.SAID}2026-01-02T03:04:08.000Z Connection closed\n")
         began, times = Process.now, []
         with mock.patch.object(self.reporter, "line", lambda text: times.append(Process.now) or self.reporter.lines.append(text)):
-            self.play(lost, self.whole())
+            seen = self.play(lost, self.whole())
+        # Meanwhile another match may see whether the host is there again.
+        self.assertEqual([open_there["near"] for host, _, open_there in seen if host is None][:20], [0] * 20)
         self.assertEqual([process.began - times[0] for process in Process.begun if process.name.startswith("abort")], [20, 20])
         played = [process for process in Process.begun if process.name == "played"]
         self.assertEqual([process.words[-2] for process in played], ["near", "far"])

@@ -381,10 +381,13 @@ class Before(WithMatches):
             self.assertEqual(str(why.exception), f"{records}/x.json is of no match of the schedule{more}: move what is of no match out of {records}, and play again")
         for file in records.iterdir():
             file.unlink()
-        self.looked = ({}, {}, {"cup-001": "its matchId is 'x'"})
+        self.looked = ({}, {"cup-002": "not lawful: goals"}, {"cup-001": "its matchId is 'x'"})
+        self.plan.folder.record("cup-002").touch()
         with self.assertRaises(Refused) as why:
             playing.prepared(self.playing)
         self.assertEqual(str(why.exception), f"{records}/cup-001.json is lawful, and of another match: its matchId is 'x'")
+        # Until that is put right nothing is set aside.
+        self.assertEqual([file.name for file in records.iterdir()], ["cup-002.json"])
 
     def test_a_folder_that_can_not_be_written(self):
         with mock.patch.object(self.plan.folder, "make", side_effect=OSError(errno.EROFS, "x", "f")), self.assertRaises(Refused) as why:

@@ -153,6 +153,8 @@ class Outside(unittest.TestCase):
         chance = random.Random(3)
         for _ in range(40):
             players = [f"p{number}" for number in range(chance.randrange(2, 6))]
+            # They stand in the order of competition.toml, whatever their names are.
+            chance.shuffle(players)
             points = {(player, opponent): chance.choice((1, 1.5, 3, 7)) for player in players for opponent in players if player != opponent}
             found = rated(players, points)
             logs = {name: found[name].rating / (400 / math.log(10)) for name in players}

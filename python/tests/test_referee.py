@@ -141,6 +141,10 @@ class Rules(WithStandIn):
             with self.assertRaises(BadRules) as why:
                 ask()
             self.assertEqual(str(why.exception), "line 2, column 1: no such thing: (x)")
+        self.answers(b"", b"ggp_manager: bad description\n", 1)
+        with self.assertRaises(BadRules) as why:
+            self.referee.check_rules("game.kif")
+        self.assertEqual(str(why.exception), "bad description")
 
     def test_roles_that_no_answer_tells(self):
         for said, *answer in (

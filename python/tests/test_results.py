@@ -192,6 +192,8 @@ class Began(unittest.TestCase):
     def test_only_the_last_time_that_a_match_began_counts(self):
         log = b"began 2025-01-01T00:00:00.000Z\nhost 10.0.0.9\ncup-001 role 0 ann message 1 (START cup-001 x () 10 5): ready, 77 ms\n" + Times.LOG
         self.assertEqual(times_of(log, 2), times_of(Times.LOG, 2))
+        time = "2027-01-01T00:00:00.000Z"
+        self.assertEqual(times_of(Times.LOG + f"began {time}\n".encode(), 2), {"begin": time, "end": None, "host": None, "messages": [[], []]})
 
     def test_a_log_without_lines_has_no_messages(self):
         self.assertEqual(times_of(b"", 2), {"begin": None, "end": None, "host": None, "messages": [[], []]})

@@ -14,7 +14,7 @@ from ggp_tools.competition.competition_file import Mistaken, read_competition
 from ggp_tools.competition.files import Folder, Refused
 from ggp_tools.competition.kept import result_in_file
 from ggp_tools.competition.pages import Site
-from ggp_tools.competition.plan import make_plan, plan_next_round, read_plan, refuse_lost_results, round_words, rounds_left
+from ggp_tools.competition.plan import grows, make_plan, plan_next_round, read_plan, refuse_lost_results, round_words, rounds_left, sums_text
 from ggp_tools.competition.round_pages import count_of_all, round_text, rounds_part, rounds_words
 from ggp_tools.competition.rounds import Round, bracket, matches_to_come, paired, rounds_of
 from ggp_tools.competition.schedule import Match, asked
@@ -30,6 +30,11 @@ def record(match, goals, **more):
     """Returns what of a record its result is read from."""
     said = {"matchId": match.id, "players": list(match.players), "startClock": match.start, "playClock": match.play, "strikes": 0, "phase": "finished"}
     return {**said, "cause": None, "goalValues": goals, "moves": [["m", "m"]], "errors": [["", ""]], **more}
+
+
+def is_lawful(_, __, ___, matches):
+    """Stands in for what says that a match counts."""
+    return iter([(matches[0], None, None, object())])
 
 
 class ByRounds(unittest.TestCase):
@@ -193,14 +198,19 @@ class ByRounds(unittest.TestCase):
         self.write(4, 'kind = "knockout"')
         self.assert_refused("the number of players was 3 and is 4", self.make)
 
+    def test_a_match_may_be_ordered_again_once_a_player_was_added(self):
+        self.write(4, SWISS.format(2))
+        self.play(self.make())
+        self.write(5, SWISS.format(2))
+        self.make()
+        with mock.patch("ggp_tools.competition.again.looked_at", is_lawful):
+            self.assertEqual(order_again(self.folder.path, REFEREE, "cup-002", "late").id, "cup-005")
+        self.assertEqual([(match.id, match.instead_of) for match in self.read().matches[3:]], [("cup-004", ""), ("cup-005", "cup-002")])
+
     def test_a_match_of_the_last_round_may_be_ordered_again(self):
         self.write(4, SWISS.format(2))
         plan = self.make()
         self.play(plan)
-
-        def is_lawful(_, __, ___, matches):
-            return iter([(matches[0], None, None, object())])
-
         with mock.patch("ggp_tools.competition.again.looked_at", is_lawful):
             new = order_again(self.folder.path, REFEREE, "cup-001", "the power was out")
             self.assertEqual((new.id, new.players, new.round, new.instead_of), ("cup-005", ("p0", "p1"), 1, "cup-001"))
@@ -208,7 +218,10 @@ class ByRounds(unittest.TestCase):
             results = {match.id: found for match in plan.matches if (found := result_in_file(self.folder, plan.competition, match))}
             self.assertEqual((sorted(results), plan_next_round(plan, results)), (["cup-001", "cup-002", "cup-003", "cup-004"], []))
             results = self.play(plan, lambda match: [0, 100])
+            # What was ordered again does not count, so nothing waits for it.
+            del results["cup-001"]
             self.assertEqual([match.id for match in plan_next_round(plan, results)], ["cup-006", "cup-007", "cup-008", "cup-009"])
+            refuse_lost_results(plan, results)
             self.assertEqual(self.read().matches, plan.matches)
             self.assert_refused("cup-002 is of round 1, by which the next one was paired, so it can't be played again", lambda: order_again(self.folder.path, REFEREE, "cup-002", "x"))
 
@@ -247,13 +260,15 @@ class Refusals(unittest.TestCase):
             self.assertEqual(set(sums), {len(seeds) - 1} if sums else set())
 
     def test_pairs_that_have_met_exchange_with_the_nearest_ones(self):
-        for met, wanted in (
+        for order, met, wanted in (
             # c has met all that stand below it: its pair is the second of three.
-            ("cd ce cf", "ac bd ef"),
+            ("abcdef", "cd ce cf", "ac bd ef"),
             # From e and f both new pairs of c come; only then can c and d exchange, with the pair just below.
-            ("ac cd ce cf ef", "ae fd bc"),
+            ("abcdef", "ac cd ce cf ef", "ae fd bc"),
+            # g and h exchange with c and d. Then e and f could with the pair just below, and do so with the one far above.
+            ("abcdefgh", "ce ef eg eh gh", "ae cg bf dh"),
         ):
-            found = paired("abcdef", Counter(map(frozenset, met.split())))
+            found = paired(order, Counter(map(frozenset, met.split())))
             self.assertEqual(" ".join(map("".join, found)), wanted)
 
     def test_where_all_have_met_each_meets_whom_it_has_met_least(self):
@@ -268,6 +283,14 @@ class Refusals(unittest.TestCase):
             self.assertEqual(rounds_of(found), rounds)
             if left is not None:
                 self.assertEqual(matches_to_come(found, first), left)
+
+    def test_sums_of_what_was_planned_stay(self):
+        first, other = "0" * 64, "1" * 64
+        old, more, changed = sums_text({"a.kif": first}), sums_text({"a.kif": first, "b.kif": other}), sums_text({"a.kif": other, "b.kif": other})
+        folder = Folder("cup")
+        for file in (folder.rule_sums(), folder.description_sums()):
+            self.assertEqual([grows(folder, file, old, new) for new in (old, more, changed, b"", b"x")], [True, True, False, False, False])
+            self.assertEqual([grows(folder, file, spoilt, more) for spoilt in (b"", b"x", old * 2)], [False] * 3)
 
     def test_a_line_has_no_round(self):
         self.assertEqual(Match("cup-1", "game", 1, 2, ("a", "b"), 3).line(), "cup-1\tgame\t1\t2\ta b\n")

@@ -177,10 +177,10 @@ class Why(InFolder):
     def test_turns_in_a_row_without_a_move_of_its_own(self):
         plan = plan_in(str(self.folder), ["ann", "bob"])
         told = Told(plan, plan.matches[0])
-        errors = [["TO", ""], ["", ""], ["TO", ""], ["TO", ""]]
-        told.record = {"states": [["(heap 3)"]] * 5, "moves": [["noop", "noop"]] * 4, "errors": errors, "strikes": 2}
-        said = [re.findall(r"turn \d in a row|retired", told.turn_words(0, turn, "")) for turn in range(4)]
-        self.assertEqual(said, [[], [], [], ["turn 2 in a row", "retired"]])
+        errors = [["TO", ""], ["", ""], ["TO", ""], ["TO", ""], ["RT", ""]]
+        told.record = {"states": [["(heap 3)"]] * 6, "moves": [["noop", "noop"]] * 5, "errors": errors, "strikes": 2}
+        said = [re.findall(r"turn \d in a row|so it is retired", told.turn_words(0, turn, "")) for turn in range(5)]
+        self.assertEqual(said, [[], [], [], ["turn 2 in a row", "so it is retired"], ["turn 3 in a row"]])
 
     def test_a_player_with_the_name_of_a_match(self):
         plan = plan_in(str(self.folder), ["cup-001", "bob"])
@@ -213,6 +213,28 @@ class Why(InFolder):
                 said = "\n".join(Told(plan, match).lines(["ann"]))
                 found = re.findall(r"begin|START was|turn \d|the clock was set back|end ", said)
                 self.assertEqual(found, [*["begin"] * begun, "START was", "turn 1", "the clock was set back", "turn 2", "turn 3", "end "])
+
+    def test_a_clock_that_is_set_back_while_no_line_has_a_time(self):
+        plan = plan_in(str(self.folder), ["ann", "bob"])
+        match = plan.matches[0]
+        start = line(match, 0, 1, f"(START {match.id})", "ready")
+        plan.folder.log(match.id).write_text(f"began 2026-01-01T10:00:00.000Z\n{start}ended 2026-01-01T09:00:05.000Z\n")
+        said = "\n".join(Told(plan, match).lines(["ann"]))
+        words = "(no time) START was", "the clock was set back: the line before has 2026-01-01T10:00:00.000Z", "ended "
+        self.assertEqual(re.findall("|".join(map(re.escape, words)), said), list(words))
+
+    def test_each_beginning_in_the_log_is_told_however_many_were_noted(self):
+        plan = plan_in(str(self.folder), ["ann", "bob"])
+        match = plan.matches[0]
+        times = [f"2026-01-01T10:0{minute}:00.000Z" for minute in range(4)]
+        starts = (line(match, 0, 1, f"(START {match.id})", answer) for answer in ("one", "two", "three"))
+        plan.folder.log(match.id).write_text("".join(f"began {time}\n{time} {start}" for time, start in zip(times, starts)) + f"ended {times[3]}\n")
+        for count, wanted in enumerate((
+            "one two three", "begin one two three", "begin one two begin three", "begin one begin two begin three", "begin begin one begin two begin three",
+        )):
+            plan.folder.journal.write_text("".join(f"{times[0]} {word} {match.id} heap\n" for word in ("info", *["begin"] * count, "end")))
+            said = "\n".join(Told(plan, match).lines(["ann"]))
+            self.assertEqual(re.findall(r"info|begin|(?<=answered `)\w+|end ", said), ["info", *wanted.split(), "end "] if count else ["info", "end ", *wanted.split()], count)
 
     def test_a_match_begun_again_has_the_times_of_its_last_beginning(self):
         message = "m role 0 a message {} (START m a (x)): ready, {} ms\n"

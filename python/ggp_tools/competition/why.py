@@ -127,18 +127,16 @@ class Told:
 
     def logged(self) -> Iterator[Event]:
         """Gives what the log says."""
-        counts, time = [0] * len(self.roles), ""
+        time = ""
         for line in self.log():
             found = TIMED.fullmatch(line)
             time, line = (found[1], found[2]) if found else (time, line)
             if line.startswith(("began ", "host ", "lost ", "ended ")):
                 word, _, rest = line.partition(" ")
-                counts = [0] * len(self.roles) if word == "began" else counts
                 time = rest.partition(" ")[0] if word != "host" else time
                 yield Event(time, None, line, True)
             elif (said := MESSAGE.fullmatch(line)) and int(said[1]) < len(self.roles):
                 role = int(said[1])
-                counts[role] += 1
                 yield Event(time if found else "", role, self.message_words(role, int(said[2]), said[3], said[4]))
             elif found:
                 yield Event(time, None, f"said: {line}")
