@@ -1,5 +1,5 @@
 //! The rests of a match's players between their messages, and the signal that wakes them and keeps the match's shortage.
-ghost use Rattle.std.specs.Prelude.{◌≡◌, ◌+◌, ◌-◌, ◌*◌, ◌^◌, min, IfNone, IfOk, IsFalse, IsTrue, length};
+ghost use Rattle.std.specs.Prelude.{◌≡◌, ◌+◌, ◌-◌, ◌*◌, ◌^◌, min, IfNone, IfOk, IsFalse, IsTrue, length, true};
 ghost use Rattle.std.specs.Duration.{as_nanos};
 
 use crate::shortage::{code_of, coded};
