@@ -7,7 +7,7 @@ use Rattle.game_commands.proofs.commands.perform.Goals as goal
 pub returns-in_err-alone-in-Desk-clause-fails : goal.returns-in_err-alone-in-Desk-clause-fails
 returns-in_err-alone-in-Desk-clause-fails g c =
     let passed = err_from_is_err_and c.from_residual.result c.from_residual.ensures.1 in
-    rw (passed.1, c.in-Desk.is, passed.2 ∙ c.in_err-alone-in-Desk.ensures.memory) (inr ([], Consumes-nil _, (search rules, refl, refl)))
+    rw (passed.1, c.in-Desk.is, passed.2) (inr ([], Consumes-nil _, (search rules, refl, refl)))
 
 pub returns-clause-fails : goal.returns-clause-fails
 returns-clause-fails g c =
