@@ -16,7 +16,8 @@ def library_of(line):
 
 
 class Waits:
-    """Compares how many functions of each crate may wait, as its proof counts them, with what the crate's row in crates.txt says."""
+    """Compares how many functions of each crate may wait, as its proof counts them, with what the crate's row in crates.txt says. A crate
+    that is kept is not counted again: so each tool that proves one compares."""
 
     def __init__(self, found):
         self.stated = {name: said_words(line.partition(":")[0]).get("may_wait", "0") for name, (line, _) in found.items()}
@@ -29,6 +30,12 @@ class Waits:
             counted, stated = said_words(line).get("may-wait", "0"), self.stated[self.current]
             if counted != stated:
                 self.wrong.append(f"{self.current}: {counted} functions may wait, and crates.txt says {stated}")
+
+    def read_all(self, lines):
+        """Gives the lines as they are, each once it has been read."""
+        for line in lines:
+            self.read(line)
+            yield line
 
 
 def follow(lines, progress, tell):

@@ -62,8 +62,8 @@ class Lines(unittest.TestCase):
     def test_what_may_wait_is_compared_with_its_row(self):
         def wrong(text, last_line, block="== wide\n"):
             waits = Waits(rows(text))
-            for line in (block, "fn wide::one: proved\n", f"logic=proved functions=12 {last_line}sum=0123\n"):
-                waits.read(line)
+            lines = [block, "fn wide::one: proved\n", f"logic=proved functions=12 {last_line}sum=0123\n"]
+            self.assertEqual([*waits.read_all(lines)], lines)
             return waits.wrong
 
         self.assertEqual(wrong("wide may_wait=6: rtrb", "may-wait=6 "), [])
