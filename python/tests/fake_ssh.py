@@ -1,6 +1,7 @@
 """An `ssh` for the tests, which runs what it is given on this computer: hosts are names, and one is lost where a file says so, with
-what runs there. Where this is killed alone, what runs there goes on until it hears nothing any more."""
+what runs there. Where this is killed alone, what runs there goes on until it hears nothing any more. A host can be deaf."""
 
+import os
 import pathlib
 
 SSH = """#!/bin/bash
@@ -14,6 +15,7 @@ lost() {
 # So a shell may greet who logs in.
 echo "welcome to $host" >&2
 exec 3<&0
+[ -p "$folder/deaf.$host" ] && exec 3< "$folder/deaf.$host"
 setsid bash -c "$command" <&3 3<&- &
 exec 3<&- < /dev/null
 there=$!
@@ -35,6 +37,13 @@ def write_ssh(folder: pathlib.Path) -> None:
 def lose(folder: pathlib.Path, host: str) -> None:
     """Has a host be lost."""
     (folder / f"lost.{host}").touch()
+
+
+def deafen(folder: pathlib.Path, host: str) -> int:
+    """Has a host not hear this end of any connection, also not that it is closed, as where the line to it is cut. Returns the number of a
+    file: once that is closed, what runs there ends."""
+    os.mkfifo(folder / f"deaf.{host}")
+    return os.open(folder / f"deaf.{host}", os.O_RDWR)
 
 
 def calls(folder: pathlib.Path) -> list[str]:

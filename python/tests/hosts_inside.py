@@ -193,6 +193,8 @@ class Hosts(Machines):
             self.let_think(0)
             if number == signal.SIGTERM:
                 self.assertEqual((playing.returncode, [player.matches for player in self.players]), (1, [{}] * 4))
+                last = {kind for player in self.players for kind in player.last_heard().values()}
+                self.assertEqual(last - {"stop"}, {"abort"})
             until = time.monotonic() + 120
             while any(machine.runs() for machine in self.machines):
                 self.assertLess(time.monotonic(), until, "a match of a run that has ended is played on")

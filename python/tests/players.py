@@ -41,10 +41,12 @@ class TestPlayer(threading.Thread):
         self.sat = 0
         # The ids of matches that began, were aborted, and were offered while it sat in another.
         self.begun, self.aborted, self.clashes = [], [], []
+        # The kind and the match of each message of a match, in order.
+        self.heard = []
         self.told = {}
         self.status, self.is_gone = None, False
-        # So many seconds it thinks before each move.
-        self.thinks = 0.0
+        # So many seconds it thinks before it answers a message of one of these kinds.
+        self.thinks, self.thinks_at = 0.0, ("play",)
         self.at, self.port = at, held_port(at)
         self.come_back()
         self.start()
@@ -91,7 +93,7 @@ class TestPlayer(threading.Thread):
             self.die(connection)
             return
         answer = self.answer(message)
-        time.sleep(SLOW * (self.kind == "slow") + self.thinks * is_play)
+        time.sleep(SLOW * (self.kind == "slow") + self.thinks * (message[0] in self.thinks_at))
         if self.kind == "closing" and is_play:
             return
         reply = f"HTTP/1.0 200 OK\r\nContent-Length: {len(answer)}\r\n\r\n{answer}".encode()
@@ -110,7 +112,12 @@ class TestPlayer(threading.Thread):
         self.matches.clear()
         self.come_back()
 
+    def last_heard(self):
+        """Returns the kind of the last message of each match of which it has heard."""
+        return {match: kind for kind, match in self.heard}
+
     def answer(self, message):
+        self.heard += [message[:2]] * (len(message) > 1)
         match message:
             case ("info",):
                 return self.status or ("busy" if len(self.matches) >= self.most else "available")

@@ -4,12 +4,16 @@ import pathlib
 import tempfile
 import types
 import unittest
+from unittest import mock
 
+from ggp_tools.competition import children
+from ggp_tools.competition.children import TimedChild
 from ggp_tools.competition.competition_file import read_competition
 from ggp_tools.competition.files import Folder
 from ggp_tools.competition.playing import Playing
 from ggp_tools.competition.schedule import Match
 from ggp_tools.competition.seats import Seats
+from ggp_tools.competition.timed_lines import LineReader
 from tests.support import toml
 
 
@@ -39,6 +43,23 @@ class Ended(unittest.TestCase):
         self.assertNotIn(None, [process.poll() for process in processes])
         self.assertEqual((match.stage, self.playing.seats.free), ("over", {"ann": 1, "bob": 1}))
         self.assertEqual((list(self.playing.plan.folder.open.iterdir()), self.lines), ([], []))
+
+
+class NotBegun(unittest.TestCase):
+    def test_a_process_of_which_no_file_can_be_written_is_ended(self):
+        folder = pathlib.Path(self.enterContext(tempfile.TemporaryDirectory()))
+        (folder / "played.said").mkdir()
+        begin, begun = children.started, []
+
+        def started(words, **streams):
+            begun.append(begin(words, **streams))
+            for end in (begun[-1].stderr.close, begun[-1].stdin.close, begun[-1].wait, begun[-1].kill):
+                self.addCleanup(end)
+            return begun[-1]
+
+        with mock.patch.object(children, "started", started), self.assertRaises(IsADirectoryError):
+            TimedChild(["sleep", "600"], folder, "played", LineReader(), is_beaten=True)
+        self.assertEqual([process.poll() is not None for process in begun], [True])
 
 
 if __name__ == "__main__":

@@ -16,10 +16,11 @@ import unittest.mock
 from ggp_tools.competition import hosts
 from ggp_tools.competition.competition_file import Host
 from ggp_tools.competition.hosts import Hosts, destination, remote_words
+from ggp_tools.competition.playing import HANG_UP_SECONDS
 from ggp_tools.moments import MOMENT
-from tests.fake_ssh import calls, lose, write_ssh
+from tests.fake_ssh import calls, deafen, lose, write_ssh
 from tests.players import TestPlayer
-from tests.support import GAMES, TOP, InFolder, command_of, program, program_but, run, start
+from tests.support import GAMES, TOP, InFolder, command_of, program, program_but, run, slowness, start
 
 HEAD = "start = 5\nplay = 5\nstrikes = 1\nwait = 0\ninfo = 5\ntries = 3\n"
 # The command with another silence after which a match on a lost host has ended, since the tests need not wait for it.
@@ -233,6 +234,42 @@ class ManyHosts(InFolder):
         while command_of(process) and time.monotonic() < until:
             time.sleep(0.05)
         self.assertEqual(command_of(process), b"")
+
+    def test_nothing_of_a_match_that_is_ended_comes_to_a_player_after_its_abort(self):
+        self.planned('["a"]')
+        # Each answer of this one has a referee send both the next message. `play` does not end before this one has answered ABORT.
+        late = self.players[0]
+        late.thinks, late.thinks_at = 1, ("start", "play", "abort")
+        playing = start(self.folder, "play", env=self.environment)
+        while not all(player.begun for player in self.players):
+            time.sleep(0.01)
+        playing.send_signal(signal.SIGTERM)
+        out, said = playing.communicate(timeout=600)
+        self.assertEqual((playing.returncode, said), (1, ""), out)
+        until = time.monotonic() + 60
+        while not all(player.aborted for player in self.players) and time.monotonic() < until:
+            time.sleep(0.01)
+        self.assertEqual([player.last_heard() for player in self.players], [{"cup-001": "abort"}] * 2, [player.heard for player in self.players])
+
+    def seconds_to_end(self):
+        """Returns how many seconds it takes to end four matches that a host plays at once."""
+        waiting = program_but(self.folder / "waiting", '"$1" = run', "exec sleep 60")
+        playing = start(self.folder, "play", "--at-once", "4", "--program", waiting, env=self.environment)
+        self.assertEqual(sorted(playing.stdout.readline() for _ in range(4)), [f"begin cup-00{at} countdown p0 p1 on a\n" for at in range(1, 5)])
+        began = time.monotonic()
+        playing.send_signal(signal.SIGTERM)
+        out, said = playing.communicate(timeout=600)
+        self.assertEqual((playing.returncode, said, len(lines(out, "abort")), lines(out, "no answer")), (1, "", 4, []), out)
+        return time.monotonic() - began
+
+    def test_a_host_that_does_not_hear_that_it_is_hung_up_is_waited_for_some_seconds(self):
+        self.planned('["a"]', 4)
+        heard = self.seconds_to_end()
+        self.addCleanup(os.close, deafen(self.folder, "a"))
+        unheard = self.seconds_to_end()
+        self.assertGreater(unheard, HANG_UP_SECONDS)
+        self.assertLess(heard, unheard - 1)
+        self.assertLess(unheard, heard + HANG_UP_SECONDS + slowness())
 
 
 if __name__ == "__main__":

@@ -37,7 +37,7 @@ class Process:
         answers = Process.laid_down[name]
         self.answer = answers.pop(0) if len(answers) > 1 else answers[0]
         self.looks = self.answer[3] if len(self.answer) > 3 else 0
-        self.began, self.began_at, self.is_ended = Process.now, "2026-01-02T03:04:05.000Z", False
+        self.began, self.began_at, self.is_ended, self.is_hung_up = Process.now, "2026-01-02T03:04:05.000Z", False, False
         self.said = room / f"{name}.said"
         self.said.write_text(self.answer[2])
         # What it reads is there when it begins.
@@ -60,6 +60,9 @@ class Process:
 
     def last_words(self, is_word=lambda line: True):
         return ([line for line in self.answer[2].splitlines() if is_word(line)] or [f"status {self.answer[0]}"])[-1]
+
+    def hang_up(self):
+        self.is_hung_up = True
 
     def end(self):
         self.is_ended = True
@@ -477,6 +480,42 @@ class OnHosts(WithMatch):
         self.hosts.failed["near"] = 1
         self.play((255, b"", "No route\n"))
         self.assertEqual((self.open.why, self.names().count("played")), ("its host is lost: No route", 1))
+
+    def hung_up(self, *played):
+        """Returns whether a match was on a host, and what was hung up, where that is wished once its process was begun."""
+        Process.laid_down["played"] = list(played)
+        Process.begun.clear()
+        while "played" not in self.names():
+            self.assertFalse(self.open.is_on_host())
+            self.open.hang_up()
+            next(self.open.steps)
+        is_on_host = self.open.is_on_host()
+        self.open.hang_up()
+        return is_on_host, [process.name for process in Process.begun if process.is_hung_up]
+
+    def test_it_is_hung_up_while_it_is_played_on_a_host(self):
+        self.assertEqual(self.hung_up(self.whole(99)), (True, ["played"]))
+        self.open.leave()
+        self.assertFalse(self.open.is_on_host())
+        # It is over at the fourth look, which is the first one after the step that has begun it.
+        self.begin(self.HEAD, self.ALONE)
+        self.assertEqual(self.hung_up(self.whole(3)), (False, []))
+        # It is on none.
+        self.begin(self.HEAD)
+        self.assertEqual(self.hung_up(self.whole(99)), (False, []))
+
+    def outlasted(self, status, said):
+        """Returns for how many seconds a match is waited for whose process ended so at its first look."""
+        self.begin(self.HEAD, self.ALONE)
+        began = Process.now
+        self.play((status, b"", said))
+        self.assertEqual((self.open.is_broken, self.names()[-1], self.hosts.open), (True, "played", {"near": 0}))
+        Process.begun.clear()
+        return Process.now - began
+
+    def test_where_an_ssh_is_killed_the_match_may_go_on_for_a_while(self):
+        seconds = self.outlasted(1, self.SAID)
+        self.assertEqual(self.outlasted(-9, self.SAID), seconds + open_match.SILENCE)
 
     def freed(self, *looks):
         """Returns how many seconds are waited for players that answer ABORT after so many looks, and what is noted of them."""

@@ -56,6 +56,8 @@ class Standing:
         self.stage, self.places, self.seconds, self.seated = "asking", [f"{player}@h" for player in match.players], 1.5, 0.0
         self.result, self.why = None, None
         self.may_begin, self.is_broken, self.stops_game, self.has_left, self.is_ended = True, False, False, False, False
+        # How many looks after it was hung up its host has ended it: 0 where it is on none.
+        self.looks, self.is_hung_up = 0, False
         self.steps = self.go()
         Standing.begun.append(self)
 
@@ -67,6 +69,13 @@ class Standing:
     def leave(self):
         self.has_left = True
         self.shared.seats.leave(self.match)
+
+    def is_on_host(self):
+        self.looks -= self.is_hung_up and self.looks > 0
+        return self.looks > 0
+
+    def hang_up(self):
+        self.is_hung_up = self.looks > 0
 
     def end_children(self):
         self.is_ended = True
@@ -334,6 +343,74 @@ class Going(WithMatches):
         self.playing.seats.idle_until = 1e9
         self.playing.add(self.plan.matches[:2])
         self.assertEqual((list(self.playing.waiting), self.playing.seats.idle_until), (self.plan.matches[:2], 0.0))
+
+
+class OnHosts(WithMatches):
+    """Matches on hosts that are ended before their ends. A look at them takes half a second."""
+
+    NEVER = 10**9
+
+    def setUp(self):
+        super().setUp()
+        self.now, self.seen, self.meanwhile = 50.0, [], lambda: None
+        self.enterContext(mock.patch.object(playing, "REST", 0.5))
+        self.enterContext(mock.patch.object(playing, "time", types.SimpleNamespace(monotonic=lambda: self.now, sleep=self.sleep)))
+
+    def sleep(self, seconds):
+        self.now += seconds
+        self.seen.append([(standing.is_hung_up, standing.is_ended, len(self.aborted)) for standing in Standing.begun])
+        self.meanwhile()
+
+    def at_play(self, *looks):
+        """Has a match be at play for each of these, which has ended after so many looks."""
+        for name, count in zip(("cup-001", "cup-003"), looks):
+            standing = Standing(self.playing.shared, next(match for match in self.plan.matches if match.id == name))
+            standing.stage, standing.looks = "playing", count
+            self.playing.open.append(standing)
+
+    def ended(self, *looks):
+        """Returns how many seconds it takes to end such matches."""
+        self.begin()
+        Standing.begun, self.seen, self.aborted, began = [], [], [], self.now
+        self.at_play(*looks)
+        self.playing.end_open_matches()
+        self.assertEqual([(standing.stage, standing.is_ended) for standing in Standing.begun], [("over", True)] * len(looks))
+        self.assertEqual([sorted(places) for places, _ in self.aborted], [["cup-001", "cup-003"][: len(looks)]])
+        return self.now - began
+
+    def test_all_are_hung_up_at_once_and_killed_and_told_when_they_have_ended(self):
+        self.assertEqual((self.ended(0, 0), self.seen), (0, []))
+        for looks, seconds in (((2, 0), 0.5), ((3, 1), 1), ((1, 3), 1)):
+            self.assertEqual(self.ended(*looks), seconds, looks)
+            self.assertEqual(self.seen, [[(count > 0, False, 0) for count in looks]] * len(self.seen))
+
+    def test_those_that_do_not_hear_it_are_waited_for_together_and_not_for_long(self):
+        self.assertEqual(self.ended(self.NEVER, self.NEVER), playing.HANG_UP_SECONDS)
+        self.assertEqual(set(map(tuple, self.seen)), {((True, False, 0),) * 2})
+
+    def test_further_interrupts_wait_for_nobody(self):
+        self.at_play(self.NEVER)
+        checked = Standing(self.playing.shared, self.plan.matches[1])
+        checked.stage, self.playing.interrupts = "checking", 2
+        self.playing.open.append(checked)
+        Standing.laid_down = {"cup-002": [lambda _: None] * 9 + [won]}
+
+        def interrupt():
+            self.playing.interrupts += len(self.seen) in (2, 9)
+
+        self.meanwhile = interrupt
+        self.playing.go()
+        self.assertEqual((self.playing.interrupts, len(self.seen) - len(self.reporter.shown)), (4, 2 * playing.HANG_UP_SECONDS))
+
+    def test_a_match_whose_file_can_not_be_written_is_hung_up_too(self):
+        def fail(match):
+            raise OSError(errno.ENOSPC, "x", "f")
+
+        Standing.laid_down = {"cup-001": [fail]}
+        self.at_play(2, self.NEVER)
+        self.playing.step(self.playing.open[0])
+        first, second = self.playing.open
+        self.assertEqual((self.seen, first.is_ended, second.is_hung_up, self.aborted), ([[(True, False, 0), (False, False, 0)]], True, False, [({"cup-001": first.places}, None)]))
 
 
 class Before(WithMatches):

@@ -6,7 +6,9 @@ import re
 import tempfile
 import time
 import unittest
+from unittest import mock
 
+from ggp_tools.competition import timed_lines
 from ggp_tools.competition.timed_lines import LineReader, untimed
 from ggp_tools.moments import MOMENT
 from ggp_tools.reporting import Journal
@@ -87,6 +89,45 @@ class Lines(unittest.TestCase):
         self.wait_for(lambda: lines.is_over)
         os.close(ours)
 
+    def test_who_is_hung_up_has_no_byte_more_and_its_lines_are_read_on(self):
+        ours, beaten = os.pipe()
+        self.addCleanup(os.close, ours)
+        reader = LineReader()
+        with mock.patch.object(timed_lines, "BEAT", 0.01), open(self.file.with_name("other"), "wb", buffering=0) as other:
+            theirs, lines = self.read(reader, open(beaten, "wb", buffering=0))
+            self.assertEqual(os.read(ours, 1), b"\n")
+            reader.hang_up(lines)
+            self.wait_for(lambda: lines.beaten.closed)
+            # Another file has its number now.
+            os.dup2(other.fileno(), beaten)
+            self.addCleanup(os.close, beaten)
+            self.wait_for(lambda: not reader.beaten)
+            time.sleep(0.1)
+            self.assertEqual(os.stat(other.name).st_size, 0)
+        while os.read(ours, 64):
+            pass
+        os.write(theirs, b"one\n")
+        os.close(theirs)
+        self.wait_for(lambda: lines.is_over)
+        self.assertEqual(untimed(self.file.read_bytes()), b"one\n")
+        # It may have ended by itself before that.
+        reader.hang_up(lines)
+        self.wait_for(lambda: not reader.wishes)
+        self.assertTrue(reader.is_alive())
+
+    def test_who_is_hung_up_hears_it_soon(self):
+        reader, seconds = LineReader(), []
+        for _ in range(5):
+            ours, beaten = os.pipe()
+            theirs, lines = self.read(reader, open(beaten, "wb", buffering=0))
+            began = time.monotonic()
+            reader.hang_up(lines)
+            self.wait_for(lambda: lines.beaten.closed)
+            seconds.append(time.monotonic() - began)
+            # Until then nothing comes that would have the thread look.
+            for end in (ours, theirs):
+                self.addCleanup(os.close, end)
+        self.assertLess(min(seconds), 0.4)
 
     def test_only_the_time_at_the_head_of_a_line_is_no_part_of_it(self):
         time_of_day = b"2026-01-02T03:04:05.678Z "

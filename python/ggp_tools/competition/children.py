@@ -76,7 +76,16 @@ class TimedChild(Child):
         given = subprocess.PIPE if is_beaten else subprocess.DEVNULL
         with open(self.out, "wb") as out:
             self.process = started(words, stdin=given, stdout=out, stderr=subprocess.PIPE, bufsize=0)
-        self.lines = reader.read(self.process.stderr, self.said, self.process.stdin)
+        try:
+            self.reader, self.lines = reader, reader.read(self.process.stderr, self.said, self.process.stdin)
+        except OSError:
+            # Nobody else knows of it, and a match would go on.
+            self.end()
+            raise
+
+    def hang_up(self) -> None:
+        """Has the standard input of a process that is beaten come to its end soon."""
+        self.reader.hang_up(self.lines)
 
     def is_over(self) -> bool:
         """Returns whether the process has ended, and all that it said was read. What it has left behind may still hold the pipe."""

@@ -65,6 +65,8 @@ class OpenMatch:
         self.stage, self.children, self.seconds = "asking", [], 0.0
         # Whether its ssh is being connected.
         self.connects = False
+        # What plays it, or did so last.
+        self.played: TimedChild | None = None
         # When its players sat down. Where one of them is missed, all matches that were open by then asked it in one try.
         self.seated = time.monotonic()
         self.result, self.why = None, None
@@ -110,6 +112,15 @@ class OpenMatch:
     def child(self, words: list[str], name: str, given: pathlib.Path | str = "/dev/null") -> Child:
         self.children.append(Child(words, self.room, name, given))
         return self.children[-1]
+
+    def is_on_host(self) -> bool:
+        """Returns whether an ssh has it played on a host. As long as it does, messages of the match may come to its players."""
+        return bool(self.host and self.played and not self.played.is_over())
+
+    def hang_up(self) -> None:
+        """Has its host end it, if that is reached: the watch there hears that nothing comes any more, and the ssh ends soon after it."""
+        if self.is_on_host():
+            self.played.hang_up()
 
     def end_children(self) -> None:
         for child in self.children:
@@ -179,6 +190,9 @@ class OpenMatch:
             if not child.status():
                 return child.output(), log + f"ended {moment()}\n".encode()
             if not host or self.was_reached(child) and child.status() not in LOST:
+                if host and child.status() < 0:
+                    # The ssh was killed, and not the referee.
+                    yield from self.outlast()
                 break
             log += f"lost {moment()} {child.last_words()}\n".encode("ascii", "replace")
             if not (yield from self.move_on(child, times_left)):
@@ -196,7 +210,7 @@ class OpenMatch:
                 yield
             self.begin_connecting()
             words = remote_words(self.host, words)
-        child = TimedChild(words, self.room, "played", self.shared.reader, is_beaten=bool(self.host))
+        self.played = child = TimedChild(words, self.room, "played", self.shared.reader, is_beaten=bool(self.host))
         self.children.append(child)
         if self.host:
             yield from self.connect(child)
@@ -260,10 +274,7 @@ class OpenMatch:
         self.reporter.line(f"lost {self.match.id} on {lost}: {child.last_words()}; {follows}")
         self.leave_host()
         if self.was_reached(child):
-            # Until then it may go on there.
-            until = time.monotonic() + SILENCE
-            while time.monotonic() < until:
-                yield
+            yield from self.outlast()
             yield from self.free_players()
         while times_left and not hosts.are_all_lost():
             if host := hosts.take(time.monotonic(), lost):
@@ -272,6 +283,12 @@ class OpenMatch:
             yield
         self.why = f"its host is lost: {child.last_words()}"
         return False
+
+    def outlast(self) -> Steps:
+        """Waits as long as the match may go on at a host that is not reached any more."""
+        until = time.monotonic() + SILENCE
+        while time.monotonic() < until:
+            yield
 
     def free_players(self) -> Generator[None, None, None]:
         """Sends its players ABORT, since the match that they sit in is lost."""

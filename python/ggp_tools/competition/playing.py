@@ -27,8 +27,8 @@ from ggp_tools.referee import Referee
 from ggp_tools.reporting import Reporter
 
 REST = 0.02
-# Who ends open matches does not wait longer than so many seconds for their players to answer ABORT.
-ABORT_SECONDS = 3
+# Who ends open matches does not wait longer than so many seconds for their hosts to end them, then for their players to answer ABORT.
+HANG_UP_SECONDS, ABORT_SECONDS = 3, 3
 # So many open files are enough for as many matches at once as may be.
 DESCRIPTORS = 4_096
 NOT_BEGUN = "it was not begun"
@@ -82,6 +82,7 @@ class Playing:
         try:
             next(open_match.steps, None)
         except OSError as why:
+            self.hang_up([open_match])
             self.lose(open_match, f"{why.filename or 'its files'}: {os.strerror(why.errno or errno.EIO)}")
             self.is_full = True
         if open_match.stage != "over":
@@ -121,6 +122,15 @@ class Playing:
         if open_match.stage in ("asking", "playing"):
             open_match.leave()
         open_match.stage, open_match.why = "over", why
+
+    def hang_up(self, open_matches: list[OpenMatch]) -> None:
+        """Has the hosts end these matches, all at once, and waits for that, but not long: a match whose ssh is killed goes on there for a
+        while, and its players would hear of it after ABORT."""
+        for open_match in open_matches:
+            open_match.hang_up()
+        until = time.monotonic() + HANG_UP_SECONDS
+        while time.monotonic() < until and any(open_match.is_on_host() for open_match in open_matches):
+            time.sleep(REST)
 
     def go(self) -> None:
         """Goes on until no match is open, and none waits or may begin."""
@@ -175,6 +185,7 @@ class Playing:
 
     def end_open_matches(self) -> None:
         """Ends the matches that are at play, and tells their players. Those that are being checked go on."""
+        self.hang_up(self.open)
         places = {}
         for open_match in self.open:
             if open_match.stage == "playing":

@@ -1,6 +1,7 @@
 """Reads what referees say while they play, and writes each line into its file with the time of day at which it came. One thread does this
 for all matches and does nothing else, so that a line does not wait until `play` has time for it."""
 
+import collections
 import contextlib
 import os
 import pathlib
@@ -15,6 +16,8 @@ from ggp_tools.moments import MOMENT, moment
 TIMED = re.compile(rf"^{MOMENT} ".encode("ascii"))
 # Who plays a match on a host has a byte at least every BEAT seconds, as long as this process lives and is reached.
 BEAT = 2
+# So often at least it is looked which pipes are to be hung up, and whether a beat is due.
+LOOK = 0.1
 # Of one line no more is kept in memory.
 MOST_OF_LINE = 1 << 16
 
@@ -55,6 +58,11 @@ class TimedLines:
         with contextlib.suppress(OSError):
             os.write(self.beaten.fileno(), b"\n")
 
+    def hang_up(self) -> None:
+        """Shows the other end that nothing comes any more."""
+        with contextlib.suppress(OSError):
+            self.beaten.close()
+
     def end(self) -> None:
         for file in filter(None, (self.pipe, self.file, self.beaten)):
             with contextlib.suppress(OSError):
@@ -63,12 +71,14 @@ class TimedLines:
 
 
 class LineReader(threading.Thread):
-    """Reads all of these pipes. It alone forgets and closes one, in this order, since a later one may get its number."""
+    """Reads all of these pipes. It alone forgets and closes one, in this order, since a later one may get its number. So others can only
+    wish that one be hung up."""
 
     def __init__(self) -> None:
         super().__init__(daemon=True)
         self.selector = selectors.DefaultSelector()
         self.beaten: list[TimedLines] = []
+        self.wishes: collections.deque[TimedLines] = collections.deque()
 
     def read(self, pipe: IO[bytes], path: pathlib.Path, beaten: IO[bytes] | None = None) -> TimedLines:
         """Has the lines of a pipe written to a file from now on, and bytes into another pipe now and then, where there is one."""
@@ -81,14 +91,20 @@ class LineReader(threading.Thread):
             self.start()
         return lines
 
+    def hang_up(self, lines: TimedLines) -> None:
+        """Has the pipe closed soon that is beaten for these lines. They are read on."""
+        self.wishes.append(lines)
+
     def run(self) -> None:
         next_beat = 0.0
         while True:
-            for key, _ in self.selector.select(BEAT / 4):
+            for key, _ in self.selector.select(LOOK):
                 if not key.data.take():
                     self.selector.unregister(key.fileobj)
                     key.data.end()
+            while self.wishes:
+                self.wishes.popleft().hang_up()
             if time.monotonic() >= next_beat:
                 next_beat = time.monotonic() + BEAT
                 for lines in list(self.beaten):
-                    lines.beat() if not lines.is_over else self.beaten.remove(lines)
+                    lines.beat() if not lines.beaten.closed else self.beaten.remove(lines)
