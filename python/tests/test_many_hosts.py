@@ -20,7 +20,7 @@ from ggp_tools.competition.playing import HANG_UP_SECONDS
 from ggp_tools.moments import MOMENT
 from tests.fake_ssh import calls, deafen, lose, write_ssh
 from tests.players import TestPlayer
-from tests.support import GAMES, TOP, InFolder, command_of, program, program_but, run, slowness, start
+from tests.support import GAMES, TOP, InFolder, command_of, program, program_but, run, start
 
 HEAD = "start = 5\nplay = 5\nstrikes = 1\nwait = 0\ninfo = 5\ntries = 3\n"
 # The command with another silence after which a match on a lost host has ended, since the tests need not wait for it.
@@ -252,7 +252,7 @@ class ManyHosts(InFolder):
         self.assertEqual([player.last_heard() for player in self.players], [{"cup-001": "abort"}] * 2, [player.heard for player in self.players])
 
     def seconds_to_end(self):
-        """Returns how many seconds it takes to end four matches that a host plays at once."""
+        """Returns how many seconds it takes to end four matches that a host plays at once, and of how many ABORT is due again."""
         waiting = program_but(self.folder / "waiting", '"$1" = run', "exec sleep 60")
         playing = start(self.folder, "play", "--at-once", "4", "--program", waiting, env=self.environment)
         self.assertEqual(sorted(playing.stdout.readline() for _ in range(4)), [f"begin cup-00{at} countdown p0 p1 on a\n" for at in range(1, 5)])
@@ -260,16 +260,16 @@ class ManyHosts(InFolder):
         playing.send_signal(signal.SIGTERM)
         out, said = playing.communicate(timeout=600)
         self.assertEqual((playing.returncode, said, len(lines(out, "abort")), lines(out, "no answer")), (1, "", 4, []), out)
-        return time.monotonic() - began
+        return time.monotonic() - began, len(list((self.folder / "open").iterdir()))
 
     def test_a_host_that_does_not_hear_that_it_is_hung_up_is_waited_for_some_seconds(self):
         self.planned('["a"]', 4)
-        heard = self.seconds_to_end()
+        self.assertEqual(self.seconds_to_end()[1], 0)
         self.addCleanup(os.close, deafen(self.folder, "a"))
-        unheard = self.seconds_to_end()
-        self.assertGreater(unheard, HANG_UP_SECONDS)
-        self.assertLess(heard, unheard - 1)
-        self.assertLess(unheard, heard + HANG_UP_SECONDS + slowness())
+        seconds, due = self.seconds_to_end()
+        self.assertEqual(due, 4)
+        # It is deaf for as long as the test runs.
+        self.assertTrue(HANG_UP_SECONDS < seconds < 40 * HANG_UP_SECONDS, seconds)
 
 
 if __name__ == "__main__":

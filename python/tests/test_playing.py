@@ -494,13 +494,15 @@ class Before(WithMatches):
         self.assertEqual([places_in(self.plan.folder.open / name) for name in ("a", "b", "c", "d", "none", "cup-001")], [["ann@h:1", "bob@h:2"], ["ann@h:1"], [], [], [], []])
 
     def test_a_room_is_kept_where_a_player_does_not_answer_abort(self):
-        first, second = self.room("cup-001"), self.room("cup-002")
-        for room in (first, second):
+        first, second, third = [self.room(f"cup-00{at}") for at in (1, 2, 3)]
+        for room in (first, second, third):
             (room / "played").touch()
         self.silent = {"cup-002": ["bob@h:2"]}
-        abort_matches("referee", {"cup-001": ["ann@h:1"], "cup-002": ["ann@h:1", "bob@h:2"]}, self.plan.folder, self.reporter, 4)
-        self.assertEqual((self.aborted[0][1], first.exists(), [file.name for file in second.iterdir()]), (4, False, ["players"]))
-        self.assertEqual(self.reporter.lines, ["abort cup-001: ann@h:1", "abort cup-002: ann@h:1, bob@h:2", "no answer to abort cup-002: bob@h:2"])
+        places = {"cup-001": ["ann@h:1"], "cup-002": ["ann@h:1", "bob@h:2"], "cup-003": ["cid@h:3"]}
+        abort_matches("referee", places, self.plan.folder, self.reporter, 4, {"cup-003"})
+        self.assertEqual((self.aborted[0][1], first.exists(), *([file.name for file in room.iterdir()] for room in (second, third))), (4, False, ["players"], ["players"]))
+        lines = ["abort cup-001: ann@h:1", "abort cup-002: ann@h:1, bob@h:2", "no answer to abort cup-002: bob@h:2", "abort cup-003: cid@h:3"]
+        self.assertEqual(self.reporter.lines, lines)
 
     def test_rounds_are_played_one_after_the_other(self):
         matches, rest = self.plan.matches, [self.plan.matches[2:4], self.plan.matches[4:5], []]

@@ -9,7 +9,7 @@ import resource
 import shutil
 import signal
 import time
-from collections.abc import Iterable, Iterator
+from collections.abc import Container, Iterable, Iterator
 
 from ggp_tools.competition.aborts import send_aborts
 from ggp_tools.competition.children import UNSAID
@@ -186,6 +186,7 @@ class Playing:
     def end_open_matches(self) -> None:
         """Ends the matches that are at play, and tells their players. Those that are being checked go on."""
         self.hang_up(self.open)
+        going_on = {open_match.match.id for open_match in self.open if open_match.is_on_host()}
         places = {}
         for open_match in self.open:
             if open_match.stage == "playing":
@@ -196,7 +197,7 @@ class Playing:
                 open_match.close()
             elif open_match.stage == "playing":
                 self.lose(open_match, None)
-        abort_matches(self.referee, places, self.plan.folder, self.reporter, ABORT_SECONDS)
+        abort_matches(self.referee, places, self.plan.folder, self.reporter, ABORT_SECONDS, going_on)
 
 
 def says_full(why: str, is_on_host: object) -> bool:
@@ -205,9 +206,11 @@ def says_full(why: str, is_on_host: object) -> bool:
     return why.endswith("write fault") or not is_on_host and why.endswith(UNSAID.format(1))
 
 
-def abort_matches(referee: Referee, places: dict[str, list[str]], folder: Folder, reporter: Reporter, seconds: float | None = None) -> None:
+def abort_matches(
+    referee: Referee, places: dict[str, list[str]], folder: Folder, reporter: Reporter, seconds: float | None = None, going_on: Container[str] = ()
+) -> None:
     """Sends the players of these matches ABORT, within so many seconds where they are given. The room of a match is kept where one does not
-    answer, so that it is sent again."""
+    answer, or where the match may be going on at a host, so that it is sent again."""
     for match in places:
         leave_players(folder.open / match)
     silent = send_aborts(referee, places, seconds)
@@ -215,7 +218,7 @@ def abort_matches(referee: Referee, places: dict[str, list[str]], folder: Folder
         reporter.line(f"abort {match}: {', '.join(found)}")
         if match in silent:
             reporter.line(f"no answer to abort {match}: {', '.join(silent[match])}")
-        else:
+        elif match not in going_on:
             shutil.rmtree(folder.open / match, ignore_errors=True)
 
 
