@@ -142,7 +142,7 @@ def read_text(path: pathlib.Path, is_large: bool = False) -> bytes:
     return text
 
 
-def load_description(path: pathlib.Path, referee: Referee, tells_variables: bool, seconds: float = SECONDS) -> Rules:
+def load_description(path: pathlib.Path, referee: Referee, tells_variables: bool, seconds: float) -> Rules:
     """Returns the rules of the game that a file describes, with the text that its players get. If the file has no variables that is
     nothing beside the rules, whatever is asked for."""
     text = read_text(path, referee.is_large)
