@@ -118,7 +118,10 @@ class Growth(unittest.TestCase):
     def test_the_limit_of_matches(self):
         orders = [Again("cup-005", "cup-001", "x"), Again("cup-006", "cup-002", "x")]
         more, same = (competition(3, 1, ("two",)), competition(4, 1, ("two",))), (competition(2),)
-        for most, versions, again, is_past in ((12, more, [], False), (11, more, [], True), (6, same, orders, False), (5, same, orders, True)):
+        # Among the first nine that the second of these files asks for is not all that the first one did.
+        many = competition(3, 1, ("two",)), competition(6, 1, ("two",))
+        cases = (12, more, [], False), (11, more, [], True), (6, same, orders, False), (5, same, orders, True), (8, many, [], True)
+        for most, versions, again, is_past in cases:
             with mock.patch("ggp_tools.competition.schedule.MOST_MATCHES", most), contextlib.ExitStack() as refused:
                 if is_past:
                     refused.enter_context(self.assertRaises(Mistaken))

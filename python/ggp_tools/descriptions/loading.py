@@ -22,8 +22,6 @@ FOLDER = pathlib.Path(__file__).resolve().parents[2]
 INSTANTIATE = [sys.executable, "-B", "-P", "-m", "ggp_tools.instantiating"]
 MOST_BYTES, MOST_BYTES_OF_LARGE = 1 << 20, 4 << 20
 SENTENCE = re.compile(r"sentence (\d+), ")
-# So many seconds a description gets to be instantiated, where no others are given.
-SECONDS = 60
 STOPPED = re.compile(r"ggp-instantiate: stopped after ")
 
 
