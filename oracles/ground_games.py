@@ -41,10 +41,6 @@ def text_of(expression):
     return "(" + " ".join(map(text_of, expression)) + ")"
 
 
-def each_once(items):
-    return list(dict.fromkeys(items))
-
-
 class Game:
     """The game that a description is: a state is the set of its terms, a joint move a dict by role."""
 

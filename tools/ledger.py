@@ -136,13 +136,8 @@ def tried(sums: dict[str, str], entries: dict[str, Entry]) -> dict[str, str]:
 
 
 def count(sums: dict[str, str], words: dict[str, str]) -> Counts:
+    """Returns how many edits were tried on the text as it is, are refused, and are left."""
     return Counts(len(words), sum(word in REFUSED for word in words.values()), len(sums) - len(words))
-
-
-def counts() -> Counts:
-    """Returns how many edits of all crates were tried on the text as it is, are refused, and are left."""
-    sums = sums_of(crates())
-    return count(sums, tried(sums, read_ledger()))
 
 
 def spell_counts(counted: Counts) -> str:

@@ -6,8 +6,8 @@ import pathlib
 from ggp_tools.competition.competition_file import read_competition
 from ggp_tools.competition.files import Folder
 from ggp_tools.competition.plan import Plan
-from ggp_tools.competition.schedule import planned
 from ggp_tools.descriptions.loading import Rules
+from tests.planning import planned
 from tests.support import toml
 
 # Two roles take one or two from a heap of three, in turns; who takes the last one has won.

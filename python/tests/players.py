@@ -10,7 +10,6 @@ from tests.support import outside
 # What these read of START and of the rules is read by the example players, and not by the package.
 example, interpreting = outside("player"), outside("interpreting")
 
-KINDS = ("good", "slow", "closing", "dripping", "lying", "dying")
 SLOW, DRIP, AWAY = 0.12, 0.3, 1.0
 # A player that dies does so at each PLAY of such a number.
 LIFE = 7

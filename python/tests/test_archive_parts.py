@@ -15,7 +15,6 @@ from unittest import mock
 
 from ggp_tools.competition import archive, command
 from ggp_tools.competition.archive import SUMS, Spoilt, TooLarge, check_archive, files_below, publish, unpacked
-from ggp_tools.competition.files import Refused
 from ggp_tools.competition.kept import look_at_records
 from ggp_tools.competition.known import Known
 from ggp_tools.competition.plan import make_plan

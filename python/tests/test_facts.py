@@ -41,7 +41,7 @@ MESSAGES = [
 ]
 WHY = [{"role": 1, "message": 1, "why": "no connection"}, {"role": 1, "message": 2, "why": "no host"}]
 UNTIMED = "".join(line.partition("Z ")[2] for line in LOG.splitlines(keepends=True)[1:-2])
-STARTED, ENDED = UNTIMED.splitlines(keepends=True)[:3], UNTIMED.splitlines(keepends=True)[-2:]
+STARTED = UNTIMED.splitlines(keepends=True)[:3]
 
 
 def lines(*texts: str) -> list[str]:

@@ -5,7 +5,8 @@ import unittest
 
 from ggp_tools.competition.command import MOST_AT_ONCE
 from ggp_tools.competition.competition_file import Host, MOST_PLAYERS, MOST_ROUNDS, MOST_SECONDS, MOST_STRIKES, Mistaken, read_competition
-from ggp_tools.competition.schedule import MOST_MATCHES, planned
+from ggp_tools.competition.schedule import MOST_MATCHES
+from tests.planning import planned
 from tests.support import TOP, toml
 
 PLAYERS = [("ann", "10.0.0.1:9147"), ("bob", "[::1]:9148"), ("cid", "host.example:9149", "concurrent = 3")]

@@ -152,7 +152,7 @@ class OfFormulas(unittest.TestCase):
             self.assertEqual(self.worlds(short), self.worlds(number))
 
     def test_most_of_a_role_s_moves_are_told_by_the_few_others(self):
-        first, second, third, fourth = (self.formulas.atom(move) for move in MOVES["r"])
+        first, second, third, _ = (self.formulas.atom(move) for move in MOVES["r"])
         most = self.formulas.any([first, second, third])
         self.assertEqual(self.formulas.expression(self.formulas.shortest(most)), ("not", MOVES["r"][3]))
         self.assertEqual(self.formulas.expression(self.formulas.shortest(self.formulas.no(most))), MOVES["r"][3])
@@ -164,7 +164,7 @@ class OfFormulas(unittest.TestCase):
         self.assertEqual(self.formulas.shortest(self.atoms[0]), self.atoms[0])
 
     def test_others_in_the_place_of_atoms(self):
-        found, dice = self.some()
+        found, _ = self.some()
         by = {self.atoms[0]: self.formulas.all(self.atoms[1:3]), self.atoms[1]: FALSE, self.formulas.atom(MOVES["r"][0]): TRUE}
 
         def with_others(expression, world):

@@ -82,7 +82,7 @@ class Spoilt(unittest.TestCase):
                 self.assertIn(words, said)
 
     def test_a_competition_that_grew(self):
-        ann, bob, cid = players = [TestPlayer("ann"), TestPlayer("bob"), TestPlayer("cid", "lying")]
+        ann, bob, _ = players = [TestPlayer("ann"), TestPlayer("bob"), TestPlayer("cid", "lying")]
         head = "start = 5\nplay = 5\nstrikes = 1\nforfeit = true\n"
         self.folder_of([ann, bob], head=head)
         for words in (["plan"], ["play"]):

@@ -10,7 +10,8 @@ from ggp_tools.competition.files import Folder, Refused
 from ggp_tools.competition.growth import Again, History, Misfit, grown, refuse_changes, refuse_unchanged, shape
 from ggp_tools.competition.history import again_text, read_history
 from ggp_tools.competition.results import Result
-from ggp_tools.competition.schedule import planned
+from ggp_tools.competition.schedule import asked
+from tests.planning import nothing_known, planned
 from tests.support import GAMES, InFolder, run, toml
 
 ROLES = {"two": 2, "one": 1, "three": 3}
@@ -35,8 +36,8 @@ class Growth(unittest.TestCase):
         history = History((), tuple(again))
         for before, after in zip(versions, versions[1:]):
             refuse_changes(before, after)
-            history = History((*history.earlier, (len(grown(history, before, ROLES).matches), before)), history.again)
-        return grown(history, versions[-1], ROLES)
+            history = History((*history.earlier, (len(grown(history, before, ROLES, nothing_known).matches), before)), history.again)
+        return grown(history, versions[-1], ROLES, nothing_known)
 
     def test_what_was_planned_stays_and_all_that_is_asked_for_is_there(self):
         steps = [competition(3), competition(3, 2), competition(5, 2), competition(5, 4, ("two", "one", "three")), competition(6, 4, ("two", "one"))]
@@ -44,7 +45,7 @@ class Growth(unittest.TestCase):
             found = self.grown(*steps[:last])
             before = self.grown(*steps[: last - 1]) if last > 1 else None
             self.assertEqual(ids(found), [f"cup-{number:03}" for number in range(1, len(found.matches) + 1)])
-            self.assertEqual(seated(found.matches), seated(planned(steps[last - 1], ROLES)))
+            self.assertEqual(seated(found.matches), Counter(asked(steps[last - 1], ROLES)))
             if before:
                 self.assertEqual(found.matches[: len(before.matches)], before.matches)
         with self.assertRaises(Misfit):
@@ -58,7 +59,7 @@ class Growth(unittest.TestCase):
         self.assertTrue(all({"p4", "p5"} & set(match.players) for match in found[old:]))
         seats = Counter((seat, player) for match in found for seat, player in enumerate(match.players) if player in ("p4", "p5"))
         self.assertEqual(len(set(seats.values())), 1)
-        self.assertEqual(seated(self.grown(before, competition(4, 3, ("three",))).matches), seated(planned(competition(4, 3, ("three",)), ROLES)))
+        self.assertEqual(seated(self.grown(before, competition(4, 3, ("three",))).matches), Counter(asked(competition(4, 3, ("three",)), ROLES)))
         with self.assertRaises(Misfit) as why:
             self.grown(before, competition(5, 2, ("three",)))
         self.assertEqual(str(why.exception), "three has more than two roles, so rounds and players are added one after the other: plan in between")
@@ -69,7 +70,7 @@ class Growth(unittest.TestCase):
         self.assertEqual([(match.game, match.players) for match in self.grown(one, two).matches], [("two", ("p0", "p1")), ("one", ("p2",)), ("two", ("p0", "p1"))])
         gauntlet = 'kind = "gauntlet"\none = "p0"\nrounds = {}'
         found = self.grown(competition(3, form=gauntlet.format(1)), competition(4, form=gauntlet.format(2)))
-        self.assertEqual(seated(found.matches), seated(planned(competition(4, form=gauntlet.format(2)), ROLES)))
+        self.assertEqual(seated(found.matches), Counter(asked(competition(4, form=gauntlet.format(2)), ROLES)))
 
     def test_what_would_change_is_named(self):
         lines = 'kind = "schedule"\nlines = [{}]'
@@ -89,7 +90,7 @@ class Growth(unittest.TestCase):
 
     def test_a_match_that_is_ordered_again(self):
         orders = Again("cup-005", "cup-002", "cut off"), Again("cup-011", "cup-005", "again")
-        found = grown(History(((5, competition(2)),), orders), competition(3), ROLES)
+        found = grown(History(((5, competition(2)),), orders), competition(3), ROLES, nothing_known)
         self.assertEqual([(match.id, match.players) for match in found.matches[3:6]], [("cup-004", ("p1",)), ("cup-005", ("p1", "p0")), ("cup-006", ("p1", "p2"))])
         told = [(match.id, match.again, match.reason, match.instead_of) for match in found.matches if match.again or match.instead_of]
         self.assertEqual(told, [("cup-002", "cup-005", "cut off", ""), ("cup-005", "cup-011", "again", "cup-002"), ("cup-011", "", "", "cup-005")])
@@ -104,7 +105,7 @@ class Growth(unittest.TestCase):
 
     def test_the_number_of_matches_before_is_looked_at(self):
         with self.assertRaises(Misfit) as why:
-            grown(History(((5, competition(2)),)), competition(3), ROLES)
+            grown(History(((5, competition(2)),)), competition(3), ROLES, nothing_known)
         self.assertEqual(str(why.exception), "4 matches were planned when earlier/5.toml was replaced, and not 5")
 
     def test_a_file_before_that_nothing_has_replaced(self):
@@ -117,7 +118,10 @@ class Growth(unittest.TestCase):
     def test_the_limit_of_matches(self):
         orders = [Again("cup-005", "cup-001", "x"), Again("cup-006", "cup-002", "x")]
         more, same = (competition(3, 1, ("two",)), competition(4, 1, ("two",))), (competition(2),)
-        for most, versions, again, is_past in ((12, more, [], False), (11, more, [], True), (6, same, orders, False), (5, same, orders, True)):
+        # Among the first nine that the second of these files asks for is not all that the first one did.
+        many = competition(3, 1, ("two",)), competition(6, 1, ("two",))
+        cases = (12, more, [], False), (11, more, [], True), (6, same, orders, False), (5, same, orders, True), (8, many, [], True)
+        for most, versions, again, is_past in cases:
             with mock.patch("ggp_tools.competition.schedule.MOST_MATCHES", most), contextlib.ExitStack() as refused:
                 if is_past:
                     refused.enter_context(self.assertRaises(Mistaken))
@@ -160,7 +164,7 @@ class Growth(unittest.TestCase):
             (History(((9, competition(3)),)), competition(3, head="strikes = 1"), "strikes was 0 and is 1"),
         ):
             with self.assertRaises(Misfit) as why:
-                grown(history, after, {**ROLES, "more": 3})
+                grown(history, after, {**ROLES, "more": 3}, nothing_known)
             self.assertIn(words, str(why.exception))
 
 
@@ -176,7 +180,7 @@ class ByRounds(unittest.TestCase):
 
     def test_a_game_of_three_roles_is_refused(self):
         with self.assertRaises(Mistaken):
-            grown(History(), self.swiss(1, "three"), ROLES)
+            grown(History(), self.swiss(1, "three"), ROLES, nothing_known)
 
     def test_only_the_match_that_was_ordered_again_pairs_the_next_round(self):
         # p2 has two points, p0 and p1 have one each; with the match before it p0 would have two, and a stronger opponent than p2.

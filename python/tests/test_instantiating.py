@@ -9,7 +9,7 @@ import random
 import unittest
 import unittest.mock
 
-from ggp_tools.instantiating import folding, forms, gringo, limits, making, rounds
+from ggp_tools.instantiating import folding, forms, limits, making, rounds
 from ggp_tools.instantiating.endless import endless
 from ggp_tools.instantiating.grounding import sentence_of
 from ggp_tools.instantiating.sentences import GAME, Literal, Rule, all_rules

@@ -21,7 +21,7 @@ from tests.live_support import plan_in, record_of
 
 NO_ANSWER = (1, b"", "ggp_manager: no answer")
 READY = (0, b"available\n", "")
-LAWFUL, REPLAYED = (0, b"lawful\n", ""), "replayed"
+LAWFUL = (0, b"lawful\n", "")
 
 
 class Process:

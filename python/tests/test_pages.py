@@ -19,8 +19,8 @@ from ggp_tools.competition.files import Folder
 from ggp_tools.competition.pages import Pages, made_side_by_side, seconds_between, spelt
 from ggp_tools.competition.plan import Plan
 from ggp_tools.competition.results import result_of
-from ggp_tools.competition.schedule import planned
 from ggp_tools.referee import Unchecked
+from tests.planning import planned
 from tests.support import toml
 
 BEGAN, ENDED = "began 2026-01-02T03:04:05.000Z\n", "ended 2026-01-02T03:04:07.500Z\n"

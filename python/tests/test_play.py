@@ -715,8 +715,7 @@ class Play(InFolder):
         self.assertEqual(run(self.folder, "table")[::2], (0, said))
         self.assertEqual(run(self.folder, "pages")[::2], (0, ""))
         self.assertEqual(run(self.folder, "publish")[::2], (0, said))
-        status, out, said = run(self.folder, "check", "cup.tar.gz")
-        self.assertEqual((status, said), (0, ""))
+        self.assertEqual(run(self.folder, "check", "cup.tar.gz")[::2], (0, ""))
         self.assertEqual(self.files(), {name: data for name, data in before.items() if name != "logs/cup-001.txt"})
 
     def test_streams_that_are_closed(self):

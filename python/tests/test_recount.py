@@ -11,9 +11,9 @@ from unittest import mock
 from ggp_tools.competition.competition_file import read_competition
 from ggp_tools.competition.growth import Again, History, grown, refuse_changes
 from ggp_tools.competition.results import result_of
-from ggp_tools.competition.schedule import planned
 from ggp_tools.competition.table import tables_of
 from tests import plain_competition as plain
+from tests.planning import nothing_known, planned
 from tests.support import toml
 
 ROLES = {"solo": 1, "duel": 2, "pair": 2, "three": 3, "four": 4}
@@ -111,7 +111,7 @@ class Schedules(unittest.TestCase):
                 if version:
                     refuse_changes(version, after)
                     history = History((*history.earlier, (len(before), version)), history.again)
-                version, matches = after, grown(history, after, ROLES).matches
+                version, matches = after, grown(history, after, ROLES, nothing_known).matches
                 self.assertEqual([match.line() for match in matches[: len(before)]], [match.line() for match in before])
                 wanted = [(game, seats) for game in games for seats in permutations([f"p{at}" for at in range(count)], ROLES[game])] * rounds
                 again = [match for match in matches if match.again]
@@ -119,7 +119,7 @@ class Schedules(unittest.TestCase):
                 if (open_matches := [match for match in matches if not match.again]) and chance.random() < 0.5:
                     old = chance.choice(open_matches)
                     history = History(history.earlier, (*history.again, Again(f"cup-{len(matches) + 1:03}", old.id, "why")))
-                    matches = grown(history, after, ROLES).matches
+                    matches = grown(history, after, ROLES, nothing_known).matches
                     self.assertEqual((matches[-1].players, matches[-1].instead_of, len([match for match in matches if match.again])), (old.players, old.id, len(again) + 1))
                 before = matches
                 count, rounds = count + chance.randrange(3), rounds + chance.randrange(2)

@@ -8,7 +8,8 @@ from collections import Counter
 
 from ggp_tools.competition.command import said_of_game
 from ggp_tools.competition.competition_file import Mistaken, read_competition
-from ggp_tools.competition.schedule import MOST_MATCHES, circle_steps, planned, refuse_too_many, schedule_text
+from ggp_tools.competition.schedule import MOST_MATCHES, circle_steps, refuse_too_many, schedule_text
+from tests.planning import planned
 from tests.support import toml
 
 

@@ -6,8 +6,9 @@ import unittest
 from unittest import mock
 
 from ggp_tools.competition.competition_file import read_competition
-from ggp_tools.competition.schedule import Match, planned
+from ggp_tools.competition.schedule import Match
 from ggp_tools.competition.seats import Seats
+from tests.planning import planned
 from tests.support import toml
 
 

@@ -95,7 +95,7 @@ class Served(unittest.TestCase):
 
 class Pages(Served):
     def test_what_stands_there_as_a_match_goes(self):
-        match, other = self.plan.matches[:2]
+        match = self.plan.matches[0]
         self.assertIn("0 matches are open, 6 wait. No run is at work", self.page("/"))
         self.assertIn("It has not begun.", self.page(f"/matches/{match.id}.html"))
         log = begin(self.plan, match, started(match))

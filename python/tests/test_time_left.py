@@ -5,9 +5,9 @@ import random
 import unittest
 
 from ggp_tools.competition.competition_file import read_competition
-from ggp_tools.competition.schedule import planned
 from ggp_tools.competition.seats import Seats
 from ggp_tools.competition.time_left import TimeLeft
+from tests.planning import planned
 from tests.support import toml
 
 ROUND_ROBIN = 'kind = "round_robin"\nrounds = {}'

@@ -2,7 +2,6 @@
 import contextlib
 import io
 import os
-import sys
 import tempfile
 import time
 import unittest

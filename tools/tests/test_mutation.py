@@ -2,7 +2,6 @@
 import json
 import os
 import pathlib
-import sys
 import tempfile
 import unittest
 from unittest import mock

@@ -36,7 +36,7 @@ def started(words: list[str], **streams: Any) -> subprocess.Popen:
 class Child:
     """A process that writes into files of a folder: NAME what it prints, and NAME.said what it says on standard error."""
 
-    def __init__(self, words: list[str], folder: pathlib.Path, name: str, given: pathlib.Path | str = os.devnull) -> None:
+    def __init__(self, words: list[str], folder: pathlib.Path, name: str, given: pathlib.Path | str) -> None:
         self.out, self.said = folder / name, folder / f"{name}.said"
         self.began = time.monotonic()
         with open(given, "rb") as stdin, open(self.out, "wb") as out, open(self.said, "wb") as said:
@@ -70,7 +70,7 @@ class TimedChild(Child):
     """A process of whose lines on standard error the file NAME.said has the times too. While it is beaten, it has a byte on standard input
     now and then."""
 
-    def __init__(self, words: list[str], folder: pathlib.Path, name: str, reader: LineReader, is_beaten: bool = False) -> None:
+    def __init__(self, words: list[str], folder: pathlib.Path, name: str, reader: LineReader, is_beaten: bool) -> None:
         self.out, self.said = folder / name, folder / f"{name}.said"
         self.began, self.began_at, self.ended = time.monotonic(), moment(), 0.0
         given = subprocess.PIPE if is_beaten else subprocess.DEVNULL

@@ -21,7 +21,7 @@ MOST_SHOWN = 10**20
 # Of matches at a time: of a player, of a host, and of all.
 MOST_AT_A_TIME = 1_024
 MOST_SECONDS, MOST_STRIKES, MOST_PLAYERS, MOST_ROUNDS, MOST_PORT = 86_400, 255, 1_000, 1_000, 65_535
-# The seconds in which a description is instantiated.
+# The seconds in which a description is instantiated, where no others are given, and the most of them.
 INSTANTIATING, MOST_INSTANTIATING = 60, 1_000_000
 # Those that plan each round by the results of the one before.
 ROUND_KINDS = SWISS, KNOCKOUT = "swiss", "knockout"

@@ -9,7 +9,8 @@ from collections import Counter
 from collections.abc import Sequence
 from typing import Any
 
-from ggp_tools.descriptions.loading import SECONDS, NoDescription, Rules, Stopped, has_variables, load_description, most_bytes, sentence_starts
+from ggp_tools.competition.competition_file import INSTANTIATING
+from ggp_tools.descriptions.loading import NoDescription, Rules, Stopped, has_variables, load_description, most_bytes, sentence_starts
 from ggp_tools.competition.files import Refused
 from ggp_tools.descriptions.random_matches import RandomMatches, counted
 from ggp_tools.referee import Referee, Unchecked
@@ -61,7 +62,7 @@ def add_game(commands: Any) -> argparse.ArgumentParser:
     command.add_argument("--matches", type=matches, default=20, metavar="N", help="play N random matches (20)")
     command.add_argument("--seed", type=seed, default=1, metavar="S", help="the seed of the first match; each further one has the next (1)")
     text = "the seconds in which a description with variables is instantiated (60)"
-    command.add_argument("--instantiate", type=seconds, default=SECONDS, metavar="T", help=text)
+    command.add_argument("--instantiate", type=seconds, default=INSTANTIATING, metavar="T", help=text)
     text = "search for T seconds at most, and begin no turn after T seconds of matches (60)"
     command.add_argument("--seconds", type=seconds, default=60, metavar="T", help=text)
     return command

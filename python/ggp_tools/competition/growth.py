@@ -174,13 +174,7 @@ class Growing:
             self.add(replace(old, id=order.match, instead_of=old.id))
 
 
-def nothing_known(_: Match) -> None:
-    """The result of a match where no match has been played."""
-
-
-def grown(
-    history: History, competition: Competition, roles: Mapping[str, int], result_of: ResultOf = nothing_known, most: Until = None
-) -> Growing:
+def grown(history: History, competition: Competition, roles: Mapping[str, int], result_of: ResultOf, most: Until = None) -> Growing:
     """Returns the schedule that follows from a competition, its history and its results; of one by rounds no round that begins after so
     many matches."""
     growing, before = Growing(history, roles, result_of), None

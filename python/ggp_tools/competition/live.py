@@ -47,7 +47,7 @@ class Seen:
     room: str
     tail: Tail
     roles: int
-    strikes: int = 0
+    strikes: int
     # Numbers what is replaced, over all matches.
     numbers: Iterator[int] = field(default_factory=itertools.count)
     stage: str = ""

@@ -38,7 +38,7 @@ class LogLine:
     message: str
     answer: str
     milliseconds: int
-    time: str | None = None
+    time: str | None
 
     def moment(self) -> float | None:
         """Returns when the answer was there, in seconds, where the log says it."""

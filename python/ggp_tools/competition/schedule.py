@@ -128,15 +128,5 @@ def id_of(competition: Competition, number: int, width: int) -> str:
     return f"{competition.name}-{number:0{max(3, width)}}"
 
 
-def planned(competition: Competition, roles: Mapping[str, int]) -> list[Match]:
-    """Returns the matches of a competition that has not begun."""
-    games, found = {game.name: game for game in competition.games}, asked(competition, roles)
-    width = len(str(len(found)))
-    return [
-        Match(id_of(competition, number, width), name, games[name].start, games[name].play, players)
-        for number, (name, players) in enumerate(found, 1)
-    ]
-
-
 def schedule_text(matches: Iterable[Match]) -> bytes:
     return (HEAD + "".join(match.line() for match in matches)).encode("ascii")

@@ -22,8 +22,6 @@ FOLDER = pathlib.Path(__file__).resolve().parents[2]
 INSTANTIATE = [sys.executable, "-B", "-P", "-m", "ggp_tools.instantiating"]
 MOST_BYTES, MOST_BYTES_OF_LARGE = 1 << 20, 4 << 20
 SENTENCE = re.compile(r"sentence (\d+), ")
-# So many seconds a description gets to be instantiated, where no others are given.
-SECONDS = 60
 STOPPED = re.compile(r"ggp-instantiate: stopped after ")
 
 
@@ -142,7 +140,7 @@ def read_text(path: pathlib.Path, is_large: bool = False) -> bytes:
     return text
 
 
-def load_description(path: pathlib.Path, referee: Referee, tells_variables: bool, seconds: float = SECONDS) -> Rules:
+def load_description(path: pathlib.Path, referee: Referee, tells_variables: bool, seconds: float) -> Rules:
     """Returns the rules of the game that a file describes, with the text that its players get. If the file has no variables that is
     nothing beside the rules, whatever is asked for."""
     text = read_text(path, referee.is_large)

@@ -415,7 +415,7 @@ class Suspicions(NamedTuple):
     """What is suspicious, in lines, and why not all was looked at: nothing where all was."""
 
     lines: list
-    cut: str = ""
+    cut: str
 
 
 def suspicions(text: bytes, ground: bytes | None = None, seconds: float | None = math.inf) -> Suspicions:

@@ -255,9 +255,9 @@ class Lines:
 
     # ---- Bodies ----------------------------------------------------------------------------------
 
-    def body(self, place: int, conditions: Iterable[Condition], bound: Bound, finish: "Finish", depth: int = 0) -> None:
+    def body(self, place: int, conditions: Iterable[Condition], bound: Bound, finish: "Finish") -> None:
         """Meets all conditions, in the order that costs least, and finishes each way of it."""
-        left = list(conditions)
+        left, depth = list(conditions), 0
         while True:
             for test in sorted((condition for condition in left if is_test(condition, bound)), key=self.cost):
                 self.put(place, f"if not {self.test(test, bound)}: continue")
