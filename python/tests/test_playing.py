@@ -389,6 +389,22 @@ class Before(WithMatches):
         # Until that is put right nothing is set aside.
         self.assertEqual([file.name for file in records.iterdir()], ["cup-002.json"])
 
+    def test_a_record_by_which_a_later_round_was_paired_ends_it(self):
+        folder = self.plan.folder
+        folder.make(folder.accounts)
+        folder.record("cup-001").write_text("{}")
+        folder.account("cup-002").write_text("x")
+        room = self.room("cup-003")
+        self.plan.matches[0] = dataclasses.replace(self.plan.matches[0], round=1)
+        self.plan.rounds = ["the first", "the second"]
+        self.looked = ({match.id: "its result" for match in self.plan.matches[3:]}, {"cup-001": "not lawful: goals"}, {})
+        with self.assertRaises(Refused) as why:
+            playing.prepared(self.playing)
+        self.assertIn("cup-001 has no record that counts, and a later round was paired by it", str(why.exception))
+        # Until that is put right nothing is set aside, nobody is told anything, and nothing waits.
+        self.assertEqual([file.name for kind in (folder.records, folder.accounts) for file in kind.iterdir()], ["cup-001.json", "cup-002.txt"])
+        self.assertEqual((room.exists(), self.aborted, list(self.playing.waiting)), (True, [], []))
+
     def test_a_folder_that_can_not_be_written(self):
         with mock.patch.object(self.plan.folder, "make", side_effect=OSError(errno.EROFS, "x", "f")), self.assertRaises(Refused) as why:
             playing.prepared(self.playing)

@@ -213,6 +213,22 @@ class ByRounds(unittest.TestCase):
         self.assertEqual(self.pairs(plan)[1], ((("p3", "p1"), ("p2", "p0")), ()))
         self.assertEqual(self.read().matches, plan.matches)
 
+    def test_a_file_that_added_nothing_is_replaced_by_the_next(self):
+        form = 'kind = "round_robin"'
+        self.write(3, form)
+        self.play(self.make())
+        self.write(4, form)
+        self.play(self.make())
+        text = self.folder.competition.read_bytes()
+        self.write(4, form, step=-1)
+        self.assertEqual(self.make().matches, self.read().matches)
+        self.write(5, form)
+        plan = self.make()
+        self.assertEqual((len(plan.matches), plan.known), (20, 12))
+        self.assertEqual(sorted(file.name for file in self.folder.earlier.iterdir()), ["12.toml", "6.toml"])
+        self.assertEqual((self.folder.earlier / "12.toml").read_bytes(), text)
+        self.assertEqual(self.read().matches, plan.matches)
+
     def broken_off(self, form):
         """Begins a competition in a folder of its own, in which an order to play a match again was broken off before the schedule was
         written. Returns its plan from before, and the id of the match that was ordered."""
