@@ -372,6 +372,21 @@ class Before(WithMatches):
         ])
         self.assertEqual(sorted(file.name for kind in (folder.records, folder.accounts, folder.logs) for file in kind.iterdir()), ["cup-001.json.refused", "cup-002.txt.refused", "cup-003.txt"])
 
+    def test_what_another_was_ordered_for_is_not_played_again(self):
+        folder = self.plan.folder
+        folder.make(folder.accounts)
+        self.plan.matches[:] = [dataclasses.replace(match, again=f"cup-02{at}") for at, match in enumerate(self.plan.matches)]
+        folder.record("cup-001").write_text("{}")
+        folder.account("cup-002").write_text("x")
+        results = {match.id: "its result" for match in self.plan.matches[2:]}
+        self.looked = (results, {"cup-001": "not lawful: goals"}, {})
+        self.assertEqual(playing.play(self.playing), {f"cup-00{at + 1}": f"its record does not count, and cup-02{at} stays in its place" for at in range(2)})
+        self.assertEqual(self.reporter.lines, [
+            "refused cup-001: not lawful: goals; its files are set aside, and cup-020 stays in its place",
+            "aside cup-002: it has no record; its other files are set aside, and cup-021 stays in its place",
+        ])
+        self.assertEqual((Standing.begun, self.playing.results), ([], results))
+
     def test_records_that_are_not_of_this_plan_end_it(self):
         records = self.plan.folder.records
         for name, more in (("x.json", ""), ("y.json", ", and 1 more")):
