@@ -3,6 +3,7 @@
 import contextlib
 import unittest
 from collections import Counter
+from dataclasses import replace
 from unittest import mock
 
 from ggp_tools.competition.competition_file import Mistaken, read_competition
@@ -130,8 +131,25 @@ class Growth(unittest.TestCase):
     def test_what_the_schedule_does_not_follow_from_is_free(self):
         one, other = competition(3), competition(3, head="wait = 3\nforfeit = true\nhosts = [\"one\"]")
         self.assertEqual(shape(one), shape(other))
-        self.assertNotEqual(shape(one), shape(competition(3, 2)))
 
+    def test_all_that_the_schedule_follows_from_is_of_its_shape(self):
+        lines = 'kind = "schedule"\nlines = [{}]'
+        gauntlet = 'kind = "gauntlet"\none = "{}"'
+        one = competition(3)
+        for before, after in (
+            (one, competition(3, 2)),
+            (one, competition(4)),
+            (one, replace(one, players=one.players[::-1])),
+            (one, replace(one, games=one.games[::-1])),
+            (one, replace(one, name="other")),
+            (one, competition(3, head="start = 7")),
+            (one, competition(3, head="play = 7")),
+            (one, competition(3, form=gauntlet.format("p0"))),
+            (competition(3, form=gauntlet.format("p0")), competition(3, form=gauntlet.format("p1"))),
+            (competition(3, form=lines.format('"two p0 p1", "one p2"')), competition(3, form=lines.format('"one p2", "two p0 p1"'))),
+        ):
+            self.assertNotEqual(shape(before), shape(after))
+            self.assertNotEqual(planned(before, ROLES), planned(after, ROLES))
 
     def test_ids_keep_the_width_of_the_first_file(self):
         for files, wanted in (([(1_000, 1)], ["cup-0001", "cup-0002", "cup-0003", "cup-1000"]), ([(2, 1), (1_000, 2)], ["cup-001", "cup-002", "cup-003", "cup-2000"])):

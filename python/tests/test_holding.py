@@ -85,6 +85,15 @@ class Words(unittest.TestCase):
             record = {"roles": roles, "states": [["s"], ["(did a go)", "(did b stay)"]], "moves": [moves], "errors": [["", ""]], "goalValues": [], "phase": "playing", "cause": None}
             self.assertIsNone(differs(Game(text), record), roles)
 
+    def test_each_record_has_its_own_order_of_roles(self):
+        rules = "(player a) (player b) (<= (role ?x) (player ?x)) (legal a go) (legal b stay) (init s) (<= (next (did ?r ?m)) (does ?r ?m))"
+        holding = Holding(f"{rules} (<= terminal (true (did a go))) (goal a 70) (goal b 30)")
+        one, other, none = (["a", "b"], ["go", "stay"], [70, 30]), (["b", "a"], ["stay", "go"], [30, 70]), (["a", "c"], ["go", "stay"], [70, 30])
+        for roles, moves, goals in (one, other, one, other, none, one, none, other):
+            record = {"roles": roles, "states": [["s"], ["(did a go)", "(did b stay)"]], "moves": [moves], "errors": [["", ""]], "goalValues": goals, "phase": "finished"}
+            words = "differs: the roles are a b by the description, and a c in the record" if "c" in roles else "the same: 1 turns"
+            self.assertEqual(holding.held(json.dumps(record))[1], words)
+
     def test_of_the_moves_of_one_sentence_the_least_number_is_the_first(self):
         game = Game("(role r) (n 2) (n 10) (<= (legal r (go ?x)) (n ?x)) (init s) (<= (next s) (true s)) (<= terminal (true t))")
         record = {"roles": ["r"], "states": [["s"], ["s"]], "moves": [["(go 2)"]], "errors": [["TO"]], "goalValues": [], "phase": "playing", "cause": None}

@@ -122,6 +122,18 @@ class Kept(unittest.TestCase):
             for file, word in ((self.folder.account("cup-0"), "account"), (self.folder.log("cup-0"), "log")):
                 self.assertEqual((file.exists(), file.with_name(f"{file.name}.{ending}").read_text()), (False, f"{word} {at}"))
 
+    def test_the_files_of_each_try_have_an_ending_of_their_own(self):
+        self.folder.make(self.folder.logs)
+        tries = ("log", "account"), ("record", "account"), ("record",), ("record", "account", "log")
+        places = {"record": self.folder.record("cup-0"), "account": self.folder.account("cup-0"), "log": self.folder.log("cup-0")}
+        for at, words in enumerate(tries):
+            for word in words:
+                places[word].write_text(f"{word} {at}")
+            set_aside(self.plan, "cup-0")
+        found = {(word, file.suffix): file.read_text() for word, place in places.items() for file in place.parent.iterdir()}
+        wanted = {(word, f".{at + 1}" if at else ".refused"): f"{word} {at}" for at, words in enumerate(tries) for word in words}
+        self.assertEqual(found, wanted)
+
     def test_where_setting_aside_is_broken_off_nothing_is_lost(self):
         self.folder.make(self.folder.logs)
         for stop in range(3):

@@ -97,6 +97,15 @@ class Values(InCache):
             one.write()
         self.assertIsNone(Known(self.folder).get("lines", "a"))
 
+    def test_what_was_not_looked_at_lately_goes_first(self):
+        for number in range(4):
+            one = Known(self.folder / str(number))
+            one.put("lines", "a", number)
+            with mock.patch.object(known, "MOST_KEPT", 2):
+                one.write()
+            os.utime(self.cache / one.name, (1000 + number, 1000 + number))
+        self.assertEqual([Known(self.folder / str(number)).get("lines", "a") for number in range(4)], [None, None, 2, 3])
+
     def test_a_result_as_values(self):
         match = plan_in(str(self.folder), ["ann", "bob"]).matches[0]
         record = record_of(match, [["noop", "noop"]] * 2, [["TO", ""], ["IL x", ""]], [0, 100]) | {"strikes": 2}

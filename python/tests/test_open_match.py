@@ -266,6 +266,12 @@ class Asking(WithMatch):
         self.seats.failed.update(ann=1, bob=1)
         self.asked(READY, NO_ANSWER)
         self.assertEqual((self.seats.failed, self.open.why), ({"ann": 0, "bob": 2}, "bob is silent"))
+        # Also where nobody is missed, and where it is played without who is.
+        for bob, failed in ((READY, 0), (NO_ANSWER, 2)):
+            self.begin('tries = 2\nabsent = "play"\n')
+            self.seats.failed.update(ann=1, bob=1)
+            self.assertEqual(self.asked(READY, bob)[0], True)
+            self.assertEqual(self.seats.failed, {"ann": 0, "bob": failed})
 
     def test_without_who_is_absent_it_is_played_where_that_is_wanted(self):
         head = 'tries = 1\nabsent = "play"\n'

@@ -449,6 +449,21 @@ class Before(WithMatches):
         ])
         self.assertEqual(sorted(file.name for kind in (folder.records, folder.accounts, folder.logs) for file in kind.iterdir()), ["cup-001.json.refused", "cup-002.txt.refused", "cup-003.txt"])
 
+    def test_what_another_was_ordered_for_is_not_played_again(self):
+        folder = self.plan.folder
+        folder.make(folder.accounts)
+        self.plan.matches[:] = [dataclasses.replace(match, again=f"cup-02{at}") for at, match in enumerate(self.plan.matches)]
+        folder.record("cup-001").write_text("{}")
+        folder.account("cup-002").write_text("x")
+        results = {match.id: "its result" for match in self.plan.matches[2:]}
+        self.looked = (results, {"cup-001": "not lawful: goals"}, {})
+        self.assertEqual(playing.play(self.playing), {f"cup-00{at + 1}": f"its record does not count, and cup-02{at} stays in its place" for at in range(2)})
+        self.assertEqual(self.reporter.lines, [
+            "refused cup-001: not lawful: goals; its files are set aside, and cup-020 stays in its place",
+            "aside cup-002: it has no record; its other files are set aside, and cup-021 stays in its place",
+        ])
+        self.assertEqual((Standing.begun, self.playing.results), ([], results))
+
     def test_records_that_are_not_of_this_plan_end_it(self):
         records = self.plan.folder.records
         for name, more in (("x.json", ""), ("y.json", ", and 1 more")):
@@ -465,6 +480,22 @@ class Before(WithMatches):
         self.assertEqual(str(why.exception), f"{records}/cup-001.json is lawful, and of another match: its matchId is 'x'")
         # Until that is put right nothing is set aside.
         self.assertEqual([file.name for file in records.iterdir()], ["cup-002.json"])
+
+    def test_a_record_by_which_a_later_round_was_paired_ends_it(self):
+        folder = self.plan.folder
+        folder.make(folder.accounts)
+        folder.record("cup-001").write_text("{}")
+        folder.account("cup-002").write_text("x")
+        room = self.room("cup-003")
+        self.plan.matches[0] = dataclasses.replace(self.plan.matches[0], round=1)
+        self.plan.rounds = ["the first", "the second"]
+        self.looked = ({match.id: "its result" for match in self.plan.matches[3:]}, {"cup-001": "not lawful: goals"}, {})
+        with self.assertRaises(Refused) as why:
+            playing.prepared(self.playing)
+        self.assertIn("cup-001 has no record that counts, and a later round was paired by it", str(why.exception))
+        # Until that is put right nothing is set aside, nobody is told anything, and nothing waits.
+        self.assertEqual([file.name for kind in (folder.records, folder.accounts) for file in kind.iterdir()], ["cup-001.json", "cup-002.txt"])
+        self.assertEqual((room.exists(), self.aborted, list(self.playing.waiting)), (True, [], []))
 
     def test_a_folder_that_can_not_be_written(self):
         with mock.patch.object(self.plan.folder, "make", side_effect=OSError(errno.EROFS, "x", "f")), self.assertRaises(Refused) as why:

@@ -12,6 +12,8 @@ from unittest import mock
 from ggp_tools.competition.again import order_again
 from ggp_tools.competition.competition_file import Mistaken, read_competition
 from ggp_tools.competition.files import Folder, Refused
+from ggp_tools.competition.growth import Again
+from ggp_tools.competition.history import again_text
 from ggp_tools.competition.kept import result_in_file
 from ggp_tools.competition.pages import Site
 from ggp_tools.competition.plan import grows, make_plan, plan_next_round, read_plan, refuse_lost_results, round_words, rounds_left, sums_text
@@ -45,8 +47,8 @@ class ByRounds(unittest.TestCase):
         (self.folder.path / "game.kif").write_text("(role a)\n(role b)\n")
         self.folder.make(self.folder.records)
 
-    def write(self, count, form, head=""):
-        text = toml([(f"p{at}", f"h:{at + 1}") for at in range(count)], [("game", "game.kif", "aborts = true")], form, head)
+    def write(self, count, form, head="", step=1):
+        text = toml([(f"p{at}", f"h:{at + 1}") for at in range(count)[::step]], [("game", "game.kif", "aborts = true")], form, head)
         self.folder.competition.write_text(text)
 
     def make(self):
@@ -197,6 +199,65 @@ class ByRounds(unittest.TestCase):
         self.play(self.make())
         self.write(4, 'kind = "knockout"')
         self.assert_refused("the number of players was 3 and is 4", self.make)
+
+    def test_players_may_stand_in_another_order(self):
+        self.write(4, SWISS.format(2))
+        first = self.make().matches
+        self.play(self.read(), lambda _: [50, 50])
+        self.write(4, SWISS.format(2), step=-1)
+        self.assert_refused("schedule.tsv is not what")
+        plan = self.make()
+        self.assertEqual(([file.name for file in self.folder.earlier.iterdir()], plan.matches), (["4.toml"], first))
+        # All have the same points, so the order of the file decides.
+        plan_next_round(plan, self.play(plan, lambda _: [50, 50]))
+        self.assertEqual(self.pairs(plan)[1], ((("p3", "p1"), ("p2", "p0")), ()))
+        self.assertEqual(self.read().matches, plan.matches)
+
+    def test_a_file_that_added_nothing_is_replaced_by_the_next(self):
+        form = 'kind = "round_robin"'
+        self.write(3, form)
+        self.play(self.make())
+        self.write(4, form)
+        self.play(self.make())
+        text = self.folder.competition.read_bytes()
+        self.write(4, form, step=-1)
+        self.assertEqual(self.make().matches, self.read().matches)
+        self.write(5, form)
+        plan = self.make()
+        self.assertEqual((len(plan.matches), plan.known), (20, 12))
+        self.assertEqual(sorted(file.name for file in self.folder.earlier.iterdir()), ["12.toml", "6.toml"])
+        self.assertEqual((self.folder.earlier / "12.toml").read_bytes(), text)
+        self.assertEqual(self.read().matches, plan.matches)
+
+    def broken_off(self, form):
+        """Begins a competition in a folder of its own, in which an order to play a match again was broken off before the schedule was
+        written. Returns its plan from before, and the id of the match that was ordered."""
+        self.setUp()
+        self.write(4, form)
+        self.play(plan := self.make())
+        self.folder.again.write_bytes(again_text((Again(plan.next_id(), "cup-001", "late"),)))
+        return plan, plan.next_id()
+
+    def test_an_order_that_was_broken_off_is_made_up_for(self):
+        for form in (SWISS.format(2), 'kind = "knockout"', 'kind = "round_robin"'):
+            with self.subTest(form):
+                before, new = self.broken_off(form)
+                self.assert_refused("schedule.tsv is not what")
+                plan = self.make()
+                self.assertEqual((plan.known, plan.matches[1:-1]), (len(before.matches), before.matches[1:]))
+                self.assertEqual([(match.id, match.instead_of) for match in plan.matches[-1:]], [(new, "cup-001")])
+                self.assertEqual((self.read().matches, self.make().matches), (plan.matches, plan.matches))
+
+    def test_it_grows_where_the_schedule_is_missing(self):
+        for form in (SWISS.format(2), 'kind = "round_robin"'):
+            with self.subTest(form):
+                before, new = self.broken_off(form)
+                self.folder.schedule.unlink()
+                self.write(5, form)
+                plan = self.make()
+                self.assertEqual([file.name for file in self.folder.earlier.iterdir()], [f"{len(before.matches) + 1}.toml"])
+                self.assertEqual((plan.matches[len(before.matches)].id, plan.matches[len(before.matches)].instead_of), (new, "cup-001"))
+                self.assertEqual((self.read().matches, self.make().matches), (plan.matches, plan.matches))
 
     def test_a_match_may_be_ordered_again_once_a_player_was_added(self):
         self.write(4, SWISS.format(2))

@@ -62,6 +62,17 @@ class Ways(unittest.TestCase):
         # One way of the other does not bind it: it stays as it is, and is written out.
         self.assertEqual([body for head, body in found if head[0] == "h"], [(true(("either1", "?x")), true(("q", "?x"))), (true(("either1", "?x")), true(("r", "a")))])
 
+    def test_a_variable_of_one_way_alone_stays_that_of_the_sentence(self):
+        part = " ".join(f"(p {at} ?x)" for at in range(51))
+        for ways, heads in (
+            (["(q ?x)", "(r ?x ?y)"], {("h", "?x"), ("either1", "?x")}), (["(r ?x ?y)", "(q ?x)"], {("h", "?x"), ("either1", "?x")}),
+            (["(r ?y ?x)", "(r ?x ?y)"], {("h", "?x"), ("either1", "?x"), ("either2", "?y", "?x")}),
+        ):
+            found = rules(f"(<= (h ?x) (or {part}) (or {' '.join(ways)}) (s ?y))")
+            self.assertEqual({head for head, _ in found}, heads)
+            own = [[true(("either2", "?y", "?x"))]] if len(heads) == 3 else [[true(way)] for way in expressions(" ".join(ways))]
+            self.assertEqual([body for head, body in found if head[0] == "h"], [(true(("either1", "?x")), *way, true(("s", "?y"))) for way in own])
+
     def test_their_names_are_none_that_the_description_has(self):
         many = " ".join(f"(true {at})" for at in range(101))
         self.assertEqual({head for head, _ in rules(f"(<= h (or {many})) (either7 a)")}, {"either-1", "h", ("either7", "a")})

@@ -1,5 +1,6 @@
 """The table: against a plain recount of random results, and in the cases that its words name."""
 
+import csv
 import json
 import random
 import unittest
@@ -14,7 +15,7 @@ from ggp_tools.competition.results import Result, Retirement, result_of, times_o
 from ggp_tools.competition.rounds import Round
 from ggp_tools.competition.schedule import Match
 from ggp_tools.competition.table import Line, Table, tables_of
-from ggp_tools.competition.table_text import crosstable_rows, notes, rating_text, standings_rows, table_files
+from ggp_tools.competition.table_text import HEADS, crosstable_rows, csv_text, fields, notes, rating_text, standings_rows, table_files
 from tests.support import toml
 
 NAMES = ["ann", "bob", "cid", "dan"]
@@ -224,6 +225,12 @@ class Tables(unittest.TestCase):
         for rating, said in ((-0.4, "0 +- 118"), (0.4, "0 +- 118"), (-0.6, "-1 +- 118"), (-118.5, "-118 +- 118")):
             lines = {"ann": Line("ann", matches=1, rating=Rating(rating, 118.2, 1))}
             self.assertEqual(rating_text(Table("two", lines), lines["ann"]), said)
+
+    def test_a_rating_next_to_nothing_has_no_sign_in_a_file(self):
+        for rating, said in ((-0.04, "0.0"), (-0.0, "0.0"), (0.04, "0.0"), (-0.06, "-0.1")):
+            line = Line("ann", matches=1, rating=Rating(rating, 118.24, 1))
+            text, row = csv_text([Table("two", {"ann": line})]), dict(zip(HEADS, fields(line)))
+            self.assertEqual([json.dumps(row["rating"]), *(cells[key] for cells in csv.DictReader(text.splitlines()) for key in ("rating", "half"))], [said, said, "118.2"])
 
     def test_a_rating_that_is_not_settled_is_told(self):
         results = [result(names, goals) for names in (NAMES[:2], NAMES[1:3], NAMES[2:]) for goals in ([100, 0], [100, 0], [0, 100])]

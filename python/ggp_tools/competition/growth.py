@@ -118,12 +118,12 @@ class Growing:
         self.again = {order.match: order for order in history.again}
         self.rounds = Rounds()
 
-    def take(self, before: Competition | None, competition: Competition, until: Until) -> None:
-        """Plans what a file adds, up to so many matches, and what was ordered again until then."""
+    def take(self, before: Competition | None, competition: Competition, until: Until, most: Until) -> None:
+        """Plans what a file adds, and what was ordered again up to so many matches. No round begins after the most matches."""
         if is_by_rounds(competition):
             refuse_numbers(competition, self.roles)
             self.add_again(competition, until)
-            while (until is None or len(self.matches) < until) and (found := self.next_round(competition)):
+            while (most is None or len(self.matches) < most) and (found := self.next_round(competition)):
                 self.add_all(competition, meetings(competition, found), found.number)
                 self.add_again(competition, until)
             return
@@ -181,7 +181,7 @@ def grown(history: History, competition: Competition, roles: Mapping[str, int], 
     for until, version in (*history.earlier, (None, competition)):
         if before is not None:
             refuse_changes(before, version)
-        growing.take(before, version, until if until is not None else most if is_by_rounds(version) else None)
+        growing.take(before, version, until, most if until is None else until)
         if until is not None and len(growing.matches) != until:
             raise Misfit(f"{len(growing.matches)} matches were planned when earlier/{until}.toml was replaced, and not {until}")
         before = version

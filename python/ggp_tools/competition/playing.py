@@ -250,6 +250,23 @@ def clear_open_rooms(playing: Playing) -> None:
     abort_matches(playing.referee, places, playing.plan.folder, playing.reporter)
 
 
+def follows(again: str, words: str) -> str:
+    """Returns what becomes of a match whose files do not count: one in whose place another was ordered is not played any more."""
+    return f"{again} stays in its place" if again else words
+
+
+def set_all_aside(playing: Playing, faults: dict[str, str]) -> None:
+    """Sets aside the files that do not count, by what is wrong with the records, and says what becomes of each match."""
+    plan, reporter = playing.plan, playing.reporter
+    again = {planned.id: planned.again for planned in plan.matches}
+    for match, why in faults.items():
+        reporter.line(f"refused {match}: {why}; its files are set aside, and {follows(again[match], 'it is played again')}")
+        set_aside(plan, match)
+    for match in again:
+        if match not in playing.results and match not in faults and set_aside(plan, match):
+            reporter.line(f"aside {match}: it has no record; its other files are set aside, and {follows(again[match], 'it is played')}")
+
+
 def prepared(playing: Playing) -> None:
     """Looks at what is there already, frees players of matches that were lost, and lets the others wait."""
     plan, folder, reporter = playing.plan, playing.plan.folder, playing.reporter
@@ -271,12 +288,7 @@ def prepared(playing: Playing) -> None:
     refuse_lost_results(plan, playing.results)
     for match, why in misfits.items():
         raise Refused(f"{folder.record(match)} is lawful, and of another match: {why}")
-    for match, why in faults.items():
-        reporter.line(f"refused {match}: {why}; its files are set aside, and it is played again")
-        set_aside(plan, match)
-    for planned in plan.matches:
-        if planned.id not in playing.results and planned.id not in faults and set_aside(plan, planned.id):
-            reporter.line(f"aside {planned.id}: it has no record; its other files are set aside, and it is played")
+    set_all_aside(playing, faults)
     clear_open_rooms(playing)
     for planned in plan.matches:
         if planned.id not in playing.results and not planned.again:
@@ -317,8 +329,13 @@ def play(playing: Playing) -> dict[str, str]:
             playing.reporter.line(round_words(playing.plan, matches))
             playing.add(matches)
             playing.go()
-    missing = dict.fromkeys((planned.id for planned in playing.plan.matches if planned.id not in playing.results), NOT_BEGUN)
-    return {match: playing.left.get(match, why) for match, why in missing.items()}
+    missing = [planned for planned in playing.plan.matches if planned.id not in playing.results]
+    return {planned.id: playing.left.get(planned.id) or why_missing(planned) for planned in missing}
+
+
+def why_missing(match: Match) -> str:
+    """Returns why a match has no record that was never open."""
+    return f"its record does not count, and {match.again} stays in its place" if match.again else NOT_BEGUN
 
 
 def said_of_missing(missing: dict[str, str]) -> Iterator[str]:
