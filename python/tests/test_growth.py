@@ -128,6 +128,9 @@ class Growth(unittest.TestCase):
                     refused.enter_context(self.assertRaises(Mistaken))
                 self.grown(*versions, again=again)
 
+    def test_matches_of_a_form_without_rounds_are_of_none(self):
+        self.assertEqual({match.round for match in planned(competition(3), ROLES)}, {0})
+
     def test_what_the_schedule_does_not_follow_from_is_free(self):
         one, other = competition(3), competition(3, head="wait = 3\nforfeit = true\nhosts = [\"one\"]")
         self.assertEqual(shape(one), shape(other))
