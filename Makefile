@@ -13,7 +13,7 @@ help:
 	@echo 'make play            a match of tic-tac-toe that you play in a browser, against a player on this computer'
 	@echo 'make season          the matches of a schedule over HTTP on this computer, and their account made again'
 	@echo 'make games           a match over HTTP of each game of examples/games/general, instantiated by gringo'
-	@echo 'make competition     the tests of competitions: one of 192 matches is killed twice, and goes on'
+	@echo 'make competition     the Python tests. A competition of 192 matches is killed twice, and goes on'
 	@echo 'make build           proves the program and leaves it at $(PROGRAM), beside it what proved it'
 	@echo 'make install         puts the proved program and the commands of python/ into $(PREFIX)/bin (PREFIX=DIR: into DIR/bin), with pages of the manual; as root: sudo env "PATH=$$PATH" make install'
 	@echo 'make uninstall       takes away what make install has put there'
@@ -46,7 +46,7 @@ games: needs
 	@program=$$(tools/program) && tools/games "$$program"
 
 competition: needs
-	@program=$$(tools/program) && python/tests/run "$$program"
+	@program=$$(tools/program) && /usr/bin/python3 -m pytest -n 2 --program "$$program" tests/python
 
 build: needs
 	@tools/build

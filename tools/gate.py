@@ -19,8 +19,9 @@ from volume import fault_of, keep_volumes, read_budget, source_sums, table, volu
 Look = list[str]
 # Where `rt ci` leaves the program, once it is proved.
 PROVED = f"{TOP}/crates/{PROGRAM}/out/{PROGRAM}"
+PYTEST = ["/usr/bin/python3", "-m", "pytest", "-q", "--no-skips"]
 LOOKS: list[Look] = [
-    ["tools/unit-tests", "tests of the tools", "--below", "tools/tests"],
+    [*PYTEST, "tests/python/tools"],
     ["tools/format"],
     ["tools/links"],
     ["tools/version"],
@@ -63,7 +64,7 @@ def quick_looks_of(program: str) -> list[Look]:
 def looks_of(program: str) -> list[Look]:
     """Returns the looks that run the proved program."""
     seasons = [[f"drivers/season-{season}", program] for season in SEASONS]
-    competitions = [["tools/readme", program, "docs/COMPETITION.md"], ["python/tests/run", program]]
+    competitions = [["tools/readme", program, "docs/COMPETITION.md"], [*PYTEST, "-n", "2", "--program", program, "tests/python", "--ignore=tests/python/tools"]]
     games = [["drivers/instances", program], ["oracles/compare", program, "--matches", "2", "--tries", "2", *FEW]]
     records = [["tools/readme", program, "examples/records/README.md"], ["tools/readme", program, "docs/LIBRARY.md"]]
     records += [["oracles/records.py", "--program", program], ["drivers/records-in-pieces", program]]
