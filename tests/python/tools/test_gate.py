@@ -105,7 +105,7 @@ class Gate(unittest.TestCase):
 
     def test_each_look_is_there(self):
         for look in [*LOOKS, *looks_of("PROGRAM"), *gate.looks_beside()]:
-            self.assertTrue(look[0] == "python3" or os.access(f"{TOP}/{look[0]}", os.X_OK), look)
+            self.assertTrue(look[0] == "python3" or os.access(os.path.join(TOP, look[0]), os.X_OK), look)
 
     def test_the_last_line_of_the_kit_is_held_back(self):
         beside, said, tally = unittest.mock.Mock(), [], Tally()
