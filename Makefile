@@ -40,7 +40,7 @@ play: needs
 	@program=$$(tools/program) && examples/play-yourself "$$program" examples/games/tictactoe.kif
 
 season: needs
-	@program=$$(tools/program) && drivers/season-small "$$program" && drivers/season-crowd "$$program"
+	@program=$$(tools/program) && tests/program/season-small "$$program" && tests/program/season-crowd "$$program"
 
 games: needs
 	@program=$$(tools/program) && tools/games "$$program"

@@ -15,7 +15,7 @@ import pathlib
 import sys
 from functools import lru_cache
 
-GAMES = pathlib.Path(__file__).resolve().parent.parent / "examples/games"
+GAMES = pathlib.Path(__file__).resolve().parents[2] / "examples/games"
 
 
 def expressions(text):
@@ -240,7 +240,7 @@ def check():
     files = sorted(GAMES.glob("*.kif"))
     for rules in files:
         if rules.with_suffix(".out").read_text() != output(rules.read_text(), rules.with_suffix(".script").read_text()):
-            sys.exit(f"{rules.stem}.out is not what it must be: run ../../oracles/ground_games.py {rules.stem} in examples/games")
+            sys.exit(f"{rules.stem}.out is not what it must be: run ../../tests/oracle/ground_games.py {rules.stem} in examples/games")
     if not files:
         sys.exit("there is no game")
 

@@ -19,7 +19,7 @@ import re
 import subprocess
 import sys
 
-TOP = pathlib.Path(__file__).resolve().parent.parent
+TOP = pathlib.Path(__file__).resolve().parents[2]
 RECORDS, UNIT_TESTS = TOP / "examples/records", TOP / "tests/unit/record_tests/src"
 ROLES = ["red", "blue"]
 KEYS = (
@@ -316,7 +316,7 @@ def random_records(seed, matches, changes):
 
 
 def table(head, name, rows):
-    text = f"//! {head} Written by `oracles/records.py`.\n\n"
+    text = f"//! {head} Written by `tests/oracle/records.py`.\n\n"
     text += "/// The heap of Countdown, a record, and what its check says.\n"
     text += f"pub const {name}: [(u8, &str, &str); {len(rows)}] = [\n"
     for heap, record, said in rows:
@@ -360,7 +360,7 @@ def main():
         if not given.check:
             path.write_text(text)
         elif not path.exists() or path.read_text() != text:
-            sys.exit(f"{path.name} is not what it must be: run oracles/records.py")
+            sys.exit(f"{path.name} is not what it must be: run tests/oracle/records.py")
 
 
 if __name__ == "__main__":
