@@ -26,9 +26,9 @@ LOOKS: list[Look] = [
     ["tools/version"],
     ["tools/tables", "--check"],
     ["examples/games/tictactoe.py", "--check"],
-    ["oracles/ground_games.py", "--check"],
-    ["drivers/embed-games", "--check"],
-    ["oracles/records.py", "--check"],
+    ["tests/oracle/ground_games.py", "--check"],
+    ["tests/program/embed-games", "--check"],
+    ["tests/oracle/records.py", "--check"],
     ["tools/manual", "--check"],
     ["tools/edits", "--applies"],
     ["tools/edits", "--count"],
@@ -62,19 +62,19 @@ def quick_looks_of(program: str) -> list[Look]:
 
 def looks_of(program: str) -> list[Look]:
     """Returns the looks that run the proved program."""
-    seasons = [[f"drivers/season-{season}", program] for season in SEASONS]
+    seasons = [[f"tests/program/season-{season}", program] for season in SEASONS]
     competitions = [["tools/readme", program, "docs/COMPETITION.md"], ["python/tests/run", program]]
-    games = [["drivers/instances", program], ["oracles/compare", program, "--matches", "2", "--tries", "2", *FEW]]
+    games = [["tests/program/instances", program], ["tests/oracle/compare", program, "--matches", "2", "--tries", "2", *FEW]]
     records = [["tools/readme", program, "examples/records/README.md"], ["tools/readme", program, "docs/LIBRARY.md"]]
-    records += [["oracles/records.py", "--program", program], ["drivers/records-in-pieces", program]]
-    faulty = [[f"drivers/{kind}", program] for kind in ("faults-compare", "faults-each", "limits", "faults-damage")]
+    records += [["tests/oracle/records.py", "--program", program], ["tests/program/records-in-pieces", program]]
+    faulty = [[f"tests/program/{kind}", program] for kind in ("faults-compare", "faults-each", "limits", "faults-damage")]
     archive = [["tools/empty-root", program]]
     return [["tools/played", program], *quick_looks_of(program), *seasons, *competitions, *games, *records, *faulty, *archive]
 
 
 def looks_beside() -> list[Look]:
     """Returns the looks beside the proofs. They take half of the processors at most, and the proofs the others, until they need all."""
-    return [["tools/memory"], ["tools/trials", "--at-once", f"{max(1, processors() // 2)}"]]
+    return [["tools/memory"], ["tools/unit", "--at-once", f"{max(1, processors() // 2)}"]]
 
 
 # ---- what is printed

@@ -13,7 +13,7 @@ import unittest
 
 TOP = pathlib.Path(__file__).resolve().parents[2]
 # What stands outside of the package, and shares nothing with it: the oracles, and the example players.
-OUTSIDE = [str(TOP / "oracles"), str(TOP / "examples/players")]
+OUTSIDE = [str(TOP / "tests/oracle"), str(TOP / "examples/players")]
 
 # What is instantiated in a test is kept for this run of the tests alone.
 CACHE = tempfile.TemporaryDirectory()

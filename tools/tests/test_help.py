@@ -7,7 +7,7 @@ import unittest
 
 from crates import TOP
 
-FOLDERS = (".ci", "bench", "drivers", "examples", "oracles", "python", "tools")
+FOLDERS = (".ci", "bench", "tests/program", "examples", "tests/oracle", "python", "tools")
 # What reads the words of a command line, and prints its help.
 READERS = ("ArgumentParser(", "arguments(__doc__", "program_of(__doc__)", "reader(__doc__)", "words_with_program(__doc__)")
 # These hand their words on to modules of `ggp_tools`.

@@ -1,4 +1,4 @@
-"""The interpreter of `oracles`: what is true by rules with variables, also by those that go round."""
+"""The interpreter of `tests/oracle`: what is true by rules with variables, also by those that go round."""
 import time
 import unittest
 
