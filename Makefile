@@ -2,10 +2,10 @@
 
 PREFIX := /usr/local
 PROGRAM := bin/ggp_manager
-# The words behind `edits`, `trials` and `check`.
-NAMED := $(if $(filter edits trials check,$(firstword $(MAKECMDGOALS))),$(wordlist 2,$(words $(MAKECMDGOALS)),$(MAKECMDGOALS)))
+# The words behind `edits`, `unit` and `check`.
+NAMED := $(if $(filter edits unit check,$(firstword $(MAKECMDGOALS))),$(wordlist 2,$(words $(MAKECMDGOALS)),$(MAKECMDGOALS)))
 
-.PHONY: help needs demo match play season games competition build install uninstall dist looks trials check edits memory budget test $(NAMED)
+.PHONY: help needs demo match play season games competition build install uninstall dist looks unit check edits memory budget test $(NAMED)
 
 help:
 	@echo 'make demo            a match of Countdown through the program, line by line'
@@ -19,7 +19,7 @@ help:
 	@echo 'make uninstall       takes away what make install has put there'
 	@echo 'make dist            an archive of the proved program, with examples and documents, for computers without the kit'
 	@echo 'make looks           what takes seconds: documents, constants, layout, edits, the tests of the tools, the commands of README.md'
-	@echo 'make trials [NAME..] compiles the tests (all, or those of the named crates) and runs them; NAME TEST: those of a crate whose names contain TEST'
+	@echo 'make unit [NAME..] compiles the tests (all, or those of the named crates) and runs them; NAME TEST: those of a crate whose names contain TEST'
 	@echo 'make check [NAME..]  proves every crate (or those named, with what they stand on); what has not changed is not proved again'
 	@echo 'make edits [NAME..]  tries the wrong edits of the crates (all, or those named): the prover must refuse each; LEFT=1: only says which were not tried on this text'
 	@echo 'make memory          has each allocation of the calls, and of a match, refused in turn, and looks at what is left'
@@ -63,8 +63,8 @@ dist: build
 looks: needs
 	@.ci/gate --looks
 
-trials: needs
-	@tools/trials $(NAMED)
+unit: needs
+	@tools/unit $(NAMED)
 
 check: needs
 	@tools/check $(NAMED)

@@ -74,7 +74,7 @@ def looks_of(program: str) -> list[Look]:
 
 def looks_beside() -> list[Look]:
     """Returns the looks beside the proofs. They take half of the processors at most, and the proofs the others, until they need all."""
-    return [["tools/memory"], ["tools/trials", "--at-once", f"{max(1, processors() // 2)}"]]
+    return [["tools/memory"], ["tools/unit", "--at-once", f"{max(1, processors() // 2)}"]]
 
 
 # ---- what is printed

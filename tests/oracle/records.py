@@ -20,7 +20,7 @@ import subprocess
 import sys
 
 TOP = pathlib.Path(__file__).resolve().parents[2]
-RECORDS, TRIALS = TOP / "examples/records", TOP / "trials/record_trials/src"
+RECORDS, UNIT_TESTS = TOP / "examples/records", TOP / "tests/unit/record_tests/src"
 ROLES = ["red", "blue"]
 KEYS = (
     "cause endMarks errors goalValues matchId moves phase playClock players roles startClock startMarks states strikes version"
@@ -331,9 +331,9 @@ def files():
         heap, text = int(path.stem.split("-")[1]), path.read_text().removesuffix("\n")
         rows.append((heap, text, word(heap, text)))
         yield path.with_suffix(".word"), rows[-1][2] + "\n"
-    yield TRIALS / "example_records.rt.trial", table("The example records.", "EXAMPLE_RECORDS", rows)
+    yield UNIT_TESTS / "example_records.rt.test", table("The example records.", "EXAMPLE_RECORDS", rows)
     rows = [(heap, text, word(heap, text)) for heap, text in random_records(1, 2, 7)]
-    yield TRIALS / "random_records.rt.trial", table("Records of random matches, and each of them changed in one place.", "RANDOM_RECORDS", rows)
+    yield UNIT_TESTS / "random_records.rt.test", table("Records of random matches, and each of them changed in one place.", "RANDOM_RECORDS", rows)
 
 
 def compare(program):

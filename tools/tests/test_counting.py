@@ -14,8 +14,8 @@ def tally_of(*lines: str) -> Tally:
 
 class Counting(unittest.TestCase):
     def test_what_looks_count_is_added_up(self):
-        tally = tally_of("counted 3 trials", "a line that says counted 9 things", "counted 4 trials", "counted none", "skipped: one, since it is")
-        self.assertEqual((tally.counts, tally.skipped), ({"trials": 7}, ["one, since it is"]))
+        tally = tally_of("counted 3 unit tests", "a line that says counted 9 things", "counted 4 unit tests", "counted none", "skipped: one, since it is")
+        self.assertEqual((tally.counts, tally.skipped), ({"unit tests": 7}, ["one, since it is"]))
 
     def test_what_the_kit_says_is_counted(self):
         tally = tally_of(
@@ -38,21 +38,21 @@ class Counting(unittest.TestCase):
             self.assertEqual(tally_of(*lines).counts, {"wrong edits refused by the prover": 2})
 
     def test_fewer_than_the_figure_is_a_fault(self):
-        self.assertEqual(faults({"trials": 99}, {"trials": 100}), ["99 trials: fewer than the 100 of tools/counts.txt"])
-        self.assertEqual(faults({}, {"trials": 100}), ["0 trials: fewer than the 100 of tools/counts.txt"])
+        self.assertEqual(faults({"unit tests": 99}, {"unit tests": 100}), ["99 unit tests: fewer than the 100 of tools/counts.txt"])
+        self.assertEqual(faults({}, {"unit tests": 100}), ["0 unit tests: fewer than the 100 of tools/counts.txt"])
 
     def test_more_than_the_figure_is_no_fault(self):
-        self.assertEqual(faults({"trials": 1000, "looks of a new kind": 1}, {"trials": 100}), [])
+        self.assertEqual(faults({"unit tests": 1000, "looks of a new kind": 1}, {"unit tests": 100}), [])
 
     def test_the_table_has_each_kind(self):
-        said = table({"trials": 99, "looks of a kind": 5, "limits": 3}, {"trials": 100, "seasons": 2, "limits": 3})
+        said = table({"unit tests": 99, "looks of a kind": 5, "limits": 3}, {"unit tests": 100, "seasons": 2, "limits": 3})
         self.assertEqual([line.strip() for line in said], [
-            "99 of    100 trials: FEWER", "0 of      2 seasons: FEWER", "3 of      3 limits",
+            "99 of    100 unit tests: FEWER", "0 of      2 seasons: FEWER", "3 of      3 limits",
             "5 of      0 looks of a kind: more, `tools/counts --write` stores it",
         ])
 
     def test_what_is_written_is_read(self):
-        counts = {"looks of a kind": 5, "trials": 100}
+        counts = {"looks of a kind": 5, "unit tests": 100}
         with tempfile.TemporaryDirectory() as room:
             write_figures(counts, f"{room}/counts.txt")
             self.assertEqual(read_figures(f"{room}/counts.txt"), counts)

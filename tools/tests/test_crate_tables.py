@@ -11,7 +11,7 @@ class CrateTables(unittest.TestCase):
         self.assertEqual(purpose("# `low`\n\nTexts, and lists\nof texts. It knows no games.\n\nMore.\n"), "Texts, and lists of texts")
 
     def test_the_first_comment_says_what_tests_try(self) -> None:
-        self.assertEqual(comment_of("//! Trials of games,\n//! packed ones too. Tests alone.\n#![tactic(auto)]\n"), "Trials of games, packed ones too")
+        self.assertEqual(comment_of("//! Tests of games,\n//! packed ones too. Tests alone.\n#![tactic(auto)]\n"), "Tests of games, packed ones too")
         self.assertEqual(comment_of("use a;\n"), "")
 
     def test_what_is_reached_through_another_one_is_left_out(self) -> None:
@@ -25,7 +25,7 @@ class CrateTables(unittest.TestCase):
         self.assertEqual(with_table(wanted, CRATES, [ROW]), wanted)
 
     def test_a_table_has_as_many_columns_as_its_head(self) -> None:
-        self.assertEqual(with_table(f"{TESTS}\n", TESTS, [("`low_trials`", "texts")]), f"{TESTS}\n|---|---|\n| `low_trials` | texts |\n")
+        self.assertEqual(with_table(f"{TESTS}\n", TESTS, [("`low_tests`", "texts")]), f"{TESTS}\n|---|---|\n| `low_tests` | texts |\n")
 
     def test_a_crate_stands_above_all_that_it_stands_on(self) -> None:
         known = {"low": [], "mid": ["low"], "side": ["thiserror"], "top": ["low", "mid", "side"], "uses_low": ["top"]}

@@ -13,12 +13,12 @@ from gate import LOOKS, Proofs, looks_of, spell_skipped
 
 TOP = os.path.dirname(os.path.dirname(os.path.dirname(os.path.realpath(__file__))))
 
-FIGURES = {"looks": 2, "trials": 10}
+FIGURES = {"looks": 2, "unit tests": 10}
 LAST = "12 passed, 0 failed\n"
 
 
 def proved(_looks: list, tally: Tally) -> Proofs:
-    tally.add(10, "trials")
+    tally.add(10, "unit tests")
     return Proofs(0, LAST, {})
 
 
@@ -60,12 +60,12 @@ class Gate(unittest.TestCase):
     def test_all_that_is_well_passes(self):
         status, lines, kept = ran()
         self.assertEqual((status, lines[-1], kept), (0, LAST.strip(), [FIGURES]))
-        self.assertIn("gate:     10 of     10 trials", lines)
+        self.assertIn("gate:     10 of     10 unit tests", lines)
         self.assertFalse([line for line in lines if "FAILED" in line])
 
     def test_fewer_than_the_figures_fails(self):
-        status, lines, _ = ran(read_figures=lambda: {**FIGURES, "trials": 20})
-        self.assertEqual((status, lines[-2:]), (1, ["gate: FAILED: 10 trials: fewer than the 20 of tools/counts.txt", LAST.strip()]))
+        status, lines, _ = ran(read_figures=lambda: {**FIGURES, "unit tests": 20})
+        self.assertEqual((status, lines[-2:]), (1, ["gate: FAILED: 10 unit tests: fewer than the 20 of tools/counts.txt", LAST.strip()]))
 
     def test_what_was_skipped_fails(self):
         status, lines, _ = ran(is_well=with_a_skipped)
