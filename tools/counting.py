@@ -19,7 +19,7 @@ OTHERS = {
     re.compile(r"rt: \w+ (?:proved|is kept: .*)"): "crates proved",
     re.compile(r"rt: must-fail \S+: refused, as it must be.*"): "wrong edits refused by the prover",
     re.compile(r"rt: ok; .*must-fail edits: (\d+) refused.*"): "wrong edits refused by the prover",
-    re.compile(r"(\d+) of \1 edits can be applied"): "wrong edits that can be applied",
+    re.compile(r"(\d+) of \1 mutations can be applied"): "mutations that can be applied",
 }
 
 

@@ -31,7 +31,6 @@ LOOKS: list[Look] = [
     ["tests/oracle/records.py", "--check"],
     ["tools/manual", "--check"],
     ["tools/edits", "--applies"],
-    ["tools/edits", "--count"],
     ["tools/memory-places"],
     ["tools/kit-words"],
     ["tools/imports"],

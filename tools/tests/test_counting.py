@@ -24,10 +24,10 @@ class Counting(unittest.TestCase):
             "fn game_core::text::of: proved",
             "rt: kif_text NOT PROVED",
             "rt: ok; handles allowed: Net; must-fail edits: 51 refused, 2 of them only by a limit; every proof was done in this run",
-            "582 of 582 edits can be applied",
-            "581 of 582 edits can be applied",
+            "582 of 582 mutations can be applied",
+            "581 of 582 mutations can be applied",
         )
-        wanted = {"crates proved": 2, "wrong edits refused by the prover": 51, "wrong edits that can be applied": 582}
+        wanted = {"crates proved": 2, "wrong edits refused by the prover": 51, "mutations that can be applied": 582}
         self.assertEqual(tally.counts, wanted)
 
     def test_wrong_edits_are_counted_once_whether_each_is_told_or_their_number(self):
