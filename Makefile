@@ -2,10 +2,10 @@
 
 PREFIX := /usr/local
 PROGRAM := bin/ggp_manager
-# The words behind `edits`, `unit` and `check`.
-NAMED := $(if $(filter edits unit check,$(firstword $(MAKECMDGOALS))),$(wordlist 2,$(words $(MAKECMDGOALS)),$(MAKECMDGOALS)))
+# The words after `mutations`, `unit` and `check`.
+NAMED := $(if $(filter mutations unit check,$(firstword $(MAKECMDGOALS))),$(wordlist 2,$(words $(MAKECMDGOALS)),$(MAKECMDGOALS)))
 
-.PHONY: help needs demo match play season games competition build install uninstall dist looks unit check edits memory budget test $(NAMED)
+.PHONY: help needs demo match play season games competition build install uninstall dist looks unit check mutations memory budget test $(NAMED)
 
 help:
 	@echo 'make demo            a match of Countdown through the program, line by line'
@@ -18,13 +18,13 @@ help:
 	@echo 'make install         puts the proved program and the commands of python/ into $(PREFIX)/bin (PREFIX=DIR: into DIR/bin), with pages of the manual; as root: sudo env "PATH=$$PATH" make install'
 	@echo 'make uninstall       takes away what make install has put there'
 	@echo 'make dist            an archive of the proved program, with examples and documents, for computers without the kit'
-	@echo 'make looks           what takes seconds: documents, constants, layout, edits, the tests of the tools, the commands of README.md'
+	@echo 'make looks           what takes seconds: documents, constants, layout, mutations, the tests of the tools, the commands of README.md'
 	@echo 'make unit [NAME..] compiles the tests (all, or those of the named crates) and runs them; NAME TEST: those of a crate whose names contain TEST'
 	@echo 'make check [NAME..]  proves every crate (or those named, with what they stand on); what has not changed is not proved again'
-	@echo 'make edits [NAME..]  tries the wrong edits of the crates (all, or those named): the prover must refuse each; LEFT=1: only says which were not tried on this text'
+	@echo 'make mutations [NAME..]  tries the mutations of the crates (all, or those named): the prover must refuse each'
 	@echo 'make memory          has each allocation of the calls, and of a match, refused in turn, and looks at what is left'
 	@echo 'make budget          what the proof of each crate, of all, and of the longest chain costs, beside its budget, as last measured'
-	@echo 'make test            the gate: all of this, every proof from nothing, wrong edits, the programs; as root it installs what it needs'
+	@echo 'make test            the gate: all of this, every proof from nothing, the must-fail mutations, the programs; as root it installs what it needs'
 
 needs:
 	@command -v python3 > /dev/null || { echo 'ggp_manager: there is no python3, and the tools need Python 3.11 or later: take it from https://www.python.org/downloads, or from the packages of your system' >&2; exit 1; }
@@ -69,8 +69,8 @@ unit: needs
 check: needs
 	@tools/check $(NAMED)
 
-edits: needs
-	@tools/edits $(if $(LEFT),--left) $(NAMED)
+mutations: needs
+	@tools/edits $(NAMED)
 
 memory: needs
 	@tools/memory

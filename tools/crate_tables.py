@@ -1,4 +1,4 @@
-"""The layers and tables of crates in a document, made of crates.txt, tests/unit/crates.txt and what each crate says of itself first."""
+"""The layers and tables of crates in a document, made of crates.txt, tests/unit/tests.txt and what each crate says of itself first."""
 import functools
 import re
 

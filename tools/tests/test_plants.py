@@ -1,49 +1,40 @@
-"""What is kept of the wrong bodies that `rt plant` tries."""
-import json
-import tempfile
-import unittest
+"""Which findings of `rt plant` are left to explain."""
+import importlib.util
+from importlib.machinery import SourceFileLoader
 
-from plant_ledger import Result, complaints, keep, read_ledger, result_of, spell_sums
+import pytest
+from crates import TOP
+
+loader = SourceFileLoader("plants", f"{TOP}/tools/plants")
+plants = importlib.util.module_from_spec(importlib.util.spec_from_loader("plants", loader))
+loader.exec_module(plants)
 
 SAID = """rt: checking the crate as it stands
-proves      src/clock.rt:12 Clock::left: { 0 }
-no-ensures  src/clock.rt:40 Clock::ring()
+proves      src/bits.rt:12 bits::turn_on_after: { 0 }
+no-ensures  src/clock.rt:40 Clock<'a, O>::ring()
 untested    src/lib.rt:7 take()
-note: some plants may not have been tried: raise --max or --minutes, or give --only
-plants crate=clocks planted-in=9 untested=1 no-ensures=1 proves=1 same=2 refused=30 elsewhere=1 not-judged=0 not-source=4 not-run=2
+plants crate=packed_rules planted-in=9 untested=1 no-ensures=1 proves=1 same=2 refused=30 elsewhere=1 not-judged=0 not-source=4 not-run=0
 """
-FINDINGS = ["no-ensures src/clock.rt Clock::ring()", "proves src/clock.rt Clock::left: { 0 }"]
 
 
-class Plants(unittest.TestCase):
-    def test_findings_stand_without_their_lines(self):
-        result = result_of(SAID)
-        self.assertEqual((result.findings, result.untested), (FINDINGS, ["src/lib.rt take()"]))
-        self.assertEqual((result.numbers["planted-in"], result.numbers["refused"], result.numbers["not-run"]), (9, 30, 2))
-
-    def test_a_run_that_came_to_no_end_has_no_result(self):
-        for said in ("", "rt: nothing was planted, since the crate's own check did not come to its functions", SAID.rpartition("plants ")[0]):
-            self.assertIsNone(result_of(said))
-
-    def test_sentences_stay_with_their_findings(self):
-        with tempfile.TemporaryDirectory() as room:
-            file = f"{room}/plants.json"
-            keep("clocks", result_of(SAID), "1", file)
-            ledger = read_ledger(file)
-            ledger["clocks"]["findings"][FINDINGS[0]] = "it only rings"
-            with open(file, "w", encoding="utf-8") as text:
-                json.dump(ledger, text)
-            keep("clocks", Result({"proves": 1, "not-run": 0}, [FINDINGS[0], "proves src/clock.rt Clock::end: { 1 }"], []), "2", file)
-            kept = read_ledger(file)["clocks"]
-        self.assertEqual(kept["findings"], {FINDINGS[0]: "it only rings", "proves src/clock.rt Clock::end: { 1 }": ""})
-        self.assertEqual(kept["sum"], "2")
-
-    def test_what_nobody_has_read_and_what_was_not_tried_is_named(self):
-        ledger = {"clocks": {"sum": "1", "numbers": result_of(SAID).numbers, "findings": {FINDINGS[0]: "it only rings", FINDINGS[1]: ""}}}
-        self.assertEqual(list(complaints(ledger)), [f"clocks: {FINDINGS[1]}", "clocks: 2 bodies were not tried"])
-        self.assertEqual(spell_sums(ledger), "1 crates: 33 wrong bodies judged, 30 refused, 2 that answer the same, 1 let through")
-        self.assertEqual(read_ledger("/nowhere/plants.json"), {})
+def test_only_findings_without_an_explanation_are_left():
+    assert plants.unexplained("packed_rules", SAID) == ["Clock<'a, O>::ring()"]
 
 
-if __name__ == "__main__":
-    unittest.main()
+@pytest.mark.parametrize("said", ["", SAID.replace("not-run=0", "not-run=2"), SAID.rpartition("plants ")[0]])
+def test_a_run_that_did_not_come_to_its_end_has_no_result(said):
+    assert plants.unexplained("packed_rules", said) is None
+
+
+@pytest.mark.parametrize(
+    "finding, function",
+    [
+        ("Pause<'a>::end()", "Pause::end"),
+        ("<LockWire<'a, O, L, R> as Wire>::ask: { Err(AskFault::Full) }", "LockWire::ask"),
+        ("<Self as Explains>::why()", "Explains::why"),
+        ("<Self as fmt::Display>::fmt: { Ok(()) }  (and in 2 more impls)", "Display::fmt"),
+        ("files::opened: { self::opened::<F>(files, named, \"\") }", "files::opened"),
+    ],
+)
+def test_a_function_is_named_without_type_parameters_and_traits(finding, function):
+    assert plants.function_of(finding) == function
