@@ -11,7 +11,7 @@ TESTS = "| Crate of tests | What it tries |"
 LAYERS = "The program's crates, each over some of the lines below its own:\n"
 LAYER_ROWS = r"\n(?:    .*\n)*"
 # Crates that no crate of the program stands on.
-ANNEXES = ("worked_", "uses_")
+ANNEXES = ("worked",)
 # A table is its head and the lines below it that are rows.
 ROWS = r"\n(?:\|.*\n)*"
 COMMENT = re.compile(r"((?:^//! .*\n)+)", re.MULTILINE)

@@ -28,7 +28,7 @@ class CrateTables(unittest.TestCase):
         self.assertEqual(with_table(f"{TESTS}\n", TESTS, [("`low_tests`", "texts")]), f"{TESTS}\n|---|---|\n| `low_tests` | texts |\n")
 
     def test_a_crate_stands_above_all_that_it_stands_on(self) -> None:
-        known = {"low": [], "mid": ["low"], "side": ["thiserror"], "top": ["low", "mid", "side"], "uses_low": ["top"]}
+        known = {"low": [], "mid": ["low"], "side": ["thiserror"], "top": ["low", "mid", "side"], "worked": ["top"]}
         self.assertEqual(layers(known), [["top"], ["mid"], ["low", "side"]])
         text = f"Before.\n\n{LAYERS}\n    old\n\nBehind.\n"
         self.assertEqual(with_layers(text, layers(known)), f"Before.\n\n{LAYERS}\n    top\n    mid\n    low side\n\nBehind.\n")
