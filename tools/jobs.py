@@ -40,16 +40,13 @@ class Counts:
         self.passed, self.failed, self.skipped = self.passed + other.passed, self.failed + other.failed, self.skipped + other.skipped
 
 
-def counts_in(lines: list[str], is_well: bool) -> Counts:
-    """Returns what the last line with `N passed` or `N failed` says. A command without such a line counts as one test. One that ends with
-    another status than 0 has failed, whatever its lines say."""
-    found: dict[str, int] = {}
-    for line in reversed(lines):
-        if found := {word: int(number) for number, word in COUNTED.findall(line)}:
-            break
-    failed = found.get("failed", 0) + found.get("error", 0) + found.get("errors", 0)
+def counts_in(last_line: str, is_well: bool) -> Counts:
+    """Returns what the last line of a command counts by `N passed`, `N failed`, `N errors` and `N skipped`. A command without such a line is one
+    test. A command with another exit status than 0 has failed, whatever it prints."""
+    found = {word.removesuffix("s"): int(number) for number, word in COUNTED.findall(last_line)}
     if not found:
         return Counts(passed=int(is_well), failed=int(not is_well))
+    failed = found.get("failed", 0) + found.get("error", 0)
     return Counts(found.get("passed", 0), failed or int(not is_well), found.get("skipped", 0))
 
 
@@ -103,9 +100,10 @@ class Jobs:
             self.say(f"{job.name}: {line.rstrip()}")
 
     def finish(self, job: Job, lines: list[str], is_well: bool, began: float) -> None:
-        counts = Counts() if job.is_needed and is_well else counts_in(lines, is_well)
+        last_line = next((line.rstrip() for line in reversed(lines) if line.strip()), "")
+        counts = Counts() if job.is_needed and is_well else counts_in(last_line, is_well)
         self.counts.add(counts)
-        self.last_lines[job.name] = lines[-1].rstrip() if lines else ""
+        self.last_lines[job.name] = last_line
         if not is_well:
             self.failed.append(job.name)
         print(f"== {job.name}: {'done' if job.is_needed and is_well else counts}, in {spell(time.monotonic() - began)}", flush=True)
