@@ -1,7 +1,7 @@
 """The packages of Debian that a package depends on."""
 import unittest
 
-from installed import closure, installed, names_in
+from driving.packages import closure, installed, names_in
 
 TEXT = "".join(f"{line}\n" for line in (
     "shell\tbase (>= 2), library:any (= 3), \t",
