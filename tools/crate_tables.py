@@ -1,4 +1,4 @@
-"""The layers and tables of crates in a document, made of crates.txt, tests/unit/crates.txt and what each crate says of itself first."""
+"""The layers and tables of crates in a document, made of crates.txt, tests/unit/tests.txt and what each crate says of itself first."""
 import functools
 import re
 
@@ -11,7 +11,7 @@ TESTS = "| Crate of tests | What it tries |"
 LAYERS = "The program's crates, each over some of the lines below its own:\n"
 LAYER_ROWS = r"\n(?:    .*\n)*"
 # Crates that no crate of the program stands on.
-ANNEXES = ("worked_", "uses_")
+ANNEXES = ("worked",)
 # A table is its head and the lines below it that are rows.
 ROWS = r"\n(?:\|.*\n)*"
 COMMENT = re.compile(r"((?:^//! .*\n)+)", re.MULTILINE)

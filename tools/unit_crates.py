@@ -17,8 +17,8 @@ def lines_of(file):
 
 
 def unit_crates():
-    """Returns the names of the crates of tests/unit/, in the order of crates.txt."""
-    return [line.partition(":")[0].split()[0] for line in lines_of(f"{UNIT}/crates.txt")]
+    """Returns the names of the crates of tests/unit/, in the order of tests.txt."""
+    return [line.partition(":")[0].split()[0] for line in lines_of(f"{UNIT}/tests.txt")]
 
 
 def files_of(folder):
@@ -71,7 +71,7 @@ def lay_out(room):
     os.makedirs(f"{room}/.git")
     shutil.copy(f"{TOP}/HANDLES", room)
     with open(f"{room}/crates.txt", "w", encoding="utf-8") as stream:
-        stream.write("\n".join([*lines_of(f"{TOP}/crates.txt"), *lines_of(f"{UNIT}/crates.txt"), ""]))
+        stream.write("\n".join([*lines_of(f"{TOP}/crates.txt"), *lines_of(f"{UNIT}/tests.txt"), ""]))
     for top in (f"{TOP}/crates", UNIT):
         for name in sorted(os.listdir(top)):
             for file in files_of(f"{top}/{name}"):
