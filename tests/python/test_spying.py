@@ -11,10 +11,10 @@ from unittest.mock import patch
 
 from ggp_tools.competition import live, serving
 from ggp_tools.competition.live_site import LiveSite
-from tests.live_support import SILENT, begin, line, plan_in
-from tests.players import TestPlayer
-from tests.support import GAMES, InFolder, start
-from tests.test_serving import Served
+from live_support import SILENT, begin, line, plan_in
+from players import TestPlayer
+from support import GAMES, InFolder, start
+from test_serving import Served
 
 # What may come back: of a move its own words, which come nowhere else.
 ANSWERS = ("(say zq{0}x{1})", "(bad zq{0}x{1})", "zq{0}x{1} ((", "(say zq{0}x{1})?", SILENT, "CE (no connection)", "lost (zq{0}x{1})", "zq{0}x{1}".ljust(200, "y") + "..")
