@@ -343,7 +343,7 @@ def compare(program):
         said = (asked.stdout + asked.stderr.removeprefix("ggp_manager: not lawful: ")).strip()
         if said != word(heap, text):
             sys.exit(f"the program says {said!r} and not {word(heap, text)!r} of {text}")
-    print(f"of {len(records)} records of random matches the program says what it must\ncounted {len(records)} records of random matches")
+    print(f"of {len(records)} records of random matches the program says what it must")
 
 
 def main():

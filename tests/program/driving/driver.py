@@ -31,11 +31,10 @@ def program_of(about: str) -> str:
     return words_with_program(about).parse_args().program
 
 
-def tell(name: str, faults: Iterable[str], well: str, counted: str) -> int:
-    """Prints each fault behind the driver's name. Without one it prints that all is well, and how much of what kind the driver has tried, as
-    the gate counts it. Returns the status."""
+def tell(name: str, faults: Iterable[str], well: str) -> int:
+    """Prints each error after the test's name; without one, the sentence `well`. Returns the exit status."""
     found = [f"{name}: {fault}" for fault in faults]
-    print(*found or [well, f"counted {counted}"], sep="\n")
+    print(*found or [well], sep="\n")
     return int(bool(found))
 
 
