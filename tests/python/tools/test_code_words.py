@@ -40,7 +40,3 @@ class Groups(unittest.TestCase):
         for source in ("f(", "f)", "f(]"):
             with self.assertRaises(UnreadCode):
                 grouped(source)
-
-
-if __name__ == "__main__":
-    unittest.main()

@@ -36,7 +36,3 @@ class Uses(unittest.TestCase):
 
     def test_each_use_says_why(self):
         self.assertTrue(all(use.why for use in uses_in("pop_known cached_slots peek_known")))
-
-
-if __name__ == "__main__":
-    unittest.main()

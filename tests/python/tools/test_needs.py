@@ -26,7 +26,3 @@ class Lacks(unittest.TestCase):
     def test_another_kit_is_told_by_its_name(self):
         self.assertIn("is rattle-kit-12a,", kit_lack("rattle-kit-12a logic 0123456789abcdef"))
         self.assertIn("does not say its version", kit_lack(""))
-
-
-if __name__ == "__main__":
-    unittest.main()

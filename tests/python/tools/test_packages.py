@@ -75,7 +75,3 @@ class Packages(unittest.TestCase):
     def test_who_is_not_root_is_told_how_to_be(self):
         with unittest.mock.patch("os.geteuid", lambda: 1000):
             self.assertIn("sudo env", fault_of_rights())
-
-
-if __name__ == "__main__":
-    unittest.main()
