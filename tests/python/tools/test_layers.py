@@ -1,7 +1,7 @@
 """Which imports reach past the public definitions of another crate, and which crates are named and not used."""
 import unittest
 
-from layers import reaching, unmentioned
+from crates import reaching, unmentioned
 
 KNOWN = ("low", "high")
 

@@ -1,7 +1,7 @@
 """Which sentences of a document are too long, and what counts as one sentence."""
 import unittest
 
-from sentences import MOST_WORDS, sentences, too_long, words
+from documents import MOST_WORDS, sentences, too_long, words
 
 
 def faults(text: str) -> list[int]:

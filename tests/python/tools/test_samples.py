@@ -1,7 +1,7 @@
 """Which lines of a document are taken from a file, and which crate a cell of the index of promises names."""
 import unittest
 
-from samples import indexed, sources, without_targets
+from documents import indexed, sources, without_targets
 
 
 def shown(text):
