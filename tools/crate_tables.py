@@ -50,7 +50,7 @@ def read(file: str) -> str:
 
 
 def crate_table(known: dict[str, list[str]]) -> list[Row]:
-    """Returns a row for each crate: its name, the crates and those of the kit that it stands on, without what it reaches through another
+    """Returns a row for each crate: its name, the crates and those of the toolchain that it stands on, without what it reaches through another
     one, and what it is for."""
     found = []
     for name, (_, deps) in crate_rows().items():

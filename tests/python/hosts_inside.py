@@ -2,7 +2,7 @@
 while a match is open there. It runs in a namespace of its own, so that nothing of it is reached from outside, and all of it is gone with
 its processes:
 
-    PYTHONPATH=python unshare --net python3 tests/python/hosts_inside.py
+    unshare --net /usr/bin/python3 -m pytest tests/python/hosts_inside.py
 
 HOSTS_MATCHES=400 before it has what a match costs measured with so many open."""
 
@@ -258,7 +258,3 @@ class Cost(Machines):
         playing.send_signal(signal.SIGTERM)
         out, said = playing.communicate(timeout=600)
         self.assertEqual((playing.returncode, said, out.splitlines()[-1]), (1, "", f"0 of {MATCHES + 1} matches have a lawful record"))
-
-
-if __name__ == "__main__":
-    unittest.main()

@@ -359,7 +359,3 @@ class Game(InFolder):
     def test_a_full_output(self):
         said = run_into_full(self.folder, "game", str(GAMES / "buttons.kif"))
         self.assertEqual(said, (1, "ggp_competition: standard output: No space left on device\n"))
-
-
-if __name__ == "__main__":
-    unittest.main()

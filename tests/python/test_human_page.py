@@ -96,7 +96,3 @@ class InBrowser(unittest.TestCase):
         page.click("document.querySelectorAll('#moves button')[0]")
         self.assertEqual(self.answered(asked), EVIL)
         self.assertEqual((self.browser.said, {address.split("/")[2] for address in self.browser.asked}), ([], {page.value("location.host")}))
-
-
-if __name__ == "__main__":
-    unittest.main()

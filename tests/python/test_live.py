@@ -521,7 +521,3 @@ class States(InRoom):
         text = board_html(self.board(self.play(2, "NIL", ["(take 2)", "noop"])))
         self.assertEqual(re.findall(r'title="([^"]*)"', html.unescape(text)), ["1 1: white man", "1 2: black king"])
         self.assertIn("(heap 1)  (turn blue)", text)
-
-
-if __name__ == "__main__":
-    unittest.main()

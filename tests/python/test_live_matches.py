@@ -123,7 +123,3 @@ class Matches(InFolder):
             self.assertTrue(move.turn > known or record["errors"][move.turn - 1][self.match.players.index(move.player)], (move, texts))
         count = sum(bool(error) for errors in record["errors"] for error in errors)
         self.assertLessEqual(seen.replaced_count, count + 2 * (record["phase"] == "aborted"), texts)
-
-
-if __name__ == "__main__":
-    unittest.main()

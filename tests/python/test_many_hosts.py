@@ -270,7 +270,3 @@ class ManyHosts(InFolder):
         self.assertEqual(due, 4)
         # It is deaf for as long as the test runs.
         self.assertTrue(HANG_UP_SECONDS < seconds < 40 * HANG_UP_SECONDS, seconds)
-
-
-if __name__ == "__main__":
-    unittest.main()

@@ -758,7 +758,3 @@ class Play(InFolder):
         self.assertEqual({*lines(out, "pages")}, {"pages are not written: pages/matches: Not a directory"})
         self.assertEqual(out.splitlines()[-1], "12 of 12 matches have a lawful record")
         self.assertEqual([player.aborted for player in self.players], [[]] * 4)
-
-
-if __name__ == "__main__":
-    unittest.main()

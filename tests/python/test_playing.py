@@ -593,7 +593,3 @@ class Words(unittest.TestCase):
             with mock.patch("resource.getrlimit", lambda _, limits=limits: limits), mock.patch("resource.setrlimit") as changed:
                 allow_descriptors()
             self.assertEqual([call.args for call in changed.call_args_list], [(resource.RLIMIT_NOFILE, wanted)] if wanted else [], limits)
-
-
-if __name__ == "__main__":
-    unittest.main()

@@ -167,7 +167,3 @@ class Gaps(SomeRoles):
     def test_who_is_asked_has_fewer_replaced_moves_in_a_row_than_the_strikes(self):
         for row, strikes, wanted in (((0, 5), 3, (0, 2)), ((4, 4), 2, (1, 1)), ((1, 2), 3, (1, 2)), ((1, 1), 1, (0, 0)), ((5, 6), 0, (5, 6))):
             self.assertEqual(row_of_asked(row, strikes), wanted)
-
-
-if __name__ == "__main__":
-    unittest.main()

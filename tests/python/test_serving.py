@@ -495,7 +495,3 @@ class Changes(unittest.TestCase):
         self.assertIsNone(changes([one], [one]))
         self.assertEqual(changes([one], [other])["set"], [["a", '<section id="a">y</section>']])
         self.assertEqual(changes([one], [one, Part("b", "")]), {"reload": True})
-
-
-if __name__ == "__main__":
-    unittest.main()

@@ -193,7 +193,3 @@ class SomeJournal(unittest.TestCase):
         for word in ("one", "two"):
             journal.write(word)
         self.assertEqual((journal.fault.filename, journal.fault.strerror), ("/dev/full", "No space left on device"))
-
-
-if __name__ == "__main__":
-    unittest.main()

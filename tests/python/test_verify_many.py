@@ -269,7 +269,3 @@ class Commands(WithProgram):
         for closed, status, said in (("<&-", 1, "ggp_manager: read fault\n"), (">&- < /dev/null", 0, ""), ("2>&- < /dev/null", 0, "")):
             ran = subprocess.run(["sh", "-c", f"{words} {closed}"], capture_output=True, text=True, stdin=subprocess.DEVNULL)
             self.assertEqual((ran.returncode, ran.stderr, ran.stdout), (status, said, ""), closed)
-
-
-if __name__ == "__main__":
-    unittest.main()

@@ -119,7 +119,3 @@ class Whole(InFolder):
             plain = {who: (round(goals / of, 2), n, *rest) for who, (n, goals, of, *rest) in counted.items()}
             self.assertEqual(told(table), plain, table["game"])
         print(f"192 matches, killed twice and interrupted once, in {seconds:.0f} s", flush=True)
-
-
-if __name__ == "__main__":
-    unittest.main()

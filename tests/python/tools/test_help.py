@@ -46,7 +46,3 @@ class Help(unittest.TestCase):
             said = subprocess.run(words, env=found, stdin=subprocess.DEVNULL, capture_output=True, text=True)
             name = os.path.basename(file)
             self.assertEqual((said.returncode, said.stderr), (1, f"{name}: Python 3.10 runs it, and it needs 3.11 or later\n"))
-
-
-if __name__ == "__main__":
-    unittest.main()

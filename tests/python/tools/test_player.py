@@ -212,7 +212,3 @@ class Serving(unittest.TestCase):
         with started("player", subprocess.DEVNULL) as port:
             self.assertEqual(asked(port, f"(START m red {rules} 1 1)"), (200, "ready"))
             self.assertEqual(asked(port, "(PLAY m NIL)"), (200, "go"))
-
-
-if __name__ == "__main__":
-    unittest.main()

@@ -41,7 +41,3 @@ class Version(unittest.TestCase):
 
     def test_a_place_without_a_version_is_named(self):
         self.assertEqual(said({"README.md": "none"}), (0, "README.md: the version does not stand there\n"))
-
-
-if __name__ == "__main__":
-    unittest.main()
