@@ -373,12 +373,13 @@ class Limits(Served):
         held = [socket.create_connection(("127.0.0.1", self.server.server_port), timeout=60) for _ in range(self.MOST)]
         while len(self.server.connections) < self.MOST:
             time.sleep(0.01)
+        for request, (address, _) in self.server.connections.items():
+            self.server.connections[request] = address, None
         with socket.create_connection(("127.0.0.1", self.server.server_port), timeout=60) as one_more:
             self.assertTrue(one_more.recv(100).startswith(b"HTTP/1.0 503 "))
         # Those that ask for nothing are ended.
-        for request in list(self.server.connections):
-            address, since = self.server.connections[request]
-            self.server.connections[request] = address, since - 2 * serving.HEAD
+        for request, (address, _) in self.server.connections.items():
+            self.server.connections[request] = address, time.monotonic() - 2 * serving.HEAD
         self.server.end_idle()
         self.assertEqual([connection.recv(100) for connection in held], [b""] * self.MOST)
         for connection in held:
