@@ -11,12 +11,11 @@ import signal
 import subprocess
 import tempfile
 import time
-import types
 import unittest
 
 from ggp_tools.competition.children import UNSAID, end_with
 from ggp_tools.competition.files import held
-from ggp_tools.competition.playing import MOST_LINES, interrupts_counted
+from ggp_tools.competition.playing import MOST_LINES
 from players import TestPlayer
 from support import GAMES, InFolder, program, program_but, run, run_into_full, start
 
