@@ -107,7 +107,3 @@ class OrderedAgain(unittest.TestCase):
         self.assert_refused("cup-001 does not count, so `ggp_competition play` plays it again: its playClock is 6, and the schedule has 5", "cup-001")
         self.plan.matches[0] = dataclasses.replace(self.plan.matches[0], again="cup-003", reason="late")
         self.assert_refused("cup-001 was ordered again already, as cup-003: late", "cup-001")
-
-
-if __name__ == "__main__":
-    unittest.main()

@@ -91,7 +91,3 @@ class Counted(unittest.TestCase):
         ):
             self.assertEqual(fault_of_files(record, account), words)
         self.assertIsNone(fault_of_files(RECORD, ACCOUNT))
-
-
-if __name__ == "__main__":
-    unittest.main()
