@@ -21,10 +21,18 @@ abbrev pub number_shortage : Option ℤ → Option Shortage
 number_shortage (Some number) = shortage_in error_shortages (unsigned_abs number)
 number_shortage None = None
 
+abbrev pub is_among : List ℕ → ℕ → Bool
+is_among [] number = false
+is_among (row ∷ rows) number = if number == row then true else is_among rows number
+
 -- The errors of Linux that may come from this computer's routes or from an ICMP message, which the player or a router sends: EACCES, EINVAL,
 -- ENETUNREACH and EHOSTUNREACH. A probe that only this computer answers decides.
-abbrev pub IsOfEither : Option ℤ → Type 0
-IsOfEither number = (number ≡ Some 13) ⊎ ((number ≡ Some 22) ⊎ ((number ≡ Some 101) ⊎ (number ≡ Some 113)))
+abbrev pub errors_of_either : List ℕ
+errors_of_either = 13 ∷ 22 ∷ 101 ∷ 113 ∷ []
+
+abbrev pub is_of_either : Option ℤ → Bool
+is_of_either (Some number) = is_among errors_of_either (unsigned_abs number)
+is_of_either None = false
 
 -- The shortage that an error of the system reports, by its kind and its number. Only this computer causes these errors. A peer, a router or a
 -- firewall on the way can cause each other one: by ICMP ECONNREFUSED, EHOSTUNREACH, ENETUNREACH, EACCES, EPROTO, ENOPROTOOPT, EOPNOTSUPP,
