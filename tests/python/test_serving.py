@@ -122,7 +122,10 @@ class Pages(Served):
         end(self.plan, match, record_of(match, moves, errors, [0, 100]), text)
         self.site.look()
         self.assertIn("1 of 6 matches are over.", self.page("/"))
-        self.assertIn('id="state-2"', self.page(f"/matches/{match.id}.html"))
+        over = self.page(f"/matches/{match.id}.html")
+        self.assertIn('id="state-2"', over)
+        self.assertIn(f"<p>{match.players[1]} won.</p>", over)
+        self.assertIn(f"{match.players[1]}</a> 100</strong>", self.page("/"))
         player = self.page("/players/player-ann.html")
         for text in ("no answer came in time", f"(PLAY {match.id} ((take 2) noop))", "<code>TO</code>", f"<code>{SILENT}</code>", "5 ms", "<svg"):
             self.assertIn(text, player)
