@@ -41,9 +41,7 @@ class Served(unittest.TestCase):
     STRIKES = ""
 
     def setUp(self):
-        room = tempfile.TemporaryDirectory()
-        self.addCleanup(room.cleanup)
-        self.plan = plan_in(room.name, ["ann", "bob", "cid"], head=self.STRIKES)
+        self.plan = plan_in(self.enterContext(tempfile.TemporaryDirectory()), ["ann", "bob", "cid"], head=self.STRIKES)
         self.site = LiveSite(self.plan, lambda: self.plan)
         self.site.look()
         self.server = serving.Server(("127.0.0.1", 0), self.site, self.MOST)
