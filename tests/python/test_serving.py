@@ -41,9 +41,7 @@ class Served(unittest.TestCase):
     STRIKES = ""
 
     def setUp(self):
-        room = tempfile.TemporaryDirectory()
-        self.addCleanup(room.cleanup)
-        self.plan = plan_in(room.name, ["ann", "bob", "cid"], head=self.STRIKES)
+        self.plan = plan_in(self.enterContext(tempfile.TemporaryDirectory()), ["ann", "bob", "cid"], head=self.STRIKES)
         self.site = LiveSite(self.plan, lambda: self.plan)
         self.site.look()
         self.server = serving.Server(("127.0.0.1", 0), self.site, self.MOST)
@@ -122,7 +120,10 @@ class Pages(Served):
         end(self.plan, match, record_of(match, moves, errors, [0, 100]), text)
         self.site.look()
         self.assertIn("1 of 6 matches are over.", self.page("/"))
-        self.assertIn('id="state-2"', self.page(f"/matches/{match.id}.html"))
+        over = self.page(f"/matches/{match.id}.html")
+        self.assertIn('id="state-2"', over)
+        self.assertIn(f"<p>{match.players[1]} won.</p>", over)
+        self.assertIn(f"{match.players[1]}</a> 100</strong>", self.page("/"))
         player = self.page("/players/player-ann.html")
         for text in ("no answer came in time", f"(PLAY {match.id} ((take 2) noop))", "<code>TO</code>", f"<code>{SILENT}</code>", "5 ms", "<svg"):
             self.assertIn(text, player)
@@ -178,7 +179,8 @@ class Pages(Served):
         good = record_of(match, *turns, [0, 100])
         end(self.plan, other, record_of(other, *turns, [0, 100]))
         bad = (
-            ({"goalValues": [0, 10**400]}, "one of its goals is not from 0 to 100"), ({"goalValues": [101, 0]}, "one of its goals is not from 0 to 100"),
+            ({"goalValues": [0, 10**400]}, "one of its goals is not from 0 to 100"),
+            ({"goalValues": [101, 0]}, "one of its goals is not from 0 to 100"),
             ({"matchId": "x" * 10**6}, "..,"), ({"startClock": 10**400}, "..,"), ({"errors": [["", 1]]}, "no list of lists of texts"),
         )
         for wrong, said in bad:
@@ -255,7 +257,8 @@ class Pages(Served):
     def test_a_match_that_was_given_up_says_why(self):
         lost, other, again = self.plan.matches[:3]
         lines = [f"info {match.id} ann: refused, 0.0 s" for match in (lost, again)]
-        lines += [f"no record {lost.id}: ann is silent", f"no record {again.id}: its files: {self.plan.folder.path}/x", f"info {again.id} ann: available, 0.1 s"]
+        lines += [f"no record {lost.id}: ann is silent", f"no record {again.id}: its files: {self.plan.folder.path}/x"]
+        lines += [f"info {again.id} ann: available, 0.1 s"]
         lines += [f"missing {other.id}: it was not begun", "no record none: x", f"no record {other.id}"]
         self.plan.folder.journal.write_text("".join(f"2026-01-02T03:04:05.000Z {text}\n" for text in lines))
         self.site.look()

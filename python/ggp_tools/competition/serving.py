@@ -317,7 +317,8 @@ class Server(ThreadingHTTPServer):
         """Gives a page to somebody who is told of its changes: none where there is none, or too many look at pages. The last eighth of all
         connections, and of those of an address, is for pages."""
         with self.site.changed:
-            has_room = all(count < most - most // 8 for count, most in ((self.viewers.total(), self.most), (self.viewers[address], self.most_of(address))))
+            counts = (self.viewers.total(), self.most), (self.viewers[address], self.most_of(address))
+            has_room = all(count < most - most // 8 for count, most in counts)
             found = self.site.opened(path) if has_room else None
             if found:
                 found.viewers += 1
