@@ -21,7 +21,7 @@ from ggp_tools.competition.retiring import Retiring
 from ggp_tools.competition.schedule import Match
 from ggp_tools.competition.tail import Tail
 from ggp_tools.kif import Expression, spelled
-from ggp_tools.records.show import LONGEST_RECORD, NoRecord, read_record
+from ggp_tools.records.show import NoRecord, read_record
 
 # All records are looked for at once for at most so small a part of the time; a match that was open is looked for by itself.
 SHARE = 10
@@ -352,8 +352,7 @@ class Reader:
         match = self.known[name]
         try:
             found = self.plan.folder.record(name).stat()
-            # Of a longer file so much is enough to refuse it.
-            record = read_record(self.plan.folder.read_record(name, LONGEST_RECORD + 2))
+            record = read_record(self.plan.read_record(match))
         except FileNotFoundError:
             return
         except (OSError, NoRecord) as why:
