@@ -1,35 +1,38 @@
-# The program is proved and built by `rt`, the command of the Rattle kit. The tools are written for Python 3.11 or later.
+# `rt`, the command of the Rattle toolchain, proves and builds the program. The tools need Python 3.11 or later.
 
 PREFIX := /usr/local
 PROGRAM := bin/ggp_manager
-# The words behind `edits`, `trials` and `check`.
-NAMED := $(if $(filter edits trials check,$(firstword $(MAKECMDGOALS))),$(wordlist 2,$(words $(MAKECMDGOALS)),$(MAKECMDGOALS)))
+# The words after `mutations`, `unit` and `check`.
+NAMED := $(if $(filter mutations unit check,$(firstword $(MAKECMDGOALS))),$(wordlist 2,$(words $(MAKECMDGOALS)),$(MAKECMDGOALS)))
 
-.PHONY: help needs demo match play season games competition build install uninstall dist looks trials check edits memory budget test $(NAMED)
+.PHONY: help needs demo match play season build install uninstall dist lint test unit check mutations memory budget prove gate $(NAMED)
 
 help:
-	@echo 'make demo            a match of Countdown through the program, line by line'
-	@echo 'make match           a match over HTTP between two players on this computer, and its record'
-	@echo 'make play            a match of tic-tac-toe that you play in a browser, against a player on this computer'
-	@echo 'make season          the matches of a schedule over HTTP on this computer, and their account made again'
-	@echo 'make games           a match over HTTP of each game of examples/games/general, instantiated by gringo'
-	@echo 'make competition     the tests of competitions: one of 192 matches is killed twice, and goes on'
-	@echo 'make build           proves the program and leaves it at $(PROGRAM), beside it what proved it'
-	@echo 'make install         puts the proved program and the commands of python/ into $(PREFIX)/bin (PREFIX=DIR: into DIR/bin), with pages of the manual; as root: sudo env "PATH=$$PATH" make install'
-	@echo 'make uninstall       takes away what make install has put there'
-	@echo 'make dist            an archive of the proved program, with examples and documents, for computers without the kit'
-	@echo 'make looks           what takes seconds: documents, constants, layout, edits, the tests of the tools, the commands of README.md'
-	@echo 'make trials [NAME..] compiles the tests (all, or those of the named crates) and runs them; NAME TEST: those of a crate whose names contain TEST'
-	@echo 'make check [NAME..]  proves every crate (or those named, with what they stand on); what has not changed is not proved again'
-	@echo 'make edits [NAME..]  tries the wrong edits of the crates (all, or those named): the prover must refuse each; LEFT=1: only says which were not tried on this text'
-	@echo 'make memory          has each allocation of the calls, and of a match, refused in turn, and looks at what is left'
-	@echo 'make budget          what the proof of each crate, of all, and of the longest chain costs, beside its budget, as last measured'
-	@echo 'make test            the gate: all of this, every proof from nothing, wrong edits, the programs; as root it installs what it needs'
+	@echo 'To try the program, which is compiled first and not proved:'
+	@echo '  make demo              a match of Countdown, text line by text line'
+	@echo '  make match             a match over HTTP between two players on this computer, and its record'
+	@echo '  make play              a match of tic-tac-toe that you play in a browser'
+	@echo '  make season            a schedule of matches over HTTP on this computer'
+	@echo 'To use it:'
+	@echo '  make build             proves the program and puts it at $(PROGRAM)'
+	@echo '  make install           installs the proved program, the commands of python/ and their manual below $(PREFIX) (PREFIX=DIR)'
+	@echo '  make uninstall         removes what make install has installed'
+	@echo '  make dist              an archive of the proved program for computers without the Rattle toolchain'
+	@echo 'To change it:'
+	@echo '  make lint              layout, documents, tables, constants: seconds'
+	@echo '  make test              the unit tests, the Python tests and the commands of README.md, with a program that is not proved'
+	@echo '  make unit [NAME [TEST]]  the unit tests, those of a crate of tests/unit, or its tests whose names contain TEST'
+	@echo '  make check [NAME..]    proves the crates, over cached proofs'
+	@echo '  make mutations [NAME..]  tries the mutations of the crates: the prover must refuse each'
+	@echo '  make memory            has each allocation refused in turn'
+	@echo '  make prove             proves everything, and tries the must-fail edits'
+	@echo '  make budget            what the proof of each crate costs'
+	@echo '  make gate              make test, make lint, make prove, and the tests of the proved program'
 
 needs:
-	@command -v python3 > /dev/null || { echo 'ggp_manager: there is no python3, and the tools need Python 3.11 or later: take it from https://www.python.org/downloads, or from the packages of your system' >&2; exit 1; }
+	@command -v python3 > /dev/null || { echo 'ggp_manager: python3 is missing: install Python 3.11 or later, for example by apt-get install python3' >&2; exit 1; }
 
-# The program that `demo`, `match`, `season`, `games` and `competition` run is the proved one where it is up to date, else one that is not proved yet.
+# `tools/program` prints the path of the proved program if that is up to date, else of one that is not proved, which it compiles.
 demo: needs
 	@program=$$(tools/program) && examples/side-by-side examples/games/countdown.script "$$program" desk --countdown 3
 
@@ -40,13 +43,7 @@ play: needs
 	@program=$$(tools/program) && examples/play-yourself "$$program" examples/games/tictactoe.kif
 
 season: needs
-	@program=$$(tools/program) && drivers/season-small "$$program" && drivers/season-crowd "$$program"
-
-games: needs
-	@program=$$(tools/program) && tools/games "$$program"
-
-competition: needs
-	@program=$$(tools/program) && python/tests/run "$$program"
+	@program=$$(tools/program) && tests/program/season-small "$$program" && tests/program/season-crowd "$$program"
 
 build: needs
 	@tools/build
@@ -60,17 +57,17 @@ uninstall: needs
 dist: build
 	@tools/dist
 
-looks: needs
-	@.ci/gate --looks
+lint test: needs
+	@tools/gate $@
 
-trials: needs
-	@tools/trials $(NAMED)
+unit: needs
+	@tools/unit $(NAMED)
 
 check: needs
 	@tools/check $(NAMED)
 
-edits: needs
-	@tools/edits $(if $(LEFT),--left) $(NAMED)
+mutations: needs
+	@tools/edits $(NAMED)
 
 memory: needs
 	@tools/memory
@@ -78,8 +75,11 @@ memory: needs
 budget: needs
 	@tools/budget
 
+prove: needs
+	@tools/build --edits
+
+gate: needs
+	@.ci/run
+
 # These names are no targets of their own.
 $(NAMED): ; @:
-
-test: needs
-	@.ci/gate

@@ -1,9 +1,9 @@
-"""The layers and tables of crates in a document, made of crates.txt, trials/trials.txt and what each crate says of itself first."""
+"""The layers and tables of crates in a document, made of crates.txt, tests/unit/tests.txt and what each crate says of itself first."""
 import functools
 import re
 
 from crates import TOP, below, crate_rows, crates
-from trials import TRIALS, trials
+from unit_crates import UNIT, unit_crates
 
 CRATES = "| Crate | Stands on | What it is for |"
 TESTS = "| Crate of tests | What it tries |"
@@ -11,7 +11,7 @@ TESTS = "| Crate of tests | What it tries |"
 LAYERS = "The program's crates, each over some of the lines below its own:\n"
 LAYER_ROWS = r"\n(?:    .*\n)*"
 # Crates that no crate of the program stands on.
-ANNEXES = ("worked_", "uses_")
+ANNEXES = ("worked",)
 # A table is its head and the lines below it that are rows.
 ROWS = r"\n(?:\|.*\n)*"
 COMMENT = re.compile(r"((?:^//! .*\n)+)", re.MULTILINE)
@@ -61,8 +61,8 @@ def crate_table(known: dict[str, list[str]]) -> list[Row]:
 
 def test_table() -> list[Row]:
     """Returns a row for each crate of tests: its name and what it tries."""
-    main = {"memory_trials": "main"}
-    return [(f"`{name}`", comment_of(read(f"{TRIALS}/{name}/src/{main.get(name, 'lib')}.rt.trial"))) for name in trials()]
+    main = {"memory_tests": "main"}
+    return [(f"`{name}`", comment_of(read(f"{UNIT}/{name}/src/{main.get(name, 'lib')}.rt.test"))) for name in unit_crates()]
 
 
 def layers(known: dict[str, list[str]]) -> list[list[str]]:

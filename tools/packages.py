@@ -31,8 +31,8 @@ class Need(typing.NamedTuple):
     is_optional: bool
 
     def lacks(self) -> list[str]:
-        """Returns the commands that are not there."""
-        return [command for command in self.commands if not shutil.which(command, path=searched())]
+        """Returns the commands, and the directories of modules, that are not there."""
+        return [command for command in self.commands if not (os.path.exists(command) or shutil.which(command, path=searched()))]
 
 
 def read_needs(file: str = LIST) -> list[Need]:

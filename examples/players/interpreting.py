@@ -3,7 +3,7 @@
 
     interpreting.py PORT [SEED | first]
 
-It interprets the rules that START carries, by the interpreter of `oracles`, and is else as player.py. On standard error it
+It interprets the rules that START carries, by the interpreter of `tests/oracle`, and is else as player.py. On standard error it
 says how many sentences they are, and how many have variables. With `first` in the place of a seed it plays the first of its legal moves
 in the order of their texts.
 """
@@ -13,7 +13,7 @@ import random
 import sys
 
 sys.dont_write_bytecode = True
-sys.path.insert(0, str(pathlib.Path(__file__).resolve().parents[2] / "oracles"))
+sys.path.insert(0, str(pathlib.Path(__file__).resolve().parents[2] / "tests/oracle"))
 import interpreter
 from player import Player, arguments, say, seed, serve, show
 

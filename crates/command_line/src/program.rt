@@ -68,67 +68,67 @@ impl Argument {
 const COUNTDOWN: Argument = Argument {
     name: "countdown",
     form: Form::Value("N"),
-    help: "The game is Countdown with a heap of N, 1 to 100, in place of --rules and --rules-file",
+    help: "Play Countdown with a heap of N (1 to 100), instead of --rules or --rules-file",
 };
 
 const RULES: Argument = Argument {
     name: "rules",
     form: Form::Value("TEXT"),
-    help: "The game is this ground description",
+    help: "Play the game of this ground GDL text",
 };
 
 const RULES_FILE: Argument = Argument {
     name: "rules-file",
     form: Form::Value("FILE"),
-    help: "The game is the ground description in this file, in place of --rules",
+    help: "Play the game of the ground GDL file FILE",
 };
 
 const PLAYER_RULES: Argument = Argument {
     name: "player-rules",
     form: Form::Value("FILE"),
-    help: "START carries the description in this file, with variables for instance; the referee plays the game's own rules",
+    help: "Send players the GDL of FILE in START, for example rules with variables; the referee plays by the game's own rules",
 };
 
 const LARGE: Argument = Argument {
     name: "large",
     form: Form::Flag,
-    help: "The description may be large: 4194304 bytes, 65536 sentences and 65536 different atomic sentences",
+    help: "Accept a large game: at most 4194304 bytes, 65536 sentences and 65536 different atomic sentences",
 };
 
 const STRIKES: Argument = Argument {
     name: "strikes",
     form: Form::Default("K", "0"),
-    help: "A role is asked no more once K of its moves in a row had to be replaced; 0 is never",
+    help: "Stop asking a player for moves after K substituted moves in a row; 0: never",
 };
 
 const START: Argument = Argument {
     name: "start",
     form: Form::Default("S", "10"),
-    help: "The seconds for START",
+    help: "The start clock, in seconds",
 };
 
 const PLAY: Argument = Argument {
     name: "play",
     form: Form::Default("S", "10"),
-    help: "The seconds for every other message",
+    help: "The play clock, in seconds; it also covers STOP, ABORT and INFO",
 };
 
 const LOG: Argument = Argument {
     name: "log",
     form: Form::Flag,
-    help: "Each message and its answer is logged on standard error",
+    help: "Log every message and its answer on standard error",
 };
 
 const WHY: Argument = Argument {
     name: "why",
     form: Form::Flag,
-    help: "Standard error says why, as on a terminal; status 1 is no, and 2 is could not tell",
+    help: "Print the reason on standard error even if it is not a terminal; exit status 1: no, 2: no verdict",
 };
 
 const PLAYER: Argument = Argument {
     name: "player",
     form: Form::Player,
-    help: "The player",
+    help: "The player to ask",
 };
 
 const DESK: [Argument; 6] = [
@@ -140,7 +140,7 @@ const DESK: [Argument; 6] = [
     Argument {
         name: "file",
         form: Form::File,
-        help: "The file of the script; without it, or with -, standard input",
+        help: "The script; standard input if it is missing or -",
     },
 ];
 
@@ -152,7 +152,7 @@ const RUN: [Argument; 12] = [
     Argument {
         name: "id",
         form: Form::Required("ID"),
-        help: "The match's id",
+        help: "The match id",
     },
     START,
     PLAY,
@@ -162,12 +162,12 @@ const RUN: [Argument; 12] = [
     Argument {
         name: "history",
         form: Form::Flag,
-        help: "The account of the match is printed behind the record",
+        help: "Print the call log of the match after its record",
     },
     Argument {
         name: "players",
         form: Form::Players,
-        help: "The players, in the order of the roles",
+        help: "The players, in role order",
     },
 ];
 
@@ -181,39 +181,39 @@ const SEASON: [Argument; 15] = [
     Argument {
         name: "at-once",
         form: Form::Default("N", "16"),
-        help: "How many matches are played at once at most, 1 to 1024",
+        help: "Maximum number of simultaneous matches (1 to 1024)",
     },
     Argument {
         name: "concurrent",
         form: Form::Default("N", "1"),
-        help: "In how many matches a player sits at a time at most, 1 to 1024",
+        help: "Maximum number of simultaneous matches of one player (1 to 1024)",
     },
     Argument {
         name: "in-order",
         form: Form::Flag,
-        help: "The records are printed in the order of the schedule",
+        help: "Print the records in schedule order",
     },
     Argument {
         name: "done",
         form: Form::Value("FILE"),
-        help: "Matches of which the file has a lawful record are not played",
+        help: "Skip the matches that have a lawful record in FILE",
     },
     Argument {
         name: "records",
         form: Form::Value("FILE"),
-        help: "The records are added to this file, and matches of which it has one are not played: the same command goes on with a season that was stopped",
+        help: "Add the records to FILE, and skip the matches that have one there; to resume after a stop, run the same command again",
     },
     LOG,
     WHY,
     Argument {
         name: "history",
         form: Form::Flag,
-        help: "The account of each match is printed behind its record",
+        help: "Print the call log of each match after its record",
     },
     Argument {
         name: "file",
         form: Form::File,
-        help: "The file of the schedule; without it, or with -, standard input",
+        help: "The schedule; standard input if it is missing or -",
     },
 ];
 
@@ -226,12 +226,12 @@ const VERIFY: [Argument; 7] = [
     Argument {
         name: "lines",
         form: Form::Flag,
-        help: "Each line of the input is a record, and gets a line of output",
+        help: "Check each line of the input as a record, and print one line for each",
     },
     Argument {
         name: "file",
         form: Form::File,
-        help: "The file of the record; without it, or with -, standard input",
+        help: "The record; standard input if it is missing or -",
     },
 ];
 
@@ -244,7 +244,7 @@ const REPLAY: [Argument; 6] = [
     Argument {
         name: "file",
         form: Form::File,
-        help: "The file of the account; without it, or with -, standard input",
+        help: "The call log; standard input if it is missing or -",
     },
 ];
 
@@ -255,7 +255,7 @@ const ABORT: [Argument; 3] = [
     Argument {
         name: "id",
         form: Form::Word("ID"),
-        help: "The match's id",
+        help: "The match id",
     },
     Argument {
         name: "players",
@@ -305,82 +305,82 @@ impl CommandForm {
 static COMMANDS: [CommandForm; 8] = [
     CommandForm {
         name: "desk",
-        about: "Answers a script, line by line",
+        about: "Runs a script of calls, and prints the replies and the records",
         arguments: &DESK,
         notes: concat!(
             "Example: ggp_manager desk --countdown 3 match.script\n\n",
-            "status 0: each line was a call. 1: some lines were none, or another fault. ",
-            "2: wrong use. 3: out of memory. With --why 1: some lines were none. 2: any other fault.",
+            "status 0: every line is a call. 1: a line is not, or another error. ",
+            "2: usage error. 3: out of memory. With --why 1: a line is not a call. 2: any other error.",
         ),
     },
     CommandForm {
         name: "run",
-        about: "Referees a match between players over HTTP, and prints its record",
+        about: "Referees one match over HTTP, and prints its record",
         arguments: &RUN,
         notes: concat!(
             "Example: ggp_manager run --rules-file game.kif --id m1 ann@127.0.0.1:9147 bob@127.0.0.1:9148 > m1.record\n\n",
-            "status 0: the match has finished or was aborted. 1: a fault. ",
-            "2: wrong use. 3: out of memory. With --why 2: any fault.",
+            "status 0: the match has finished or was aborted. 1: an error. ",
+            "2: usage error. 3: out of memory. With --why 2: any error.",
         ),
     },
     CommandForm {
         name: "season",
-        about: "Referees the matches of a schedule, and prints their records",
+        about: "Referees the matches of a schedule, many at once, and prints their records",
         arguments: &SEASON,
         notes: concat!(
-            "A line of the schedule: ID START PLAY NAME@HOST:PORT .. - the match's id, its clocks in seconds, and a player for each role. Lines without words, and those that begin with #, are skipped. With --records no record is printed.\n\n",
+            "A line of the schedule: ID START PLAY NAME@HOST:PORT .. - the match id, the two clocks in seconds, and one player for each role. Empty lines and lines that begin with # are skipped. With --records, no record is printed.\n\n",
             "Example: ggp_manager season --rules-file game.kif --records season.records schedule\n\n",
-            "status 0: each match has its record. 1: some have none, or another fault. ",
-            "2: wrong use. 3: out of memory. With --why 2: any fault.",
+            "status 0: every match has a record. 1: a match has none, or another error. ",
+            "2: usage error. 3: out of memory. With --why 2: any error.",
         ),
     },
     CommandForm {
         name: "verify",
-        about: "Says whether a record is lawful",
+        about: "Checks whether a record is lawful",
         arguments: &VERIFY,
         notes: concat!(
             "Example: ggp_manager verify --rules-file game.kif --lines season.records\n\n",
-            "status 0: each record is lawful. 1: one is not, or another fault. ",
-            "2: wrong use. 3: out of memory. With --why 1: one is not lawful. 2: any other fault.",
+            "status 0: every record is lawful. 1: a record is not, or another error. ",
+            "2: usage error. 3: out of memory. With --why 1: a record is not lawful. 2: any other error.",
         ),
     },
     CommandForm {
         name: "replay",
-        about: "Makes the calls of an account again, and compares each reply",
+        about: "Makes the calls of a call log again, and compares each reply",
         arguments: &REPLAY,
         notes: concat!(
             "Example: ggp_manager replay --rules-file game.kif match.account\n\n",
-            "status 0: each call gets its reply. 1: one does not, or another fault. ",
-            "2: wrong use. 3: out of memory. With --why 1: one does not. 2: any other fault.",
+            "status 0: every call gets its reply again. 1: a call does not, or another error. ",
+            "2: usage error. 3: out of memory. With --why 1: a call gets another reply. 2: any other error.",
         ),
     },
     CommandForm {
         name: "info",
-        about: "Asks a player whether it is free",
+        about: "Asks a player whether it is available",
         arguments: &INFO,
         notes: concat!(
             "Example: ggp_manager info ann@127.0.0.1:9147\n\n",
-            "status 0: the player answered. 1: it did not, or another fault. ",
-            "2: wrong use. 3: out of memory. With --why 1: it did not. 2: any other fault.",
+            "status 0: the player answered. 1: it did not, or another error. ",
+            "2: usage error. 3: out of memory. With --why 1: the player did not answer. 2: any other error.",
         ),
     },
     CommandForm {
         name: "check",
-        about: "Plays a match with a player for each role, and prints what it answered and what that counted as",
+        about: "Tests a player: plays one match in each role, and prints each answer with its verdict",
         arguments: &CHECK,
         notes: concat!(
             "Example: ggp_manager check --rules-file game.kif --play 5 ann@127.0.0.1:9147\n\n",
-            "status 0: no answer was bad. 1: some were, or another fault. ",
-            "2: wrong use. 3: out of memory. With --why 1: some were bad. 2: any other fault.",
+            "status 0: no answer was bad. 1: an answer was, or another error. ",
+            "2: usage error. 3: out of memory. With --why 1: an answer was bad. 2: any other error.",
         ),
     },
     CommandForm {
         name: "abort",
-        about: "Sends players ABORT, for a match whose referee is gone",
+        about: "Sends ABORT to the players of a match whose referee is gone",
         arguments: &ABORT,
         notes: concat!(
             "Example: ggp_manager abort m1 ann@127.0.0.1:9147 bob@127.0.0.1:9148\n\n",
-            "status 0: each player answered. 1: one did not, or another fault. ",
+            "status 0: every player answered. 1: a player did not, or another error. ",
             "2: wrong use. 3: out of memory. With --why 1: one did not. 2: any other fault.",
         ),
     },
@@ -399,7 +399,7 @@ pub fn form_named(name: &str) -> Option<CommandForm> {
 /// The program's command line.
 pub fn program<'a>(alloc: Global) -> Result<Command<'a>, AllocError> {
     let mut program = Command::new(alloc, PROGRAM)
-        .about("The referee of General Game Playing")
+        .about("A referee for General Game Playing")
         .version(VERSION)
         .no_binary_name(true)
         .subcommand_required(true)

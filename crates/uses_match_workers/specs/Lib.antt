@@ -1,2 +1,0 @@
-pub mod KeptMessages
-pub mod KeptMatches

@@ -1,0 +1,266 @@
+#!/usr/bin/env python3
+"""Writes NAME.out, what a desk must print for NAME.kif and NAME.script: the replies, and the match's record.
+
+ground_games.py NAME ..   writes them, in the present folder
+ground_games.py --check   ends with status 1 where one of examples/games is not what it would write
+
+It is an oracle, and shares nothing with the program, nor with what stands in `python`: rules are looked up from the question down, by recursion, where the program
+evaluates them once in the order of a ranking. It takes lawful scripts of one match alone: no line that the desk
+refuses, and no abort.
+"""
+
+import argparse
+import json
+import pathlib
+import sys
+from functools import lru_cache
+
+GAMES = pathlib.Path(__file__).resolve().parents[2] / "examples/games"
+
+
+def expressions(text):
+    """The expressions that a text spells, in lower case: atoms as str, lists as tuples."""
+    lines = [line.partition(";")[0] for line in text.split("\n")]
+    words = " ".join(lines).lower().replace("(", " ( ").replace(")", " ) ").split()
+    levels = [[]]
+    for word in words:
+        if word == "(":
+            levels.append([])
+        elif word == ")":
+            closed = tuple(levels.pop())
+            levels[-1].append(closed)
+        else:
+            levels[-1].append(word)
+    (whole,) = levels
+    return whole
+
+
+def text_of(expression):
+    if isinstance(expression, str):
+        return expression
+    return "(" + " ".join(map(text_of, expression)) + ")"
+
+
+class Game:
+    """The game that a description is: a state is the set of its terms, a joint move a dict by role."""
+
+    def __init__(self, sentences):
+        self.rules = {}
+        for sentence in sentences:
+            is_rule = sentence[0] == "<="
+            head, body = (sentence[1], sentence[2:]) if is_rule else (sentence, ())
+            self.rules.setdefault(head, []).append(body)
+        self.roles = [head[1] for head in self.rules if head[0] == "role"]
+
+    def question(self, state, joint):
+        """Tells of each literal whether it is true in the state, where the roles make these moves."""
+
+        def holds(literal):
+            match literal:
+                case ("true", term):
+                    return term in state
+                case ("does", role, move):
+                    return role in joint and joint[role] == move
+                case ("not", inner):
+                    return not holds(inner)
+                case ("or", *inner):
+                    return any(map(holds, inner))
+                case ("distinct", first, second):
+                    return first != second
+                case _:
+                    return is_derived(literal)
+
+        @lru_cache(maxsize=None)
+        def is_derived(atom):
+            return any(all(map(holds, body)) for body in self.rules.get(atom, []))
+
+        return is_derived
+
+    def terms(self, relation, state, joint):
+        asked = self.question(state, joint)
+        return frozenset(head[1] for head in self.rules if head[0] == relation and asked(head))
+
+    def initial(self):
+        return self.terms("init", frozenset(), {})
+
+    def next(self, state, joint):
+        return self.terms("next", state, joint)
+
+    def legal(self, state, role):
+        asked = self.question(state, {})
+        heads = [head for head in self.rules if head[:2] == ("legal", role)]
+        return [head[2] for head in heads if asked(head)]
+
+    def terminal(self, state):
+        return self.question(state, {})("terminal")
+
+    def goal(self, state, role):
+        asked = self.question(state, {})
+        values = [int(head[2]) for head in self.rules if head[:2] == ("goal", role) and asked(head)]
+        return values[0] if len(values) == 1 else None
+
+
+class Match:
+    """A match at the desk, from its `open` line on."""
+
+    def __init__(self, game, words):
+        name, start, play, *players = words
+        assert len(players) == len(game.roles)
+        self.game, self.name, self.players = game, name, players
+        self.start, self.play = int(start), int(play)
+        self.states, self.moves, self.errors = [game.initial()], [], []
+        self.marks = {"start": {}, "end": {}}
+        self.open = {}
+
+    def phase(self):
+        """The phase, and the cause where the game aborts the match."""
+        count, state = len(self.game.roles), self.states[-1]
+        ended = len(self.marks["end"]) == count
+        if len(self.marks["start"]) < count:
+            return "starting", None
+        if self.game.terminal(state):
+            for number, role in enumerate(self.game.roles):
+                if self.game.goal(state, role) is None:
+                    return "aborted" if ended else "aborting", f"nogoal {number}"
+            return "finished" if ended else "stopping", None
+        if len(self.moves) == 10000:
+            return "aborted" if ended else "aborting", "toolong"
+        for number, role in enumerate(self.game.roles):
+            if not self.game.legal(state, role):
+                return "aborted" if ended else "aborting", f"nolegal {number}"
+        return "playing", None
+
+    def round(self):
+        return 0 if self.phase()[0] == "starting" else len(self.moves) + 1
+
+    def due(self, role):
+        phase, _ = self.phase()
+        if phase in ("finished", "aborted"):
+            return "over"
+        answered = {"starting": self.marks["start"], "playing": self.open}.get(phase, self.marks["end"])
+        if role in answered:
+            return f"hold {self.round()}"
+        last = text_of(tuple(self.moves[-1])) if self.moves else "NIL"
+        kind = {"starting": "start", "playing": f"play {last}", "stopping": f"stop {last}", "aborting": "abort"}
+        return f"owe {self.round()} {kind[phase]}"
+
+    def judgement(self, role, answer, miss):
+        legal = self.game.legal(self.states[-1], self.game.roles[role])
+        if miss:
+            return legal[0], miss
+        read = expressions(answer)
+        if len(read) == 1 and read[0] in legal:
+            return read[0], ""
+        return legal[0], f"IL {text_of(read[0])}" if len(read) == 1 else "IL ?"
+
+    def answer(self, role, round, answer, miss):
+        phase, _ = self.phase()
+        assert role < len(self.game.roles) and round == self.round() and phase not in ("finished", "aborted")
+        if phase == "playing":
+            assert role not in self.open
+            self.open[role] = self.judgement(role, answer, miss)
+            if len(self.open) == len(self.game.roles):
+                self.turn([self.open[role] for role in range(len(self.game.roles))])
+        else:
+            marks = self.marks["start" if phase == "starting" else "end"]
+            assert role not in marks
+            marks[role] = miss
+        return "taken"
+
+    def turn(self, judged):
+        self.moves.append([move for move, _ in judged])
+        self.errors.append([error for _, error in judged])
+        self.states.append(self.game.next(self.states[-1], dict(zip(self.game.roles, self.moves[-1]))))
+        self.open = {}
+
+    def status(self):
+        substitutions = sum(error != "" for errors in self.errors for error in errors)
+        phase, _ = self.phase()
+        return f"status {phase} round {self.round()} turns {len(self.moves)} substitutions {substitutions}"
+
+    def record(self):
+        phase, cause = self.phase()
+        roles = range(len(self.game.roles))
+        goals = [self.game.goal(self.states[-1], role) for role in self.game.roles]
+        return {
+            "cause": cause,
+            "endMarks": [self.marks["end"].get(role) for role in roles],
+            "errors": self.errors,
+            "goalValues": goals if phase in ("stopping", "finished") else [],
+            "matchId": self.name,
+            "moves": [[text_of(move) for move in turn] for turn in self.moves],
+            "phase": phase,
+            "playClock": self.play,
+            "players": self.players,
+            "roles": [text_of(role) for role in self.game.roles],
+            "startClock": self.start,
+            "startMarks": [self.marks["start"].get(role) for role in roles],
+            "states": [sorted(map(text_of, state)) for state in self.states],
+            "strikes": 0,
+            "version": 2,
+        }
+
+
+def run(game, script):
+    """The reply lines, and the match."""
+    match, replies = None, []
+    for line in script.splitlines():
+        word, _, rest = line.partition(" ")
+        if word == "open":
+            name, number, words = rest.split(" ", 2)
+            assert match is None and number == "0"
+            match = Match(game, [name, *words.split(" ")])
+            replies.append("opened")
+            continue
+        name, _, rest = rest.partition(" ")
+        assert name == match.name
+        if word == "next":
+            replies.append(match.due(int(rest)))
+        elif word == "submit":
+            role, round, answer = rest.split(" ", 2)
+            replies.append(match.answer(int(role), int(round), answer, ""))
+        elif word == "miss":
+            role, round, how = rest.split(" ")
+            replies.append(match.answer(int(role), int(round), "", {"silent": "TO", "broken": "CE"}[how]))
+        else:
+            assert word == "query"
+            replies.append(match.status())
+    return replies, match
+
+
+def output(rules, script):
+    """What a desk must print for a description and a script."""
+    replies, match = run(Game(expressions(rules)), script)
+    record = json.dumps(match.record(), separators=(",", ":"), sort_keys=True)
+    return "".join(f"{line}\n" for line in (*replies, record))
+
+
+def check():
+    """Ends with status 1 where an output of this folder is another one, and where there is none."""
+    files = sorted(GAMES.glob("*.kif"))
+    for rules in files:
+        if rules.with_suffix(".out").read_text() != output(rules.read_text(), rules.with_suffix(".script").read_text()):
+            sys.exit(f"{rules.stem}.out is not what it must be: run ../../tests/oracle/ground_games.py {rules.stem} in examples/games")
+    if not files:
+        sys.exit("there is no game")
+
+
+def main():
+    words = argparse.ArgumentParser(description=__doc__, formatter_class=argparse.RawDescriptionHelpFormatter)
+    words.add_argument("--check", action="store_true")
+    words.add_argument("names", metavar="NAME", nargs="*")
+    given = words.parse_args()
+    if not given.check and not given.names:
+        words.error("a NAME or --check is missing")
+    if given.check:
+        check()
+        return
+    for name in given.names:
+        with open(f"{name}.kif") as rules, open(f"{name}.script") as script:
+            text = output(rules.read(), script.read())
+        with open(f"{name}.out", "w") as out:
+            out.write(text)
+
+
+if __name__ == "__main__":
+    main()

@@ -1,0 +1,66 @@
+"""What each driver does at its beginning and at its end: it reads the words of the command line, and says what it found."""
+import argparse
+import os
+import resource
+import signal
+import socket
+import subprocess
+import tempfile
+from collections.abc import Callable, Iterable
+
+from driving import EXAMPLES
+
+
+def runnable(word: str) -> str:
+    """Returns the path of the program that a word of the command line names."""
+    path = os.path.abspath(word)
+    if os.path.isdir(path) or not os.access(path, os.X_OK):
+        raise argparse.ArgumentTypeError(f"{path} is no program that can be run")
+    return path
+
+
+def words_with_program(about: str) -> argparse.ArgumentParser:
+    """Returns a reader of a command line whose first word is the program. `--help` prints what the driver is about."""
+    words = argparse.ArgumentParser(description=about, formatter_class=argparse.RawDescriptionHelpFormatter)
+    words.add_argument("program", metavar="PROGRAM", type=runnable)
+    return words
+
+
+def program_of(about: str) -> str:
+    """Returns the path of the program, the one word of the command line."""
+    return words_with_program(about).parse_args().program
+
+
+def tell(name: str, faults: Iterable[str], well: str) -> int:
+    """Prints each error after the test's name; without one, the sentence `well`. Returns the exit status."""
+    found = [f"{name}: {fault}" for fault in faults]
+    print(*found or [well], sep="\n")
+    return int(bool(found))
+
+
+def little_room(size: int, reaction: Callable | signal.Handlers | int | None) -> Callable[[], None]:
+    """Returns what lets the files of a process get this large at most. A write past that fails, and its signal has this reaction."""
+
+    def limit() -> None:
+        signal.signal(signal.SIGXFSZ, reaction)
+        resource.setrlimit(resource.RLIMIT_FSIZE, (size, size))
+
+    return limit
+
+
+def closed_port() -> socket.socket:
+    """Returns a socket whose port takes no connection. The port is nobody else's as long as the socket is open, but a server of this process
+    may listen there now and then."""
+    endpoint = socket.socket()
+    endpoint.setsockopt(socket.SOL_SOCKET, socket.SO_REUSEADDR, 1)
+    endpoint.bind(("127.0.0.1", 0))
+    return endpoint
+
+
+def free_ports(count: int) -> list[str]:
+    """Returns ports that are free now, as the example players are given theirs: one for each role of a game."""
+    with tempfile.NamedTemporaryFile("w") as rules:
+        rules.write("".join(f"(role r{number})" for number in range(count)))
+        rules.flush()
+        ran = subprocess.run([EXAMPLES / "players/ports.py", rules.name], stdout=subprocess.PIPE, text=True, check=True)
+    return ran.stdout.split()

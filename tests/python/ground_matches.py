@@ -1,0 +1,88 @@
+"""Matches by ground rules, as the tests need them: some answers are late, and some illegal. Each is held against a description."""
+
+import contextlib
+import io
+import json
+import random
+from collections.abc import Sequence
+
+from ggp_tools import ground_games
+from ggp_tools.holding.following import Differs, Following
+from ggp_tools.holding.game import Game
+from ggp_tools.instantiating import making
+from ggp_tools.kif import Expression, expressions
+from support import GAMES
+
+MOST_TURNS = 60
+Sentences = list[Expression]
+Record = dict[str, object]
+
+
+def description(name: str) -> str:
+    return (GAMES / f"general/{name}.kif").read_text("latin-1")
+
+
+def instantiated(text: str, how: str = making.WHERE_NEEDED, is_split: bool = False) -> Sentences:
+    """Returns the ground sentences of a description with variables."""
+    with contextlib.redirect_stderr(io.StringIO()):
+        return expressions(making.Making(text, 60, how, is_split).run())
+
+
+def begun(sentences: Sentences) -> ground_games.Match:
+    """Returns a match by ground rules, ready for its first turn."""
+    game = ground_games.Game(sentences)
+    match = ground_games.Match(game, "m", 1, 1, [f"p{at}" for at in range(len(game.roles))])
+    match.marks["start"] = dict.fromkeys(range(len(game.roles)), "")
+    return match
+
+
+def ended(match: ground_games.Match) -> Record:
+    """Returns the record of a match, as it is once each role has its last message."""
+    match.marks["end"] = dict(match.marks["start"])
+    return match.record()
+
+
+def played(sentences: Sentences, seed: int, most: int = MOST_TURNS) -> Record:
+    """Returns the record of a random match of so many turns at most."""
+    match = begun(sentences)
+    game = match.game
+    every = {role: sorted((head[2] for head in game.heads.get(("legal", 2), ()) if head[1] == role), key=repr) for role in game.roles}
+    while len(match.moves) < most and match.phase()[0] == "playing":
+        dice = [random.Random(f"{seed} {len(match.moves)} {role}") for role in game.roles]
+        legal = [game.legal(match.states[-1], role) for role in game.roles]
+        match.turn([judged(die, found, every[role]) for die, found, role in zip(dice, legal, game.roles)])
+    return ended(match)
+
+
+def played_again(sentences: Sentences, record: Record) -> Record:
+    """Returns the record that the same answers make by other ground rules."""
+    match = begun(sentences)
+    for moves, errors in zip(record["moves"], record["errors"]):
+        if match.phase()[0] != "playing":
+            break
+        turn = []
+        for role, move, error in zip(match.game.roles, moves, errors):
+            legal = match.game.legal(match.states[-1], role)
+            answer = expressions(error.removeprefix("IL ") if error.startswith("IL ") else move)[0]
+            is_late = error == "TO"
+            turn.append((answer, "") if answer in legal and not is_late else (legal[0], "TO" if is_late else f"IL {ground_games.text_of(answer)}"))
+        match.turn(turn)
+    return ended(match)
+
+
+def judged(dice: random.Random, legal: Sequence[Expression], every: Sequence[Expression]) -> tuple[Expression, str]:
+    """Returns a move, and the error that it stands for."""
+    kind = dice.random()
+    if kind < 0.2:
+        return legal[0], "TO"
+    answer = dice.choice(every if kind < 0.4 else sorted(legal, key=repr))
+    return (answer, "") if answer in legal else (legal[0], f"IL {ground_games.text_of(answer)}")
+
+
+def differs(game: Game, record: Record) -> str | None:
+    """Returns words for where a record differs from the description; none where it does not."""
+    try:
+        Following(game).follow(json.loads(json.dumps(record)))
+    except Differs as why:
+        return str(why)
+    return None

@@ -1,0 +1,80 @@
+"""What the tests of live pages share: a competition in a folder, with the files that a `play` would write there as its matches go."""
+
+import json
+import pathlib
+
+from ggp_tools.competition.competition_file import read_competition
+from ggp_tools.competition.files import Folder
+from ggp_tools.competition.plan import Plan
+from ggp_tools.descriptions.loading import Rules
+from planning import planned
+from support import toml
+
+# Two roles take one or two from a heap of three, in turns; who takes the last one has won.
+RULES = b"""
+(role red) (role blue)
+(init (heap 3)) (init (turn red)) (init (cell 1 1 white man)) (init (cell 2 2 black king))
+(<= (legal red (take 1)) (true (turn red))) (<= (legal red (take 2)) (true (turn red)) (not (true (heap 1)))) (<= (legal red noop) (true (turn blue)))
+(<= (legal blue (take 1)) (true (turn blue))) (<= (legal blue (take 2)) (true (turn blue)) (not (true (heap 1)))) (<= (legal blue noop) (true (turn red)))
+(<= one (does red (take 1))) (<= one (does blue (take 1))) (<= two (does red (take 2))) (<= two (does blue (take 2)))
+(<= (next (heap 2)) (true (heap 3)) one) (<= (next (heap 1)) (true (heap 3)) two) (<= (next (heap 1)) (true (heap 2)) one)
+(<= (next (heap 0)) (true (heap 2)) two) (<= (next (heap 0)) (true (heap 1)) one)
+(<= (next (turn blue)) (true (turn red))) (<= (next (turn red)) (true (turn blue)))
+(next (cell 1 1 white man)) (<= (next (cell 2 2 black king)) one) (<= (next (cell 1 2 black king)) two)
+(<= terminal (true (heap 0)))
+(<= (goal red 100) (true (turn blue))) (<= (goal red 0) (true (turn red))) (<= (goal blue 100) (true (turn red))) (<= (goal blue 0) (true (turn blue)))
+"""
+# What the log has of a player that did not answer.
+SILENT = "TO (no answer in time: nothing received)"
+BEGAN, ENDED = b"began 2026-01-02T03:04:05.000Z\n", b"ended 2026-01-02T03:04:07.500Z\n"
+
+
+def plan_in(room: str, names: list[str], rounds: int = 1, head: str = "") -> Plan:
+    """Returns the plan of a round robin of these players in a folder, without its files."""
+    folder = Folder(pathlib.Path(room))
+    folder.make(folder.records, folder.logs, folder.open)
+    players = [(name, f"h:{count + 1}") for count, name in enumerate(names)]
+    competition = read_competition(toml(players, [("heap", "f")], f'kind = "round_robin"\nrounds = {rounds}', head).encode())
+    plan = Plan(folder, competition, {"heap": Rules(RULES, "0" * 64, ("red", "blue"), None)}, [])
+    plan.matches = planned(competition, {"heap": 2})
+    return plan
+
+
+def line(match: object, role: int, number: int, message: str, answer: str, milliseconds: int = 5) -> str:
+    return f"{match.id} role {role} {match.players[role]} message {number} {message}: {answer}, {milliseconds} ms\n"
+
+
+def begin(plan: Plan, match: object, log: str = "") -> pathlib.Path:
+    """Has a match begin, and returns the file of its log."""
+    room = plan.folder.open / match.id
+    room.mkdir(parents=True, exist_ok=True)
+    for name in ("info-0", "players", "played"):
+        (room / name).touch()
+    (room / "played.said").write_text(log)
+    return room / "played.said"
+
+
+def started(match: object) -> str:
+    """Returns the log of a match of which both players have answered START, whose message is cut."""
+    texts = [f"(START {match.id} {name} ((role red) ".ljust(200, "x") for name in ("red", "blue")]
+    return "".join(line(match, role, 1, f"{text}..", "ready", 20) for role, text in enumerate(texts))
+
+
+def record_of(match: object, moves: list, errors: list, goals: list[int]) -> dict:
+    states = [["(heap 3)"], *([f"(heap {count})"] for count in range(len(moves)))]
+    return {
+        "cause": None, "endMarks": ["", ""], "errors": errors, "goalValues": goals, "matchId": match.id, "moves": moves, "phase": "finished",
+        "playClock": match.play, "players": list(match.players), "roles": ["red", "blue"], "startClock": match.start, "startMarks": ["", ""],
+        "states": states, "strikes": 0, "version": 2,
+    }
+
+
+def end(plan: Plan, match: object, record: dict, log: str = "") -> None:
+    """Has a match be over, with this record and this log."""
+    plan.folder.log(match.id).write_bytes(BEGAN + log.encode() + ENDED)
+    plan.folder.record(match.id).write_text(json.dumps(record) + "\n")
+    room = plan.folder.open / match.id
+    for file in room.iterdir() if room.is_dir() else ():
+        file.unlink()
+    if room.is_dir():
+        room.rmdir()

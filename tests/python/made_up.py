@@ -1,0 +1,64 @@
+"""A competition of many matches that are all over: one match is played, and the others have the same moves under other ids.
+
+    PYTHONPATH=python python3 tests/python/made_up.py FOLDER COUNT"""
+
+import pathlib
+import subprocess
+import sys
+
+from ggp_tools.referee import Referee
+from ggp_tools.competition.schedule import Match
+from players import TestPlayer
+from support import GAMES, program, run, toml
+
+FIRST = "a-match"
+RULES = GAMES / "tictactoe.kif"
+# A referee that is as quick as nothing, so that what is measured is what `ggp_competition` does itself: each record is lawful, and each account
+# gives that of its match again.
+QUICK = """#!{python}
+import pathlib, re, subprocess, sys
+if sys.argv[1] == "verify" and "--lines" in sys.argv:
+    data = sys.stdin.buffer.read()
+    print("lawful\\n" * data.count(b"\\n"), end="")
+elif sys.argv[1] == "replay":
+    ids = dict.fromkeys(re.findall(rb"(?m)^[0-9]+\\t[a-z]+ ([^ \\t\\n]+)", sys.stdin.buffer.read()))
+    for match in ids:
+        sys.stdout.buffer.write(b"replayed 1 calls\\n" + pathlib.Path("{folder}/records", match.decode() + ".json").read_bytes())
+else:
+    sys.exit(subprocess.run(["{program}", *sys.argv[1:]]).returncode)
+"""
+
+
+def played() -> tuple[str, str, str]:
+    """Returns the record, the account and the log of a match of quick players."""
+    players = [TestPlayer(f"p{number}", seed=number) for number in range(2)]
+    match = Match(FIRST, "tictactoe", 10, 10, ("p0", "p1"))
+    words = Referee(program()).run_words(RULES, None, match, 0, [f"{player.name}@{player.place()}" for player in players])
+    done = subprocess.run(words, capture_output=True, text=True, check=True)
+    record, _, account = done.stdout.partition("\n")
+    return f"{record}\n", account, done.stderr
+
+
+def make_up(folder: pathlib.Path, count: int) -> None:
+    """Plans so many matches in a folder, and writes the files of all of them."""
+    lines = ", ".join(['"tictactoe p0 p1"'] * count)
+    text = toml([("p0", "h:1"), ("p1", "h:2")], [("tictactoe", RULES)], f'kind = "schedule"\nlines = [{lines}]')
+    (folder / "competition.toml").write_text(text)
+    status, out, said = run(folder, "plan")
+    assert (status, said) == (0, ""), f"{out}{said}"
+    texts = dict(zip(("records", "accounts", "logs"), played()))
+    texts["logs"] = f"began 2026-01-01T00:00:00.000Z\n{texts['logs']}ended 2026-01-01T00:00:01.000Z\n"
+    for kind, text in texts.items():
+        (folder / kind).mkdir()
+        for line in (folder / "schedule.tsv").read_text().splitlines()[1:]:
+            match = line.partition("\t")[0]
+            (folder / kind / f"{match}.{'json' if kind == 'records' else 'txt'}").write_text(text.replace(FIRST, match))
+
+
+if __name__ == "__main__":
+    made = pathlib.Path(sys.argv[1])
+    made.mkdir()
+    make_up(made, int(sys.argv[2]))
+    quick = made / "quick"
+    quick.write_text(QUICK.format(python=sys.executable, folder=made.absolute(), program=program()))
+    quick.chmod(0o755)

@@ -1,0 +1,171 @@
+"""Players for the tests, good ones and such as are no good, in threads of the test: they stay as they are when a run is killed."""
+
+import random
+import socket
+import threading
+import time
+
+from support import outside
+
+# What these read of START and of the rules is read by the example players, and not by the package.
+example, interpreting = outside("player"), outside("interpreting")
+
+SLOW, DRIP, AWAY = 0.12, 0.3, 1.0
+# A player that dies does so at each PLAY of such a number.
+LIFE = 7
+# Sockets that take no connection, of which each holds the port of a player: while that is away, or gone, the port is nobody else's.
+HELD = []
+
+
+def held_port(at):
+    """Returns a port of an address at which nobody but a player listens as long as the tests run."""
+    HELD.append(socket.socket())
+    HELD[-1].setsockopt(socket.SOL_SOCKET, socket.SO_REUSEADDR, 1)
+    HELD[-1].bind((at, 0))
+    return HELD[-1].getsockname()[1]
+
+
+class TestPlayer(threading.Thread):
+    """A player that is strict: while it sits in as many matches as it takes it says so to INFO, and takes no START. What it took is
+    kept, and so is what it was told of the rules of each match. It plays ground rules, and such with variables."""
+
+    __test__ = False
+
+    def __init__(self, name, kind="good", seed=0, most=1, at="127.0.0.1"):
+        super().__init__(daemon=True)
+        self.name, self.kind, self.random = name, kind, random.Random(seed)
+        # Of each match in which it sits its role, game and state.
+        self.matches, self.most, self.plays = {}, most, 0
+        # In how many matches it sat at once.
+        self.sat = 0
+        # The ids of matches that began, were aborted, and were offered while it sat in another.
+        self.begun, self.aborted, self.clashes = [], [], []
+        # The kind and the match of each message of a match, in order.
+        self.heard = []
+        self.told = {}
+        self.status, self.is_gone = None, False
+        # So many seconds it thinks before it answers a message of one of these kinds.
+        self.thinks, self.thinks_at = 0.0, ("play",)
+        self.at, self.port = at, held_port(at)
+        self.come_back()
+        self.start()
+
+    def place(self):
+        return f"{self.at}:{self.port}"
+
+    def go_away(self):
+        """The player is away, and keeps what it knows."""
+        self.socket.shutdown(socket.SHUT_RDWR)
+        self.socket.close()
+
+    def come_back(self):
+        """The player is there again."""
+        self.socket = socket.create_server((self.at, self.port), backlog=64)
+
+    def leave(self):
+        """The player is there no more."""
+        self.is_gone = True
+        self.socket.shutdown(socket.SHUT_RDWR)
+        self.join()
+        self.socket.close()
+
+    def run(self):
+        while not self.is_gone:
+            try:
+                connection, _ = self.socket.accept()
+            except OSError:
+                # It is away, or leaves.
+                time.sleep(0.01)
+                continue
+            with connection:
+                try:
+                    self.serve(connection)
+                except OSError:
+                    pass  # the referee has closed the connection
+
+    def serve(self, connection):
+        body = message_of(connection)
+        message = example.read(body)[0]
+        is_play = message[0] == "play"
+        self.plays += is_play
+        if self.kind == "dying" and is_play and self.plays % LIFE == 0:
+            self.die(connection)
+            return
+        answer = self.answer(message)
+        time.sleep(SLOW * (self.kind == "slow") + self.thinks * (message[0] in self.thinks_at))
+        if self.kind == "closing" and is_play:
+            return
+        reply = f"HTTP/1.0 200 OK\r\nContent-Length: {len(answer)}\r\n\r\n{answer}".encode()
+        if self.kind == "dripping" and is_play:
+            for byte in reply:
+                connection.sendall(bytes([byte]))
+                time.sleep(DRIP)
+        else:
+            connection.sendall(reply)
+
+    def die(self, connection):
+        """It is gone for a while, and knows nothing any more when it is there again."""
+        connection.close()
+        self.socket.close()
+        time.sleep(AWAY)
+        self.matches.clear()
+        self.come_back()
+
+    def last_heard(self):
+        """Returns the kind of the last message of each match of which it has heard."""
+        return {match: kind for kind, match in self.heard}
+
+    def answer(self, message):
+        self.heard += [message[:2]] * (len(message) > 1)
+        match message:
+            case ("info",):
+                return self.status or ("busy" if len(self.matches) >= self.most else "available")
+            case ("start", match, role, rules, _, _):
+                if match in self.matches or len(self.matches) >= self.most:
+                    self.clashes.append(match)
+                    return "busy"
+                game = interpreting.Game(rules) if has_variables(rules) else example.Game(rules)
+                self.matches[match] = role, game, game.initial()
+                self.sat = max(self.sat, len(self.matches))
+                self.begun.append(match)
+                self.told[match] = rules
+                return "ready"
+            case ("play", match, moves) if match in self.matches:
+                return self.move(match, moves)
+            case ("play", _, _):
+                return "busy" if self.matches else "lost"
+            case ("stop", match, _) | ("abort", match):
+                self.aborted += [match] * (message[0] == "abort")
+                self.matches.pop(match, None)
+        return "done"
+
+    def move(self, match, moves):
+        role, game, state = self.matches[match]
+        if moves not in ("nil", ()):
+            state = game.next(state, moves)
+            self.matches[match] = role, game, state
+        move = example.show(self.random.choice(game.legal(state, role)))
+        return "(no such move)" if self.kind == "lying" else move
+
+
+def has_variables(expression):
+    return expression.startswith("?") if isinstance(expression, str) else any(map(has_variables, expression))
+
+
+def message_of(connection):
+    """Returns the body of a request."""
+    text = b""
+    while b"\r\n\r\n" not in text:
+        text += received(connection)
+    head, _, body = text.partition(b"\r\n\r\n")
+    size = int(head.partition(b"Content-Length: ")[2].split()[0])
+    while len(body) < size:
+        body += received(connection)
+    return body.decode("ascii")
+
+
+def received(connection):
+    more = connection.recv(65536)
+    if not more:
+        raise ConnectionError
+    return more

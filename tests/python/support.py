@@ -1,0 +1,145 @@
+"""What the tests share: the program, a competition's folder, and runs of `ggp_competition`."""
+
+import functools
+import importlib
+import json
+import os
+import pathlib
+import subprocess
+import sys
+import tempfile
+import types
+import unittest
+
+TOP = pathlib.Path(__file__).resolve().parents[2]
+# What stands outside of the package, and shares nothing with it: the oracles, and the example players.
+OUTSIDE = [str(TOP / "tests/oracle"), str(TOP / "examples/players")]
+
+# What is instantiated in a test is kept for this run of the tests alone.
+CACHE = tempfile.TemporaryDirectory()
+os.environ["XDG_CACHE_HOME"] = CACHE.name
+COMMAND = TOP / "python/ggp_competition"
+GAMES = TOP / "examples/games"
+# Three roles, one turn: who shows what neither of the others shows has won.
+ODD = """
+(role one) (role two) (role three) (init new)
+(<= (legal one head) (true new)) (<= (legal one tail) (true new))
+(<= (legal two head) (true new)) (<= (legal two tail) (true new))
+(<= (legal three head) (true new)) (<= (legal three tail) (true new))
+(<= odd_one (does one head) (does two tail) (does three tail)) (<= odd_one (does one tail) (does two head) (does three head))
+(<= odd_two (does two head) (does one tail) (does three tail)) (<= odd_two (does two tail) (does one head) (does three head))
+(<= odd_three (does three head) (does one tail) (does two tail)) (<= odd_three (does three tail) (does one head) (does two head))
+(<= (next (odd one)) odd_one) (<= (next (odd two)) odd_two) (<= (next (odd three)) odd_three) (<= (next over) (true new))
+(<= terminal (true over))
+(<= (goal one 100) (true (odd one))) (<= (goal one 0) (not (true (odd one))))
+(<= (goal two 100) (true (odd two))) (<= (goal two 0) (not (true (odd two))))
+(<= (goal three 100) (true (odd three))) (<= (goal three 0) (not (true (odd three))))
+"""
+
+
+def outside(name):
+    """Returns a module that stands outside of the package."""
+    sys.path += [folder for folder in OUTSIDE if folder not in sys.path]
+    return importlib.import_module(name)
+
+
+@functools.cache
+def program():
+    """Returns the path of the referee: GGP_MANAGER, or what tools/program prints."""
+    return os.environ.get("GGP_MANAGER") or subprocess.run([TOP / "tools/program"], stdout=subprocess.PIPE, text=True, check=True).stdout.strip()
+
+
+def slowness():
+    """Returns by how much longer things take than where the processors are free: others may work on this computer too."""
+    return min(5, max(1, round(os.getloadavg()[0] / os.cpu_count())))
+
+
+def stand_in(**answers):
+    """Returns a referee for tests that answers so, of large games and others."""
+    referee = types.SimpleNamespace(is_large=False, **answers)
+    referee.taking = lambda _: referee
+    return referee
+
+
+def toml(players, games, form='kind = "round_robin"', head=""):
+    """Returns the text of a competition.toml: players as (name, address) and what else, games as (name, file) and what else."""
+    lines = ['name = "cup"', *head.splitlines(), "[form]", *form.splitlines()]
+    for name, file, *more in games:
+        lines += ["[[games]]", f'name = "{name}"', f'file = "{file}"', *more]
+    for name, address, *more in players:
+        lines += ["[[players]]", f'name = "{name}"', f'address = "{address}"', *more]
+    return "\n".join(lines) + "\n"
+
+
+def start(folder, *words, **more):
+    """Starts a run of `ggp_competition`."""
+    return subprocess.Popen(
+        [sys.executable, COMMAND, *words, *([] if "--program" in words else ["--program", program()])],
+        cwd=folder, text=True, **{"stdout": subprocess.PIPE, "stderr": subprocess.PIPE, **more},
+    )
+
+
+def run(folder, *words, **more):
+    """Returns the status of a run, what it printed and what it said."""
+    started = start(folder, *words, **more)
+    out, said = started.communicate(timeout=900)
+    return started.returncode, out, said
+
+
+def run_into_full(folder, *words):
+    """Returns the status of a run whose standard output is a full disk, and what it said."""
+    with open("/dev/full", "w") as full:
+        status, _, said = run(folder, *words, stdout=full)
+    return status, said
+
+
+def program_but(path, asked, done):
+    """Writes a program at the path that is the referee, but where it is asked for this it does that; both are words of a shell."""
+    path.write_text(f'#!/bin/bash\nif [[ {asked} ]]; then {done}; fi\nexec {program()} "$@"\n')
+    path.chmod(0o755)
+    return path
+
+
+def command_of(process):
+    """Returns the command of a process, of no bytes where it has ended; it may end while it is looked at."""
+    try:
+        return pathlib.Path(f"/proc/{process}/cmdline").read_bytes()
+    except OSError:
+        return b""
+
+
+def call(*words, data=b""):
+    """Returns what the referee prints."""
+    return subprocess.run([program(), *map(str, words)], input=data, capture_output=True).stdout
+
+
+class InFolder(unittest.TestCase):
+    """A test in a folder of its own."""
+
+    def setUp(self):
+        room = tempfile.TemporaryDirectory()
+        self.addCleanup(room.cleanup)
+        self.folder = pathlib.Path(room.name)
+
+    def plan(self, *words, **more):
+        """Writes competition.toml and plans it."""
+        (self.folder / "competition.toml").write_text(toml(*words, **more))
+        status, out, said = run(self.folder, "plan")
+        self.assertEqual((status, said), (0, ""), out)
+        return [line.split("\t") for line in (self.folder / "schedule.tsv").read_text().splitlines()[1:]]
+
+    def records(self):
+        return {file.stem: json.loads(file.read_bytes()) for file in sorted((self.folder / "records").glob("*.json"))}
+
+    def assert_sound(self, schedule):
+        """Looks, by the referee alone, that each match of the schedule has a lawful record, and an account that gives it again."""
+        self.assertEqual(sorted(file.stem for file in (self.folder / "records").glob("*.json")), sorted(planned[0] for planned in schedule))
+        for match, game, start_clock, play_clock, players in schedule:
+            record = (self.folder / f"records/{match}.json").read_bytes()
+            rules = self.folder / f"rules/{game}.kif"
+            self.assertEqual(call("verify", "--rules-file", rules, data=record), b"lawful\n", match)
+            replayed = call("replay", "--rules-file", rules, data=(self.folder / f"accounts/{match}.txt").read_bytes())
+            self.assertEqual(replayed.partition(b"\n")[2], record, match)
+            read = json.loads(record)
+            self.assertEqual((read["matchId"], " ".join(read["players"])), (match, players))
+            self.assertEqual((str(read["startClock"]), str(read["playClock"])), (start_clock, play_clock))

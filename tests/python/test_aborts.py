@@ -1,0 +1,128 @@
+"""ABORT, which the referee's command sends to players of any kind: each answers, or did not."""
+
+import os
+import pathlib
+import socket
+import subprocess
+import tempfile
+import threading
+import time
+import unittest
+import unittest.mock
+
+from ggp_tools.competition import aborts
+from ggp_tools.competition.aborts import send_aborts
+from ggp_tools.referee import Referee
+from support import program
+
+
+class Aborts(unittest.TestCase):
+    def player(self, reply):
+        """Starts a player that answers each message so, and returns its place."""
+        listening = socket.create_server(("127.0.0.1", 0))
+        self.addCleanup(listening.close)
+
+        def run():
+            while True:
+                try:
+                    connection, _ = listening.accept()
+                except OSError:
+                    return  # the test is over
+                with connection:
+                    connection.recv(4096)
+                    connection.sendall(reply)
+
+        threading.Thread(target=run, daemon=True).start()
+        return f"ann@127.0.0.1:{listening.getsockname()[1]}"
+
+    def silent(self, places):
+        return send_aborts(Referee(program()), places)
+
+    def test_who_answers(self):
+        answering = self.player(b"HTTP/1.0 200 OK\r\nContent-Length: 4\r\n\r\ndone")
+        other = self.player(b"HTTP/1.0 500 No\r\nContent-Length: 0\r\n\r\n")
+        self.assertEqual(self.silent({"cup-001": [answering, other], "cup-002": [answering]}), {"cup-001": [other]})
+
+    def test_more_players_than_are_asked_at_a_time(self):
+        answering = self.player(b"HTTP/1.0 200 OK\r\nContent-Length: 4\r\n\r\ndone")
+        with unittest.mock.patch.object(aborts, "AT_ONCE", 2):
+            self.assertEqual(self.silent({f"cup-{number:03}": [answering, "bob@a..b:80"] for number in range(3)}), {
+                f"cup-{number:03}": ["bob@a..b:80"] for number in range(3)
+            })
+
+    def test_players_that_do_not_answer_are_not_waited_for(self):
+        with tempfile.TemporaryDirectory() as room:
+            waiting = pathlib.Path(room) / "waiting"
+            waiting.write_text("#!/bin/sh\nexec sleep 600\n")
+            waiting.chmod(0o755)
+            places = [f"bob@127.0.0.1:{port}" for port in range(1000, 1030)]
+            began = time.monotonic()
+            self.assertEqual(send_aborts(Referee(str(waiting)), {"cup-001": places}, 1), {"cup-001": places})
+            self.assertLess(time.monotonic() - began, 500)
+
+    def test_a_host_that_is_no_name(self):
+        places = ["ann@a..b:80", f"bob@{'a' * 64}.example:80"]
+        self.assertEqual(self.silent({"cup-001": places}), {"cup-001": places})
+
+    def test_a_referee_that_can_not_be_run(self):
+        with tempfile.TemporaryDirectory() as room:
+            none = Referee(str(pathlib.Path(room) / "none"))
+            self.assertEqual(send_aborts(none, {"cup-001": ["ann@127.0.0.1:9"]}), {"cup-001": ["ann@127.0.0.1:9"]})
+
+
+class Words:
+    """A referee whose command for a place are the words that stand there."""
+
+    def __init__(self):
+        self.begun = []
+
+    def abort_words(self, match, place):
+        self.begun.append((match, place))
+        return ["sh", "-c", place]
+
+
+class Processes(unittest.TestCase):
+    """What becomes of the processes, whatever they do."""
+
+    def test_only_status_0_is_an_answer(self):
+        places = {"a": ["exit 0", "exit 1", "exit 3", "kill -9 $$"], "b": ["exit 0"], "c": ["exit 2"]}
+        self.assertEqual(send_aborts(Words(), places), {"a": ["exit 1", "exit 3", "kill -9 $$"], "c": ["exit 2"]})
+
+    def test_what_can_not_be_begun_is_no_answer_and_the_others_are_sent(self):
+        begun = iter([OSError(11, "none")])
+        plain = subprocess.Popen
+
+        def popen(*words, **more):
+            for fault in begun:
+                raise fault
+            return plain(*words, **more)
+
+        with unittest.mock.patch("ggp_tools.competition.aborts.subprocess.Popen", popen):
+            self.assertEqual(send_aborts(Words(), {"a": ["exit 0", "exit 0;"], "b": ["exit 0"]}), {"a": ["exit 0"]})
+
+    def test_with_no_time_none_has_answered(self):
+        referee = Words()
+        self.assertEqual(send_aborts(referee, {"b": ["y", "x"], "a": ["z"]}, 0), {"b": ["x", "y"], "a": ["z"]})
+        self.assertEqual(referee.begun, [])
+
+    def test_so_many_at_a_time_and_those_that_are_left_at_the_end_are_ended(self):
+        referee, processes, plain = Words(), [], aborts.abort_of
+
+        def begun(*words):
+            processes.append(plain(*words))
+            return processes[-1]
+
+        with unittest.mock.patch.object(aborts, "AT_ONCE", 2), unittest.mock.patch.object(aborts, "abort_of", begun):
+            self.assertEqual(send_aborts(referee, {"a": ["exec sleep 600"], "b": ["exec sleep 600"], "c": ["exit 0"]}, 0.2),
+                             {"a": ["exec sleep 600"], "b": ["exec sleep 600"], "c": ["exit 0"]})
+        self.assertEqual(([match for match, _ in referee.begun], [process.poll() for process in processes]), (["a", "b"], [-9, -9]))
+
+    def test_ctrl_c_at_the_terminal_does_not_reach_them(self):
+        process = aborts.abort_of(Words(), "a", "exec sleep 600")
+        self.addCleanup(process.wait)
+        self.addCleanup(process.kill)
+        self.assertEqual(os.getsid(process.pid), process.pid)
+
+
+if __name__ == "__main__":
+    unittest.main()

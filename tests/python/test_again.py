@@ -1,0 +1,113 @@
+"""Which matches may be ordered again, and what is written then."""
+
+import dataclasses
+import pathlib
+import tempfile
+import types
+import unittest
+from unittest import mock
+
+from ggp_tools.competition.again import order_again, refuse_match
+from ggp_tools.competition.competition_file import read_competition
+from ggp_tools.competition.files import Folder, Refused, held
+from ggp_tools.competition.growth import Again, History
+from ggp_tools.competition.plan import Plan, schedule_of
+from support import toml
+
+RULES = {"nim": types.SimpleNamespace(roles=("first", "second"), is_large=False)}
+ACCOUNT = b"0\topen cup-001 0 10 10 ann bob\topened\n"
+RECORD = (
+    b'{"matchId":"cup-001","players":["ann","bob"],"startClock":10,"playClock":5,"strikes":0,"phase":"finished","cause":null,'
+    b'"goalValues":[100,0],"moves":[],"errors":[]}\n'
+)
+
+
+class Lawful:
+    """A referee to whom each record is lawful, and each account gives its record again."""
+
+    path = "none"
+
+    def taking(self, _):
+        return self
+
+    def verdicts(self, _, records):
+        return ["lawful"] * len(records)
+
+    def replays(self, _, accounts, records):
+        return [True] * len(records)
+
+
+class OrderedAgain(unittest.TestCase):
+    def setUp(self):
+        self.folder = Folder(pathlib.Path(self.enterContext(tempfile.TemporaryDirectory())))
+        self.folder.make(self.folder.records, self.folder.accounts)
+        competition = read_competition(toml([("ann", "h:1"), ("bob", "h:2")], [("nim", "f", "start = 10", "play = 5")]).encode())
+        matches = schedule_of(self.folder, competition, RULES, History()).matches
+        self.plan = Plan(self.folder, competition, RULES, list(matches))
+        self.folder.record("cup-001").write_bytes(RECORD)
+        self.folder.account("cup-001").write_bytes(ACCOUNT)
+
+    def order(self, match, reason="the network was down"):
+        referee = Lawful()
+        with mock.patch("ggp_tools.competition.again.read_plan", return_value=self.plan) as read:
+            found = order_again(str(self.folder.path), referee, match, reason)
+        read.assert_called_once_with(str(self.folder.path), referee)
+        return found
+
+    def assert_refused(self, words, match):
+        with self.assertRaises(Refused) as why:
+            refuse_match(self.plan, Lawful(), match)
+        self.assertEqual(str(why.exception), words)
+
+    def test_a_match_that_counts_gets_another_in_its_place(self):
+        match = self.order("cup-001")
+        self.assertEqual((match.id, match.players, match.instead_of), ("cup-003", ("ann", "bob"), "cup-001"))
+        self.assertEqual(self.folder.again.read_text(), "match\tinstead of\treason\ncup-003\tcup-001\tthe network was down\n")
+        self.assertEqual(self.folder.schedule.read_text(), "id\tgame\tstart\tplay\tplayers\ncup-001\tnim\t10\t5\tann bob\ncup-002\tnim\t10\t5\tbob ann\ncup-003\tnim\t10\t5\tann bob\n")
+
+    def test_orders_before_it_stay(self):
+        order = Again("cup-003", "cup-002", "first")
+        matches = schedule_of(self.folder, self.plan.competition, RULES, History((), (order,))).matches
+        self.plan = dataclasses.replace(self.plan, matches=list(matches), history=History((), (order,)))
+        self.assertEqual(self.order("cup-001").id, "cup-004")
+        self.assertEqual(self.folder.again.read_text().splitlines()[1:], ["cup-003\tcup-002\tfirst", "cup-004\tcup-001\tthe network was down"])
+
+    def test_the_schedule_is_written_last(self):
+        written = []
+        with mock.patch("ggp_tools.competition.again.write_whole", lambda file, _: written.append(file)):
+            self.order("cup-001")
+        self.assertEqual(written, [self.folder.again, self.folder.schedule])
+
+    def test_no_other_run_changes_the_plan_once_it_is_read(self):
+        def read(path, _):
+            with self.assertRaises(Refused), held(path):
+                pass
+            return self.plan
+
+        with mock.patch("ggp_tools.competition.again.read_plan", read):
+            self.assertEqual(order_again(str(self.folder.path), Lawful(), "cup-001", "late").id, "cup-003")
+
+    def test_a_reason_is_printable_and_of_some_length(self):
+        for reason in ("", " x", "x ", "x" * 201, "a\tb", "a\nb", "\xe4"):
+            with self.assertRaises(Refused) as why:
+                self.order("cup-001", reason)
+            self.assertEqual(str(why.exception), "--reason: 1 to 200 printable characters of ASCII are wanted, without a space at either end")
+        self.assertFalse(self.folder.again.exists() or self.folder.schedule.exists())
+        for reason in ("x", "a b", "x" * 200, "!~"):
+            self.assertEqual(self.order("cup-001", reason).id, "cup-003")
+
+    def test_what_can_not_be_ordered_again(self):
+        self.assertEqual(refuse_match(self.plan, Lawful(), "cup-001").id, "cup-001")
+        self.assert_refused(f"{self.folder.schedule} has no match cup-009", "cup-009")
+        self.assert_refused("cup-002 has no record, so `ggp_competition play` plays it", "cup-002")
+        self.folder.account("cup-001").unlink()
+        self.assert_refused("cup-001 does not count, so `ggp_competition play` plays it again: its account is missing", "cup-001")
+        self.folder.account("cup-001").write_bytes(ACCOUNT)
+        self.folder.record("cup-001").write_bytes(RECORD.replace(b'"playClock":5', b'"playClock":6'))
+        self.assert_refused("cup-001 does not count, so `ggp_competition play` plays it again: its playClock is 6, and the schedule has 5", "cup-001")
+        self.plan.matches[0] = dataclasses.replace(self.plan.matches[0], again="cup-003", reason="late")
+        self.assert_refused("cup-001 was ordered again already, as cup-003: late", "cup-001")
+
+
+if __name__ == "__main__":
+    unittest.main()

@@ -1,0 +1,65 @@
+"""What is said of answers that are no legal moves."""
+
+import unittest
+
+from ggp_tools.answers import MOST_TOLD, Illegal, Whys, game_of, listed, no_expression
+from ggp_tools.records.show import page_of
+from support import GAMES
+
+STATES = [["(heap 2)", "(turn red)"], ["(heap 1)", "(turn blue)"]]
+RECORD = {"states": STATES, "roles": ["red", "blue"]}
+
+
+def game():
+    return game_of((GAMES / "countdown.kif").read_bytes())
+
+
+class Answers(unittest.TestCase):
+    def test_why_a_text_is_not_one_expression(self):
+        for answer, words in (
+            ("", "it is empty"),
+            ("  ; stay", "it has no expression"),
+            ("stay stay", "a second expression begins at column 6"),
+            ("(take 1) noop", "a second expression begins at column 10"),
+            ("(take 1", "a list that is not closed at column 1"),
+            ("take 1)", "a `)` with no open list at column 7"),
+            ("(" * 65 + ")" * 65, "more than 64 lists in one another at column 65"),
+            ("st?y", "the log shows `?` for the byte at column 3"),
+            ("x" * 200 + "..", "of so long an answer the log has only the beginning"),
+            ("stay", ""),
+        ):
+            with self.subTest(answer):
+                self.assertEqual(no_expression(answer), words)
+
+    def test_moves_are_listed_as_far_as_there_is_room(self):
+        self.assertEqual(listed([]), "0: ")
+        self.assertEqual(listed(["noop"]), "1: noop")
+        self.assertEqual(listed(["a", "b"]), "2: a, b")
+        self.assertEqual(listed(["x" * 500, "b"]), f"2: {'x' * 500}, and 1 more")
+        self.assertEqual(listed(["x" * 198] * 5), f"5: {', '.join(['x' * 198] * 2)}, and 3 more")
+
+    def test_what_is_legal_in_the_place_of_a_move(self):
+        illegal = Illegal(STATES, ["red", "blue"], game)
+        self.assertEqual(illegal.moves(0, 0, "IL noop"), "2: (take 1), (take 2); it is legal for blue")
+        self.assertEqual(illegal.moves(0, 1, "IL (take 2)"), "1: noop; it was legal in the turn before")
+        self.assertEqual([illegal.moves(0, 0, error) for error in ("IL ?", "TO", "CE", "RT")], [""] * 4)
+        self.assertEqual(Illegal([["(heap"]], ["red"], game).moves(0, 0, "IL noop"), "")
+
+    def test_a_page_tells_of_the_first_illegal_moves(self):
+        whys = Whys(RECORD, game, {(1, 0): "a b"})
+        self.assertEqual(whys.more(1, 0, "IL ?"), ": a second expression begins at column 3")
+        self.assertEqual([whys.more(0, 0, error) for error in ("IL ?", "TO")], [""] * 2)
+        found = [whys.more(0, 0, "IL x") for _ in range(MOST_TOLD + 1)]
+        self.assertEqual(found, [", of which there were 2: (take 1), (take 2)"] * MOST_TOLD + [""])
+        self.assertEqual(Whys(RECORD, None, {}).more(0, 0, "IL x"), "")
+
+    def test_a_page_has_them_as_titles(self):
+        record = {
+            "phase": "playing", "cause": None, "roles": ["red", "blue"], "players": ["a", "b"], "goalValues": [], "startMarks": ["", ""],
+            "endMarks": [None, None], "errors": [["IL <b>", "IL ?"]], "moves": [["(take 1)", "noop"]], "states": STATES, "version": 2, "strikes": 0,
+            "matchId": "m1", "startClock": 1, "playClock": 1,
+        }
+        page = page_of(record, game, {(1, 0): "(<i>"}).decode("ascii")
+        self.assertIn('title="the answer was no legal move, of which there were 2: (take 1), (take 2)"', page)
+        self.assertIn('title="the answer was not one expression: a list that is not closed at column 1"', page)
+        self.assertNotIn("of which", page_of(record).decode("ascii"))

@@ -1,0 +1,465 @@
+"""One archive: checked in another folder, and refused after each of many spoilings, most of them with sums that fit."""
+
+import errno
+import gzip
+import hashlib
+import io
+import json
+import os
+import pathlib
+import re
+import shutil
+import subprocess
+import tarfile
+import tempfile
+import unittest
+from unittest import mock
+
+from ggp_tools.competition import archive as archive_module
+from ggp_tools.competition.archive import Spoilt, unpacked
+from ggp_tools.competition.command import main
+from ggp_tools.competition.files import held, written_whole
+from players import TestPlayer
+from support import GAMES, ODD, program, program_but, run, toml
+
+HEAD = "start = 5\nplay = 5\nstrikes = 1\nforfeit = true\n"
+
+
+def packed(files, kinds=None, fits=True, headers=None):
+    """Returns an archive of these files, whose sums are made to fit unless they are to stay. By names, some are of other kinds or have
+    extended headers."""
+    files, sums = dict(files), f"{next(iter(files)).partition('/')[0]}/SHA256SUMS"
+    lines = sorted((name.partition("/")[2], hashlib.sha256(data).hexdigest()) for name, data in files.items() if name != sums)
+    if fits and sums in files:
+        files[sums] = "".join(f"{line}  {name}\n" for name, line in lines).encode()
+    found = io.BytesIO()
+    with tarfile.open(fileobj=found, mode="w:gz") as archive:
+        for name, data in files.items():
+            member = tarfile.TarInfo(name)
+            member.size = len(data)
+            member.type = (kinds or {}).get(name, tarfile.REGTYPE)
+            member.pax_headers = (headers or {}).get(name, {})
+            archive.addfile(member, io.BytesIO(data))
+    return found.getvalue()
+
+
+def changed(name, change):
+    """Returns a spoiling that changes one file, with sums that fit."""
+
+    def spoil(files):
+        before = files[name]
+        files[name] = change(before)
+        assert files[name] != before, name
+        return packed(files)
+
+    return spoil
+
+
+def swapped(first, second):
+    def spoil(files):
+        files[first], files[second] = files[second], files[first]
+        return packed(files)
+
+    return spoil
+
+
+def without(*names):
+    return lambda files: packed({name: data for name, data in files.items() if name not in names})
+
+
+def beside(name, data=b"x", kind=tarfile.REGTYPE):
+    return lambda files: packed({**files, name: data}, {name: kind})
+
+
+def with_header(key, value):
+    return lambda files: packed(files, headers={"cup/schedule.tsv": {key: value}})
+
+
+def sums_changed(change):
+    """Returns a spoiling of the sums themselves."""
+    return lambda files: packed({**files, "cup/SHA256SUMS": change(files["cup/SHA256SUMS"])}, fits=False)
+
+
+def headers_for_headers(_):
+    """Returns an archive of nothing but extended headers, each for the next one."""
+    header = tarfile.TarInfo("x")
+    header.type = tarfile.XHDTYPE
+    return gzip.compress(header.tobuf(tarfile.USTAR_FORMAT) * 3000)
+
+
+def twice(_):
+    """Returns an archive that has a file twice."""
+    member = tarfile.TarInfo("cup/schedule.tsv")
+    return gzip.compress(2 * member.tobuf() + bytes(1024))
+
+
+def nonsense(files):
+    """Puts another description in the place of one, with a sum that fits also in the rules."""
+    text, sums = b"(role nonsense)\n", "cup/rules/DESCRIPTIONS.sha256"
+    old = hashlib.sha256(files["cup/games/odd.kif"]).hexdigest()
+    files["cup/games/odd.kif"] = text
+    files[sums] = files[sums].replace(old.encode(), hashlib.sha256(text).hexdigest().encode())
+    return packed(files)
+
+
+def moved_calls(files):
+    """Moves the last calls of a match to the head of the account of the match before it, where both are replayed together."""
+    first, second = "cup/accounts/cup-001.txt", "cup/accounts/cup-002.txt"
+    head, *rest = files[second].splitlines(keepends=True)
+    files[first], files[second] = files[first] + head, b"".join(rest)
+    return packed(files)
+
+
+def better(data):
+    """Returns a record with other goals."""
+    record = json.loads(data)
+    record["goalValues"] = record["goalValues"][::-1]
+    return (json.dumps(record, separators=(",", ":")) + "\n").encode()
+
+
+def renamed(data):
+    return data.replace(b'"ann"', b'"eve"')
+
+
+def files_of(path):
+    """Returns what is in an archive."""
+    with tarfile.open(path) as archive:
+        return {member.name: archive.extractfile(member).read() for member in archive}
+
+
+SPOILINGS = {
+    "a bit of a record is turned, sums as they were": (None, "is not the one of its sum"),
+    "the archive is cut off": (None, "can't be unpacked"),
+    "it is no archive": (None, "can't be unpacked"),
+    "a header has no number": (with_header("GNU.sparse.map", "x"), "can't be unpacked"),
+    "another header has no number": (with_header("GNU.sparse.size", "x"), "can't be unpacked"),
+    "a header in the place of another has no number": (with_header("GNU.sparse.realsize", "x"), "can't be unpacked"),
+    "there are headers for headers alone": (headers_for_headers, "can't be unpacked"),
+    "goals are exchanged": (changed("cup/records/cup-002.json", better), "cup-002: not lawful: goals"),
+    "a record has another player's name": (changed("cup/records/cup-001.json", renamed), "cup-001: its account does not give its record again"),
+    "a move of the account is another one": (changed("cup/accounts/cup-001.txt", lambda text: text.replace(b"READY", b"BUSY").replace(b"(take 1)", b"(take 2)")), "cup-001: "),
+    "two accounts are exchanged": (swapped("cup/accounts/cup-001.txt", "cup/accounts/cup-002.txt"), "does not give its record again"),
+    "two whole matches are exchanged": (None, "cup-001: its matchId is 'cup-002'"),
+    "calls of one account stand in another": (moved_calls, "cup-001: its account is not of one match alone"),
+    "an account has a line that replay skips": (changed("cup/accounts/cup-003.txt", lambda text: b'{"goalValues":[100,0]}\n' + text), "cup-003: its account is not of one match alone"),
+    "a match is missing": (without("cup/records/cup-003.json", "cup/accounts/cup-003.txt", "cup/logs/cup-003.txt"), "cup-003: it has no record"),
+    "an account is missing": (without("cup/accounts/cup-004.txt"), "cup-004: its account is missing"),
+    "a log tells of another answer": (changed("cup/logs/cup-001.txt", lambda text: re.sub(rb"(PLAY [^:]*: )[^,]*,", rb"\1(take 7),", text, count=1)), "of its log is not what its account says"),
+    "a log tells of another player": (changed("cup/logs/cup-001.txt", lambda text: text.replace(b" ann ", b" cid ").replace(b" bob ", b" ann ")), "line 2 of its log is not what its account says"),
+    "two logs are exchanged": (swapped("cup/logs/cup-001.txt", "cup/logs/cup-002.txt"), "cup-002: line 2 of its log is not what its account says"),
+    "a log is missing": (without("cup/logs/cup-004.txt"), "cup-004: its log is missing"),
+    "the rules are others": (changed("cup/rules/countdown.kif", lambda text: text.replace(b"100", b"90")), "rules/countdown.kif is not what"),
+    "a description is another": (changed("cup/games/odd.kif", lambda _: b"(role nonsense)\n"), "games/odd.kif is not the description that the rules of odd were made from"),
+    "a description and its sum are others": (nonsense, "games/odd.kif has no variables, and is not the rules of odd"),
+    "a description is missing": (without("cup/games/odd.kif"), "games/odd.kif is missing: it is the description of odd"),
+    "the sums of the descriptions are missing": (without("cup/rules/DESCRIPTIONS.sha256"), "rules/DESCRIPTIONS.sha256 is missing: it has the sums of the descriptions"),
+    "there is a sum of another description": (changed("cup/rules/DESCRIPTIONS.sha256", lambda text: text + b"0" * 64 + b"  more.kif\n"), "has a sum of more.kif, which is no game"),
+    "the schedule is another": (changed("cup/schedule.tsv", lambda text: text.replace(b"ann bob", b"bob ann", 1)), "schedule.tsv is not what"),
+    "the competition has other strikes": (changed("cup/competition.toml", lambda text: text.replace(b"strikes = 1", b"strikes = 2")), "its strikes is 1"),
+    "the competition counts otherwise": (changed("cup/competition.toml", lambda text: text.replace(b"forfeit = true", b"forfeit = false")), "table.json does not follow"),
+    "the competition has another order": (changed("cup/competition.toml", lambda text: b'order = "points"\n' + text), "table.txt does not follow"),
+    "a forfeit is taken away": (changed("cup/matches.jsonl", lambda text: re.sub(rb'"forfeit":.*?"counted":.*?\],', b"", text, count=1)), "matches.jsonl does not follow"),
+    "a forfeit has another reason": (changed("cup/matches.jsonl", lambda text: text.replace(b'"errors":["IL"]', b'"errors":["TO"]', 1)), "matches.jsonl does not follow"),
+    "a forfeit is taken away from its page": (changed("cup/pages/index.html", lambda text: re.sub(rb"forfeit: cid .*?<", b"<", text, count=1)), "pages/index.html does not follow"),
+    "the table is another": (changed("cup/table.txt", lambda text: text.replace(b"ann", b"eve")), "table.txt does not follow from the records"),
+    "the crosstable is another": (changed("cup/crosstable.csv", lambda text: text + b"x"), "crosstable.csv does not follow"),
+    "times are others": (changed("cup/matches.jsonl", lambda text: text.replace(b'"turns":', b'"turns":1', 1)), "matches.jsonl does not follow"),
+    "a page is another": (changed("cup/pages/index.html", lambda text: text.replace(b"ann", b"eve")), "pages/index.html does not follow"),
+    "a page is missing": (without("cup/pages/matches/cup-001.html"), "pages/matches/cup-001.html does not follow"),
+    "there is a page more": (beside("cup/pages/more.html"), "pages/more.html does not follow"),
+    "there is a record more": (beside("cup/records/cup-099.json"), "it is of no match of the schedule"),
+    "there is a file more, of a name that the check itself has used": (beside("cup/pages.said"), "pages.said is nothing of this competition"),
+    "there is a folder of pages more": (beside("cup/pages.said/index.html"), "pages.said/index.html is nothing of this competition"),
+    "there is a file more": (beside("cup/more.txt"), "more.txt is nothing of this competition"),
+    "the version is none": (changed("cup/VERSION", lambda _: b"\x1b[2J\x1b[31mggp_manager 9\nall is well\n"), "VERSION is not one line `ggp_manager N.N.N`"),
+    "the version is missing": (without("cup/VERSION"), "VERSION is missing"),
+    "it does not say how to check it": (without("cup/CHECK.txt"), "CHECK.txt is missing"),
+    "a name in the sums is no plain text": (None, "records/x?[2J?[31mn? is missing"),
+    "a word of the competition is no plain text": (changed("cup/competition.toml", lambda text: text.replace(b"round_robin", b"\xc3\xa9")), "'?' is none of round_robin"),
+    "it says otherwise how to check it": (changed("cup/CHECK.txt", lambda text: text + b"All of it was checked.\n"), "CHECK.txt is not what `publish` writes"),
+    "the sums have another line": (sums_changed(lambda text: text + b"all is well\n"), "SHA256SUMS has a file twice, or a line that is no sum"),
+    "a file has two sums": (sums_changed(lambda text: b"0" * 64 + text[64 : text.index(b"\n") + 1] + text), "SHA256SUMS has a file twice"),
+    "the sums of the rules have another line": (changed("cup/rules/SHA256SUMS", lambda text: b"all is well\n" + text), "rules/SHA256SUMS is not what `ggp_competition plan` wrote"),
+    "a description has two sums": (changed("cup/rules/DESCRIPTIONS.sha256", lambda text: b"0" * 64 + text[64 : text.index(b"\n") + 1] + text), "rules/DESCRIPTIONS.sha256 is not what"),
+    "there are gaps where there are none": (beside("cup/GAPS.tsv", b"id\tgame\tstart\tplay\tplayers\n"), "GAPS.tsv is nothing of this competition"),
+    "there are no sums": (without("cup/SHA256SUMS"), "SHA256SUMS is missing"),
+    "a name leads out of the folder": (beside("cup/../../out.txt"), "is no plain file below one folder"),
+    "a name is absolute": (beside("/tmp/out.txt"), "is no plain file below one folder"),
+    "a file is there twice": (twice, "'cup/schedule.tsv' is there twice"),
+    "a file is a link": (beside("cup/more", b"", tarfile.SYMTYPE), "is no plain file below one folder"),
+    "a folder leads out of the folder": (beside("cup/..", b"", tarfile.DIRTYPE), "is no plain file below one folder"),
+    "a folder is absolute": (beside("/tmp/out", b"", tarfile.DIRTYPE), "is no plain file below one folder"),
+    "a folder is another one": (beside("out", b"", tarfile.DIRTYPE), "'out' is not below cup"),
+    "another archive stands behind its end": (lambda files: gzip.compress(gzip.decompress(packed(files)) + gzip.decompress(packed(files))), "can't be unpacked: something stands behind its end"),
+    "its folder has another name": (lambda files: packed({name.replace("cup/", "final/", 1): data for name, data in files.items()}), "its folder is final, and the name of the competition cup"),
+    "a folder stands in the place of a file": (beside("cup/again.tsv/more"), "again.tsv/more is nothing of this competition"),
+    "a file stands in the place of a folder": (beside("cup/earlier"), "earlier is nothing of this competition"),
+    "there is a folder of the name of a file": (lambda files: packed({"cup/schedule.tsv/": b"", **files}, {"cup/schedule.tsv/": tarfile.DIRTYPE}), "'cup/schedule.tsv' is there twice"),
+    "a file is a folder too": (beside("cup/play.log/more"), "'cup/play.log/more' is a file and a folder, or below a file"),
+    "there are folders alone": (lambda _: packed({"cup": b""}, {"cup": tarfile.DIRTYPE}), "SHA256SUMS is missing"),
+}
+
+
+def list_of_words(_, records):
+    return [f"the same: {record}" for record in records]
+
+
+class SideBySide(unittest.TestCase):
+    def test_what_is_said_of_records_comes_in_their_order(self):
+        with mock.patch.object(archive_module, "PROCESSORS", 3), mock.patch.object(archive_module, "held_records", list_of_words):
+            for count in range(1, 12):
+                self.assertEqual(archive_module.held_side_by_side("file", list(range(count))), [f"the same: {record}" for record in range(count)])
+
+
+class Archive(unittest.TestCase):
+    @classmethod
+    def setUpClass(cls):
+        """Plays a competition, and publishes it."""
+        room = tempfile.TemporaryDirectory()
+        cls.addClassCleanup(room.cleanup)
+        cls.folder = pathlib.Path(room.name)
+        players = [TestPlayer(name, kind, at) for at, (name, kind) in enumerate((("ann", "good"), ("bob", "good"), ("cid", "lying")))]
+        (cls.folder / "odd.kif").write_text(ODD)
+        games = [("countdown", GAMES / "countdown.kif"), ("odd", "odd.kif"), ("buttons", GAMES / "buttons.kif")]
+        (cls.folder / "competition.toml").write_text(toml([(player.name, player.place()) for player in players], games, head=HEAD))
+        cls.ran = [run(cls.folder, command) for command in ("plan", "publish", "play", "publish")]
+        cls.archive = cls.folder / "cup.tar.gz"
+
+    def setUp(self):
+        self.assertEqual([run_of_command[0] for run_of_command in self.ran], [0, 1, 0, 0], self.ran)
+        other = tempfile.TemporaryDirectory()
+        self.addCleanup(other.cleanup)
+        self.other = pathlib.Path(other.name)
+
+    def files(self):
+        return files_of(self.archive)
+
+    def plain_spoilings(self, files):
+        """Returns the spoilings that are not of one file with sums that fit."""
+        data = self.archive.read_bytes()
+        record = files["cup/records/cup-001.json"]
+        raw = gzip.decompress(data)
+        yield "a bit of a record is turned, sums as they were", gzip.compress(raw.replace(record, record.replace(b"finished", b"finishes")))
+        yield "the archive is cut off", data[: len(data) // 2]
+        yield "it is no archive", b"no archive"
+        sums = files["cup/SHA256SUMS"] + b"0" * 64 + b"  records/x\x1b[2J\x1b[31mn\xc3\xa9\n"
+        yield "a name in the sums is no plain text", packed({**files, "cup/SHA256SUMS": sums}, fits=False)
+        both = dict(files)
+        for kind in ("records/cup-00{}.json", "accounts/cup-00{}.txt", "logs/cup-00{}.txt"):
+            first, second = (f"cup/{kind.format(number)}" for number in (1, 2))
+            both[first], both[second] = files[second], files[first]
+        yield "two whole matches are exchanged", packed(both)
+
+    def test_checked_elsewhere_and_refused_after_each_spoiling(self):
+        self.assertIn("nothing is published: 12 matches have no lawful record", self.ran[1][2])
+        self.assertEqual(self.ran[3][1].split()[0], hashlib.sha256(self.archive.read_bytes()).hexdigest())
+        shutil.copy(self.archive, self.other)
+        status, out, said = run(self.other, "check", "cup.tar.gz")
+        self.assertEqual((status, said), (0, ""))
+        self.assertRegex(out, "the sums, the schedule, 12 records and accounts, the table and the pages are right; published with ggp_manager [0-9.]+, checked by ggp_manager [0-9.]+\n$")
+        files = self.files()
+        spoilt = dict(self.plain_spoilings(files))
+        spoilt |= {name: spoil(dict(files)) for name, (spoil, _) in SPOILINGS.items() if spoil}
+        for name, (_, words) in SPOILINGS.items():
+            with self.subTest(name):
+                (self.other / "spoilt.tar.gz").write_bytes(spoilt[name])
+                status, out, said = run(self.other, "check", "spoilt.tar.gz")
+                self.assertEqual((status, out), (1, ""))
+                self.assertIn(words, said)
+                # What helps in the folder of a competition does not help here.
+                self.assertNotRegex(said, "plan` writes|put back")
+                self.assertRegex(said, r"^[\x20-\x7e\n]*$")
+                self.assertNotIn(f"{tempfile.gettempdir()}/tmp", said)
+        self.assertEqual(sorted(file.name for file in self.other.iterdir()), ["cup.tar.gz", "spoilt.tar.gz"])
+        print(f"an archive is checked, and refused after each of {len(SPOILINGS)} spoilings", flush=True)
+
+    def test_another_program_publishes_nothing(self):
+        published, other = self.archive.read_bytes(), program_but(self.other / "other", '"$1" = --version', "echo ggp_manager 9; exit")
+        said = f"ggp_competition: {other} is no ggp_manager: `--version` does not say `ggp_manager N.N.N`\n"
+        self.assertEqual(run(self.folder, "publish", "--program", other), (2, "", said))
+        self.assertEqual(self.archive.read_bytes(), published)
+
+    def test_an_archive_that_is_not_there(self):
+        self.assertEqual(run(self.folder, "check", "none.tar.gz"), (2, "", "ggp_competition: none.tar.gz is not there\n"))
+
+    def test_an_archive_that_can_not_be_checked(self):
+        short = program_but(self.other / "short", '"$1" = replay', "kill -9 $$")
+        said = "ggp_competition: `ggp_manager replay` came to no verdict with cup/rules/countdown.kif: it said nothing, status -9; nothing is changed\n"
+        self.assertEqual(run(self.folder, "check", "cup.tar.gz", "--program", short), (3, "", said))
+
+    def test_an_archive_for_which_memory_is_short(self):
+        words, said = ["ggp_competition", "check", str(self.archive), "--program", program()], io.StringIO()
+        for place in ("ggp_tools.competition.archive.unpacked", "ggp_tools.competition.kept.read_at_most"):
+            with mock.patch(place, side_effect=MemoryError), mock.patch("sys.argv", words), mock.patch("sys.stderr", said):
+                self.assertEqual(main(), 3)
+        what = "the archive", "records and accounts"
+        self.assertEqual(said.getvalue(), "".join(f"ggp_competition: {place_of_fault} can't be checked: out of memory; nothing is changed\n" for place_of_fault in what))
+
+    def test_an_archive_for_which_the_disk_is_full(self):
+        words, said = ["ggp_competition", "check", str(self.archive), "--program", program()], io.StringIO()
+        for place in ("ggp_tools.competition.archive.unpacked", "tempfile.TemporaryDirectory"):
+            with mock.patch(place, side_effect=OSError(errno.ENOSPC, "full", "x")), mock.patch("sys.argv", words), mock.patch("sys.stderr", said):
+                self.assertEqual(main(), 3)
+        self.assertEqual(said.getvalue(), 2 * f"ggp_competition: the archive can't be checked in {tempfile.gettempdir()}: full; nothing is changed\n")
+
+    def test_sums_that_were_made_anew_are_taken_of_what_is_right(self):
+        (self.other / "again.tar.gz").write_bytes(packed(self.files()))
+        self.assertEqual(run(self.other, "check", "again.tar.gz")[0], 0)
+
+    def test_an_archive_that_tar_has_packed_again(self):
+        for words in (["xzf", self.archive], ["czf", "again.tar.gz", "cup"]):
+            subprocess.run(["tar", *words], cwd=self.other, check=True)
+        with tarfile.open(self.other / "again.tar.gz") as archive:
+            self.assertIn("cup/pages/matches", [member.name for member in archive if member.isdir()])
+        self.assertEqual(run(self.other, "check", "again.tar.gz")[0], 0)
+
+    def test_the_same_again(self):
+        data = self.archive.read_bytes()
+        self.assertEqual(run(self.folder, "publish", "--to", "again.tar.gz")[0], 0)
+        self.assertEqual((self.folder / "again.tar.gz").read_bytes(), data)
+
+    def copied(self):
+        """Returns a copy of the folder of the competition."""
+        cup = self.other / "cup"
+        shutil.copytree(self.folder, cup)
+        return cup
+
+    def test_gaps_are_published_if_that_is_wanted_and_named(self):
+        cup = self.copied()
+        published = (cup / "cup.tar.gz").read_bytes()
+        self.assertEqual((run(cup, "publish", "--gaps")[0], (cup / "cup.tar.gz").read_bytes()), (0, published))
+        line = next(planned for planned in (cup / "schedule.tsv").read_text().splitlines() if planned.startswith("cup-003"))
+        (cup / "records/cup-003.json").unlink()
+        self.assertIn("nothing is published: 1 matches have no lawful record; with `--gaps` the others are\n", run(cup, "publish")[2])
+        self.assertEqual(run(cup, "publish", "--gaps")[::2], (0, ""))
+        files = files_of(cup / "cup.tar.gz")
+        self.assertEqual(files["cup/GAPS.tsv"].decode().splitlines()[1:], [line])
+        self.assertEqual([file for file in files if "cup-003" in file], [])
+        self.assertIn(b"<h2>Matches without a record</h2><p>These count for nobody.</p>", files["cup/pages/index.html"])
+        self.assertIn("cup: 11 of 12 matches", files["cup/table.txt"].decode())
+        status, out, said = run(cup, "check", "cup.tar.gz")
+        self.assertEqual((status, said), (0, ""))
+        self.assertIn("11 records and accounts, the table and the pages are right; 1 of 12 matches have no record, GAPS.tsv names them; published", out)
+        for change, words in (
+            (without("cup/GAPS.tsv"), "cup-003: it has no record"),
+            (changed("cup/GAPS.tsv", lambda text: text.replace(b"cup-003", b"cup-004")), "GAPS.tsv does not follow from the records"),
+            (without(*(f"cup/{name}" for name in ("records/cup-004.json", "accounts/cup-004.txt", "logs/cup-004.txt"))), "GAPS.tsv does not follow from the records"),
+            (without("cup/logs/cup-004.txt"), "cup-004: its log is missing"),
+            (changed("cup/records/cup-002.json", better), "cup-002: not lawful: goals"),
+        ):
+            (self.other / "spoilt.tar.gz").write_bytes(change(dict(files)))
+            status, out, said = run(self.other, "check", "spoilt.tar.gz")
+            self.assertEqual((status, out), (1, ""))
+            self.assertIn(words, said)
+        before = (cup / "cup.tar.gz").read_bytes()
+        (cup / "records/cup-004.json").write_bytes(b"{}\n")
+        self.assertIn("nothing is published: 2 matches have no lawful record\n", run(cup, "publish", "--gaps")[2])
+        self.assertEqual((cup / "cup.tar.gz").read_bytes(), before)
+
+    def test_what_is_published_is_what_was_counted(self):
+        cup = self.copied()
+        published = (cup / "cup.tar.gz").read_bytes()
+        edit = program_but(self.other / "edit", '"$1" = verify', "sed -i 's/forfeit = true/forfeit = false/' competition.toml")
+        self.assertEqual(run(cup, "publish", "--program", edit)[0], 0)
+        self.assertIn("forfeit = false", (cup / "competition.toml").read_text())
+        self.assertEqual((cup / "cup.tar.gz").read_bytes(), published)
+        write = program_but(self.other / "write", '"$1" = --version', "touch pages/.unfinished-1-index.html; rm matches.jsonl")
+        (cup / "competition.toml").write_bytes((self.folder / "competition.toml").read_bytes())
+        self.assertEqual((run(cup, "publish", "--program", write)[0], (cup / "cup.tar.gz").read_bytes()), (0, published))
+
+    def test_no_two_publish_at_once(self):
+        with held(self.folder):
+            said = "ggp_competition: .: another run plans, plays or publishes this competition\n"
+            self.assertEqual(run(self.folder, "publish"), (2, "", said))
+
+    def test_a_description_that_is_another_one_is_not_published(self):
+        cup = self.other / "cup"
+        shutil.copytree(self.folder, cup)
+        published = (cup / "cup.tar.gz").read_bytes()
+        for change, words in ((b"(role nonsense)\n", "is not the description that the rules of odd were made from"), (None, "is missing: it is the description of odd, of which the archive has a copy")):
+            (cup / "odd.kif").write_bytes(change) if change else (cup / "odd.kif").unlink()
+            self.assertEqual(run(cup, "publish"), (1, "", f"ggp_competition: nothing is published: odd.kif {words}\n"))
+        (cup / "odd.kif").write_text(ODD)
+        sums = cup / "rules/DESCRIPTIONS.sha256"
+        before = sums.read_bytes()
+        sums.unlink()
+        self.assertIn("rules/DESCRIPTIONS.sha256 is missing: it has the sums of the descriptions, and `ggp_competition plan` writes it", run(cup, "publish")[2])
+        self.assertEqual((run(cup, "plan")[0], sums.read_bytes()), (0, before))
+        self.assertEqual((run(cup, "publish")[0], (cup / "cup.tar.gz").read_bytes()), (0, published))
+
+    def test_pages_in_another_place_are_not_published(self):
+        cup, web = self.other / "cup", self.other / "web"
+        shutil.copytree(self.folder, cup)
+        published = (cup / "cup.tar.gz").read_bytes()
+        shutil.move(cup / "pages", web)
+        (web / "mine.html").touch()
+        (cup / "pages").symlink_to(web)
+        self.assertEqual(run(cup, "pages")[0], 0)
+        said = "ggp_competition: pages is a link, and `publish` makes that folder anew: take the link away, and publish again\n"
+        self.assertEqual(run(cup, "publish"), (2, "", said))
+        (cup / "pages").unlink()
+        self.assertEqual((run(cup, "publish")[0], (cup / "cup.tar.gz").read_bytes()), (0, published))
+        self.assertTrue((web / "mine.html").exists() and (web / "index.html").exists())
+        shutil.rmtree(cup / "pages")
+        (cup / "pages").touch()
+        self.assertEqual(run(cup, "publish"), (1, "", "ggp_competition: pages: Not a directory\n"))
+
+    def test_where_an_archive_can_not_stand(self):
+        (self.other / "there").mkdir()
+        os.mkfifo(self.other / "pipe")
+        wrong = [
+            (".", ". is no plain file: `--to` names the file of the archive"),
+            (f"{self.other}/there/", f"{self.other}/there is no plain file: `--to` names the file of the archive"),
+            (f"{self.other}/pipe", f"{self.other}/pipe is no plain file: `--to` names the file of the archive"),
+            ("none/a.tgz", "none/a.tgz can't be written: none is no folder"),
+            ("competition.toml/a.tgz", "competition.toml/a.tgz can't be written: competition.toml is no folder"),
+        ]
+        among = "stands among the files of the competition: `--to` names a file directly in ., or outside of it"
+        wrong += [(path, f"{path} {among}") for path in ("pages/a.tgz", "records/cup-001.json", f"{self.other}/link/rules/odd.kif", "pages/matches/a.tgz")]
+        (self.other / "link").symlink_to(self.folder)
+        names = "competition.toml", "schedule.tsv", "matches.jsonl", "table.txt", "table.csv", "crosstable.csv", "table.json", "odd.kif", "VERSION"
+        own = [*names, f"{self.other}/link/odd.kif"]
+        wrong += [(path, f"{path} is a file of the competition: `--to` names the file of the archive") for path in own]
+        before = {file: file.is_file() and file.read_bytes() for file in self.folder.rglob("*")}
+        for to, words in wrong:
+            self.assertEqual(run(self.folder, "publish", "--to", to), (2, "", f"ggp_competition: {words}\n"))
+        self.assertEqual({file: file.is_file() and file.read_bytes() for file in self.folder.rglob("*")}, before)
+        self.assertEqual(sorted(file.name for file in self.other.iterdir()), ["link", "pipe", "there"])
+
+    def test_an_archive_has_a_greatest_size(self):
+        cup, size = self.other / "cup", sum(map(len, self.files().values()))
+        shutil.copytree(self.folder, cup)
+        before = (cup / "cup.tar.gz").read_bytes()
+        words = ["ggp_competition", "publish", str(cup), "--program", program()]
+        for most, status in ((size - 1, 1), (size, 0)):
+            said = io.StringIO()
+            with mock.patch("ggp_tools.competition.archive.MOST_BYTES", most), mock.patch("sys.argv", words), mock.patch("sys.stderr", said), mock.patch("sys.stdout", io.StringIO()):
+                self.assertEqual(main(), status)
+            self.assertEqual(said.getvalue(), f"ggp_competition: nothing is published: it has more than {most:,} bytes, which are the most of an archive\n" if status else "")
+            self.assertEqual(((cup / "cup.tar.gz").read_bytes(), [*cup.glob(".*")]), (before, []))
+            with mock.patch("ggp_tools.competition.archive.MOST_BYTES", most), tempfile.TemporaryDirectory() as room:
+                try:
+                    self.assertEqual((unpacked(self.archive, pathlib.Path(room)).name, status), ("cup", 0))
+                except Spoilt as why:
+                    self.assertEqual((str(why), status), (f"with 'cup/SHA256SUMS' it has more than {most:,} bytes, which are the most of an archive", 1))
+
+    def test_a_file_that_is_not_finished_leaves_nothing(self):
+        file = self.other / "file"
+        file.write_bytes(b"before")
+        for fault, path in ((OSError(errno.ENOSPC, "full"), str(file)), (OSError(errno.EIO, "bad", "other"), "other"), (KeyboardInterrupt(), None)):
+            with self.assertRaises(type(fault)) as raised, written_whole(file) as stream:
+                stream.write(b"after")
+                raise fault
+            self.assertEqual(getattr(raised.exception, "filename", None), path)
+            self.assertEqual(([left.name for left in self.other.iterdir()], file.read_bytes()), (["file"], b"before"))
+
+    def test_it_says_how_to_check_it_by_hand(self):
+        files = self.files()
+        sums = dict(reversed(line.split("  ")) for line in files["cup/SHA256SUMS"].decode().splitlines())
+        self.assertEqual({f"cup/{name}" for name in sums} | {"cup/SHA256SUMS"}, set(files))
+        self.assertTrue(re.fullmatch(rb"ggp_manager \d+\.\d+\.\d+\n", files["cup/VERSION"]))
+        self.assertIn(b"sha256sum --check SHA256SUMS", files["cup/CHECK.txt"])
+
+
+if __name__ == "__main__":
+    unittest.main()

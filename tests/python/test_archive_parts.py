@@ -1,0 +1,420 @@
+"""What an archive is made of, and how each part of it is checked. The referee is a stand-in here, and the matches are made up."""
+
+import dataclasses
+import errno
+import gzip
+import hashlib
+import io
+import json
+import pathlib
+import tarfile
+import tempfile
+import types
+import unittest
+from unittest import mock
+
+from ggp_tools.competition import archive, command
+from ggp_tools.competition.archive import SUMS, Spoilt, TooLarge, check_archive, files_below, publish, unpacked
+from ggp_tools.competition.kept import look_at_records
+from ggp_tools.competition.known import Known
+from ggp_tools.competition.plan import make_plan
+from ggp_tools.competition.table_text import in_order
+from ggp_tools.referee import Unchecked
+from live_support import BEGAN, ENDED, RULES, line, record_of, started
+from support import toml
+from test_archive import changed, files_of, packed, without
+
+HEAD = "start = 5\nplay = 5\n"
+
+
+class Right:
+    """A referee that takes everything for right, unless an answer is laid down."""
+
+    def __init__(self, path):
+        self.path, self.is_large, self.wrong, self.unchecked = path, False, {}, None
+
+    def taking(self, is_large):
+        return self
+
+    def roles(self, rules, name):
+        return "red", "blue"
+
+    def version(self):
+        return "ggp_manager 1.2.3"
+
+    def verdicts(self, rules, records):
+        if self.unchecked:
+            raise Unchecked(self.unchecked.format(rules))
+        return [next((fault for part, fault in self.wrong.items() if part in record), "lawful") for record in records]
+
+    def replays(self, rules, accounts, records):
+        return [b"replays another" not in account for account in accounts]
+
+
+class Made(unittest.TestCase):
+    """A competition of three matches that are all over, in a folder."""
+
+    LINES = '"heap ann bob", "heap bob ann", "heap ann bob"'
+
+    def setUp(self):
+        self.room = pathlib.Path(self.enterContext(tempfile.TemporaryDirectory()))
+        self.enterContext(mock.patch.dict("os.environ", {"XDG_CACHE_HOME": str(self.room / "cache")}))
+        self.folder = self.room / "made"
+        self.folder.mkdir()
+        self.referee = Right(str(self.folder / "heap.kif"))
+        (self.folder / "heap.kif").write_bytes(RULES)
+        text = toml([("ann", "h:1"), ("bob", "h:2")], [("heap", "heap.kif", "aborts = true")], f'kind = "schedule"\nlines = [{self.LINES}]', HEAD)
+        (self.folder / "competition.toml").write_text(text)
+        self.plan = make_plan(str(self.folder), self.referee)
+        self.plan.folder.make(self.plan.folder.records, self.plan.folder.accounts, self.plan.folder.logs)
+        for at, match in enumerate(self.plan.matches):
+            self.end(match, [100, 0] if at % 2 else [0, 100])
+        self.path = self.room / "cup.tar.gz"
+
+    def end(self, match, goals):
+        """Writes the files of a match: its account has the calls that its log tells of."""
+        folder = self.plan.folder
+        folder.record(match.id).write_text(json.dumps(record_of(match, [["(take 2)", "noop"], ["noop", "(take 1)"]], [["", ""], ["", ""]], goals)) + "\n")
+        calls = "".join(f"{at}\tnext {match.id} {at}\towe {at} start\n{at}\tsubmit {match.id} {at} 1 ready\ttaken\n" for at in (0, 1))
+        folder.account(match.id).write_text(f"0\topen {match.id} 0 5 5\topened\n{calls}")
+        folder.log(match.id).write_bytes(BEGAN + started(match).encode() + ENDED)
+
+    def results(self):
+        found, faults, misfits = look_at_records(self.plan, self.referee)
+        self.assertEqual((faults, misfits), ({}, {}))
+        return in_order(self.plan, found)
+
+    def publish(self, known=None):
+        return publish(self.plan, self.referee, self.results(), self.path, known or Known(self.folder))
+
+    def check(self, data=None):
+        if data is not None:
+            self.path.write_bytes(data)
+        return check_archive(self.path, self.referee)
+
+
+class Checked(Made):
+    def test_what_is_published_is_right(self):
+        self.assertEqual(self.publish(), hashlib.sha256(self.path.read_bytes()).hexdigest())
+        faults, said = self.check()
+        self.assertEqual(faults, [])
+        self.assertEqual(said, "the sums, the schedule, 3 records and accounts, the table and the pages are right; published with ggp_manager 1.2.3, checked by ggp_manager 1.2.3")
+
+    def test_each_file_is_looked_at(self):
+        self.publish()
+        files = files_of(self.path)
+        files = {f"cup/{name.partition('/')[2]}": data for name, data in files.items()}
+        more = lambda data: data + b"x"
+        for spoil, words in (
+            (changed("cup/table.json", more), "table.json does not follow from the records"),
+            (changed("cup/table.txt", more), "table.txt does not follow from the records"),
+            (changed("cup/matches.jsonl", more), "matches.jsonl does not follow from the records"),
+            (without("cup/matches.jsonl"), "matches.jsonl is missing"),
+            (without("cup/table.csv"), "table.csv is missing"),
+            (changed("cup/pages/index.html", more), "pages/index.html does not follow from the records"),
+            (without("cup/pages/index.html"), "pages/index.html does not follow from the records"),
+            (lambda files: packed({**files, "cup/pages/more.html": b""}), "pages/more.html does not follow from the records"),
+            (lambda files: packed({**files, "cup/pages.more": b""}), "pages.more is nothing of this competition"),
+            (lambda files: packed({name.replace("cup/", "cap/", 1): data for name, data in files.items()}), "its folder is cap, and the name of the competition cup"),
+            (lambda files: packed({**files, "cup/GAPS.tsv": b""}), "GAPS.tsv is nothing of this competition"),
+            (lambda files: packed({**files, "cup/games/other.kif": b"a"}), "games/other.kif is nothing of this competition"),
+            (lambda files: packed({**files, "cup/rules/other.kif": b"a"}), "rules/other.kif is nothing of this competition"),
+            (lambda files: packed({**files, "cup/logs/other.txt": b"a"}), "logs/other.txt is nothing of this competition"),
+            (lambda files: packed({**files, "cup/accounts/cup-004.txt": b"a"}), "accounts/cup-004.txt is nothing of this competition"),
+            (lambda files: packed({**files, "cup/records/cup-004.json": b"a"}), "records/cup-004.json: it is of no match of the schedule"),
+            (lambda files: packed({**files, "cup/play.log": b"2026\n"}), None),
+            (changed("cup/CHECK.txt", more), "CHECK.txt is not what `publish` writes"),
+            (without("cup/logs/cup-002.txt"), "cup-002: its log is missing"),
+            (without("cup/records/cup-002.json"), "cup-002: it has no record"),
+            (without("cup/accounts/cup-002.txt"), "cup-002: its account is missing"),
+            (changed("cup/accounts/cup-001.txt", lambda data: data.replace(b"1 ready", b"1 go")), "cup-001: line 2 of its log is not what its account says"),
+            (changed("cup/games/heap.kif", more), "games/heap.kif is not the description that the rules of heap were made from"),
+            (changed("cup/VERSION", lambda _: b"ggp_manager 9.9.9\n"), None),
+        ):
+            faults, said = self.check(spoil(dict(files)))
+            self.assertEqual([fault for fault in faults if fault == words], [words] if words else [], (faults, words))
+            self.assertEqual(bool(faults), bool(words), (faults, words))
+            if not words:
+                self.assertIn("the table and the pages are right", said)
+
+    def test_all_that_is_wrong_is_told_at_once(self):
+        self.publish()
+        whole = {f"cup/{name.partition('/')[2]}": data for name, data in files_of(self.path).items()}
+        files = dict(whole)
+        del files["cup/table.csv"], files["cup/CHECK.txt"], files["cup/records/cup-001.json"]
+        files[f"cup/{SUMS}"] = files[f"cup/{SUMS}"].replace(b"  pages/index.html", b"  pages/other.html")
+        files["cup/more/a"] = b""
+        self.assertEqual(self.check(packed(files, fits=False))[0], [
+            "CHECK.txt is missing", "pages/other.html is missing", "records/cup-001.json is missing", "table.csv is missing",
+            "more/a has no sum", "pages/index.html has no sum", "CHECK.txt is missing", "more/a is nothing of this competition",
+        ])
+        pages = [f"pages/{letter}.html" for letter in "hgfedcba"]
+        self.assertEqual(self.check(packed({**whole, **{f"cup/{page}": b"" for page in pages}}))[0], [f"{page} does not follow from the records" for page in pages[::-1]])
+
+    def test_what_the_referee_says_of_records(self):
+        self.publish()
+        self.referee.wrong = {b'"cup-002"': "not lawful: goals"}
+        self.assertEqual(self.check()[0], ["cup-002: not lawful: goals"])
+        self.referee.unchecked = "`ggp_manager verify` came to no verdict with {}: it said nothing, status 3"
+        with self.assertRaises(Unchecked) as why:
+            self.check()
+        self.assertEqual(str(why.exception), "`ggp_manager verify` came to no verdict with cup/rules/heap.kif: it said nothing, status 3")
+
+    def test_gaps_are_named(self):
+        folder = self.plan.folder
+        for file in (folder.record("cup-002"), folder.account("cup-002"), folder.log("cup-002")):
+            file.unlink()
+        self.publish()
+        faults, said = self.check()
+        self.assertEqual((faults, "; 1 of 3 matches have no record, GAPS.tsv names them; published" in said, "2 records and accounts" in said), ([], True, True))
+        files = files_of(self.path)
+        self.assertEqual(files["cup/GAPS.tsv"], b"id\tgame\tstart\tplay\tplayers\ncup-002\theap\t5\t5\tbob ann\n")
+        self.assertEqual(self.check(without("cup/GAPS.tsv")(dict(files)))[0], ["cup-002: it has no record", "cup-002: its log is missing"])
+        self.assertEqual(self.check(without("cup/logs/cup-001.txt")(dict(files)))[0], ["cup-001: its log is missing"])
+        self.assertEqual(self.check(changed("cup/GAPS.tsv", lambda data: data.replace(b"-002", b"-001"))(dict(files)))[0], ["GAPS.tsv does not follow from the records"])
+
+    def test_the_archive_is_the_same_for_the_same_files(self):
+        def published():
+            known = Known(self.folder)
+            digest = self.publish(known)
+            known.write()
+            return digest, self.path.read_bytes()
+
+        digest, data = published()
+        with tarfile.open(self.path) as members:
+            self.assertEqual({(member.mode, member.mtime, member.uid, member.uname) for member in members}, {(0o644, 0, 0, "")})
+            names = [member.name for member in members]
+            self.assertEqual((names[0], names[1], names[-1]), ("cup/competition.toml", "cup/schedule.tsv", f"cup/{SUMS}"))
+        # What is known to be right is not written again, and what is not there any more is.
+        before = self.path.stat().st_ino
+        self.assertEqual((published(), self.path.stat().st_ino), ((digest, data), before))
+        self.path.write_bytes(b"another")
+        self.assertEqual(published(), (digest, data))
+        self.path.unlink()
+        self.assertEqual(published(), (digest, data))
+        self.plan.folder.journal.write_text("2026\n")
+        self.assertNotEqual(published(), (digest, data))
+        self.assertEqual(files_of(self.path)["cup/play.log"], b"2026\n")
+
+    def test_what_is_of_its_history_is_in_the_archive(self):
+        folder = self.plan.folder
+        folder.make(folder.earlier)
+        (folder.earlier / "2.toml").write_bytes(b"before")
+        folder.again.write_bytes(b"again")
+        self.publish()
+        files = files_of(self.path)
+        self.assertEqual((files["cup/earlier/2.toml"], files["cup/again.tsv"]), (b"before", b"again"))
+
+    def test_beside_ground_rules_the_description_is_in_the_archive(self):
+        competition = self.plan.competition
+        self.plan.competition = dataclasses.replace(competition, games=(dataclasses.replace(competition.games[0], described="general.kif"),))
+        files = dict(archive.contents(self.plan, self.referee, [], None))
+        self.assertEqual(files["games/heap.kif"], self.plan.folder.path / "general.kif")
+
+    def test_a_line_of_a_match_is_made_once(self):
+        known, results = Known(self.folder), self.results()
+        text = archive.matches_text(self.plan, results, known)
+        known.write()
+        with mock.patch.object(archive, "line_of") as made:
+            self.assertEqual((archive.matches_text(self.plan, results, Known(self.folder)), made.called), (text, False))
+        # A line is known of the same log alone: an archive with that of another one would be refused.
+        file = self.plan.folder.log(self.plan.matches[0].id)
+        file.write_bytes(file.read_bytes().replace(ENDED, b""))
+        text = archive.matches_text(self.plan, results)
+        self.assertEqual((archive.matches_text(self.plan, results, Known(self.folder)), json.loads(text.splitlines()[0])["end"]), (text, None))
+        digest = "0" * 64
+        self.plan.folder.description_sums().write_text(f"{digest}  heap.kif\n")
+        sums = {(line["rules"], line["description"]) for line in map(json.loads, archive.matches_text(self.plan, results, Known(self.folder)).splitlines())}
+        self.assertEqual(sums, {(hashlib.sha256((self.folder / "rules/heap.kif").read_bytes()).hexdigest(), digest)})
+
+    def test_files_that_no_archive_may_stand_in_the_place_of(self):
+        names = "competition.toml", "schedule.tsv", "again.tsv", "matches.jsonl", "table.txt", "SHA256SUMS", "VERSION", "CHECK.txt", "GAPS.tsv", "heap.kif"
+        self.assertLessEqual({str(self.plan.folder.path / name) for name in names}, set(map(str, archive.own_files(self.plan))))
+
+    def test_what_another_run_is_writing_is_none_of_the_pages(self):
+        self.publish()
+        files = files_of(self.path)
+        unfinished = self.plan.folder.pages / "matches/.unfinished-1-x"
+        with mock.patch.object(archive, "made_anew", lambda *_: unfinished.touch()):
+            self.publish()
+        self.assertEqual((files_of(self.path), unfinished.exists()), (files, True))
+
+    def test_more_bytes_than_an_archive_may_have(self):
+        self.publish()
+        size, known = sum(map(len, files_of(self.path).values())), Known(self.folder)
+        with mock.patch.object(archive, "MOST_BYTES", size):
+            self.publish(known)
+        self.path.unlink()
+        with mock.patch.object(archive, "MOST_BYTES", size - 1), self.assertRaises(TooLarge) as why:
+            self.publish(known)
+        self.assertEqual((str(why.exception), self.path.exists()), (f"it has more than {size - 1:,} bytes, which are the most of an archive", False))
+
+    def test_faults_of_this_computer_are_none_of_the_archive(self):
+        for number in (errno.ENOSPC, errno.EDQUOT, errno.EIO, errno.EMFILE, errno.ENFILE, errno.ENOMEM):
+            with mock.patch.object(archive, "unpacked", side_effect=OSError(number, "short")), self.assertRaises(Unchecked) as why:
+                self.check()
+            self.assertEqual(str(why.exception), f"the archive can't be checked in {tempfile.gettempdir()}: short")
+        with mock.patch.object(archive, "unpacked", side_effect=OSError(errno.EACCES, "no")), self.assertRaises(OSError):
+            self.check()
+        with mock.patch.object(archive, "unpacked", side_effect=MemoryError), self.assertRaises(Unchecked) as why:
+            self.check()
+        self.assertEqual(str(why.exception), "the archive can't be checked: out of memory")
+
+    def test_an_archive_that_can_not_be_read_is_no_verdict(self):
+        for name, status in (("check", 3), ("table", 1)):
+            for fault, words in ((OSError(errno.EACCES, "no", "x"), "x: no"), (KeyboardInterrupt(), "interrupted")):
+                fails, said = mock.Mock(side_effect=fault), io.StringIO()
+                names = [mock.patch.object(command, word) for word in ("find_program", "Referee")]
+                with names[0], names[1], mock.patch.dict(command.RUNS, {name: fails}), mock.patch("sys.argv", ["ggp_competition", name, "x"]), mock.patch("sys.stderr", said):
+                    self.assertEqual((command.main(), said.getvalue()), (status, f"ggp_competition: {words}\n"), name)
+
+    def test_what_is_said_reaches_no_terminal_as_it_is(self):
+        with mock.patch.object(archive, "unpacked", side_effect=Spoilt("a\x1b[1m\u00e9\nb ~")):
+            self.assertEqual(self.check(), (["a?[1m?", "b ~"], ""))
+
+
+class Rounds(Made):
+    def test_rounds_that_were_not_planned_are_told(self):
+        with mock.patch.object(archive, "rounds_left", lambda _: 2):
+            self.publish()
+            self.assertEqual(files_of(self.path)["cup/GAPS.tsv"], b"id\tgame\tstart\tplay\tplayers\n")
+            faults, said = self.check()
+        self.assertEqual((faults, "right; 2 of 2 rounds were not planned; published" in said, "have no record" in said), ([], True, False))
+
+
+class Held(Made):
+    """Matches of games that have variables are held against the descriptions."""
+
+    def held(self, *words):
+        games = [types.SimpleNamespace(name=name) for name in ("heap", "other", "third")]
+        plan = types.SimpleNamespace(competition=types.SimpleNamespace(games=games), folder=self.plan.folder)
+        description = self.room / "games"
+        description.mkdir(exist_ok=True)
+        for name, text in (("heap", b"(p ?x)"), ("third", b"(p x)")):
+            (description / f"{name}.kif").write_bytes(text)
+        results = self.results()
+        left = iter(words)
+        with mock.patch.object(archive, "held_records", lambda file, records: [next(left) for _ in records]), mock.patch.object(archive, "PROCESSORS", 1):
+            return archive.held_matches(plan, results, self.room)
+
+    def test_what_is_said_of_them(self):
+        same = "the same: 2 turns"
+        self.assertEqual(self.held(same, same, same), ("; 3 matches are those of descriptions with variables", []))
+        self.assertEqual(self.held(same, "differs: x", same), ("; 2 matches are those of descriptions with variables", ["cup-002: by games/heap.kif it differs: x"]))
+        said = "; 1 matches are those of descriptions with variables, and 2 could not be followed: cup-001 not followed: a, cup-003 not followed: b"
+        self.assertEqual(self.held("not followed: a", same, "not followed: b"), (said, []))
+        said = "; 0 matches are those of descriptions with variables, and 3 could not be followed: cup-001 not followed: a, cup-002 not followed: a, cup-003 not followed: a"
+        self.assertEqual(self.held(*["not followed: a"] * 3), (said, []))
+        self.assertEqual(self.held(*["differs: x"] * 3)[0], "")
+
+    def test_a_match_that_differs_is_a_fault_of_the_archive(self):
+        self.publish()
+        with mock.patch.object(archive, "has_variables", lambda _: True), mock.patch.object(archive, "held_records", lambda _, records: ["differs: y" for _ in records]):
+            self.assertEqual(self.check(), ([f"cup-00{at}: by games/heap.kif it differs: y" for at in (1, 2, 3)], ""))
+        with mock.patch.object(archive, "has_variables", lambda _: True), mock.patch.object(archive, "held_records", lambda _, records: ["the same: 2 turns" for _ in records]):
+            self.assertIn("the pages are right; 3 matches are those of descriptions with variables; published with", self.check()[1])
+
+
+class Parts(unittest.TestCase):
+    def setUp(self):
+        self.folder = pathlib.Path(self.enterContext(tempfile.TemporaryDirectory()))
+
+    def write(self, **files):
+        for name, data in files.items():
+            file = self.folder / name.replace("__", "/").replace("_", ".")
+            file.parent.mkdir(parents=True, exist_ok=True)
+            file.write_bytes(data)
+
+    def test_places_of_files(self):
+        right = "competition.toml", "rules/a.kif", "games/a.kif", "records/a.json", "accounts/a.txt", "logs/a.txt", "earlier/3.toml", "pages/index.html", "pages/matches/a.html", "pages/games/a.html", "pages/players/a.html"
+        wrong = "a/b", "rules", "pages", "earlier", "rules/a/b", "pages/other/a.html", "pages/matches/a/b", "xpages/index.html", "records/a/b"
+        self.assertEqual(([bool(archive.PLACE.fullmatch(name)) for name in right], [bool(archive.PLACE.fullmatch(name)) for name in wrong]), ([True] * len(right), [False] * len(wrong)))
+
+    def test_faults_of_sums(self):
+        self.write(a=b"one", b=b"two", c__d=b"three")
+        self.assertEqual(list(archive.faults_of_sums(self.folder)), [f"{SUMS} is missing"])
+        digests = {name: hashlib.sha256(data).hexdigest() for name, data in (("a", b"one"), ("b", b"other"), ("e", b""))}
+        lines = [f"{digest}  {name}\n" for name, digest in digests.items()]
+        (self.folder / SUMS).write_text("".join(lines))
+        self.assertEqual(list(archive.faults_of_sums(self.folder)), ["e is missing", "c/d has no sum", "b is not the one of its sum"])
+        for text in (lines[0] * 2, "".join(lines) + "x\n"):
+            (self.folder / SUMS).write_text(text)
+            self.assertEqual(list(archive.faults_of_sums(self.folder)), [f"{SUMS} has a file twice, or a line that is no sum"])
+
+    def test_files_below_a_folder_are_in_order(self):
+        self.write(b=b"", a__b=b"", a__a=b"", c=b"")
+        self.assertEqual(list(files_below(self.folder)), ["a/a", "a/b", "b", "c"])
+
+    def test_the_files_that_say_how_it_is_checked(self):
+        self.assertEqual(list(archive.faults_of_words(self.folder)), ["CHECK.txt is missing", "VERSION is missing"])
+        self.write(CHECK_txt=b"")
+        for version, faults in ((b"ggp_manager 1.20.3\n", []), (b"ggp_manager 1.2\n", ["VERSION is not one line `ggp_manager N.N.N`"]), (b"ggp_manager 1.2.3", ["VERSION is not one line `ggp_manager N.N.N`"])):
+            self.write(VERSION=version)
+            self.assertEqual(list(archive.faults_of_words(self.folder)), faults)
+
+    def test_bytes_and_files_with_their_sums(self):
+        self.write(b=b"two")
+        contents, sums = [("a", b"one"), ("b", self.folder / "b")], {}
+        found = list(archive.with_sums(contents, sums))
+        wanted = {"a": hashlib.sha256(b"one").hexdigest(), "b": hashlib.sha256(b"two").hexdigest()}
+        self.assertEqual((found[:2], sums, dict(archive.sums_of_contents(contents))), ([("a", b"one"), ("b", b"two")], wanted, wanted))
+        self.assertEqual(found[2:], [(SUMS, f"{wanted['a']}  a\n{wanted['b']}  b\n".encode())])
+
+    def unpack(self, members):
+        """Unpacks an archive of these members into a room, and returns what is in its folder, or why it is refused."""
+        data = io.BytesIO()
+        with tarfile.open(fileobj=data, mode="w:gz") as made:
+            for name, content in members:
+                member = tarfile.TarInfo(name)
+                member.type = tarfile.REGTYPE if content is not None else tarfile.DIRTYPE
+                member.size = len(content or b"")
+                made.addfile(member, io.BytesIO(content or b""))
+        path = self.folder / "a.tar.gz"
+        path.write_bytes(data.getvalue())
+        with tempfile.TemporaryDirectory() as room:
+            try:
+                top = unpacked(path, pathlib.Path(room))
+                return {name: file.read_bytes() for name, file in files_below(top).items()}
+            except Spoilt as why:
+                return str(why)
+
+    def test_plain_files_below_one_folder_are_taken(self):
+        self.assertEqual(self.unpack([("cup", None), ("cup/a", b"1"), ("cup/b", None), ("cup/b/c", b"2"), ("cup/b/d/e", b"3")]), {"a": b"1", "b/c": b"2", "b/d/e": b"3"})
+        self.assertEqual(self.unpack([]), "it is empty")
+        self.assertEqual(self.unpack([("cup/a", b"1"), ("cup/a", b"1")]), "'cup/a' is there twice")
+        self.assertEqual(self.unpack([("cup/a", b"1"), ("cap/a", b"1")]), "'cap/a' is not below cup")
+        for name in ("cup", "cup/a b", "cup/../a", "cup/./a", "/cup/a", "cup/a/b/c/d", "cup//a"):
+            self.assertEqual(self.unpack([(name, b"1")]), f"{name!r} is no plain file below one folder")
+        self.assertEqual(self.unpack([("cup/a/b/c", None)]), "'cup/a/b/c' is no plain file below one folder")
+        self.assertEqual(self.unpack([("cup/a", b"1"), ("cup/a/b", b"1")]), "'cup/a/b' is a file and a folder, or below a file")
+        self.assertEqual(self.unpack([("cup/a/b", b"1"), ("cup/a", b"1")]), "'cup/a' is a file and a folder, or below a file")
+
+    def test_the_bytes_of_all_members_are_counted(self):
+        members = [("cup/a", b"123"), ("cup/b", b"45")]
+        with mock.patch.object(archive, "MOST_BYTES", 5):
+            self.assertEqual(len(self.unpack(members)), 2)
+        with mock.patch.object(archive, "MOST_BYTES", 4):
+            self.assertEqual(self.unpack(members), "with 'cup/b' it has more than 4 bytes, which are the most of an archive")
+        self.assertEqual(archive.MOST_BYTES, 8_589_934_592)
+
+    def test_what_can_not_be_unpacked(self):
+        for data in (b"", b"x", gzip.compress(b"x" * 512), gzip.compress(b"x" * 2_000)[:-20]):
+            (self.folder / "a.tar.gz").write_bytes(data)
+            with self.assertRaises(Spoilt) as why:
+                unpacked(self.folder / "a.tar.gz", self.folder)
+            self.assertTrue(str(why.exception).startswith(("it can't be unpacked: ", "it is empty")), why.exception)
+
+    def test_records_are_held_in_parts_of_one_size(self):
+        parts = []
+
+        def held(file, records):
+            parts.append(list(records))
+            return list(map(str, records))
+
+        with mock.patch.object(archive, "PROCESSORS", 3), mock.patch.object(archive, "held_records", held):
+            self.assertEqual(archive.held_side_by_side("f", list(range(7))), list("0123456"))
+        self.assertEqual(sorted(parts), [[0, 1, 2], [3, 4, 5], [6]])
+
+
+if __name__ == "__main__":
+    unittest.main()

@@ -1,0 +1,341 @@
+"""Bad input, through the program: it is reported with its place, and nothing is written."""
+
+import contextlib
+import os
+import shutil
+import subprocess
+import sys
+import unittest
+from unittest import mock
+
+from ggp_tools.competition.command import COMMANDS
+from ggp_tools.competition.trial import trial
+from ggp_tools.descriptions.loading import NoDescription, instantiated
+from ggp_tools.descriptions.random_matches import TimeIsOver
+from ggp_tools.competition.files import Refused, write_whole
+from ggp_tools.competition.plan import faults_of_descriptions, make_plan, read_plan
+from ggp_tools.referee import NoReferee, find_program
+from support import COMMAND, GAMES, TOP, InFolder, call, program, program_but, run, run_into_full, stand_in, toml
+
+PLAYERS = [("ann", "127.0.0.1:9147"), ("bob", "127.0.0.1:9148")]
+FACTS = "(role a)\n(role b)\n"
+# A description, and what has to be said of it.
+DESCRIPTIONS = [
+    ("", "line 1, column 1: there is no sentence"),
+    (FACTS + "(init (x 1)", "line 3, column 1: a list that is not closed"),
+    (FACTS + "  (init (x 1)))", "line 3, column 15: a `)` with no open list"),
+    (FACTS + "(init caf\N{LATIN SMALL LETTER E WITH ACUTE})", "line 3, column 10: a byte that is no character"),
+    (FACTS + "; a comment (\n(<= (next (x 1)) (init (x 1)))", "line 4, column 18: init or next as a condition, but they are for heads: (<= (next (x 1)) (init (x 1)))"),
+    (FACTS + "(<= (legal a ?m) (not (move ?m)))", "line 3, column 1: sentence 2, (<= (legal a ?m) (not (move ?m))): ?m is unsafe"),
+    (FACTS + "(<= p q)\n(<= q p)\n(<= terminal p)", "line 3, column 1: an atom that depends on itself: (<= p q); line 4, column 1: (<= q p)"),
+    ("(init x)", "no (role NAME), but a game has one at least"),
+    (FACTS + "(role a)", "line 3, column 1: a role that is named twice: (role a); line 1, column 1: (role a)"),
+    (FACTS + "(legal a go) (init s)\n(goal a 101)", "line 4, column 1: not of the form (goal ROLE NUMBER), with a number from 0 to 100: (goal a 101)"),
+    (FACTS + "(" * 70 + "a" + ")" * 70, "line 3, column 65: a list inside 64 others, but 64 are the limit"),
+    ("".join(f"(role r{number})" for number in range(17)), "17 roles, but 16 are the limit"),
+]
+
+
+class BadInput(InFolder):
+    def write(self, *words, **more):
+        (self.folder / "competition.toml").write_text(toml(*words, **more))
+
+    def assert_refused(self, words, *command):
+        before = sorted(self.folder.rglob("*"))
+        status, out, said = run(self.folder, *command or ("plan",))
+        self.assertEqual((status, out), (2, ""))
+        for line in words if isinstance(words, list) else [words]:
+            self.assertIn(line, said)
+        self.assertEqual(sorted(self.folder.rglob("*")), before)
+
+    def test_a_forfeit_without_strikes_is_told(self):
+        for head, told in (("forfeit = true", 1), ("forfeit = true\nstrikes = 1", 0), ("strikes = 0", 0)):
+            self.write(PLAYERS, [("countdown", GAMES / "countdown.kif")], head=head)
+            status, out, said = run(self.folder, "plan")
+            self.assertEqual((status, said, out.count("forfeit: without `strikes` no player is retired, so none loses a match by it\n")), (0, "", told))
+
+    def test_a_name_that_the_locale_lacks(self):
+        self.write(PLAYERS, [("game", "\N{GREEK SMALL LETTER BETA}.kif")])
+        environment = {**os.environ, "LC_ALL": "C", "PYTHONUTF8": "0", "PYTHONCOERCECLOCALE": "0"}
+        status, out, said = run(self.folder, "plan", env=environment)
+        self.assertEqual((status, out), (2, ""))
+        self.assertRegex(said, r"^ggp_competition: '\\u03b2\.kif' can't be the name of a file in this locale, whose encoding is \S+\n$")
+
+    def test_a_plan_is_changed_only_before_a_record(self):
+        (self.folder / "game.kif").write_bytes((GAMES / "countdown.kif").read_bytes())
+        (self.folder / "records").mkdir()
+        for name, play in (("none", 2), (".unfinished-7-cup-1.json", 3)):
+            (self.folder / "records" / name).touch()
+            self.write(PLAYERS, [("game", "game.kif")], head=f"play = {play}\n")
+            self.assertEqual(run(self.folder, "plan")[0], 0, name)
+        (self.folder / "records/cup-1.json").touch()
+        self.write(PLAYERS, [("game", "game.kif")], head="play = 4\n")
+        self.assert_refused("competition.toml: the clocks of game were 10 and 3, and are 10 and 4: put back what was changed", "plan")
+
+    def test_a_plan_that_is_broken_off_is_none(self):
+        game, written = self.folder / "game.kif", []
+        referee = stand_in(roles=lambda *_: ("a", "b"))
+        self.write(PLAYERS, [("game", "game.kif", "aborts = true")])
+        for stop in range(5):
+            game.write_text(FACTS)
+            make_plan(self.folder, referee)
+            game.write_text(f"{FACTS}; other ones\n")
+
+            def write(path, data):
+                written.append(path)
+                if len(written) > stop:
+                    raise KeyboardInterrupt
+                write_whole(path, data)
+
+            written.clear()
+            with mock.patch("ggp_tools.competition.plan.write_whole", write), contextlib.suppress(KeyboardInterrupt):
+                make_plan(self.folder, referee)
+            try:
+                plan = read_plan(self.folder, referee)
+            except Refused:
+                self.assertIn(stop, (1, 2))
+                continue
+            # The rules are those before, or those of the description that is there.
+            wrong = list(faults_of_descriptions(plan, plan.folder.description))
+            self.assertEqual((plan.rules["game"].text == game.read_bytes(), bool(wrong)), (stop > 0, stop == 0), written)
+
+    def test_a_game_that_can_not_be_played_is_planned_only_if_that_is_said(self):
+        game, referee = self.folder / "game.kif", stand_in(roles=lambda *_: ("robot",))
+        buttons = (GAMES / "buttons.kif").read_text()
+        for text, words in (
+            ("(role robot)", "no match of it can begin: at the start it is aborted with `nolegal robot`"),
+            ("(role robot) (<= terminal (role robot))", "no match of it can begin: at the start it is aborted with `nogoal robot`"),
+            (buttons.replace("(<= terminal solved", "(=> terminal solved").replace("robot 0", "robto 0"), "all of 5 random matches were aborted, with `nogoal robot`"),
+            (buttons, ""),
+        ):
+            game.write_text(text)
+            self.write(PLAYERS, [("game", "game.kif")])
+            if words:
+                with self.assertRaises(Refused) as why:
+                    make_plan(self.folder, referee)
+                said = f"{self.folder}/competition.toml:4: games.file: {game}: {words}; with `aborts = true` it is planned all the same"
+                self.assertEqual(str(why.exception), said)
+                self.assertFalse((self.folder / "schedule.tsv").exists())
+                self.write(PLAYERS, [("game", "game.kif", "aborts = true")])
+            self.assertEqual(len(make_plan(self.folder, referee).matches), 2)
+            (self.folder / "schedule.tsv").unlink()
+
+    def test_a_game_whose_matches_are_long_is_planned_and_told(self):
+        for fault, words in ((TimeIsOver(), "no random match of it came to its end in 10 s"), (RecursionError(), "it was not tried: its rules ask for one another too deeply")):
+            with mock.patch("ggp_tools.descriptions.random_matches.RandomMatches.play", side_effect=fault):
+                why, note = trial(b"(role a)", None, "game")
+            self.assertIsNone(why)
+            self.assertIn(words, note)
+
+    def played(self):
+        """Plans a competition, and leaves what stands for the record of a match. Returns the files of the plan, with what they hold."""
+        (self.folder / "game.kif").write_bytes((GAMES / "countdown.kif").read_bytes())
+        self.plan(PLAYERS, [("game", "game.kif")], head="start = 2\n")
+        (self.folder / "records").mkdir()
+        (self.folder / "records/cup-001.json").touch()
+        return {path: path.read_bytes() for path in [*(self.folder / "rules").iterdir(), self.folder / "schedule.tsv"]}
+
+    def test_what_was_lost_of_a_plan_is_written_again(self):
+        before, games = self.played(), self.folder / "game.kif"
+        sums = [self.folder / f"rules/{name}" for name in ("SHA256SUMS", "DESCRIPTIONS.sha256")]
+        for lost in (*([path] for path in before), [path for path in before if path.parent.name == "rules"], sums, list(before)):
+            with self.subTest(lost):
+                for path in lost:
+                    path.unlink()
+                if lost != sums[1:]:
+                    self.assert_refused("is not there: `ggp_competition plan` writes it\n", "play")
+                self.assertEqual(run(self.folder, "plan")[::2], (0, ""))
+                self.assertEqual({path: path.read_bytes() for path in before}, before)
+        text = games.read_text()
+        (self.folder / "planned.toml").unlink()
+        for path in before:
+            games.write_text(text.replace("100", "99"))
+            path.unlink()
+            self.assert_refused("would change, and matches were played: put back what was changed, or take another folder\n", "plan")
+            games.write_text(text)
+            self.assertEqual(run(self.folder, "plan")[::2], (0, ""))
+
+    def test_what_helps_where_a_plan_was_changed(self):
+        self.played()
+        file, rules = self.folder / "competition.toml", self.folder / "rules/game.kif"
+        text = file.read_text()
+        file.write_text(text.replace("start = 2", "start = 3"))
+        for command in ("play", "table", "pages", "publish"):
+            self.assert_refused("schedule.tsv is not what competition.toml says: matches were played, so put back what was changed, or add to it and plan again\n", command)
+        file.write_text(text.replace('name = "game"', 'name = "other"'))
+        self.assert_refused("rules/SHA256SUMS is not what competition.toml says: matches were played, so put back what was changed, or add to it and plan again\n", "play")
+        file.write_text(text)
+        rules.write_text("(role a)")
+        self.assert_refused("rules/game.kif is not what `ggp_competition plan` wrote: take it away, and `ggp_competition plan` writes it again\n", "play")
+        (self.folder / "records/cup-001.json").unlink()
+        file.write_text(text.replace("start = 2", "start = 3"))
+        self.assertEqual(run(self.folder, "plan")[::2], (0, ""))
+        file.write_text(text)
+        self.assert_refused("schedule.tsv is not what competition.toml says: `ggp_competition plan` writes it anew\n", "play")
+
+    def test_descriptions(self):
+        for text, words in DESCRIPTIONS:
+            with self.subTest(words):
+                (self.folder / "game.kif").write_text(text)
+                self.write(PLAYERS, [("game", "game.kif")])
+                self.assert_refused(f"competition.toml:4: games.file: game.kif: {words}")
+
+    @unittest.skipUnless(shutil.which("gringo"), "gringo is not installed")
+    def test_a_description_past_the_limits(self):
+        numbers = " ".join(f"(n {number})" for number in range(65))
+        rule = "(<= (legal a (m ?x ?y)) (n ?x) (n ?y))"
+        (self.folder / "game.kif").write_text(f"(role a) (<= terminal (true t)) (<= (goal a 0) (true t))\n{numbers}\n{rule}\n")
+        self.write(PLAYERS, [("game", "game.kif")])
+        place = "competition.toml:4: games.file: game.kif:"
+        self.assert_refused([
+            f"{place} dear: sentence 68, line 3: {rule}: 4,225 ground sentences\n{place} dear: sentence 0, line 1: ",
+            f"\n{place} ggp-instantiate: nothing is written, since this is past the limit: moves of a (4,225 of 4,096)\n",
+        ])
+
+    @unittest.skipUnless(shutil.which("gringo"), "gringo is not installed")
+    def test_what_instantiate_says_of_rules_is_told(self):
+        (self.folder / "coins.kif").write_text("(role a) (init (s 101)) (<= (goal a ?x) (true (s ?x))) (goal a 7)")
+        # What an author says at the head of ground rules is no word of `ggp-instantiate`.
+        (self.folder / "one.kif").write_text("; a comment\n" + (GAMES / "buttons.kif").read_text())
+        self.write(PLAYERS, [("coins", "coins.kif", "aborts = true"), ("one", "one.kif")])
+        status, out, said = run(self.folder, "plan")
+        self.assertEqual((status, said, [line.split(":")[0] for line in out.splitlines()]), (0, "", ["coins", "coins", "one", "schedule.tsv"]))
+        self.assertEqual(out.splitlines()[1], (
+            "coins: goals past 100 are left out (1): where one would hold at the end, its role keeps the other goal that holds there, "
+            "and if none does the match has no goals"
+        ))
+
+    def test_an_instantiation_that_is_ended(self):
+        (self.folder / "game.kif").write_text("(role a) (<= (legal a ?x) (n ?x)) (n 1)")
+        killed = self.folder / "killed"
+        killed.write_text("import os\nos.kill(os.getpid(), 9)\n")
+        with mock.patch("ggp_tools.descriptions.loading.INSTANTIATE", [sys.executable, killed]), self.assertRaises(NoDescription) as why:
+            instantiated(self.folder / "game.kif", b"", False, 60)
+        self.assertEqual(str(why.exception), "ggp-instantiate ended with status -9")
+
+    def test_a_description_behind_links_in_a_circle(self):
+        (self.folder / "loop").symlink_to("loop")
+        self.write(PLAYERS, [("one", "loop"), ("two", "loop/x")])
+        self.assert_refused([f"games.file: {name}: it can't be read: Too many levels of symbolic links" for name in ("loop", "loop/x")])
+
+    def test_a_referee_that_can_not_read_a_description(self):
+        self.write(PLAYERS, [("tictactoe", GAMES / "tictactoe.kif")])
+        short = program_but(self.folder / "short", '"$1" = verify', "echo 'ggp_manager: want of memory' >&2; exit 3")
+        status, out, said = run(self.folder, "plan", "--program", short)
+        self.assertEqual((status, out), (3, ""))
+        self.assertEqual(said, f"ggp_competition: `ggp_manager verify` came to no verdict with {GAMES}/tictactoe.kif: want of memory, status 3; nothing is changed\n")
+        self.assertEqual(sorted(file.name for file in self.folder.iterdir()), ["competition.toml", "short"])
+
+    def test_all_descriptions_are_told_at_once(self):
+        (self.folder / "one.kif").write_text("(role a")
+        self.write(PLAYERS, [("one", "one.kif"), ("two", "two.kif"), ("three", ".")])
+        self.assert_refused(["one.kif: line 1, column 1: a list", "two.kif: it can't be read: No such file", ".: it can't be read: Is a directory"])
+
+    def test_a_description_where_the_rules_are_written(self):
+        (self.folder / "rules").mkdir()
+        (self.folder / "rules/nim.kif").write_text((GAMES / "general/nim.kif").read_text())
+        self.write(PLAYERS, [("nim", "rules/nim.kif")])
+        self.assert_refused("competition.toml:4: games.file: rules/nim.kif: a description can't stand in rules, where `plan` writes the rules")
+
+    def test_rules_with_variables_of_a_game_that_has_none(self):
+        (self.folder / "one.kif").write_text("(role ?a")
+        games = [("one", "one.kif", 'player_rules = "variables"'), ("two", "two.kif"), ("three", GAMES / "countdown.kif", "", 'player_rules = "variables"')]
+        self.write(PLAYERS, games)
+        self.assert_refused([
+            "competition.toml:4: games.file: one.kif: line 1, column 1: a list",
+            "competition.toml:8: games.file: two.kif: it can't be read",
+            f'competition.toml:15: games.player_rules: {GAMES}/countdown.kif has no variables: "ground" is wanted',
+        ])
+
+    def test_a_number_of_players_that_does_not_fit(self):
+        self.write(PLAYERS[:1], [("tictactoe", GAMES / "tictactoe.kif")])
+        self.assert_refused("competition.toml:4: games.file: tictactoe has 2 roles, and there are 1 players")
+
+    def test_mistakes_have_line_and_key(self):
+        self.write([*PLAYERS, ("ann", "nowhere")], [("tictactoe", GAMES / "tictactoe.kif")])
+        self.assert_refused(["competition.toml:14: players.name: 'ann' stands in line 8 already", "competition.toml:15: players.address: 'nowhere' is no HOST:PORT"])
+
+    def test_what_is_missing(self):
+        self.assert_refused("competition.toml can't be read: No such file")
+        self.write(PLAYERS, [("tictactoe", GAMES / "tictactoe.kif")])
+        for command in ("play", "table", "pages", "publish"):
+            self.assert_refused("schedule.tsv is not there: `ggp_competition plan` writes it", command)
+
+    def test_what_is_not_as_it_was_planned(self):
+        self.plan(PLAYERS, [("tictactoe", GAMES / "tictactoe.kif")])
+        rules, text = self.folder / "rules/tictactoe.kif", (GAMES / "tictactoe.kif").read_text()
+        rules.write_text(text.replace("100", "99"))
+        self.assert_refused("rules/tictactoe.kif is not what `ggp_competition plan` wrote", "play")
+        rules.write_text(text)
+        schedule = self.folder / "schedule.tsv"
+        schedule.write_text(schedule.read_text().replace("ann bob", "bob ann"))
+        self.assert_refused("schedule.tsv is not what competition.toml says", "play")
+
+    def test_wrong_use(self):
+        for words in ([], ["plan", "one", "two"], ["play", "--at-once", "0"], ["check"], ["look"]):
+            self.assertEqual(subprocess.run([sys.executable, COMMAND, *words], capture_output=True).returncode, 2, words)
+        said = subprocess.run([sys.executable, COMMAND, "plan", "--program", "/none"], capture_output=True, text=True)
+        self.assertEqual((said.returncode, said.stderr), (2, "ggp_competition: /none is no program that can be run\n"))
+
+    def test_help_and_version(self):
+        def said(*words):
+            done = subprocess.run([sys.executable, COMMAND, *words], capture_output=True, text=True, check=True, env={**os.environ, "COLUMNS": "200"})
+            self.assertEqual(done.stderr, "")
+            return done.stdout
+
+        self.assertEqual(said("--version"), call("--version").decode().replace("ggp_manager", "ggp_competition"))
+        whole = said("--help")
+        for name, told in COMMANDS.items():
+            self.assertRegex(whole, rf"\n +{name} +{told}\n")
+            of_command = said(name, "--help")
+            self.assertIn(f"\n{told[0].upper()}{told[1:]}.\n", of_command)
+            self.assertRegex(of_command, r"\n +(FOLDER|ARCHIVE) +the (folder of the competition|file of the archive)")
+            self.assertRegex(of_command, r"\n +--program FILE +the referee, ggp_manager \(")
+
+    def test_no_referee_is_found(self):
+        with mock.patch("sys.argv", ["/none/bin/ggp_competition"]), mock.patch("os.access", return_value=False), self.assertRaises(NoReferee) as why:
+            find_program(None)
+        said = f"ggp_manager is not in /none/bin, {TOP}/bin, nor on the path of the shell (PATH); `--program FILE` names it"
+        self.assertEqual(str(why.exception), said)
+
+    def test_a_folder_with_a_name_that_the_output_can_not_say(self):
+        self.write(PLAYERS, [("countdown", GAMES / "countdown.kif")])
+        for name, encoding, said in (("caf\N{LATIN SMALL LETTER E WITH ACUTE}", "ascii", "caf\\xe9"), (os.fsdecode(b"caf\xff"), "utf-8", "caf\\udcff")):
+            cup = self.folder / name
+            cup.mkdir()
+            shutil.copy(self.folder / "competition.toml", cup)
+            status, out, _ = run(self.folder, "plan", name, env={**os.environ, "PYTHONIOENCODING": encoding})
+            self.assertEqual((status, out.splitlines()[-1]), (0, f"{said}/schedule.tsv: 2 matches of 2 players"))
+            self.assertEqual(run(self.folder, "play", f"{name}/none", env={**os.environ, "PYTHONIOENCODING": encoding})[0], 2)
+
+    def test_a_full_output(self):
+        self.write(PLAYERS, [("tictactoe", GAMES / "tictactoe.kif")])
+        self.assertEqual(run_into_full(self.folder, "plan"), (1, "ggp_competition: standard output: No space left on device\n"))
+        self.assertEqual(run(self.folder, "table")[0], 0)
+
+    def test_a_path_with_a_control_character(self):
+        self.write(PLAYERS, [("one", "a\\u0000b"), ("two", "\\u001b[2J"), ("three", "")])
+        self.assert_refused([
+            "competition.toml:6: games.file: 'a\\x00b' is no path of a file",
+            "competition.toml:9: games.file: '\\x1b[2J' is no path of a file",
+            "competition.toml:12: games.file: '' is no path of a file",
+        ])
+
+    def test_a_folder_that_is_a_file(self):
+        self.write(PLAYERS, [("tictactoe", GAMES / "tictactoe.kif")])
+        (self.folder / "rules").write_text("")
+        self.assert_refused(". can't be written: rules: File exists")
+
+    @unittest.skipIf(not os.geteuid() and not shutil.which("setpriv"), "root may write anywhere, and setpriv is not installed")
+    def test_an_unwritable_folder(self):
+        self.write(PLAYERS, [("tictactoe", GAMES / "tictactoe.kif")])
+        self.folder.chmod(0o555)
+        # Root without this capability may write where its permissions say so, and no further.
+        before = [] if os.geteuid() else ["setpriv", "--bounding-set=-dac_override"]
+        words = [*before, sys.executable, COMMAND, "plan", "--program", program()]
+        said = subprocess.run(words, cwd=self.folder, capture_output=True, text=True)
+        self.assertEqual((said.returncode, said.stderr), (2, "ggp_competition: . can't be written: rules: Permission denied\n"))
+
+
+if __name__ == "__main__":
+    unittest.main()

@@ -1,0 +1,316 @@
+"""Why a record is not lawful, in words: by the interpreter alone, and with a stand-in for the program."""
+
+import argparse
+import io
+import json
+import os
+import pathlib
+import subprocess
+import sys
+import unittest
+from unittest import mock
+
+from ggp_tools.ground_games import Game
+from ggp_tools.kif import expressions
+from ggp_tools.records import explain
+from ggp_tools.records.countdown import countdown
+from ggp_tools.records.explain import Lines, NoVerdict, explain_lines, explanation, judged, judged_lines, read, shown
+from support import TOP
+from test_examples import FAULTS, RECORD, changed
+from test_referee import WithStandIn
+
+REPORT = "One of the two is wrong: please report this, with the record and the rules."
+
+
+def said_of(word: str, places: dict, rules: Game | None = None) -> list[str]:
+    """Returns what explains the fault of a record that is changed in these places."""
+    return list(explanation(word, rules or Game(countdown(3)), json.dumps(changed(json.loads(RECORD.read_text()), places)).encode()))
+
+
+class Faults(unittest.TestCase):
+    def test_each_fault_has_its_lines(self):
+        for places, word, *lines in FAULTS:
+            self.assertEqual(said_of(word, places), lines, places)
+
+    def test_each_state_is_looked_at_up_to_the_last(self):
+        count = len(json.loads(RECORD.read_text())["states"])
+        said = [said_of(f"state {at}", {("states", at): []})[0] for at in range(count)]
+        self.assertEqual(said, ["The state before turn 1 is not what the rules make it.", *(
+            f"The state after turn {at} is not what the rules and the moves make it." for at in range(1, count)
+        )])
+
+    def test_another_fault_than_the_interpreter_finds(self):
+        self.assertEqual(said_of("goals", {}), ["The interpreter finds no fault", REPORT])
+        self.assertEqual(said_of("goals", {("states", 0): []}), ["The interpreter finds state 0: The state before turn 1 is not what the rules make it.", REPORT])
+        for places in ({("moves",): "gone"}, {("startMarks",): 1}, {("states",): [1, 2, 3]}, {("matchId",): "gone"}):
+            self.assertEqual(said_of("goals", places), ["The interpreter finds that the record is of another shape", REPORT], places)
+
+    def test_strikes_count_in_a_row_and_from_then_on(self):
+        # Five turns of a game that goes on; red errs in turns 1, 3 and 4, and with two strikes it is retired from turn 5 on.
+        rules = Game(expressions("(role red) (role blue) (init s) (next s) (legal red m) (legal blue n)"))
+        errors = [["TO", ""], ["", "CE"], ["IL ?", ""], ["CE", ""], ["RT", ""]]
+        record = {
+            "roles": ["red", "blue"], "moves": [["m", "n"]] * 5, "errors": errors, "states": [["s"]] * 6, "goalValues": [], "phase": "playing", "cause": None,
+            "endMarks": [None, None], "strikes": 2,
+        }
+        places = {(key,): value for key, value in record.items()}
+        self.assertEqual(said_of("x", places, rules)[0], "The interpreter finds no fault")
+        wrong = {**places, ("errors",): [*errors[:4], ["TO", ""]]}
+        self.assertEqual(said_of("retired 4 0", wrong, rules), [
+            "Turn 5, role red: the role is retired: it had errors in up to 2 turns in a row, and the strikes are 2.", "expected: the error RT", "found: TO",
+        ])
+        early = {**places, ("errors",): [*errors[:3], ["RT", ""], ["RT", ""]]}
+        self.assertEqual(said_of("retired 3 0", early, rules)[0], "Turn 4, role red: the role is not retired: it had errors in up to 1 turn in a row, and the strikes are 2.")
+        both = {**places, ("errors",): [["TO", "TO"], ["CE", "CE"], *errors[2:]]}
+        self.assertEqual(said_of("end", both, rules), ["The record goes on after the end: before turn 3 all roles are retired.", "expected: 2 turns", "found: 5 turns"])
+
+    def test_what_phase_and_cause_a_match_can_have(self):
+        marks, cut = {("startMarks",): [None, ""]}, {("moves",): [], ("errors",): [], ("goalValues",): []}
+        first = {**cut, ("states",): [["(heap 3)", "(turn red)"]]}
+        found = ("The interpreter finds no fault", REPORT)
+        for places, phase, cause, end_marks, lines in (
+            (marks, "starting", None, [None, None], found), (marks, "aborting", "asked", [None, None], found), (marks, "aborting", "asked", [None, ""], found),
+            (marks, "aborted", "asked", ["", ""], found), ({}, "playing", None, [None, None], found), ({}, "aborting", "asked", ["", None], found), ({}, "aborted", "asked", ["", "TO"], found),
+            ({}, "playing", None, ["", None], ("At the end the match can go on, and 1 of 2 roles has an end mark.", "expected: phase aborting, cause asked", "found: phase playing, cause null")),
+            ({}, "starting", None, [None, None], ("At the end the match can go on, and 0 of 2 roles have an end mark.", "expected: phase playing, cause null, or phase aborting, cause asked", "found: phase starting, cause null")),
+            (marks, "playing", None, [None, None], ("At the end a START mark is missing after 0 turns, and 0 of 2 roles have an end mark.", "expected: phase starting, cause null, or phase aborting, cause asked", "found: phase playing, cause null")),
+            ({}, "aborted", "asked", ["", None], ("At the end the match can go on, and 1 of 2 roles has an end mark.", "expected: phase aborting, cause asked", "found: phase aborted, cause asked")),
+        ):
+            more = {("phase",): phase, ("cause",): cause, ("endMarks",): end_marks}
+            self.assertEqual(tuple(said_of("end", {**first, **places, **more})), lines, (places, phase, cause))
+
+    def test_rules_that_ask_for_one_another_too_deeply(self):
+        with mock.patch("ggp_tools.records.explain.Replay", side_effect=RecursionError):
+            self.assertEqual(said_of("goals", {}), ["There is no explanation: the rules ask for one another too deeply for the interpreter."])
+
+    def test_one_legal_move_of_several(self):
+        moves = [f"m{number:02}" for number in range(23)]
+        rules = Game(expressions(f"(role red) (role blue) (init s) (next s) (legal blue n) {' '.join(f'(legal red {move})' for move in moves)}"))
+        places = {("moves",): [["x", "n"]], ("errors",): [["", ""]], ("states",): [["s"], ["s"]]}
+        self.assertEqual(said_of("illegal 0 0", places, rules), ["Turn 1, role red: the move is not legal.", f"expected one of 23: {', '.join(moves[:20])}, and 3 more", "found: x"])
+        for error, said in (("", None), ("TO", "beside the error TO the first legal move must stand"), ("IL m07", "beside the error IL m07 the first legal move must stand")):
+            found = said_of("notfirst 0 0", {**places, ("moves", 0, 0): "m05", ("errors", 0, 0): error, ("phase",): "playing", ("goalValues",): [], ("endMarks",): [None, None]}, rules)
+            self.assertEqual(found[0], f"Turn 1, role red: {said}." if said else "The interpreter finds no fault")
+
+    def test_a_role_without_a_move_or_a_goal(self):
+        for text, cause, said in (
+            ("(init s) (legal red m)", "nolegal 1", "the role blue has no legal move"),
+            ("(init s) (<= terminal (true s)) (goal red 1)", "nogoal 1", "the state is terminal, and the role blue has not exactly one goal"),
+        ):
+            rules = Game(expressions(f"(role red) (role blue) {text}"))
+            ended = {("moves",): [], ("errors",): [], ("states",): [["s"]], ("goalValues",): [], ("phase",): "aborted", ("cause",): cause}
+            self.assertEqual(said_of("end", ended, rules)[0], "The interpreter finds no fault")
+            self.assertEqual(said_of("end", {**ended, ("cause",): "asked"}, rules), [
+                f"At the end {said}, and 2 of 2 roles have an end mark.", f"expected: phase aborted, cause {cause} (the role blue)", "found: phase aborted, cause asked",
+            ])
+            goals = {**ended, ("phase",): "finished", ("cause",): None, ("goalValues",): [1, 0]}
+            if "goal" in text:
+                self.assertEqual(said_of("goals", goals, rules)[1:], ["expected: red 1, blue without exactly one goal", "found: red 1, blue 0"])
+
+    def test_no_object_and_a_list_of_texts(self):
+        self.assertEqual(list(explanation("shape cause", Game(countdown(3)), b"[7]"))[-1], "found: no JSON object, but [7]")
+        self.assertEqual(said_of("shape roles", {("roles",): ["red"]})[-1], 'found: ["red"]')
+        self.assertEqual(said_of("shape states", {("states",): [[]], ("moves",): 0})[-1], "found 1 member: [[]]")
+
+    def test_records_of_the_first_version_have_no_strikes(self):
+        self.assertEqual(said_of("x", {("version",): 1, ("strikes",): "gone", ("errors", 0, 1): "CE"})[0], "The interpreter finds no fault")
+
+    def test_places_where_a_text_is_no_json(self):
+        none = "Python finds no place. A value is nested more than 127 deep, a number is none or past the range of binary64, or a surrogate pair is not whole."
+        more = "More follows the first record: give one record at a time, without its account. With --lines each line is one."
+        for text, *lines in (
+            (b'{\n"\xff"', "The text is no JSON: line 2, byte 2 of it: no UTF-8."), (b'\xff', "The text is no JSON: line 1, byte 1 of it: no UTF-8."),
+            (b"\n\xff", "The text is no JSON: line 2, byte 1 of it: no UTF-8."), (b"{} x", "The text is no JSON: line 1, column 4: Extra data."),
+            (b"{}\n{}", "The text is no JSON: line 2, column 1: Extra data.", more), (b"{}\n0\topen m 0\topened\n", "The text is no JSON: line 2, column 1: Extra data.", more),
+            (b"[" * 99_999, none), (b"[]", none), (b'x{"cause":1', "The text is no JSON: line 1, column 1: Expecting value."),
+            (b'{"cause":{"cause":1}', "The text is no JSON: line 1, column 21: Expecting ',' delimiter.", "Another record begins at byte 10: what stands before it was cut off, as where a file was written to the end of a half line."),
+            (b"1} ", "The text is no JSON: line 1, column 2: Extra data."),
+        ):
+            self.assertEqual(list(explanation("json", Game(countdown(3)), text)), lines, text)
+
+    def test_a_negative_nought_is_no_whole_number(self):
+        data = RECORD.read_bytes().replace(b'"strikes":0', b'"strikes":-0')
+        self.assertEqual(list(explanation("shape strikes", Game(countdown(3)), data))[-1], "found: -0.0")
+
+
+class Words(unittest.TestCase):
+    def test_a_text_is_shown_in_visible_characters_up_to_a_length(self):
+        self.assertEqual(shown("a b~\n\xe9\U0001f600"), "a b~\\u{a}\\u{e9}\\u{1f600}")
+        self.assertEqual((shown("x" * 400), shown("x" * 401), shown("x" * 5, 5), shown("x" * 6, 5), shown("\x7f")), ("x" * 400, "x" * 400 + "..", "xxxxx", "xxxxx..", "\\u{7f}"))
+
+    def test_of_a_list_the_first_twenty(self):
+        words = [f"w{at}" for at in range(1_300)]
+        self.assertEqual((explain.listed([]), explain.listed(words[:2])), ("none", "w0, w1"))
+        self.assertEqual((explain.listed(words[:20]), explain.listed(words[:21])), (", ".join(words[:20]), f"{', '.join(words[:20])}, and 1 more"))
+        self.assertTrue(explain.listed(words).endswith(", w19, and 1,280 more"))
+
+    def test_numbers_of_things(self):
+        self.assertEqual([explain.counted(number, "turn") for number in (0, 1, 2, 1_000)], ["0 turns", "1 turn", "2 turns", "1,000 turns"])
+
+    def test_the_role_of_a_cause_is_named(self):
+        names = ["red", "blue"]
+        self.assertEqual(explain.end_words("aborted", "nolegal 1", names), "phase aborted, cause nolegal 1 (the role blue)")
+        self.assertEqual((explain.end_words("finished", None, names), explain.end_words("aborted", "asked", names)), ("phase finished, cause null", "phase aborted, cause asked"))
+
+
+class Verdicts(WithStandIn):
+    """What is made of what the program says."""
+
+    def no_verdict(self, ask, *answer) -> tuple[str, int]:
+        self.begin_anew()
+        self.answers(*answer)
+        with self.assertRaises(NoVerdict) as why:
+            ask()
+        return why.exception.args
+
+    def test_of_one_record(self):
+        path = self.referee.path
+        self.answers(b"lawful\n")
+        self.assertIsNone(judged(path, ["--countdown=3"], b"{}"))
+        self.assertEqual(self.asked(), (["verify", "--countdown=3"], b"{}"))
+        self.answers(b"", b"more\nggp_manager: not lawful: state 1\n", 1)
+        self.assertEqual(judged(path, [], b"{}"), "state 1")
+
+    def test_without_a_verdict(self):
+        def ask():
+            judged(self.referee.path, [], b"{}")
+
+        path = self.referee.path
+        self.assertEqual(self.no_verdict(ask, b"lawful\n", b"", 1), (f"ggp-explain-record: {path} gives no verdict, and its status is 1", 3))
+        self.assertEqual(self.no_verdict(ask, b"lawful", b"", 0), (f"ggp-explain-record: {path} gives no verdict, and its status is 0", 3))
+        self.assertEqual(self.no_verdict(ask, b"", b"ggp_manager: not lawful: state 1\n", 2), ("ggp_manager: not lawful: state 1", 3))
+        self.assertEqual(self.no_verdict(ask, b"", b"a\nggp_manager: wrong use\n", 2), ("a\nggp_manager: wrong use", 2))
+        self.assertEqual(self.no_verdict(ask, b"", b"ggp_manager: wrong use\nggp_manager: want of memory\n", 3), ("ggp_manager: wrong use\nggp_manager: want of memory", 3))
+
+    def test_a_program_that_can_not_be_run(self):
+        for path, words in (("/none", "No such file or directory"), ("a\0b", "embedded null byte")):
+            with self.assertRaises(NoVerdict) as why:
+                judged(path, [], b"")
+            self.assertEqual(why.exception.args, (f"ggp-explain-record: {path} can't be run: {words}", 3))
+
+    def test_of_lines(self):
+        path = self.referee.path
+        self.answers(b"lawful\nnot lawful: goals\n", b"ggp_manager: records not lawful 1\n", 1)
+        self.assertEqual(judged_lines(path, ["--countdown=3"], [b"{}", b"7\tx"]), [None, "goals"])
+        self.assertEqual(self.asked(), (["verify", "--lines", "--countdown=3"], b"{}\n7\tx\n"))
+        self.answers(b"lawful\n")
+        self.assertEqual(judged_lines(path, [], [b"{}"]), [None])
+        wrong = "gives no verdict, and its status is"
+        for answer, status in (((b"lawful\n" * 2, b"", 0), 0), ((b"lawful\n", b"", 1), 1), ((b"not lawful: goals\n", b"", 0), 0), ((b"not lawful: goals\n", b"", 2), 2), ((b"lawfull\n", b"", 0), 0), ((b"", b"", 0), 0)):
+            said = self.no_verdict(lambda: judged_lines(path, [], [b"{}"]), *answer)
+            self.assertEqual(said, (f"ggp-explain-record: {path} {wrong} {status}", 3), answer)
+
+    def lines_of(self, data: bytes) -> tuple[Lines, list[str]]:
+        file = self.folder / "records"
+        file.write_bytes(data)
+        lines = Lines(str(file))
+        return lines, list(explain_lines(argparse.Namespace(program=self.referee.path, countdown="3", rules_file=None), lines))
+
+    def test_only_what_is_not_lawful_is_named(self):
+        record, account = RECORD.read_bytes(), b"0\tnext m 0\tover\n"
+        self.answers(b"lawful\nnot lawful: goals\nnot lawful: json\nnot lawful: shape cause\n", b"", 1)
+        lines, said = self.lines_of(account + record + record.replace(b"[0,100]", b"[100,0]") + b"{\n" + account + b'{"matchId":7}\n')
+        self.assertEqual([line for line in said if not line.startswith("\t")], ["line 3, match m1: not lawful: goals", "line 4: not lawful: json", "line 6: not lawful: shape cause"])
+        self.assertEqual(said[1], "\tA record of the phase finished has the goals of the last state.")
+        self.assertEqual((lines.lawful, lines.unlawful, lines.skipped, lines.words()), (1, 3, 2, "1 lawful, 3 not lawful, 2 lines of accounts skipped"))
+        self.assertEqual(self.asked()[1].count(b"\n"), 4)
+
+    def test_a_line_that_is_too_long_is_no_record(self):
+        most = 16 << 20
+        self.answers(b"lawful\n")
+        for _ in range(2):
+            self.answers()
+        lines, said = self.lines_of(b"{" + b" " * (most - 2) + b"}\n" + b"{" + b" " * (most - 1) + b"}\n")
+        self.assertEqual(said, ["line 2: no record: it is longer than 16 MiB"])
+        self.assertEqual((lines.lawful, lines.unlawful, len(self.asked()[1])), (1, 1, most + 1))
+
+    def test_lines_behind_one_that_is_too_long_have_their_own_verdicts(self):
+        self.answers(b"lawful\nnot lawful: json\nlawful\n", b"", 1)
+        with mock.patch.object(explain, "LONGEST_RECORD", 4):
+            lines, said = self.lines_of(b"{}\n{   }\n[]\n{   }\n{ }\n")
+        named = ["line 2: no record: it is longer than 16 MiB", "line 3: not lawful: json", "line 4: no record: it is longer than 16 MiB"]
+        self.assertEqual([line for line in said if not line.startswith("\t")], named)
+        self.assertEqual((lines.lawful, lines.unlawful, self.asked()[1]), (2, 3, b"{}\n[]\n{ }\n"))
+
+    def test_lines_are_handed_over_some_megabytes_at_a_time(self):
+        self.answers(b"lawful\n" * 2)
+        self.answers(b"lawful\n" * 3)
+        self.answers()
+        with mock.patch("ggp_tools.records.explain.BATCH", 7):
+            lines, said = self.lines_of(b"{}\n{ }  \n[]\n[  ]\n{}\n")
+        self.assertEqual((said, lines.words(), self.asked(0)[1], self.asked(1)[1]), ([], "5 lawful, 0 not lawful", b"{}\n{ }  \n", b"[]\n[  ]\n{}\n"))
+
+    def test_without_lines_the_words_are_looked_at(self):
+        self.answers()
+        self.assertEqual((self.lines_of(b"")[1], self.asked()), ([], (["verify", "--lines", "--countdown=3"], b"")))
+
+    def test_a_line_may_have_no_name(self):
+        for data, name in ((b'{"matchId":"a\\u0001"}', "line 7, match a\\u{1}"), (b"[]", "line 7"), (b"{}", "line 7"), (b"[" * 99_999, "line 7"), (b"x", "line 7"), (b'{"matchId":["m"]}', "line 7")):
+            self.assertEqual(explain.named_line(7, data), name)
+
+    def test_a_file_is_read_up_to_one_more_than_the_most(self):
+        file = self.folder / "file"
+        file.write_bytes(b"x" * 20)
+        self.assertEqual((len(read(str(file), 19)), len(read(str(file), 10)), len(read(str(file), 30))), (20, 11, 20))
+        for path, words in ((str(self.folder), "Is a directory"), ("/none", "No such file or directory"), ("a\0", "embedded null byte")):
+            with self.assertRaises(NoVerdict) as why:
+                read(path, 10)
+            self.assertEqual(why.exception.args, (f"ggp-explain-record: {path} can't be read: {words}", 3))
+
+
+class Commands(WithStandIn):
+    def test_which_limits_and_words_are_those_of_the_game(self):
+        read_up_to = []
+        with mock.patch.object(explain, "read", lambda file, most: read_up_to.append((file, most)) or b"(role red)"):
+            for large, options in ((False, []), (True, ["--large"])):
+                with explain.rules_of(argparse.Namespace(program="p", countdown=None, rules_file="f", large=large)) as (words, game):
+                    self.assertEqual((words[0].partition("=")[0], words[1:], game().roles, game() is game()), ("--rules-file", options, ["red"], True))
+            with explain.rules_of(argparse.Namespace(program="p", countdown="0", rules_file=None)) as (words, game):
+                self.assertEqual((words, len(game().roles)), (["--countdown=0"], 2))
+        self.assertEqual(read_up_to, [("f", 1 << 20), ("f", 4 << 20)])
+
+    def test_standard_input_and_output(self):
+        for words in ([], ["--lines"]):
+            ran = subprocess.run([sys.executable, TOP / "python/ggp-explain-record", "/none", *words, "--countdown=3"], preexec_fn=lambda: os.close(0), capture_output=True, text=True)
+            self.assertEqual((ran.returncode, ran.stdout, ran.stderr), (3, "", "ggp-explain-record: standard input can't be read: Bad file descriptor\n"))
+        self.answers(b"lawful\n")
+        words = sys.executable, TOP / "python/ggp-explain-record", self.referee.path, RECORD, "--countdown=3"
+        self.assertEqual(subprocess.run(words, capture_output=True).stdout, b"lawful\n")
+        with mock.patch.object(explain.sys, "stderr", None):
+            explain.say("x")
+
+    def run_main(self, *words: str, answer=(b"lawful\n",)) -> tuple[int, str, str]:
+        """Returns the status, what was printed and what was said of a run in this process."""
+        self.begin_anew()
+        self.answers(*answer)
+        output, said = [], io.StringIO()
+        with mock.patch("sys.argv", ["x", self.referee.path, *words]), mock.patch.object(explain, "put", lambda lines: output.extend(lines)), mock.patch("sys.stderr", said):
+            return explain.main(), "\n".join(output), said.getvalue()
+
+    def test_one_record_or_lines(self):
+        wrong = (b"", b"ggp_manager: not lawful: version\n", 1)
+        self.assertEqual(self.run_main(str(RECORD), "--countdown=3"), (0, "lawful", ""))
+        status, out, said = self.run_main(str(RECORD), "--countdown=3", answer=wrong)
+        self.assertEqual((status, out.splitlines(), said), (1, ["not lawful: version", "The interpreter finds no fault", REPORT], ""))
+        self.assertEqual(self.run_main(str(RECORD), "--lines", "--countdown=3"), (0, "", "ggp-explain-record: 1 lawful, 0 not lawful\n"))
+        status, out, said = self.run_main(str(RECORD), "--lines", "--countdown=3", answer=(b"not lawful: goals\n", b"", 1))
+        self.assertEqual((status, out.splitlines()[0], said), (1, "line 1, match m1: not lawful: goals", "ggp-explain-record: 0 lawful, 1 not lawful\n"))
+
+    def test_rules_of_a_file(self):
+        file = self.folder / "rules"
+        file.write_bytes(b"(role red)")
+        kept = []
+        with mock.patch.object(subprocess, "run", lambda words, **_: kept.append(pathlib.Path(words[2].partition("=")[2]).read_bytes()) or subprocess.CompletedProcess(words, 0, b"lawful\n", b"")):
+            self.assertEqual(self.run_main(str(RECORD), "--rules-file", str(file))[0], 0)
+        self.assertEqual(kept, [b"(role red)"])
+
+    def test_without_a_verdict_the_status_says_so(self):
+        self.assertEqual(self.run_main("/none", "--countdown=3"), (3, "", "ggp-explain-record: /none can't be read: No such file or directory\n"))
+        self.assertEqual(self.run_main(str(RECORD), "--countdown=3", answer=(b"", b"ggp_manager: wrong use\n", 2)), (2, "", "ggp_manager: wrong use\n"))
+        for fault, words in ((MemoryError(), "out of memory"), (OSError(28, "full"), "standard output can't be written: full"), (OSError(28, "full", "x"), "x can't be written: full")):
+            with mock.patch.object(explain, "explain_one", side_effect=fault):
+                self.assertEqual(self.run_main(str(RECORD), "--countdown=3"), (3, "", f"ggp-explain-record: {words}\n"))
+
+
+if __name__ == "__main__":
+    unittest.main()

@@ -1,0 +1,174 @@
+"""What competition.toml says, and each mistake in it with its line and key."""
+
+import random
+import unittest
+
+from ggp_tools.competition.command import MOST_AT_ONCE
+from ggp_tools.competition.competition_file import Host, MOST_PLAYERS, MOST_ROUNDS, MOST_SECONDS, MOST_STRIKES, Mistaken, read_competition
+from ggp_tools.competition.schedule import MOST_MATCHES
+from planning import planned
+from support import TOP, toml
+
+PLAYERS = [("ann", "10.0.0.1:9147"), ("bob", "[::1]:9148"), ("cid", "host.example:9149", "concurrent = 3")]
+GAMES = [("chess", "chess.kif"), ("go", "go.kif")]
+GOOD = toml(PLAYERS, GAMES, 'kind = "round_robin"\nrounds = 2', "start = 30\nstrikes = 3\nhosts = [\"one\", \"me@two\"]")
+NO_HOSTS = ":", "::", "@", "a@", "@a", "a@b@c", ".", "..", "a:", ":22", "a:b:c", "me@:", "me@::", "-a", "me@-a", "a b", "2/a", ""
+# What is changed in GOOD, and the mistakes that come of it: the line, the key, and words.
+MISTAKES = [
+    ('name = "cup"', "", [(1, "name", "missing")]),
+    ('name = "cup"', "name = 7", [(1, "name", "a text in quotes")]),
+    ('name = "cup"', 'name = "a cup"', [(1, "name", "is no name")]),
+    ('name = "cup"', 'name = ".."', [(1, "name", "a letter or a digit first")]),
+    ('name = "cup"', f'name = "{"c" * 41}"', [(1, "name", "is no name")]),
+    ("start = 30", "start = 0", [(2, "start", "0 is not from 1 to 86,400")]),
+    ("start = 30", f"start = 0x{'f' * 5_000}", [(2, "start", "the number is not from 1 to 86,400")]),
+    ("start = 30", "start = 86401", [(2, "start", "is not from")]),
+    ("start = 30", "start = true", [(2, "start", "a whole number")]),
+    ("start = 30", 'start = "1:75:00"', [(2, "start", "a whole number")]),
+    ("strikes = 3", "strikes = 256", [(3, "strikes", "is not from 0 to 255")]),
+    ("strikes = 3", "tries = 1001", [(3, "tries", "is not from 1 to 1,000")]),
+    ("strikes = 3", "wait = 86401", [(3, "wait", "is not from 0 to 86,400")]),
+    ("strikes = 3", "striks = 3", [(3, "striks", "no such key")]),
+    ("strikes = 3", "strikes 3", [(3, "strikes", "Expected '=' after a key")]),
+    ("strikes = 3", 'forfeit = "yes"', [(3, "forfeit", "true or false")]),
+    ("strikes = 3", 'order = "wins"', [(3, "order", "'wins' is none of goals, points")]),
+    ("strikes = 3", 'absent = "wait"', [(3, "absent", "none of leave, play")]),
+    ('"me@two"', '"-oProxyCommand=x"', [(4, "hosts", "is no host")]),
+    *(('"me@two"', f'"{host}"', [(4, "hosts", f"'{host}' is no host: NAME or USER@NAME is wanted")]) for host in NO_HOSTS),
+    ('"me@two"', '"one"', [(4, "hosts", "twice")]),
+    ('"me@two"', "2", [(4, "hosts", "a text in quotes")]),
+    ('"me@two"', "{matches = 2}", [(4, "hosts.name", "the key is missing")]),
+    ('"me@two"', '{name = "two", matches = 0}', [(4, "hosts.matches", "0 is not from 1 to 1,024")]),
+    ('"me@two"', '{name = "two", matches = "2"}', [(4, "hosts.matches", "a whole number is wanted")]),
+    ('"me@two"', '{name = "two", cores = 2}', [(4, "hosts.cores", "no such key; there are name, matches")]),
+    ('"me@two"', '{name = "one", matches = 2}', [(4, "hosts", "twice")]),
+    ("[form]", "[from]", [(1, "form", "one [form]"), (5, "from", "no such key")]),
+    ('"round_robin"', '"league"', [(6, "form.kind", "none of round_robin, gauntlet, schedule, swiss, knockout")]),
+    ('"round_robin"', '"knockout"', [(7, "form.rounds", "the kind knockout has no such key")]),
+    ('"round_robin"\nrounds = 2', '"swiss"', [(5, "form.rounds", "missing")]),
+    ('"round_robin"\nrounds = 2', '"swiss"\nrounds = 2\none = "ann"', [(8, "form.one", "the kind swiss has no such key")]),
+    ('"round_robin"', '"gauntlet"', [(5, "form.one", "missing")]),
+    ("rounds = 2", "rounds = 0", [(7, "form.rounds", "is not from")]),
+    ("rounds = 2", "rounds = 1001", [(7, "form.rounds", "is not from 1 to 1,000")]),
+    ("rounds = 2", 'one = "ann"', [(7, "form.one", "has no such key")]),
+    ('name = "go"', 'name = "chess"', [(12, "games.name", "line 9 already")]),
+    ('name = "go"', 'name = "-go"', [(12, "games.name", "is no name")]),
+    ('name = "go"', 'name = "g/o"', [(12, "games.name", "is no name")]),
+    ('file = "go.kif"', "", [(11, "games.file", "missing")]),
+    ('file = "go.kif"', 'file = "go.kif"\nplayer_rules = "both"', [(14, "games.player_rules", "none of ground, variables")]),
+    ('file = "go.kif"', 'file = "go.kif"\naborts = 1', [(14, "games.aborts", "true or false is wanted")]),
+    ('file = "go.kif"', 'file = "go.kif"\ntold = "variables"', [(14, "games.told", "this key is now player_rules")]),
+    ('file = "go.kif"', 'file = "go.kif"\nlarge = 1', [(14, "games.large", "true or false is wanted")]),
+    ('file = "go.kif"', 'file = "go.kif"\nplayer_rules = true', [(14, "games.player_rules", "a text in quotes")]),
+    ('file = "go.kif"', 'file = "go.kif"\n\ntell = "ground"', [(15, "games.tell", "no such key; there are name, file, described, seconds, start, play, player_rules, aborts, large")]),
+    ('name = "bob"', 'name = "ann"', [(18, "players.name", "'ann' stands in line 15 already")]),
+    ('name = "bob"', 'name = "b b"', [(18, "players.name", "is no name")]),
+    ('"[::1]:9148"', '"10.0.0.1:9147"', [(19, "players.address", "line 16 already")]),
+    ('"[::1]:9148"', '"10.0.0.1"', [(19, "players.address", "is no HOST:PORT")]),
+    ('"[::1]:9148"', '"::1:9148"', [(19, "players.address", "is no HOST:PORT")]),
+    ('"[::1]:9148"', '"bob@host:9148"', [(19, "players.address", "is no HOST:PORT")]),
+    ('"[::1]:9148"', '"[fe80::1%]:9148"', [(19, "players.address", "is no HOST:PORT")]),
+    ('"[::1]:9148"', '"[fe80::1%a b]:9148"', [(19, "players.address", "is no HOST:PORT")]),
+    ('"[::1]:9148"', '"fe80%eth0:9148"', [(19, "players.address", "is no HOST:PORT")]),
+    ('"[::1]:9148"', '"host:65536"', [(19, "players.address", "the port 65536")]),
+    ('"[::1]:9148"', '"host:0"', [(19, "players.address", "the port 0")]),
+    ("concurrent = 3", "concurrent = 1025", [(23, "players.concurrent", "is not from 1 to 1,024")]),
+    ("concurrent = 3", "concurrent = 0", [(23, "players.concurrent", "is not from")]),
+    ('"cup"', '"c p"\nplay = 0', [(1, "name", "is no name"), (2, "play", "is not from")]),
+    ("strikes = 3", "# \N{GREEK SMALL LETTER ALPHA}\nstrikes = x", [(4, "strikes", "Invalid value")]),
+]
+SCHEDULES = [
+    ("lines = []", [(4, "form.lines", "at least one line")]),
+    ('lines = ["chess ann bob",\n"chess ann dan", "checkers ann bob"]', [(5, "form.lines", "no player 'dan'"), (5, "form.lines", "no game 'checkers'")]),
+    ('lines = ["chess ann bob",\n"chess ann ann"]', [(5, "form.lines", "'ann' stands there twice")]),
+    ('lines = ["chess ann bob",\n""]', [(5, "form.lines", "no game ''")]),
+    ("lines = [1]", [(4, "form.lines", "at least one line"), (4, "form.lines", "a text in quotes")]),
+]
+
+
+def mistakes_of(data):
+    try:
+        read_competition(data)
+    except Mistaken as why:
+        return [(mistake.line, mistake.key, mistake.words) for mistake in why.mistakes]
+    return []
+
+
+class CompetitionFile(unittest.TestCase):
+    def assert_told(self, text, wanted):
+        found = mistakes_of(text.encode())
+        self.assertEqual(sorted(mistake[:2] for mistake in found), sorted(mistake[:2] for mistake in wanted), found)
+        for *place, words in wanted:
+            self.assertTrue(any(list(mistake[:2]) == place and words in mistake[2] for mistake in found), (words, found))
+
+    def test_reads(self):
+        found = read_competition(GOOD.encode())
+        self.assertEqual((found.name, found.strikes, found.hosts), ("cup", 3, (Host("one", 0), Host("me@two", 0))))
+        self.assertEqual([(player.name, player.place(), player.concurrent) for player in found.players][1:], [("bob", "bob@[::1]:9148", 1), ("cid", "cid@host.example:9149", 3)])
+        self.assertEqual([(game.name, game.start, game.play) for game in found.games], [("chess", 30, 10), ("go", 30, 10)])
+
+    def test_a_competition_by_rounds_has_an_order_of_its_own(self):
+        for kind in ('"swiss"\nrounds = 3', '"knockout"'):
+            self.assertEqual(mistakes_of(toml(PLAYERS, GAMES, f"kind = {kind}").encode()), [])
+            found = mistakes_of(toml(PLAYERS, GAMES, f"kind = {kind}", 'order = "goals"').encode())
+            self.assertEqual(found, [(2, "order", f"the kind {kind.split(chr(34))[1]} has an order of its own")])
+
+    def test_hosts(self):
+        hosts = ("localhost", "10.0.0.1", "me@host.example", "a_b-c", "me@two:2222", "::1", "me@2001:db8::1")
+        for host in hosts:
+            self.assertEqual(read_competition(GOOD.replace("me@two", host).encode()).hosts, (Host("one", 0), Host(host, 0)))
+        told = read_competition(GOOD.replace('"me@two"', '{name = "me@two", matches = 32}').encode()).hosts
+        self.assertEqual(told, (Host("one", 0), Host("me@two", 32)))
+
+    def test_what_players_are_told(self):
+        found = read_competition(GOOD.replace('file = "go.kif"', 'file = "go.kif"\nplayer_rules = "variables"').encode())
+        self.assertEqual([(game.player_rules_line, game.tells_variables()) for game in found.games], [(8, False), (14, True)])
+
+    def test_each_mistake_is_told(self):
+        for old, new, wanted in MISTAKES:
+            with self.subTest(new or old):
+                self.assertEqual(GOOD.count(old), 1)
+                self.assert_told(GOOD.replace(old, new), wanted)
+
+    def test_an_address_with_its_zone(self):
+        found = read_competition(GOOD.replace("[::1]", "[fe80::1%eth0.7]").encode())
+        self.assertEqual(found.players[1].place(), "bob@[fe80::1%eth0.7]:9148")
+
+    def test_the_document_has_the_limits(self):
+        text = (TOP / "docs/COMPETITION.md").read_text()
+        limits = [
+            f"at most {MOST_PLAYERS:,} players", f"at most {MOST_MATCHES:,} matches", f"`rounds` times, 1 to {MOST_ROUNDS:,} (1)", f"0 to {MOST_STRIKES}",
+            "before it is reported, 1 to 1,000 (5)", f"0 to {MOST_SECONDS:,} (10)", f"`--at-once N`, 1 to {MOST_AT_ONCE:,} (4)", "`concurrent = N`, 1 to 1,024",
+            "`name` | 1 to 40 letters", "`name`, 1 to 64 letters",
+        ]
+        self.assertEqual([limit for limit in limits if limit not in text], [])
+
+    def test_a_byte_order_mark(self):
+        self.assertEqual(mistakes_of(b"\xef\xbb\xbf" + GOOD.encode()), [(1, "", "the file begins with a byte order mark, the bytes EF BB BF: leave them out")])
+
+    def test_lines_of_a_schedule(self):
+        for lines, wanted in SCHEDULES:
+            with self.subTest(lines):
+                self.assert_told(toml(PLAYERS, GAMES, f'kind = "schedule"\n{lines}'), wanted)
+
+    def test_no_text_and_no_tables(self):
+        self.assertEqual([mistake[:2] for mistake in mistakes_of(b"name = 1\n\xff")], [(2, "")])
+        self.assertEqual({mistake[1] for mistake in mistakes_of(b"")}, {"name", "form", "games", "players"})
+        self.assertEqual({mistake[1] for mistake in mistakes_of(b'name = "c"\ngames = 1\nplayers = []\nform = 2')}, {"form", "games", "players"})
+
+    def test_whatever_comes_is_read_or_told(self):
+        chance = random.Random(1)
+        for _ in range(2000):
+            data = bytearray(GOOD.encode())
+            for _ in range(chance.randrange(1, 5)):
+                data[chance.randrange(len(data))] = chance.randrange(256)
+            try:
+                found = read_competition(bytes(data))
+            except Mistaken as why:
+                self.assertTrue(all(mistake.line >= 1 and mistake.words for mistake in why.mistakes))
+            else:
+                planned(found, {game.name: 2 for game in found.games})
+
+
+if __name__ == "__main__":
+    unittest.main()

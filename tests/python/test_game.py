@@ -1,0 +1,365 @@
+"""The command `game`: what is suspicious in a description, and how random matches of it end."""
+
+import os
+import shutil
+import subprocess
+import sys
+import time
+import unittest
+from unittest import mock
+
+from ggp_tools.descriptions import random_matches
+from ggp_tools.referee import Referee
+from ggp_tools.descriptions.suspicious import suspicions
+from ggp_tools.reporting import Reporter
+from support import COMMAND, GAMES, InFolder, program, program_but, run, run_into_full
+
+# A game of two turns, in which nothing is suspicious.
+SOUND = """(role ann) (role bob)
+(init (step 1))
+(<= (legal ann go) (true (step 1)))
+(<= (legal ann stay) (not (true (step 1))))
+(legal bob wait)
+(<= (next (step 2)) (true (step 1)) (does ann go))
+(<= (next (step 3)) (true (step 2)))
+(<= over (true (step 3)))
+(<= terminal over)
+(<= (goal ann 100) over) (<= (goal bob 0) over)
+"""
+# What is put in the place of what, or behind all, and what is then suspicious.
+CHANGES = [
+    ("(init", "(initial", [
+        "line 2, column 1: `initial` is no word of GDL, and nothing of the game asks for it; is `init` meant?: (initial (step 1))",
+        "line 3, column 20: no `init` and no `next` gives the term (step 1): (true (step 1)) (and 2 more like this)",
+    ]),
+    ("(<= terminal", "(=> terminal", [
+        "line 9, column 1: `=>` is no word of GDL, and nothing of the game asks for it; is `<=` meant?: (=> terminal over)",
+        "nothing gives `terminal`, so no match is finished",
+    ]),
+    ("(true (step 3)", "(treu (step 3)", [
+        "line 7, column 5: no condition asks for the term (step 3): (next (step 3))",
+        "line 8, column 10: `(treu _)` has no rule and no fact; is `true` meant?: (treu (step 3))",
+    ]),
+    ("terminal over", "terminal ovre", ["line 9, column 14: `ovre` has no rule and no fact; is `over` meant?: ovre"]),
+    ("terminal over", "terminal (over)", ["line 9, column 14: `(over)` has no rule and no fact, only `over`: (over)"]),
+    ("legal bob", "legal bbo", [
+        "line 1, column 12: nothing gives the role bob a `legal`: (role bob)",
+        "line 5, column 1: bbo is no role: (legal bbo wait)",
+    ]),
+    ("goal ann", "goal anne", [
+        "line 1, column 1: nothing gives the role ann a `goal`: (role ann)",
+        "line 10, column 5: anne is no role: (goal anne 100)",
+    ]),
+    ("does ann", "does eve", ["line 6, column 37: eve is no role: (does eve go)"]),
+    ("does ann go", "does ann gone", ["line 6, column 37: no `legal` gives this move: (does ann gone)"]),
+    ("(not (true (step 1)))", "(or (true x) (not (true (y 1))))", [
+        "line 4, column 26: no `init` and no `next` gives the term x: (true x)",
+        "line 4, column 40: no `init` and no `next` gives the term (y 1): (true (y 1))",
+    ]),
+    (None, "(init (mark 1)) (init (mark 2))", [
+        "line 11, column 1: no condition asks for the term (mark 1): (init (mark 1)) (and 1 more like this)",
+    ]),
+    (None, "(line 1) (<= (base (step 1)) (n 1)) (n 1)", ["line 11, column 1: nothing of the game asks for `(line _)`: (line 1)"]),
+    (None, "(over 1)", ["line 11, column 1: nothing of the game asks for `(over _)`, only for `over`: (over 1)"]),
+    (None, "(n 1) (<= terminal (n 2))", ["line 11, column 20: no rule and no fact gives this: (n 2)"]),
+    (None, "(sees ann bob)", [
+        "line 11, column 1: `sees` is of GDL-II, games with chance or with what some can't see; here each role sees every move:"
+        " (sees ann bob)",
+    ]),
+]
+# What leaves open what it comes to, and so is not suspicious.
+OPEN = """(player ann) (player bob) (<= (role ?r) (player ?r))
+(init (cell 1)) (succ 1 2) (succ 2 3)
+(<= (legal ?r (go ?n)) (player ?r) (true (cell ?n)))
+(<= (next (cell ?n)) (does ?r (go ?m)) (succ ?m ?n)) (<= (next ?t) (true ?t) (does ann ?any))
+(<= (terminal) (true (cell 3)))
+(<= (goal ?r 100) (role ?r)) (<= (base (cell ?n)) (number ?n)) (<= (input ?r (go ?n)) (role ?r) (number ?n))
+(<= (number ?n) (succ ?n ?m)) (<= (number ?m) (succ ?n ?m))
+"""
+# What stands in the games of this repository and is asked for by nothing there.
+KNOWN = {"checkers": "`(kind _)`", "farmers": "`(ten _)`", "foxandhounds": "`(line _)`"}
+ENDLESS = "(role ann) (init (step 1)) (legal ann go) (<= (next (step 1)) (true (step 1))) (<= terminal (true (step 2))) (goal ann 1)"
+
+
+def lines_of(text, ground=None):
+    return suspicions(text, ground).lines
+
+
+class Suspicious(unittest.TestCase):
+    def test_a_sound_game(self):
+        for ground in (None, SOUND.encode()):
+            self.assertEqual(lines_of(SOUND.encode(), ground), [])
+            self.assertEqual(lines_of(OPEN.encode(), None), [])
+
+    def test_changes(self):
+        for old, new, words in CHANGES:
+            with self.subTest(new):
+                text = (SOUND + new if old is None else SOUND.replace(old, new, 1)).encode()
+                self.assertEqual(lines_of(text, text), words)
+
+    def test_ground_rules_say_more(self):
+        ground = b"(role ann) (role bob) (legal ann x) (goal ann 1) terminal"
+        said = [f"line 1, column 31: nothing gives the role bob a `{name}`: (role ?r)" for name in ("legal", "goal")]
+        self.assertEqual(lines_of(OPEN.encode(), ground), said)
+
+    def test_an_instance_of_what_is_no_role(self):
+        ground = b"(role ann) (role bob) (legal ann x) (legal bob x) (goal ann 1) (goal bob 1) terminal "
+        text, eve = OPEN.replace("(go ?n)) (player", "?m) (player", 1), b"(legal eve x) (legal eve y)"
+        said = "eve is no role, and a fact of the ground rules has it"
+        self.assertEqual(lines_of(text.encode(), ground + eve), [f"line 3, column 5: {said}: (legal eve x) (and 1 more like this)"])
+        self.assertEqual(lines_of(text.encode() + b"(<= (legal ?any x) (role ?any))", ground + eve[:14]), [f"{said}: (legal eve x)"])
+        # What holds in some states alone may hold in none.
+        self.assertEqual(lines_of(text.encode(), ground + b"(<= (legal eve x) (true (cell 1)))"), [])
+        self.assertEqual(lines_of(SOUND.encode(), SOUND.encode() + eve), [])
+
+    def test_a_move_that_no_player_can_make(self):
+        said = "line 5, column 1: no player can make this move: its text is longer than 4,096 bytes: (legal bob (wait "
+        for length, is_found in ((4_096, False), (4_097, True)):
+            move = f"(wait {'x' * (length - 7)})"
+            texts = [(SOUND.replace("bob wait", f"bob {move}"), None), (SOUND.replace("bob wait", "bob ?m"), f"{SOUND} (legal bob {move})")]
+            for text, ground in texts:
+                found = lines_of(text.encode(), ground and ground.encode())
+                self.assertEqual([line.startswith(said) for line in found], [True] * is_found, found)
+
+    def test_an_empty_list(self):
+        for text in (b"(role a) ()", b"(role a) (<= ())", b"(<= (sees a b) ())", b"(<= p ())", b"(<= p (not ()))", b"(p ())", b"((a) b)"):
+            self.assertEqual(lines_of(text), [])
+
+    def test_of_what_has_not_its_form_only_misspelt_heads_are_told(self):
+        said = "line 1, column 1: `=>` is no word of GDL, and nothing of the game asks for it; is `<=` meant?: (=> (legal ?r x) y)"
+        self.assertEqual(lines_of(b"(=> (legal ?r x) y) (<= (next) p) (<=) (<= q) (line 1)"), [said])
+        self.assertEqual(lines_of(b"(" * 70 + b"a" + b")" * 70), [])
+
+    def test_what_is_not_looked_at(self):
+        for text in (b"(role a", b"", b"(role a) ()", b"(<= (next) p)", b"(" * 70 + b"a" + b")" * 70, b"(role \xff)"):
+            self.assertEqual(suspicions(text).cut, "the rest was not looked at")
+        self.assertEqual(suspicions(SOUND.encode()), ([], ""))
+        said = "the search for what is suspicious was cut after -1 s: the rest was not looked at"
+        self.assertEqual(suspicions(SOUND.encode(), None, -1), ([], said))
+
+    def test_many_sentences_take_no_long_time(self):
+        numbers = range(9_000)
+        cases = {
+            "no rule and no fact gives this: ": [*(f"(p {number} x)" for number in numbers), *(f"(<= terminal (p ?x {number}x))" for number in numbers)],
+            "no `init` and no `next` gives the term ": [
+                *(f"(init (c {number} {number}))" for number in numbers), *(f"(<= terminal (true (c ?x (f {number}))))" for number in numbers),
+            ],
+            "nothing gives the role r0 a `goal`": [f"(role r{number}) (legal q{number} m)" for number in numbers],
+            "`z99` has no rule and no fact": ["(<= terminal (or", *(f"z{number}" for number in numbers), "))"],
+        }
+        for words, text in cases.items():
+            began = time.process_time()
+            found = lines_of(" ".join(text).encode())
+            self.assertLess(time.process_time() - began, 15)
+            self.assertTrue(any(words in line for line in found), found)
+
+    def test_where_a_condition_stands(self):
+        text = SOUND + "(<= terminal (or (not (a1)) b2)\n  (or (and c3 (not (not d4))) (distinct x y) over) (true (e5 x y)))"
+        found = [line.split(": ")[0] for line in lines_of(text.encode())]
+        self.assertEqual(found, [f"line {place}" for place in ("11, column 23", "11, column 29", "12, column 12", "12, column 25", "12, column 52")])
+
+    def test_names_that_are_long(self):
+        name, arguments = "n" * 200, " x" * 200
+        found = lines_of(f"{SOUND} ({name}) (p{arguments}) (<= terminal ({name} 1 (a{arguments})))".encode())
+        self.assertEqual(len(found), 3)
+        self.assertLess(max(map(len, found)), 330)
+        self.assertIn(f"`({'n' * 79}..`", found[0])
+
+    def test_the_games_of_this_repository(self):
+        files = [*GAMES.glob("*.kif"), *GAMES.glob("general/*.kif")]
+        self.assertGreater(len(files), 30)
+        for file in files:
+            found = lines_of(file.read_bytes())
+            self.assertEqual(len(found), file.stem in KNOWN, found)
+            for line in found:
+                self.assertIn(f"nothing of the game asks for {KNOWN[file.stem]}", line)
+
+
+class Game(InFolder):
+    def look(self, text, *words):
+        """Returns the status of a run over this description, and the lines that it printed."""
+        (self.folder / "game.kif").write_text(text)
+        status, out, said = run(self.folder, "game", "game.kif", *words)
+        self.assertEqual(said, "")
+        return status, out.splitlines()
+
+    def test_a_sound_game(self):
+        status, lines = self.look(SOUND)
+        self.assertEqual((status, lines), (0, [
+            "game.kif is accepted: 12 sentences; roles ann bob",
+            "nothing is suspicious",
+            "random matches, seeds 1 to 20: 20 finished, 0 aborted",
+            "turns of a match: always 2",
+            "ann: goals always 100; most legal moves at once: 1",
+            "bob: goals always 0; most legal moves at once: 1",
+        ]))
+
+    def test_suspicions_alone_are_no_fault(self):
+        status, lines = self.look(SOUND + "(line 1)", "--matches", "0")
+        self.assertEqual((status, lines[1:]), (0, ["suspicious: line 11, column 1: nothing of the game asks for `(line _)`: (line 1)"]))
+
+    def test_one_of_each(self):
+        status, lines = self.look("(role a)", "--matches", "1", "--seconds", "1")
+        self.assertEqual(lines[0], "game.kif is accepted: 1 sentence; roles a")
+        self.assertEqual(status, 1)
+
+    def test_a_description_that_is_not_accepted(self):
+        status, lines = self.look("(role a)\n(=> (legal a x) p)\n(<= (next x) (init x))")
+        self.assertEqual((status, lines), (1, [
+            "game.kif is not accepted: line 3, column 14: init or next as a condition, but they are for heads: (<= (next x) (init x))",
+            "suspicious: line 2, column 1: `=>` is no word of GDL, and nothing of the game asks for it; is `<=` meant?: (=> (legal a x) p)",
+            "the rest was not looked at",
+        ]))
+        for text, words in [("", "line 1, column 1: there is no sentence"), ("(role a", "line 1, column 1: a list that is not closed")]:
+            self.assertEqual(self.look(text), (1, [f"game.kif is not accepted: {words}", "the rest was not looked at"]))
+        self.assertEqual(self.look("(" * 70 + "a" + ")" * 70)[1][-1], "the rest was not looked at")
+        said = ["game.kif is not accepted: it has more than 1,048,576 bytes", "the rest was not looked at"]
+        self.assertEqual(self.look(" x" * (1 << 19) + "x"), (1, said))
+        status, lines = self.look(SOUND + "(goal ann 200)")
+        self.assertEqual((status, lines[1:]), (1, ["nothing else is suspicious"]), lines)
+
+    def test_aborted_matches(self):
+        status, lines = self.look(SOUND.replace("(not (true (step 1)))", "(true (step 3))"), "--matches", "3", "--seed", "7")
+        self.assertEqual(status, 1)
+        self.assertEqual(lines[2:5], [
+            "random matches, seeds 7 to 9: 0 finished, 3 aborted",
+            "aborted with `nolegal ann`: 3, seeds 7, 8, 9; after turn 1 of seed 7 the state is (step 2)",
+            "turns of a match: always 1",
+        ])
+        status, lines = self.look(SOUND.replace("bob 0", "ann 0"), "--matches", "1")
+        self.assertEqual(status, 1)
+        self.assertEqual(lines[3], "aborted with `nogoal ann`: 1, seed 1; after turn 2 of seed 1 the state is (step 3)")
+        self.assertEqual(lines[5], "ann: goals none; most legal moves at once: 1")
+
+    def test_a_game_that_does_not_end(self):
+        status, lines = self.look(ENDLESS, "--matches", "1")
+        self.assertEqual((status, lines[3]), (1, "aborted with `toolong`: 1, seed 1; after turn 10,000 of seed 1 the state is (step 1)"))
+        status, lines = self.look(ENDLESS, "--matches", "10000", "--seconds", "1")
+        self.assertEqual(status, 1)
+        self.assertRegex(lines[2], r"^the time was over: in 1 s there were \d+ of 10,000 matches and [\d,]+ turns of the next one$")
+
+    def test_a_match_is_that_of_its_seed(self):
+        tictactoe = (GAMES / "tictactoe.kif").read_text()
+        alone = [self.look(tictactoe, "--matches", "1", "--seed", str(seed_of_match))[1][2:] for seed_of_match in (4, 5, 5)]
+        self.assertEqual(alone[1], alone[2])
+        self.assertEqual(alone[0][0], "random matches, seed 4: 1 finished, 0 aborted")
+        turns = [int(lines_of_match[1].removeprefix("turns of a match: always ")) for lines_of_match in alone[:2]]
+        said = self.look(tictactoe, "--matches", "2", "--seed", "4")[1][3]
+        self.assertTrue(said.endswith(f"on average {sum(turns) / 2:.1f}") or said == f"turns of a match: always {turns[0]}", said)
+
+    def test_a_move_that_no_player_can_make(self):
+        status, lines = self.look(SOUND.replace("bob wait", f"bob (wait {'x' * 5_000})"), "--matches", "2")
+        self.assertEqual((status, lines[2]), (0, "random matches, seeds 1 to 2: 2 finished, 0 aborted"))
+        self.assertEqual(lines[-1], "2 of them have a move that no player can make: their records are not compared")
+        self.assertRegex(lines[1], r"^suspicious: line 5, column 1: no player can make this move: ")
+
+    def test_rules_that_are_too_deep_for_the_interpreter(self):
+        chain = "".join(f"(<= p{number} (or (or (or p{number + 1}))))\n" for number in range(7_000))
+        status, lines = self.look(SOUND + chain + "p7000 (<= terminal (not p0))")
+        self.assertEqual((status, lines[2:]), (0, ["the interpreter can't play it: its rules ask for one another too deeply"]))
+
+    def test_rules_that_are_deep(self):
+        chain = "".join(f"(<= p{number} (or q p{number + 1}))\n" for number in range(2_000))
+        status, lines = self.look(SOUND + chain + "p2000 (<= q (true (step 7))) (<= terminal (not p0))", "--matches", "1")
+        self.assertEqual((status, lines[3]), (0, "turns of a match: always 2"))
+
+    def test_a_program_that_plays_otherwise(self):
+        (self.folder / "game.kif").write_text(SOUND)
+        other = 'input=$(cat); if [[ "$input" = *seed-* ]]; then {}; fi; ' + program() + ' "$@" <<< "$input"; exit $?'
+        cases = {
+            program() + ''' "$@" <<< "$input" | sed 's/"goalValues":.100,/"goalValues":[99,/'; exit 0''': (
+                1, "seed 1: the program's record is not that of the interpreter of ggp_competition, by goalValues: please report it\n", "",
+            ),
+            program() + ''' "$@" <<< "$input" | sed 's/"(step 2)"/"(step 4)"/'; exit 0''': (
+                1, "seed 1: the program's record is not that of the interpreter of ggp_competition, by states: please report it\n", "",
+            ),
+            program() + ''' "$@" <<< "$input" | sed 's/"states":/"states":1,"is":/'; exit 0''': (1, "by states: please report it\n", ""),
+            "exec sleep 30": (0, "the program had not played 1 of them after 1 s: their records are not compared\n", ""),
+            "echo 'ggp_manager: want of memory' >&2; exit 3": (
+                3, "",
+                "ggp_competition: `ggp_manager desk` came to no verdict with game.kif: want of memory, status 3\n",
+            ),
+            "echo '{garbage'; exit 0": (3, "", "ggp_competition: `ggp_manager desk` came to no verdict with game.kif: it said nothing, status 0\n"),
+        }
+        for done, (wanted, printed, told) in cases.items():
+            path = program_but(self.folder / "other", '"$1" = desk', other.format(done))
+            # Only a program that never answers has to be cut off soon.
+            seconds = "1" if "sleep" in done else "60"
+            status, out, said = run(self.folder, "game", "game.kif", "--matches", "1", "--seconds", seconds, "--program", path)
+            self.assertEqual((status, said), (wanted, told), out)
+            self.assertIn(printed, out)
+
+    def test_a_program_that_prints_no_record(self):
+        (self.folder / "game.kif").write_text(SOUND)
+        said = "ggp_competition: `ggp_manager desk` came to no verdict with game.kif: it said nothing, status 0\n"
+        for record in ("{garbage", "\\xff{", '{"a":' * 9_999):
+            path = program_but(self.folder / "other", '"$1" = desk', f"printf '%b\\n' '{record}'; exit 0")
+            status, _, told = run(self.folder, "game", "game.kif", "--program", path)
+            self.assertEqual((status, told), (3, said))
+
+    def test_a_grounder_that_comes_to_no_verdict(self):
+        (self.folder / "game.kif").write_text(OPEN)
+        (self.folder / "gringo").write_text("#!/bin/bash\nkill -9 $PPID\nsleep 9\n")
+        (self.folder / "gringo").chmod(0o755)
+        said = "ggp-instantiate came to no verdict with game.kif: ggp-instantiate ended with status -9"
+        path = f"{self.folder}:{os.environ['PATH']}"
+        self.assertEqual(run(self.folder, "game", "game.kif", env={**os.environ, "PATH": path}), (3, "", f"ggp_competition: {said}\n"))
+        (self.folder / "gringo").write_text("#!/bin/bash\nkill -9 $$\n")
+        status, out, said = run(self.folder, "game", "game.kif", env={**os.environ, "PATH": path})
+        self.assertEqual((status, out), (3, ""))
+        self.assertRegex(said, "^ggp_competition: ggp-instantiate came to no verdict with game.kif: .*gringo took .*, or was ended\n$")
+        self.assertEqual(run(self.folder, "game", "game.kif", env={**os.environ, "PATH": "/nowhere"}), (
+            3, "", "ggp_competition: game.kif can't be instantiated: the grounder gringo is not installed\n",
+        ))
+
+    def test_a_match_that_one_script_does_not_hold(self):
+        with mock.patch("ggp_tools.descriptions.random_matches.MOST_BYTES", 30_000):
+            played = random_matches.RandomMatches(ENDLESS.encode(), Referee(program()), "game.kif", Reporter(), 60)
+            played.run(1, 1)
+        self.assertEqual((played.differing, played.notes, played.ended[0].turns), ([], [], 10_000))
+
+    @unittest.skipUnless(shutil.which("gringo"), "gringo is not installed")
+    def test_games_with_variables(self):
+        status, out, said = run(self.folder, "game", GAMES / "general/nim.kif", "--matches", "2")
+        self.assertEqual((status, said), (0, ""))
+        self.assertIn("nim.kif is accepted: 28 sentences, which became 284 ground ones; roles first second\nnothing is suspicious\n", out)
+        status, lines = self.look(OPEN + "(<= (goal ?r 200) (true (cell ?n)) (role ?r))", "--matches", "1")
+        self.assertEqual(status, 0)
+        self.assertRegex(lines[1], "^its ground rules: .*goals past 100 are left out")
+        status, lines = self.look("(role a)\n(<= (legal ?r x) (not (role ?r)))")
+        self.assertEqual(status, 1)
+        self.assertRegex(lines[0], r"^game.kif is not accepted: line 2, column 1: sentence 1, .*: \?r is unsafe")
+
+    @unittest.skipUnless(shutil.which("gringo"), "gringo is not installed")
+    def test_a_file_whose_name_begins_with_a_hyphen(self):
+        for name in ("-nim.kif", "-"):
+            shutil.copy(GAMES / "general/nim.kif", self.folder / name)
+            status, out, said = run(self.folder, "game", f"./{name}", "--matches", "1")
+            self.assertEqual((status, said, out.splitlines()[0].split(":")[0]), (0, "", f"{name} is accepted"))
+
+    def test_what_is_wrong_before_it(self):
+        for word, said in [("none", "none can't be read: No such file or directory"), (".", ". is no plain file")]:
+            self.assertEqual(run(self.folder, "game", word), (2, "", f"ggp_competition: {said}\n"))
+        for words in (["--matches", "x"], ["--matches", "10001"], ["--seed", "-1"], ["--seconds", "0"], ["--seconds", "1.5"], ["--matches", "\n"]):
+            done = subprocess.run([sys.executable, COMMAND, "game", GAMES / "buttons.kif", *words], capture_output=True, text=True)
+            shown = words[1] if words[1].isprintable() else repr(words[1])
+            self.assertEqual((done.returncode, f": {shown} is no number from " in done.stderr), (2, True), done.stderr)
+        for word, shown in [("", "''"), ("9" * 5_000, f"{'9' * 20}..")]:
+            done = subprocess.run([sys.executable, COMMAND, "game", "none", "--seed", word], capture_output=True, text=True)
+            self.assertTrue(done.stderr.endswith(f"argument --seed: {shown} is no number from 0 to 1,000,000,000,000,000,000\n"), done.stderr)
+
+    def test_no_temporary_file(self):
+        (self.folder / "game.kif").write_text(SOUND)
+        room = "import os, resource, sys; resource.setrlimit(resource.RLIMIT_FSIZE, (100, 100)); os.execv(sys.argv[1], sys.argv[1:])"
+        words = [sys.executable, "-c", room, sys.executable, COMMAND, "game", "game.kif", "--program", program()]
+        done = subprocess.run(words, cwd=self.folder, env={**os.environ, "TMPDIR": str(self.folder)}, capture_output=True, text=True)
+        self.assertEqual(done.returncode, 3, done)
+        self.assertRegex(done.stderr, rf"^ggp_competition: {self.folder}/\w+: File too large\n$")
+
+    def test_a_full_output(self):
+        said = run_into_full(self.folder, "game", str(GAMES / "buttons.kif"))
+        self.assertEqual(said, (1, "ggp_competition: standard output: No space left on device\n"))
+
+
+if __name__ == "__main__":
+    unittest.main()

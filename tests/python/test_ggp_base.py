@@ -1,0 +1,133 @@
+"""Records as ggp-base has its matches, read as ggp-base's own reader (`Match` of `org.ggp.base.util.match`) reads them."""
+
+import json
+import pathlib
+import subprocess
+import sys
+import tempfile
+import unittest
+
+from ggp_tools.competition.log_lines import log_line
+from ggp_tools.kif import expressions
+from ggp_tools.records.ggp_base import Times, spaced, times_of
+from support import GAMES, TOP, program
+
+RECORDS = TOP / "examples/records"
+WHOLE, FAULTY = "countdown-3-second_version", "countdown-3-another_state"
+LOG = """2026-11-28T06:00:01.250Z m1 role 0 ann message 1 (START m1 red ((role red)) 10 10): ready, 200 ms
+2026-11-28T06:00:01.300Z m1 role 1 bob message 1 (START m1 blue ((role red)) 10 10): ready, 300 ms
+2026-11-28T06:00:02.000Z m1 role 1 bob message 2 (PLAY m1 NIL): noop, 5 ms
+2026-11-28T06:00:02.500Z m1 role 0 ann message 2 (PLAY m1 NIL): (take 1), 505 ms
+2026-11-28T06:00:03.000Z m1 role 0 ann message 3 (PLAY m1 ((take 1) noop)): noop, 9 ms
+2026-11-28T06:00:04.000Z m1 role 1 bob message 3 (PLAY m1 ((take 1) noop)): TO, 1000 ms
+2026-11-28T06:00:05.000Z m1 role 1 bob message 4 (STOP m1 (noop (take 2))): done, 3 ms
+"""
+# 2026-11-28T06:00:01Z
+BEGAN = 1_795_845_601_000
+
+
+def record(name: str) -> str:
+    return (RECORDS / f"{name}.record").read_text(encoding="ascii")
+
+
+def terms_of(state: str) -> list:
+    """Returns the terms of a state: it is one list of them."""
+    (terms,) = expressions(state)
+    return list(terms)
+
+
+def read_match(text: str) -> dict[str, object]:
+    """Reads a match as ggp-base does for a game that the caller names: these keys have to be there, and the others are asked for first."""
+    found = json.loads(text)
+    match = {key: found[key] for key in ("matchId", "randomToken", "startClock", "playClock", "startTime", "isCompleted", "moves", "states", "stateTimes")}
+    assert all(isinstance(match[key], int) for key in ("startTime", "startClock", "playClock")) and isinstance(match["isCompleted"], bool)
+    match["states"] = list(map(terms_of, match["states"]))
+    match["moves"] = [[expressions(move)[0] for move in turn] for turn in match["moves"]]
+    assert all(isinstance(time, int) for time in match["stateTimes"])
+    for key, otherwise in {"previewClock": -1, "isAborted": False, "errors": [], "goalValues": [], "playerNamesFromHost": None}.items():
+        match[key] = found.get(key, otherwise)
+    return match
+
+
+class TimesOfLogs(unittest.TestCase):
+    def test_a_match_begins_with_its_first_start_and_a_turn_ends_with_its_last_answer(self):
+        found: dict[str, Times] = {}
+        times_of(LOG.splitlines(keepends=True), found)
+        self.assertEqual(found["m1"].of_states(2), [BEGAN, BEGAN + 1_500, BEGAN + 3_000])
+
+    def test_the_lines_are_those_of_a_competition(self):
+        self.assertTrue(all(map(log_line, LOG.splitlines())))
+
+    def test_a_match_that_begins_again_has_its_new_times(self):
+        found: dict[str, Times] = {}
+        times_of([*LOG.splitlines(), *LOG.replace("T06:", "T07:").splitlines()[:3]], found)
+        self.assertEqual((found["m1"].began, found["m1"].of_states(2)), (BEGAN + 3_600_000, []))
+        self.assertEqual(found["m1"].of_states(1), [BEGAN + 3_600_000, BEGAN + 3_601_000])
+
+    def test_a_line_without_a_time_or_with_none_of_a_calendar_says_nothing(self):
+        found: dict[str, Times] = {}
+        times_of([LOG.splitlines()[0].partition(" ")[2], LOG.splitlines()[0].replace("-11-", "-13-"), "\x00"], found)
+        self.assertEqual(found, {})
+
+
+class Files(unittest.TestCase):
+    def setUp(self):
+        self.folder = pathlib.Path(self.enterContext(tempfile.TemporaryDirectory()))
+        (self.folder / "rules").mkdir()
+        (self.folder / "rules/countdown.kif").write_bytes((GAMES / "countdown.kif").read_bytes())
+        self.pile = self.folder / "pile"
+
+    def converted(self, text: str, *words: str) -> subprocess.CompletedProcess:
+        self.pile.write_text(text, encoding="ascii")
+        call = [sys.executable, TOP / "python/ggp-records", "--program", program(), "--rules", self.folder / "rules"]
+        return subprocess.run([*call, "ggp-base", *words, self.folder / "out", self.pile], capture_output=True, text=True)
+
+    def files(self) -> list[str]:
+        return sorted(path.name for path in (self.folder / "out").iterdir())
+
+    def test_a_record_is_read_as_the_match_that_it_is(self):
+        said = self.converted(record(WHOLE))
+        self.assertEqual((said.returncode, self.files()), (0, ["000001-m1.json"]), said.stderr)
+        text = (self.folder / "out/000001-m1.json").read_text(encoding="ascii")
+        match, given = read_match(text), json.loads(record(WHOLE))
+        self.assertEqual(match["states"], [[expressions(term)[0] for term in state] for state in given["states"]])
+        self.assertEqual(match["moves"], [[("take", "1"), "noop"], ["noop", ("take", "2")]])
+        self.assertIn('[["( take 1 )", "noop"], ["noop", "( take 2 )"]]', text)
+        self.assertEqual((match["startTime"], match["stateTimes"], match["previewClock"]), (0, [], -1))
+        same = {"matchId": "m1", "goalValues": [0, 100], "playerNamesFromHost": ["ann", "bob"], "errors": given["errors"]}
+        same |= {"isCompleted": True, "isAborted": False, "startClock": given["startClock"], "playClock": given["playClock"]}
+        self.assertEqual({key: match[key] for key in same}, same)
+        self.assertNotIn("gameMetaURL", text)
+
+    def test_times_and_the_address_of_the_game_are_those_that_are_named(self):
+        (self.folder / "logs").mkdir()
+        (self.folder / "logs/m1.txt").write_text(LOG, encoding="ascii")
+        self.assertEqual(self.converted(record(WHOLE), "--log", str(self.folder / "logs"), "--games", "http://games/base/").returncode, 0)
+        found = json.loads((self.folder / "out/000001-m1.json").read_text(encoding="ascii"))
+        self.assertEqual((found["startTime"], found["stateTimes"]), (BEGAN, [BEGAN, BEGAN + 1_500, BEGAN + 3_000]))
+        self.assertEqual(found["gameMetaURL"], "http://games/base/countdown/")
+
+    def test_nothing_is_written_for_a_record_that_is_not_lawful(self):
+        said = self.converted(record(FAULTY) + "no record\n" + record(WHOLE))
+        self.assertEqual((said.returncode, self.files()), (1, ["000003-m1.json"]))
+        lines = said.stderr.splitlines()
+        self.assertEqual(lines[0], f"ggp-records: not written: {self.pile}, line 1: not lawful: state 1")
+        self.assertIn("line 2: no record: ", lines[1])
+        self.assertEqual(lines[2], "ggp-records: 1 not lawful, 1 no record, 1 lawful")
+
+    def test_a_match_that_was_given_up_has_no_goals(self):
+        aborted = json.loads(record(WHOLE))
+        aborted |= {"states": aborted["states"][:1], "moves": [], "errors": [], "goalValues": [], "phase": "aborted", "cause": "asked"}
+        self.assertEqual(self.converted(json.dumps(aborted) + "\n").returncode, 0)
+        text = (self.folder / "out/000001-m1.json").read_text(encoding="ascii")
+        found = json.loads(text)
+        self.assertEqual((found["isCompleted"], found["isAborted"], found["moves"]), (False, True, []))
+        self.assertFalse({"goalValues", "errors"} & set(found))
+        read_match(text)
+
+    def test_a_log_that_is_not_there_is_told_before_anything_is_written(self):
+        said = self.converted(record(WHOLE), "--log", str(self.folder / "none"))
+        self.assertEqual((said.returncode, (self.folder / "out").exists()), (3, False))
+
+    def test_lists_are_spaced_as_ggp_base_spaces_them(self):
+        self.assertEqual(spaced("(a (b c) d)"), "( a ( b c ) d )")

@@ -1,0 +1,318 @@
+"""A competition that grows: what was planned stays, what is added stands behind it, and what would change is refused by its name."""
+
+import contextlib
+import unittest
+from collections import Counter
+from dataclasses import replace
+from unittest import mock
+
+from ggp_tools.competition.competition_file import Mistaken, read_competition
+from ggp_tools.competition.files import Folder, Refused
+from ggp_tools.competition.growth import Again, History, Misfit, grown, refuse_changes, refuse_unchanged, shape
+from ggp_tools.competition.history import again_text, read_history
+from ggp_tools.competition.results import Result
+from ggp_tools.competition.schedule import asked
+from planning import nothing_known, planned
+from support import GAMES, InFolder, run, toml
+
+ROLES = {"two": 2, "one": 1, "three": 3}
+
+
+def competition(count, rounds=1, games=("two", "one"), form=None, head=""):
+    form = form or f'kind = "round_robin"\nrounds = {rounds}'
+    return read_competition(toml([(f"p{at}", f"h:{at + 1}") for at in range(count)], [(game, "f") for game in games], form, head).encode())
+
+
+def ids(growing):
+    return [match.id for match in growing.matches]
+
+
+def seated(matches):
+    return Counter((match.game, match.players) for match in matches)
+
+
+class Growth(unittest.TestCase):
+    def grown(self, *versions, again=()):
+        """Returns the schedule after one file was replaced by the next, each with all that was planned by then."""
+        history = History((), tuple(again))
+        for before, after in zip(versions, versions[1:]):
+            refuse_changes(before, after)
+            history = History((*history.earlier, (len(grown(history, before, ROLES, nothing_known).matches), before)), history.again)
+        return grown(history, versions[-1], ROLES, nothing_known)
+
+    def test_what_was_planned_stays_and_all_that_is_asked_for_is_there(self):
+        steps = [competition(3), competition(3, 2), competition(5, 2), competition(5, 4, ("two", "one", "three")), competition(6, 4, ("two", "one"))]
+        for last in range(1, 5):
+            found = self.grown(*steps[:last])
+            before = self.grown(*steps[: last - 1]) if last > 1 else None
+            self.assertEqual(ids(found), [f"cup-{number:03}" for number in range(1, len(found.matches) + 1)])
+            self.assertEqual(seated(found.matches), Counter(asked(steps[last - 1], ROLES)))
+            if before:
+                self.assertEqual(found.matches[: len(before.matches)], before.matches)
+        with self.assertRaises(Misfit):
+            self.grown(*steps)
+
+    def test_new_players_in_a_game_of_three_roles(self):
+        before, after = competition(4, 1, ("three",)), competition(6, 1, ("three",))
+        found = self.grown(before, after).matches
+        old = len(planned(before, ROLES))
+        self.assertEqual(found[:old], planned(before, ROLES))
+        self.assertTrue(all({"p4", "p5"} & set(match.players) for match in found[old:]))
+        seats = Counter((seat, player) for match in found for seat, player in enumerate(match.players) if player in ("p4", "p5"))
+        self.assertEqual(len(set(seats.values())), 1)
+        self.assertEqual(seated(self.grown(before, competition(4, 3, ("three",))).matches), Counter(asked(competition(4, 3, ("three",)), ROLES)))
+        with self.assertRaises(Misfit) as why:
+            self.grown(before, competition(5, 2, ("three",)))
+        self.assertEqual(str(why.exception), "three has more than two roles, so rounds and players are added one after the other: plan in between")
+
+    def test_lines_and_a_gauntlet(self):
+        lines = 'kind = "schedule"\nlines = [{}]'
+        one, two = competition(3, form=lines.format('"two p0 p1"')), competition(3, form=lines.format('"one p2", "two p0 p1", "two p0 p1"'))
+        self.assertEqual([(match.game, match.players) for match in self.grown(one, two).matches], [("two", ("p0", "p1")), ("one", ("p2",)), ("two", ("p0", "p1"))])
+        gauntlet = 'kind = "gauntlet"\none = "p0"\nrounds = {}'
+        found = self.grown(competition(3, form=gauntlet.format(1)), competition(4, form=gauntlet.format(2)))
+        self.assertEqual(seated(found.matches), Counter(asked(competition(4, form=gauntlet.format(2)), ROLES)))
+
+    def test_what_would_change_is_named(self):
+        lines = 'kind = "schedule"\nlines = [{}]'
+        pair = lines.format('"two p0 p1", "two p1 p0"')
+        for before, after, words in (
+            (competition(3), competition(3, head="strikes = 1"), "strikes was 0 and is 1"),
+            (competition(3), competition(3, form='kind = "gauntlet"\none = "p0"'), "form.kind was 'round_robin' and is 'gauntlet'"),
+            (competition(3), competition(2), "the player p2 is there no more"),
+            (competition(3), competition(3, games=("two",)), "the game one is there no more"),
+            (competition(3), competition(3, head="play = 7"), "the clocks of two were 10 and 10, and are 10 and 7"),
+            (competition(3, 2), competition(3, 1), "cup-007 (two p0 p1) was planned, and is asked for no more"),
+            (competition(2, form=pair), competition(2, form=lines.format('"two p0 p1", "two p0 p1"')), "cup-002 (two p1 p0) was planned, and is asked for no more"),
+        ):
+            with self.assertRaises(Misfit) as why:
+                self.grown(before, after)
+            self.assertEqual(str(why.exception), words)
+
+    def test_a_match_that_is_ordered_again(self):
+        orders = Again("cup-005", "cup-002", "cut off"), Again("cup-011", "cup-005", "again")
+        found = grown(History(((5, competition(2)),), orders), competition(3), ROLES, nothing_known)
+        self.assertEqual([(match.id, match.players) for match in found.matches[3:6]], [("cup-004", ("p1",)), ("cup-005", ("p1", "p0")), ("cup-006", ("p1", "p2"))])
+        told = [(match.id, match.again, match.reason, match.instead_of) for match in found.matches if match.again or match.instead_of]
+        self.assertEqual(told, [("cup-002", "cup-005", "cut off", ""), ("cup-005", "cup-011", "again", "cup-002"), ("cup-011", "", "", "cup-005")])
+        for again, words in (
+            ([Again("cup-005", "cup-009", "x")], "cup-005 was ordered in the place of cup-009, which is no match that counts"),
+            ([Again("cup-005", "cup-001", "x"), Again("cup-006", "cup-001", "x")], "cup-006 was ordered in the place of cup-001, which is no match that counts"),
+            ([Again("cup-007", "cup-001", "x")], "cup-007, which was ordered again, is not the next match"),
+        ):
+            with self.assertRaises(Misfit) as why:
+                self.grown(competition(2), again=again)
+            self.assertEqual(str(why.exception), words)
+
+    def test_the_number_of_matches_before_is_looked_at(self):
+        with self.assertRaises(Misfit) as why:
+            grown(History(((5, competition(2)),)), competition(3), ROLES, nothing_known)
+        self.assertEqual(str(why.exception), "4 matches were planned when earlier/5.toml was replaced, and not 5")
+
+    def test_a_file_before_that_nothing_has_replaced(self):
+        refuse_unchanged(History(((4, competition(2)),)), competition(3))
+        for counts, name in (((2, 2), 4), ((2, 3), 8)):
+            with self.assertRaises(Misfit) as why:
+                refuse_unchanged(History(tuple((4 * at, competition(count)) for at, count in enumerate(counts, 1))), competition(3))
+            self.assertIn(f"earlier/{name}.toml asks for the same matches as the file after it", str(why.exception))
+
+    def test_the_limit_of_matches(self):
+        orders = [Again("cup-005", "cup-001", "x"), Again("cup-006", "cup-002", "x")]
+        more, same = (competition(3, 1, ("two",)), competition(4, 1, ("two",))), (competition(2),)
+        # Among the first nine that the second of these files asks for is not all that the first one did.
+        many = competition(3, 1, ("two",)), competition(6, 1, ("two",))
+        cases = (12, more, [], False), (11, more, [], True), (6, same, orders, False), (5, same, orders, True), (8, many, [], True)
+        for most, versions, again, is_past in cases:
+            with mock.patch("ggp_tools.competition.schedule.MOST_MATCHES", most), contextlib.ExitStack() as refused:
+                if is_past:
+                    refused.enter_context(self.assertRaises(Mistaken))
+                self.grown(*versions, again=again)
+
+    def test_matches_of_a_form_without_rounds_are_of_none(self):
+        self.assertEqual({match.round for match in planned(competition(3), ROLES)}, {0})
+
+    def test_what_the_schedule_does_not_follow_from_is_free(self):
+        one, other = competition(3), competition(3, head="wait = 3\nforfeit = true\nhosts = [\"one\"]")
+        self.assertEqual(shape(one), shape(other))
+
+    def test_all_that_the_schedule_follows_from_is_of_its_shape(self):
+        lines = 'kind = "schedule"\nlines = [{}]'
+        gauntlet = 'kind = "gauntlet"\none = "{}"'
+        one = competition(3)
+        for before, after in (
+            (one, competition(3, 2)),
+            (one, competition(4)),
+            (one, replace(one, players=one.players[::-1])),
+            (one, replace(one, games=one.games[::-1])),
+            (one, replace(one, name="other")),
+            (one, competition(3, head="start = 7")),
+            (one, competition(3, head="play = 7")),
+            (one, competition(3, form=gauntlet.format("p0"))),
+            (competition(3, form=gauntlet.format("p0")), competition(3, form=gauntlet.format("p1"))),
+            (competition(3, form=lines.format('"two p0 p1", "one p2"')), competition(3, form=lines.format('"one p2", "two p0 p1"'))),
+        ):
+            self.assertNotEqual(shape(before), shape(after))
+            self.assertNotEqual(planned(before, ROLES), planned(after, ROLES))
+
+    def test_ids_keep_the_width_of_the_first_file(self):
+        for files, wanted in (([(1_000, 1)], ["cup-0001", "cup-0002", "cup-0003", "cup-1000"]), ([(2, 1), (1_000, 2)], ["cup-001", "cup-002", "cup-003", "cup-2000"])):
+            found = ids(self.grown(*(competition(count, rounds, ("one",)) for count, rounds in files)))
+            self.assertEqual([*found[:3], found[-1]], wanted)
+
+    def test_what_is_added_has_the_clocks_of_its_game(self):
+        found = self.grown(competition(2, head="start = 7\nplay = 3"), competition(3, head="start = 7\nplay = 3"))
+        self.assertEqual({(match.start, match.play) for match in found.matches}, {(7, 3)})
+
+    def test_matches_that_were_ordered_again_count_for_the_limit(self):
+        versions, orders = (competition(3, 1, ("two",)), competition(4, 1, ("two",))), [Again("cup-007", "cup-001", "x")]
+        with mock.patch("ggp_tools.competition.schedule.MOST_MATCHES", 13):
+            self.assertEqual(len(self.grown(*versions, again=orders).matches), 13)
+        with mock.patch("ggp_tools.competition.schedule.MOST_MATCHES", 12), self.assertRaises(Mistaken):
+            self.grown(*versions, again=orders)
+
+    def test_a_line_with_the_players_of_before_is_added_beside_a_new_player(self):
+        lines = 'kind = "schedule"\nlines = [{}]'
+        before = competition(3, games=("three",), form=lines.format('"three p0 p1 p2"'))
+        after = competition(4, games=("three",), form=lines.format('"three p0 p1 p2", "three p1 p2 p0", "three p3 p0 p1"'))
+        self.assertEqual([match.players for match in self.grown(before, after).matches], [("p0", "p1", "p2"), ("p1", "p2", "p0"), ("p3", "p0", "p1")])
+
+    def test_what_is_refused_names_the_first(self):
+        orders = Again("cup-007", "cup-001", "x"), Again("cup-009", "cup-002", "x")
+        games = ("three", "more")
+        for history, after, words in (
+            (History((), orders), competition(2), "cup-007, which was ordered again, is not the next match"),
+            (History(((8, competition(4, 1, games)),)), competition(5, 2, games), "more has more than two roles, so rounds and players are added"),
+            (History(((9, competition(3)),)), competition(3, head="strikes = 1"), "strikes was 0 and is 1"),
+        ):
+            with self.assertRaises(Misfit) as why:
+                grown(history, after, {**ROLES, "more": 3}, nothing_known)
+            self.assertIn(words, str(why.exception))
+
+
+class ByRounds(unittest.TestCase):
+    def swiss(self, rounds, game="two"):
+        return competition(4, games=(game,), form=f'kind = "swiss"\nrounds = {rounds}')
+
+    def result(self, match):
+        """Returns the result of a match: the first match of each two players is won by the lower number, and so is the other one. One that
+        was ordered again is lost by it."""
+        is_won = (match.players[0] < match.players[1]) != bool(match.instead_of)
+        return Result(match, (100, 0) if is_won else (0, 100), 1, (Counter(), Counter()), (None, None), "finished", None)
+
+    def test_a_game_of_three_roles_is_refused(self):
+        with self.assertRaises(Mistaken):
+            grown(History(), self.swiss(1, "three"), ROLES, nothing_known)
+
+    def test_only_the_match_that_was_ordered_again_pairs_the_next_round(self):
+        # p2 has two points, p0 and p1 have one each; with the match before it p0 would have two, and a stronger opponent than p2.
+        order = Again("cup-005", "cup-001", "x")
+        for history, competition_before in ((History((), (order,)), self.swiss(2)), (History(((4, self.swiss(1)),), (order,)), self.swiss(2))):
+            found = grown(history, competition_before, ROLES, self.result)
+            self.assertEqual([(paired.pairs, paired.byes) for paired in found.rounds.found], [((("p0", "p1"), ("p2", "p3")), ()), ((("p2", "p0"), ("p1", "p3")), ())])
+            self.assertEqual([match.id for match in found.matches if match.round == 2], [f"cup-00{number}" for number in range(6, 10)])
+
+
+class Histories(InFolder):
+    def test_a_file_of_orders_is_read_as_it_is_written(self):
+        folder, orders = Folder(self.folder), (Again("cup-5", "cup-1", "a  reason, \"so\""), Again("cup-6", "cup-5", "x"))
+        text = again_text(orders)
+        folder.again.write_bytes(text)
+        self.assertEqual(read_history(folder), History((), orders))
+        for wrong in (b"", text[:-1], text + b"\n", text + text.splitlines(True)[1], text.replace(b"\tx\n", b"\t\n"), text.replace(b"x", b"\xc3\xa9"), text.partition(b"\n")[2], text.partition(b"\n")[0]):
+            folder.again.write_bytes(wrong)
+            with self.assertRaises(Refused, msg=wrong):
+                read_history(folder)
+
+    def test_a_file_that_is_no_earlier_one(self):
+        folder = Folder(self.folder)
+        folder.earlier.mkdir()
+        (folder.earlier / ".unfinished-7-3.toml").touch()
+        self.assertEqual(read_history(folder), History())
+        for name in ("03.toml", "0.toml", "x", "3"):
+            (folder.earlier / name).touch()
+            with self.assertRaises(Refused):
+                read_history(folder)
+            (folder.earlier / name).unlink()
+        (folder.earlier / "3.toml").touch()
+        with self.assertRaises(Refused) as why:
+            read_history(folder)
+        self.assertIn("earlier/3.toml:1: name: the key is missing", str(why.exception))
+
+    def write(self, count, rounds, head=""):
+        text = toml([(f"p{at}", f"127.0.0.1:{at + 9000}") for at in range(count)], [("countdown", GAMES / "countdown.kif")], f'kind = "round_robin"\nrounds = {rounds}', head)
+        (self.folder / "competition.toml").write_text(text)
+
+    def planned(self):
+        status, out, said = run(self.folder, "plan")
+        self.assertEqual((status, said), (0, ""))
+        return out.splitlines()[-1]
+
+    def test_plan_says_what_it_adds(self):
+        self.write(2, 1)
+        self.assertEqual(self.planned(), "schedule.tsv: 2 matches of 2 players")
+        self.write(3, 1)
+        self.assertEqual(self.planned(), "schedule.tsv: 6 matches of 3 players")
+        (self.folder / "records").mkdir()
+        (self.folder / "records/cup-001.json").touch()
+        first = (self.folder / "schedule.tsv").read_bytes()
+        self.assertEqual(self.planned(), "schedule.tsv: 6 matches of 3 players; nothing is added")
+        self.write(3, 2)
+        self.assertEqual(self.planned(), "schedule.tsv: 12 matches of 3 players; added: 6, cup-007 to cup-012")
+        self.write(4, 2, "wait = 3")
+        self.assertEqual(self.planned(), "schedule.tsv: 24 matches of 4 players; added: 12, cup-013 to cup-024")
+        self.assertEqual(self.planned(), "schedule.tsv: 24 matches of 4 players; nothing is added")
+        self.assertTrue((self.folder / "schedule.tsv").read_bytes().startswith(first))
+        self.assertEqual(sorted(file.name for file in (self.folder / "earlier").iterdir()), ["12.toml", "6.toml"])
+        before = {file: file.read_bytes() for file in self.folder.rglob("*") if file.is_file() and file.name != "competition.toml"}
+        self.write(4, 1)
+        status, out, said = run(self.folder, "plan")
+        self.assertEqual((status, out), (2, ""))
+        self.assertRegex(said, r"competition.toml: cup-0\d\d \(countdown p\d p\d\) was planned, and is asked for no more: put back what was changed")
+        self.write(4, 2)
+        for lost in ("schedule.tsv", "rules/SHA256SUMS", "planned.toml"):
+            (self.folder / lost).unlink()
+            self.assertEqual(self.planned(), "schedule.tsv: 24 matches of 4 players" + ("" if lost == "schedule.tsv" else "; nothing is added"))
+            self.write(4, 2, "wait = 3")
+        self.planned()
+        self.assertEqual({file: file.read_bytes() for file in before}, before)
+        (self.folder / "records/cup-001.json").unlink()
+        # What it grew from says that matches were played, whose records are elsewhere.
+        self.write(2, 1)
+        self.assertEqual(run(self.folder, "plan")[0], 2)
+        for name in ("6.toml", "12.toml"):
+            (self.folder / "earlier" / name).unlink()
+        self.assertEqual(self.planned(), "schedule.tsv: 2 matches of 2 players")
+
+    def test_growth_that_is_broken_off_is_made_up_for(self):
+        self.write(2, 1)
+        self.planned()
+        (self.folder / "records").mkdir()
+        (self.folder / "records/cup-001.json").touch()
+        self.write(3, 1)
+        # As where a plan was killed after its first file.
+        (self.folder / "earlier").mkdir()
+        (self.folder / "earlier/2.toml").write_bytes((self.folder / "planned.toml").read_bytes())
+        self.assertEqual(run(self.folder, "table")[0], 2)
+        self.assertEqual(self.planned(), "schedule.tsv: 6 matches of 3 players; added: 4, cup-003 to cup-006")
+
+    def test_what_can_not_be_ordered_again(self):
+        self.write(2, 1)
+        self.planned()
+        for words, said in (
+            (["cup-009", "--reason", "x"], "schedule.tsv has no match cup-009\n"),
+            (["cup-001", "--reason", "x"], "cup-001 has no record, so `ggp_competition play` plays it\n"),
+            (["cup-001", "--reason", " x"], "--reason: 1 to 200 printable characters of ASCII are wanted, without a space at either end\n"),
+            (["cup-001", "--reason", "\N{BULLET}"], "--reason: 1 to 200 printable"),
+        ):
+            status, out, told = run(self.folder, "again", *words)
+            self.assertEqual((status, out), (2, ""))
+            self.assertIn(said, told)
+        (self.folder / "records").mkdir()
+        (self.folder / "records/cup-001.json").write_text("{}\n")
+        said = "ggp_competition: cup-001 does not count, so `ggp_competition play` plays it again: its account is missing\n"
+        self.assertEqual(run(self.folder, "again", "cup-001", "--reason", "x"), (2, "", said))
+        self.assertFalse((self.folder / "again.tsv").exists())
+
+
+if __name__ == "__main__":
+    unittest.main()

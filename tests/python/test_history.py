@@ -1,0 +1,74 @@
+"""The files that say how a competition grew."""
+
+import pathlib
+import tempfile
+import unittest
+
+from ggp_tools.competition.files import Folder, Refused
+from ggp_tools.competition.growth import Again
+from ggp_tools.competition.history import again_text, earlier_files, history_files, read_again, read_history
+from support import toml
+
+TOML = toml([("ann", "h:1"), ("bob", "h:2")], [("nim", "f")])
+
+
+class Histories(unittest.TestCase):
+    def setUp(self):
+        self.folder = Folder(pathlib.Path(self.enterContext(tempfile.TemporaryDirectory())))
+
+    def add_earlier(self, *names):
+        self.folder.earlier.mkdir(exist_ok=True)
+        for name in names:
+            (self.folder.earlier / name).write_text(TOML.replace('"cup"', f'"cup{name.partition(".")[0]}"'))
+
+    def test_a_competition_that_has_not_grown_has_none(self):
+        found = read_history(self.folder)
+        self.assertEqual((found.earlier, found.again, history_files(self.folder)), ((), (), []))
+
+    def test_files_by_which_it_was_planned_stand_in_the_order_of_their_numbers(self):
+        self.add_earlier("10.toml", "9.toml", "100000.toml", "999999.toml")
+        self.assertEqual([(count, competition.name) for count, competition in read_history(self.folder).earlier],
+                         [(9, "cup9"), (10, "cup10"), (100_000, "cup100000"), (999_999, "cup999999")])
+        self.assertEqual([file.name for file in earlier_files(self.folder)], ["9.toml", "10.toml", "100000.toml", "999999.toml"])
+
+    def test_other_files_are_refused_but_for_unfinished_ones(self):
+        self.add_earlier("6.toml")
+        (self.folder.earlier / ".unfinished-7-6.toml").touch()
+        self.assertEqual([count for count, _ in read_history(self.folder).earlier], [6])
+        for name in ("0.toml", "06.toml", "1000000.toml", "x6.toml", "6.tomlx", "6", "-6.toml", "unfinished-7-6.toml"):
+            (self.folder.earlier / name).write_text(TOML)
+            with self.assertRaises(Refused) as why:
+                read_history(self.folder)
+            self.assertEqual(str(why.exception), f"{self.folder.earlier / name} is none of the files by which the competition was planned before")
+            (self.folder.earlier / name).unlink()
+
+    def test_an_earlier_file_that_says_no_competition_is_named_with_its_line(self):
+        self.add_earlier("6.toml")
+        (self.folder.earlier / "6.toml").write_text("x = 1\n")
+        with self.assertRaises(Refused) as why:
+            read_history(self.folder)
+        self.assertIn(f"{self.folder.earlier / '6.toml'}:1: name: the key is missing", str(why.exception))
+
+    def test_orders_are_read_as_they_are_written(self):
+        orders = Again("cup-5", "cup-1", "a  reason"), Again("c" * 60, "cup-5", "x" * 200), Again("c_.-9", "C" * 60, "~")
+        text = again_text(orders)
+        self.assertEqual(text.splitlines()[:2], [b"match\tinstead of\treason", b"cup-5\tcup-1\ta  reason"])
+        self.folder.again.write_bytes(text)
+        self.assertEqual((read_again(self.folder), read_history(self.folder).again), (orders, orders))
+        self.assertEqual(history_files(self.folder), [self.folder.again])
+        self.add_earlier("6.toml")
+        self.assertEqual(history_files(self.folder), [self.folder.earlier / "6.toml", self.folder.again])
+
+    def test_what_is_no_file_of_orders(self):
+        for orders in (
+            (), (Again("a", "b", "c"), Again("a", "d", "e")), (Again("c" * 61, "b", "x"),), (Again("a", "c" * 61, "x"),), (Again("a", "b", "x" * 201),), (Again("a", "b", ""),),
+            (Again("a b", "c", "x"),), (Again("", "c", "x"),),
+        ):
+            self.folder.again.write_bytes(again_text(orders))
+            with self.assertRaises(Refused) as why:
+                read_again(self.folder)
+            self.assertEqual(str(why.exception), f"{self.folder.again} is not what `ggp_competition again` writes")
+
+
+if __name__ == "__main__":
+    unittest.main()

@@ -1,0 +1,182 @@
+"""The command `ggp-hold-against` in this process: its words, its seconds, its memory, and what it makes of each record."""
+
+import argparse
+import contextlib
+import gc
+import io
+import json
+import os
+import pathlib
+import resource
+import signal
+import tempfile
+import types
+import unittest
+import warnings
+from unittest import mock
+
+from ggp_tools.holding import command
+from ggp_tools.holding.command import DIFFERENT, NOT_FOLLOWED, SAME, Holding, Late, hold, limit_memory, place_of, put, records_in, seconds, within
+from ggp_tools.kif import expressions
+from ground_matches import played
+
+ONE_TURN = "(role ann) (init s) (legal ann go) (<= terminal (true t)) (goal ann 50) (<= (next t) (does ann go))"
+RECORD = json.dumps(played(expressions(ONE_TURN), 1))
+OTHER, WRONG = json.dumps({**json.loads(RECORD), "goalValues": [7]}), "{}"
+
+
+class Words(unittest.TestCase):
+    def test_seconds(self):
+        self.assertEqual([seconds(text) for text in ("0.001", "1", "1000000", "1e6")], [0.001, 1, 1_000_000, 1_000_000])
+        for text in ("0", "-1", "1000000.1", "nan", "inf"):
+            with self.assertRaises(argparse.ArgumentTypeError) as why:
+                seconds(text)
+            self.assertEqual(str(why.exception), f"{text} is not above 0 and up to 1,000,000")
+
+    def arguments(self, *words, stdin=io.StringIO()):
+        with mock.patch("sys.argv", ["x", *words]), mock.patch("sys.stdin", stdin), mock.patch("sys.stderr", io.StringIO()):
+            return command.arguments()
+
+    def test_what_is_given(self):
+        file = str(pathlib.Path(__file__))
+        found = self.arguments("--seconds", "2.5", file, file, file)
+        self.addCleanup(lambda: [file.close() for file in (found.description, *found.records)])
+        self.assertEqual((found.seconds, found.description.name, [record.name for record in found.records]), (2.5, file, [file, file]))
+        plain = self.arguments(file)
+        plain.description.close()
+        self.assertEqual((plain.seconds, plain.records), (60, []))
+        with self.assertRaises(SystemExit) as why:
+            self.arguments(file, stdin=None)
+        self.assertEqual(why.exception.code, 2)
+        with contextlib.closing(self.arguments(file, file, stdin=None).description) as description:
+            self.assertEqual(description.mode, "rb")
+
+
+class Held(unittest.TestCase):
+    def test_what_there_is_to_say_of_a_record(self):
+        holding = Holding(ONE_TURN)
+        self.assertEqual(holding.held(RECORD), (SAME, "the same: 1 turns"))
+        status, words = holding.held(OTHER)
+        self.assertEqual((status, words.startswith("differs: ann has the goal 7 in the record")), (DIFFERENT, True))
+        self.assertEqual(holding.held(WRONG), (NOT_FOLLOWED, "not followed: it is no record: roles is missing, or of another kind"))
+        self.assertEqual(Holding("(p").held(RECORD), (NOT_FOLLOWED, "not followed: line 1: a list that is not closed"))
+        with mock.patch.object(command.Following, "follow", side_effect=command.Differs("one\ntwo")):
+            self.assertEqual(holding.held(RECORD), (DIFFERENT, "differs: one; two"))
+        self.assertEqual((SAME, DIFFERENT, NOT_FOLLOWED), (0, 1, 3))
+
+    def test_a_fault_of_this_program_says_nothing_of_the_game(self):
+        def fail(*_):
+            raise KeyError("x")
+
+        with mock.patch.object(command, "read_record", fail):
+            status, words = Holding(ONE_TURN).held(RECORD)
+        self.assertEqual(status, NOT_FOLLOWED)
+        self.assertRegex(words, r"^not followed: a fault of ggp-hold-against, please report it: KeyError in fail, line \d+: 'x'$")
+        with mock.patch.object(command, "read_record", side_effect=MemoryError):
+            self.assertEqual(Holding(ONE_TURN).held(RECORD), (NOT_FOLLOWED, "not followed: it wants more memory than there is"))
+
+    def test_the_description_is_read_once_unless_a_look_was_broken_off(self):
+        read = []
+        plain = command.Game
+
+        def game(text):
+            read.append(text)
+            return plain(text)
+
+        with mock.patch.object(command, "Game", game):
+            holding = Holding(ONE_TURN)
+            for line, count in ((RECORD, 1), (OTHER, 1), (RECORD, 1), (WRONG, 1), (RECORD, 2), (RECORD, 2)):
+                holding.held(line)
+                self.assertEqual(len(read), count, line)
+            with mock.patch.object(command.Following, "follow", side_effect=Late), self.assertRaises(Late):
+                holding.held(RECORD)
+            self.assertEqual((holding.held(RECORD), len(read)), ((SAME, "the same: 1 turns"), 3))
+
+    def test_where_a_fault_comes_from(self):
+        def inner():
+            raise ValueError
+
+        try:
+            inner()
+        except ValueError as why:
+            self.assertEqual(place_of(why), f"inner, line {inner.__code__.co_firstlineno + 1}")
+
+
+class Seconds(unittest.TestCase):
+    def setUp(self):
+        self.addCleanup(signal.signal, signal.SIGALRM, signal.getsignal(signal.SIGALRM))
+        self.addCleanup(signal.setitimer, signal.ITIMER_REAL, 0)
+
+    def test_each_record_has_its_own(self):
+        times = []
+        with mock.patch.object(signal, "setitimer", lambda kind, limit: times.append((kind, limit))):
+            self.assertEqual(list(hold(ONE_TURN, [RECORD, WRONG], 2.5)), [(SAME, "the same: 1 turns"), (NOT_FOLLOWED, "not followed: it is no record: roles is missing, or of another kind")])
+        self.assertEqual(times, [(signal.ITIMER_REAL, 2.5), (signal.ITIMER_REAL, 0)] * 2)
+
+    def test_where_they_are_over_it_is_told(self):
+        with mock.patch.object(command.Following, "follow", lambda *_: signal.raise_signal(signal.SIGALRM)):
+            self.assertEqual(list(hold(ONE_TURN, [RECORD], 90.0)), [(NOT_FOLLOWED, "not followed: its time was over, after 90 s")])
+        self.assertEqual(list(hold(ONE_TURN, [RECORD], 90.0)), [(SAME, "the same: 1 turns")])
+
+    def test_they_may_be_over_when_all_is_said(self):
+        calls = iter([None, Late])
+
+        def set_timer(*_):
+            if found := next(calls):
+                raise found
+
+        with mock.patch.object(signal, "setitimer", set_timer):
+            self.assertIsNone(within(1, types.SimpleNamespace(held=lambda line: (SAME, line)), "x"))
+
+
+class Streams(unittest.TestCase):
+    def test_memory(self):
+        endless, most = resource.RLIM_INFINITY, 2 << 30
+        for limits, wanted in (((endless, endless), most), ((most + 1, endless), most), ((5, endless), 5), ((endless, 7), 7), ((9, 7), 7), ((5, 7), 5)):
+            with mock.patch.object(resource, "getrlimit", lambda _, limits=limits: limits), mock.patch.object(resource, "setrlimit") as limited:
+                limit_memory()
+            self.assertEqual(limited.call_args.args, (resource.RLIMIT_AS, (wanted, limits[1])), limits)
+
+    def test_lines_are_plain(self):
+        with mock.patch("sys.stdout", io.StringIO()) as out:
+            put("a \u00e9\U0001f600~")
+        self.assertEqual(out.getvalue(), "a \\xe9\\U0001f600~\n")
+
+    def test_a_full_output_is_named_and_gets_no_more(self):
+        with open("/dev/full", "w") as full, mock.patch("sys.stdout", full):
+            with self.assertRaises(OSError) as why:
+                put("x")
+            self.assertEqual((why.exception.errno, why.exception.strerror, why.exception.filename), (28, "No space left on device", "standard output"))
+            self.assertEqual(os.fstat(full.fileno()).st_rdev, os.stat(os.devnull).st_rdev)
+
+    def test_lines_that_are_not_empty(self):
+        files = io.BytesIO(b"a\n\n \n b\n"), io.BytesIO(b""), io.BytesIO(b"c")
+        self.assertEqual(list(records_in(files)), [b"a\n", b" b\n", b"c"])
+
+    def main(self, *lines, text=ONE_TURN):
+        """Returns the status of a run, its lines, and what it says of faults."""
+        with tempfile.TemporaryDirectory() as room:
+            (description := pathlib.Path(room) / "d").write_text(text)
+            (records := pathlib.Path(room) / "r").write_text("".join(f"{line}\n" for line in lines))
+            said, out, words = io.StringIO(), [], ["x", str(description), str(records)]
+            with mock.patch("sys.argv", words), mock.patch("sys.stderr", said), mock.patch.object(command, "limit_memory"), mock.patch.object(command.sys, "setrecursionlimit"), mock.patch.object(command, "put", out.append):
+                # The process that the command is for ends with it, and its files with the process.
+                with warnings.catch_warnings(action="ignore", category=ResourceWarning):
+                    status = command.main()
+                    # Else a later run may say that these files are open.
+                    gc.collect()
+                return status, out, said.getvalue()
+
+    def test_the_worst_of_all_is_the_status(self):
+        for lines, status in (((), 0), ((RECORD,), 0), ((RECORD, WRONG), 3), ((WRONG, RECORD, OTHER), 1), ((OTHER, RECORD), 1)):
+            found, out, said = self.main(*lines)
+            self.assertEqual((found, len(out), said), (status, len(lines), ""), lines)
+
+    def test_a_fault_of_a_file(self):
+        for fault, words in ((OSError(5, "bad", "f"), "f: bad"), (OSError(5, "bad"), "a file: bad")):
+            with mock.patch.object(command, "hold", side_effect=fault):
+                self.assertEqual(self.main(RECORD), (2, [], f"ggp-hold-against: {words}\n"))
+
+
+if __name__ == "__main__":
+    unittest.main()

@@ -1,0 +1,459 @@
+"""Records are held against the published description: what is not by it is found, and said by the sentence that shows it."""
+
+import contextlib
+import json
+import subprocess
+import sys
+import unittest
+from unittest import mock
+
+from ggp_tools.holding.command import MOST_CALLS, Holding, Late
+from ggp_tools.holding.following import Differs, Following, fits, place_of
+from ggp_tools.holding.game import Game
+from ggp_tools.holding.positions import Whole
+from ggp_tools.holding.reading import NotFollowed
+from ggp_tools.holding.records import must_be_record, read_record
+from ggp_tools.holding.relations import LEGAL
+from ggp_tools.kif import expressions
+from ground_matches import differs, played
+from support import GAMES, TOP
+
+COMMAND = TOP / "python/ggp-hold-against"
+# A game of three turns, in which the order of moves is clear.
+STEPS = """(role ann) (role bob) (init (at 1)) (after 1 2) (after 2 3) (after 3 4)
+(<= (legal ann (go ?n)) (true (at ?m)) (after ?m ?n))
+(legal ann stay) (legal bob wait)
+(<= (next (at ?n)) (does ann (go ?n)))
+(<= (next (at ?m)) (true (at ?m)) (does ann stay))
+(<= terminal (true (at 4)))
+(<= (goal ann 100) (true (at 4))) (<= (goal ann 10) (not (true (at 4)))) (goal bob 50)
+"""
+# A game of one turn. What can be reached goes round, and depends on no state.
+ONE_TURN = """(role ann) (init s) (legal ann go) (<= terminal (true t)) (goal ann 50) (<= (next t) (does ann go) (far a c))
+(near a b) (near b c) (<= (far ?x ?y) (near ?x ?y)) (<= (far ?x ?z) (far ?x ?y) (near ?y ?z))
+"""
+ONE_TURN_GROUND = ONE_TURN.splitlines()[0].replace("(far a c)", "")
+
+
+class Words(unittest.TestCase):
+    def setUp(self):
+        sentences = "(role ann) (role bob) (init (at 1))"
+        sentences += "".join(f"(<= (legal ann (go {n + 1})) (true (at {n})))" for n in (1, 2, 3)) + "(legal ann stay) (legal bob wait)"
+        sentences += "".join(f"(<= (next (at {n + 1})) (does ann (go {n + 1}))) (<= (next (at {n})) (true (at {n})) (does ann stay))" for n in (1, 2, 3))
+        sentences += "(<= terminal (true (at 4))) (<= (goal ann 100) (true (at 4))) (<= (goal ann 10) (not (true (at 4)))) (goal bob 50)"
+        self.game, self.record = Game(STEPS), played(expressions(sentences), 3)
+
+    def words(self, **changes):
+        return differs(self.game, {**self.record, **changes})
+
+    def test_the_same(self):
+        self.assertIsNone(self.words())
+        self.assertEqual((self.record["phase"], self.record["goalValues"]), ("finished", [100, 50]))
+
+    def test_roles(self):
+        self.assertEqual(self.words(roles=["bob", "ann"]), "the roles are ann bob by the description, and bob ann in the record")
+
+    def test_states(self):
+        states = self.record["states"]
+        said = "the first state lacks (at 1), which sentence 2, line 1: (init (at 1)) gives"
+        self.assertEqual(self.words(states=[[], *states[1:]]), said)
+        said = "the first state has (x), which no sentence of the description gives there"
+        self.assertEqual(self.words(states=[["(at 1)", "(x)"], *states[1:]]), said)
+        said = "after turn 1 the record lacks"
+        self.assertTrue(self.words(states=[states[0], [], *states[2:]]).startswith(said))
+        self.assertEqual(self.words(states=[["(at 1)", "(at 1)"], *states[1:]]), "the first state has a term twice")
+
+    def test_moves(self):
+        moves = [["(go 3)", "wait"], *self.record["moves"][1:]]
+        said = "turn 1, ann: the record plays (go 3), which is not legal by the description"
+        self.assertEqual(self.words(moves=moves), said)
+        at = next(at for at, turn in enumerate(self.record["errors"]) if self.record["moves"][at][0] != "stay")
+        errors = [[f"IL stay" if place == at else "", turn[1]] for place, turn in enumerate(self.record["errors"])]
+        said = f"turn {at + 1}, ann: the answer stay was taken for illegal, and sentence 7, line 3: (legal ann stay) gives it"
+        self.assertEqual(self.words(errors=errors), said)
+
+    def test_the_first_legal_move(self):
+        turns = [["stay", "wait"]]
+        record = dict(self.record, moves=turns, errors=[["TO", ""]], states=[["(at 1)"], ["(at 1)"]], phase="playing", goalValues=[], cause=None)
+        said = "turn 1, ann: the record plays stay in the place of an answer, and (go 2) stands before it, by sentence 6, line 2: "
+        self.assertTrue(differs(self.game, record).startswith(said))
+        self.assertIsNone(differs(self.game, {**record, "errors": [["", ""]]}))
+
+    def test_the_moves_of_roles_that_a_rule_gives_stand_in_the_order_of_the_record(self):
+        text = "(player a) (player b) (<= (role ?x) (player ?x)) (legal a go) (legal b stay) (init s) (<= (next (did ?r ?m)) (does ?r ?m)) (<= terminal (true t))"
+        for roles, moves in ((["a", "b"], ["go", "stay"]), (["b", "a"], ["stay", "go"])):
+            record = {"roles": roles, "states": [["s"], ["(did a go)", "(did b stay)"]], "moves": [moves], "errors": [["", ""]], "goalValues": [], "phase": "playing", "cause": None}
+            self.assertIsNone(differs(Game(text), record), roles)
+
+    def test_each_record_has_its_own_order_of_roles(self):
+        rules = "(player a) (player b) (<= (role ?x) (player ?x)) (legal a go) (legal b stay) (init s) (<= (next (did ?r ?m)) (does ?r ?m))"
+        holding = Holding(f"{rules} (<= terminal (true (did a go))) (goal a 70) (goal b 30)")
+        one, other, none = (["a", "b"], ["go", "stay"], [70, 30]), (["b", "a"], ["stay", "go"], [30, 70]), (["a", "c"], ["go", "stay"], [70, 30])
+        for roles, moves, goals in (one, other, one, other, none, one, none, other):
+            record = {"roles": roles, "states": [["s"], ["(did a go)", "(did b stay)"]], "moves": [moves], "errors": [["", ""]], "goalValues": goals, "phase": "finished"}
+            words = "differs: the roles are a b by the description, and a c in the record" if "c" in roles else "the same: 1 turns"
+            self.assertEqual(holding.held(json.dumps(record))[1], words)
+
+    def test_of_the_moves_of_one_sentence_the_least_number_is_the_first(self):
+        game = Game("(role r) (n 2) (n 10) (<= (legal r (go ?x)) (n ?x)) (init s) (<= (next s) (true s)) (<= terminal (true t))")
+        record = {"roles": ["r"], "states": [["s"], ["s"]], "moves": [["(go 2)"]], "errors": [["TO"]], "goalValues": [], "phase": "playing", "cause": None}
+        self.assertIsNone(differs(game, record))
+        self.assertIn("(go 2) stands before it", differs(game, {**record, "moves": [["(go 10)"]]}))
+
+    def test_the_end(self):
+        said = "ann has the goal 99 in the record, and by the description sentence 12, line 7: (<= (goal ann 100) (true (at 4))) gives 100"
+        self.assertEqual(self.words(goalValues=[99, 50]), said)
+        short = {key: self.record[key][:-1] for key in ("moves", "errors", "states")}
+        self.assertIn("has no end there", self.words(**short))
+        said = "the record goes on, and the match has ended by the description: sentence 11, line 6: (<= terminal (true (at 4))) gives `terminal`"
+        self.assertEqual(self.words(phase="playing", goalValues=[]), said)
+        said = "the record is given up since bob has no single goal, and by the description no role lacks its goal"
+        self.assertEqual(self.words(phase="aborted", cause="nogoal 1", goalValues=[]), said)
+        said = "after the last turn bob has no legal move in the record, and by the description no role"
+        self.assertEqual(self.words(**short, phase="aborted", cause="nolegal 1", goalValues=[]), said)
+        # What was asked to end may end wherever the match could have gone on.
+        self.assertIsNone(self.words(**short, phase="aborted", cause="asked", goalValues=[]))
+        stuck = Game(STEPS.replace("(legal bob wait)", "(<= (legal bob wait) (true (at 1)))"))
+        first = {"moves": [["(go 2)", "wait"]], "errors": [["", ""]], "states": [["(at 1)"], ["(at 2)"]]}
+        said = "after the last turn no role has no legal move in the record, and by the description bob"
+        self.assertEqual(differs(stuck, {**self.record, **first, "phase": "aborted", "cause": "asked", "goalValues": []}), said)
+
+
+class Followed(unittest.TestCase):
+    """Small games of one role or two, and a record that is laid down for each."""
+
+    RULES = "(role ann) (role bob) (init s) (legal ann go) (legal bob wait)"
+
+    def words(self, text, moves=(), errors=None, states=None, phase="playing", cause=None, goals=(), roles=("ann", "bob"), **more):
+        moves = [list(turn) for turn in moves]
+        record = {
+            "roles": list(roles), "moves": moves, "errors": errors or [[""] * len(roles) for _ in moves], "states": states or [["s"]] * (len(moves) + 1),
+            "goalValues": list(goals), "phase": phase, "cause": cause, **more,
+        }
+        return differs(Game(text), record)
+
+    def test_of_each_kind_five_are_told(self):
+        terms = [f"t{at}" for at in (3, 1, 6, 2, 7, 5, 4)]
+        inits = " ".join(f"(init {term})" for term in terms)
+        self.assertEqual(self.words(f"{self.RULES} {inits}", states=[["s"]]).splitlines(), [
+            f"the first state lacks t{at}, which sentence {5 + terms.index(f't{at}')}, line 1: (init t{at}) gives" for at in (1, 2, 3, 4, 5)
+        ])
+        self.assertEqual(self.words(self.RULES, states=[["s", *terms]]).splitlines(), [
+            f"the first state has t{at}, which no sentence of the description gives there" for at in (1, 2, 3, 4, 5)
+        ])
+        said = self.words(f"{self.RULES} {' (init s)' * 6}", states=[["x"]])
+        self.assertEqual(said.splitlines()[0].count("(init s) gives"), 5)
+
+    def test_roles_that_are_others(self):
+        said = "the roles are ann bob by the description, and ann eve in the record"
+        self.assertEqual(self.words(self.RULES, roles=("ann", "eve")), said)
+        ruled = "(player bob) (player ann) (<= (role ?x) (player ?x)) (init s) (legal ann go) (legal bob wait)"
+        self.assertIsNone(self.words(ruled))
+        self.assertIsNone(self.words(ruled, roles=("bob", "ann")))
+        for roles in (("ann", "eve"), ("bob", "ann", "ann")):
+            self.assertEqual(self.words(ruled, roles=roles), f"the roles are bob ann by the description, and {' '.join(roles)} in the record")
+
+    def test_a_text_that_is_not_canonical_is_told_in_part(self):
+        with self.assertRaises(NotFollowed) as why:
+            self.words(self.RULES, moves=[("X" * 101, "wait")])
+        self.assertEqual(str(why.exception), f"it is no record: {'X' * 100!r} is no canonical text")
+
+    def test_a_turn_behind_the_end(self):
+        text = f"{self.RULES}\n(<= terminal (true s))"
+        said = "turn 1 is played, and the match has ended before it: sentence 5, line 2: (<= terminal (true s)) gives `terminal`"
+        self.assertEqual(self.words(text, moves=[("go", "wait")]), said)
+
+    def test_what_follows_is_cited_by_the_moves(self):
+        text = f"{self.RULES} (<= (next t) (does ann go)) (<= (next t) (does bob go)) (<= (next u) (true s)) (<= (next t) (true s) (does bob wait))"
+        said = "after turn 1 the record lacks t, which sentence 5, line 1: (<= (next t) (does ann go)) gives and sentence 8, line 1: (<= (next t) (true s) (does bob wait)) gives"
+        self.assertEqual(self.words(text, moves=[("go", "wait")], states=[["s"], ["u"]]), said)
+        self.assertIsNone(self.words(text, moves=[("go", "wait")], states=[["s"], ["t", "u"]]))
+
+    def test_answers_that_were_not_taken(self):
+        text = f"{self.RULES} (legal ann stay) (<= (next s) (true s))"
+        said = "turn 1, ann: the answer stay was taken for illegal, and sentence 5, line 1: (legal ann stay) gives it"
+        self.assertEqual(self.words(text, [("go", "wait")], [["IL stay", ""]]), said)
+        for error in ("IL wait", "IL ?", "TO", "CE", "RT"):
+            self.assertIsNone(self.words(text, [("go", "wait")], [[error, ""]]), error)
+            said = "turn 1, ann: the record plays stay in the place of an answer, and go stands before it, by sentence 3, line 1: (legal ann go)"
+            self.assertEqual(self.words(text, [("stay", "wait")], [[error, ""]]), said)
+
+    def test_a_move_of_another_role_has_a_place_of_its_own(self):
+        text = "(role ann) (role bob) (init s) (<= (next s) (true s)) (legal ann wait) (legal bob go) (legal bob wait)"
+        self.assertIsNone(self.words(text, moves=[("wait", "go")], errors=[["TO", "TO"]]))
+
+    def test_a_move_that_several_sentences_give_stands_by_the_first_that_was_seen_to(self):
+        rules = "(role ann) (init s) (<= (legal ann go) (true t)) (legal ann stay) (<= (legal ann go) (true s)) (<= (next t) (true s)) (<= (next s) (true t))"
+        turns = {"moves": [("go",)] * 3, "states": [["s"], ["t"], ["s"], ["t"]], "roles": ("ann",)}
+        # The sentence of the game that is the first for `go` may not give it here: then its place is open.
+        self.assertIsNone(self.words(rules, **turns, errors=[["TO"], [""], ["TO"]]))
+        turns["moves"] = [("stay",), ("go",), ("stay",)]
+        self.assertIsNone(self.words(rules, **turns, errors=[["TO"], [""], [""]]))
+        turns = {"moves": [("go",), ("stay",)], "states": [["s"], ["t"], ["s"]], "roles": ("ann",)}
+        said = "turn 2, ann: the record plays stay in the place of an answer, and go stands before it, by sentence 2, line 1: (<= (legal ann go) (true t))"
+        self.assertEqual(self.words(rules, **turns, errors=[[""], ["TO"]]), said)
+        # What a sentence was seen to give in one state has its place by it in the others.
+        turns = {"moves": [("stay",), ("stay",), ("stay",)], "states": [["s"], ["t"], ["s"], ["t"]], "roles": ("ann",)}
+        following = Following(Game(rules))
+        following.seen["ann", "go"] = 2
+        self.assertIn("turn 1, ann: the record plays stay", self.words_of(following, turns, [["TO"], [""], [""]]))
+        following = Following(Game(rules))
+        self.assertIsNone(self.words_of(following, {**turns, "moves": [("stay",)], "states": [["s"], ["t"]]}, [["TO"]]))
+        self.assertEqual(following.seen, {("ann", "go"): 4, ("ann", "stay"): 3})
+
+    def words_of(self, following, turns, errors):
+        record = {"goalValues": [], "phase": "playing", **turns, "moves": list(map(list, turns["moves"])), "roles": list(turns["roles"]), "errors": errors}
+        try:
+            following.follow(record)
+        except Differs as why:
+            return str(why)
+        return None
+
+    def test_ends_without_goals(self):
+        over = f"{self.RULES} (<= terminal (true s)) (goal ann 5)"
+        given_up = {"phase": "aborted", "states": [["s"]]}
+        self.assertIsNone(self.words(over, **given_up, cause="nogoal 1"))
+        said = "the record is given up since ann has no single goal, and by the description bob does"
+        self.assertEqual(self.words(over, **given_up, cause="nogoal 0"), said)
+        self.assertIsNone(self.words(f"{over} (goal ann 6)", **given_up, cause="nogoal 0"))
+        said = "the record is given up since bob has no single goal, and by the description ann does"
+        self.assertEqual(self.words(f"{over} (goal ann 6)", **given_up, cause="nogoal 1"), said)
+        self.assertIn("the description has no end there", self.words(f"{self.RULES} (goal ann 5)", **given_up, cause="nogoal 1"))
+        for cause in ("asked", "toolong", "allretired", "nolegal 0"):
+            self.assertIn("the record goes on, and the match has ended", self.words(over, **given_up, cause=cause))
+
+    def test_a_match_that_has_not_begun_may_be_given_up_anywhere(self):
+        over = f"{self.RULES} (<= terminal (true s))"
+        self.assertIsNone(self.words(over, phase="aborted", cause="asked", startMarks=["", None]))
+        self.assertIn("the record goes on", self.words(over, phase="aborted", cause="asked", startMarks=["", "TO"]))
+
+    def test_ends_without_legal_moves(self):
+        given_up = {"phase": "aborted", "states": [["s"]]}
+        for text, causes in ((self.RULES, ("asked", "toolong", "allretired")), (self.RULES.replace("(legal bob wait)", ""), ("nolegal 1", "toolong"))):
+            for cause in ("asked", "toolong", "allretired", "nolegal 0", "nolegal 1"):
+                self.assertEqual(self.words(text, **given_up, cause=cause) is None, cause in causes, cause)
+        said = "after the last turn ann has no legal move in the record, and by the description bob"
+        self.assertEqual(self.words(self.RULES.replace("(legal bob wait)", ""), **given_up, cause="nolegal 0"), said)
+
+    def test_goals_at_the_end(self):
+        over = {"phase": "finished", "states": [["s"]]}
+        text = f"{self.RULES} (<= terminal (true s)) (goal ann 5) (goal bob 6)"
+        self.assertIsNone(self.words(text, **over, goals=(5, 6)))
+        self.assertEqual(self.words(text.replace("(goal bob 6)", ""), **over, goals=(5, 6)), "bob has the goal 6 in the record, and by the description none")
+        said = "bob has the goal 6 in the record, and by the description sentence 7, line 1: (goal bob 6) gives 6; sentence 8, line 1: (goal bob 7) gives 7"
+        self.assertEqual(self.words(f"{text} (goal bob 7)", **over, goals=(5, 6)), said)
+
+    def test_what_fits_a_pattern(self):
+        for pattern, term, is_fit in (
+            ("?x", "a", True), ("?x", ("f", "a"), True), ("a", "a", True), ("a", "b", False), (("f", "?x", "?x"), ("f", "a", "a"), True),
+            (("f", "?x", "?x"), ("f", "a", "b"), False), (("f", "a"), ("f", "a", "b"), False), (("f", "?x", "?y"), ("f", "a"), False), ("a", ("a",), False),
+            (("f", "?x"), "f", False), (("f", "a"), ("g", "a"), False), (("f", ("g", "?x"), "?x"), ("f", ("g", "b"), "b"), True), (("?x", "?y"), "ab", False),
+        ):
+            self.assertEqual(fits(pattern, term, {}), is_fit, (pattern, term))
+
+    def test_the_order_of_terms(self):
+        wanted = ["0", "002", "02", "2", "10", "1a", "B", "a", "ab", ("2",), ("a", "9"), ("a", "10"), ("a", "10", "1"), ("a", ("b",))]
+        self.assertEqual(sorted(wanted[::-1], key=place_of), wanted)
+
+
+class Records(unittest.TestCase):
+    """A text that is no record, and a record that lacks something, is neither the same game nor a fault of the program."""
+
+    def setUp(self):
+        self.record, self.holding = played(expressions(ONE_TURN_GROUND), 1), Holding(ONE_TURN)
+
+    def words(self, **changes):
+        return self.holding.held(json.dumps({**self.record, **changes}))[1]
+
+    def test_what_is_no_record(self):
+        self.assertEqual(self.words(), "the same: 1 turns")
+        one, text = {"moves": [["go"]], "errors": [[""]]}, "it is no record: errors has a text that is none"
+        for changes, words in [
+            ({"moves": [[5]]}, "it is no record: moves are lists of texts"),
+            ({"states": ["s"]}, "it is no record: states are lists of texts"),
+            ({"roles": [None]}, "it is no record: roles are texts"),
+            ({"errors": [["no"]]}, text),
+            ({"errors": [["illegal"]]}, text),
+            ({"errors": [["", "no"]]}, text),
+            ({"moves": [["go"], "go"]}, "it is no record: moves are lists of texts"),
+            ({"roles": ["ann", None]}, "it is no record: roles are texts"),
+            ({"errors": []}, "it is no record: moves, errors and states do not fit together"),
+            ({"moves": [], "errors": []}, "it is no record: moves, errors and states do not fit together"),
+            ({"moves": [["go", "go"]]}, "it is no record: a turn has not one move for each role"),
+            ({"phase": "over"}, "it is no record: its phase is none"),
+            ({"cause": "asked"}, "it is no record: its cause does not fit its phase"),
+            *(({**one, "phase": "aborted", "cause": cause}, "it is no record: its cause does not fit its phase") for cause in (None, 5, "nogoal", "nogoal 1", "nolegal x", "nogoal 00")),
+            ({"startMarks": 5}, "it is no record: startMarks are of another kind"),
+            ({"startMarks": [None]}, "it is no record: startMarks do not fit its phase"),
+            ({"phase": "starting", "goalValues": []}, "it is no record: startMarks do not fit its phase"),
+            *(({"goalValues": goals}, "it is no record: goalValues do not fit its phase") for goals in ([], [50, 50], ["50"], [50.0], [True])),
+            ({"phase": "playing"}, "it is no record: goalValues do not fit its phase"),
+            *(({"moves": [[move]]}, "it is no record: a text of it is not one term") for move in ("", "go go", ";")),
+            ({"moves": [["GO"]]}, "it is no record: 'GO' is no canonical text"),
+            ({"moves": [["(go"]]}, "line 1: a list that is not closed"),
+        ]:
+            with self.subTest(changes):
+                self.assertEqual(self.words(**changes), f"not followed: {words}")
+        for line in ("[" * 200_000, '{"roles":' * 90_000, "", "[1"):
+            self.assertEqual(self.holding.held(line)[1], "not followed: it is no record: it is no JSON")
+        self.assertEqual(self.holding.held("5")[1], "not followed: it is no record: one object of JSON is wanted")
+        self.assertEqual(self.words(), "the same: 1 turns")
+
+    def test_marks_causes_and_goals_that_fit_the_phase(self):
+        none = {"moves": [], "errors": [], "states": self.record["states"][:1], "goalValues": []}
+        whole, marks = {**self.record, "goalValues": []}, "it is no record: startMarks do not fit its phase"
+        for changes, words in [
+            ({**none, "phase": "starting", "startMarks": [None]}, None), ({**none, "phase": "aborted", "cause": "asked", "startMarks": [None]}, None),
+            ({**none, "phase": "playing", "startMarks": [None]}, marks), ({**none, "phase": "aborting", "cause": "toolong", "startMarks": [None]}, marks),
+            ({**whole, "phase": "starting", "startMarks": [None]}, marks), ({**whole, "phase": "aborted", "cause": "asked", "startMarks": [None]}, marks),
+            ({**none, "phase": "starting", "startMarks": [""]}, marks), ({**none, "phase": "playing", "startMarks": ["TO"]}, None),
+            *(({**whole, "phase": "aborted", "cause": cause}, None) for cause in ("asked", "toolong", "allretired", "nogoal 0", "nolegal 0")),
+            ({"goalValues": [50, "50"], "roles": ["ann", "bob"], "moves": [["go"] * 2], "errors": [[""] * 2]}, "it is no record: goalValues do not fit its phase"),
+            ({"errors": [["TO"]]}, None), ({"errors": [["IL x"]]}, None),
+        ]:
+            with self.subTest(changes):
+                try:
+                    self.assertEqual((must_be_record({**self.record, **changes}), words), (None, None))
+                except NotFollowed as why:
+                    self.assertEqual(str(why), words)
+
+    def test_lists_in_one_another_have_little_room(self):
+        self.addCleanup(sys.setrecursionlimit, sys.getrecursionlimit())
+        for limit, wanted in ((5_000, 1_000), (900, 900)):
+            sys.setrecursionlimit(limit)
+            with mock.patch("json.loads", lambda _: sys.getrecursionlimit()):
+                self.assertEqual((read_record("1"), sys.getrecursionlimit()), (wanted, limit))
+
+    def test_what_was_broken_off_is_looked_up_anew(self):
+        for fault in (Late, MemoryError):
+            holding = Holding(ONE_TURN)
+            with mock.patch.object(Whole, "close", side_effect=fault), contextlib.suppress(Late):
+                self.assertEqual(holding.held(json.dumps(self.record))[1], "not followed: it wants more memory than there is")
+            self.assertEqual(holding.held(json.dumps(self.record))[1], "the same: 1 turns")
+
+    def test_terms_that_grow(self):
+        for rules in ("(p a) (<= (p (g ?x)) (p ?x))", "(n s) (<= (r ?x) (n ?x)) (<= (p ?x) (not (p (g ?x))) (r ?x))"):
+            holding = Holding(f"{ONE_TURN} {rules} (<= terminal (true s) (p s))")
+            self.assertEqual(holding.held(json.dumps(self.record))[1], "not followed: a term has more than 64 lists in one another")
+
+
+class Described(unittest.TestCase):
+    """Forms of descriptions, and what is none."""
+
+    def test_what_is_no_description(self):
+        for text, words in [
+            ("(role a) (<= (p ?x) (not (q ?x)))", "sentence 1, line 1: (<= (p ?x) (not (q ?x))): nothing binds ?x"),
+            ("(role a)\n(<= (legal a ?m) (does a ?m))", "legal depends on does"),
+            ("(role a)\n" + "(" * 70_000, "line 2: more than 64 lists in one another"),
+            ("(role a)\n(<= p " + "(not " * 70_000 + "q" + ")" * 70_001, "line 2: more than 64 lists in one another"),
+            ("(role a) (p", "line 1: a list that is not closed"),
+            ("(role a) ()", "sentence 1, line 1: (): () is no term"),
+            ("(role a) (init ((s)))", "sentence 1, line 1: (init ((s))): ((s)) is no term"),
+            ("(role a) (<=)", "sentence 1, line 1: (<=): a rule without a head"),
+            ("(role a) (goal a)", "sentence 1, line 1: (goal a): (goal a) is no sentence of GDL"),
+            ("(role a)\n)", "line 2: a `)` with no open list"),
+            ("(true x)", "sentence 0: true is a head"),
+        ]:
+            with self.subTest(text), self.assertRaises(NotFollowed) as why:
+                Game(text)
+            self.assertEqual(str(why.exception), words)
+
+    def test_what_is_asked_between_turns_depends_on_no_moves(self):
+        heads = {"legal": "(legal a m)", "goal": "(goal a 1)", "terminal": "terminal", "init": "(init a)", "role": "(role a)", "next": "(next a)"}
+        wrong = {("legal", "does"), ("goal", "does"), ("terminal", "does"), ("init", "does"), ("init", "true"), ("role", "does"), ("role", "true")}
+        for name, head in heads.items():
+            for other, body in (("true", "(true a)"), ("does", "(does a m)")):
+                for text in (f"(<= {head} {body})", f"(<= {head} y) (<= x {body}) (<= y z (not x) z) (<= z y)"):
+                    if (name, other) not in wrong:
+                        Game(f"(role a) {text}".replace("(not x)", "x"))
+                        continue
+                    with self.assertRaises(NotFollowed) as why:
+                        Game(f"(role a) {text}")
+                    self.assertEqual(str(why.exception), f"{name} depends on {other}")
+
+    def test_sentences_that_give_something_are_looked_up_in_each_state_anew(self):
+        game = Game("(role a) (init s) (<= (legal a m) (true s)) (<= (legal a m) (true t)) (legal a n)")
+        for state, numbers in (("s", [2]), ("t", [3]), ("st", [2, 3]), ("", [])):
+            self.assertEqual(game.sources(LEGAL, ("a", "m"), frozenset(state)), numbers)
+        self.assertEqual(game.set_apart(LEGAL, 4, game.by_sentence(LEGAL)[4]), ("legal by sentence 4", 2))
+
+    def test_goals_are_numbers_up_to_100(self):
+        numbers = ["0", "7", "99", "100", "101", "007", "x", "(f 1)", "-1", "1000"]
+        game = Game("(role a) (role b) (goal b 3) " + " ".join(f"(goal a {number})" for number in numbers))
+        position = game.position(game.initial)
+        self.assertEqual((game.goals(position, "a"), game.goals(position, "b"), game.goals(position, "c")), ([0, 7, 99, 100], [3], []))
+
+    def test_forms(self):
+        text = "(role a) (n 1) (n 2) (n 3) (less 1 2) (less 2 3) (init (c 1)) (init (c 2)) (init s)"
+        text += "(<= (under ?a ?b) (less ?a ?b)) (<= (under ?a ?c) (or (under ?a ?b) (and (under ?a ?b) s)) (under ?b ?c))"
+        text += "(<= (legal a (m ?a (pair ?b ?b))) (under ?a ?b) (or (true (c ?a)) (and (not (true (c ?b))) (distinct ?b 2))) (not (not (n ?a))))"
+        text += "(<= (next ?t) (true ?t) (does a (m ?x ?any)) (distinct ?t (c ?x))) (<= (terminal) (not (true s))) (<= (goal a 5) (role a))"
+        game = Game(text)
+        position = game.position(game.initial, [("m", "1", ("pair", "2", "2"))])
+        self.assertEqual(set(game.moves(position, "a")), {("m", "1", ("pair", "2", "2")), ("m", "1", ("pair", "3", "3")), ("m", "2", ("pair", "3", "3"))})
+        self.assertEqual(set(game.following(position)), {("c", "2"), "s"})
+        self.assertFalse(game.is_over(position))
+        self.assertTrue(game.is_over(game.position(frozenset())))
+        self.assertEqual(game.goals(position, "a"), [5])
+
+    def test_many_ways(self):
+        # Each `or` names other variables than all others. Those that bind the same in each way are relations of their own.
+        facts = "(role a) (init s) (p 1) (q 2)"
+        ors = " ".join(f"(or (p ?v{at}) (q ?v{at}))" for at in range(30))
+        game = Game(f"{facts} (<= (legal a (m ?v0 ?v1)) {ors})")
+        self.assertEqual(set(game.moves(game.position(game.initial), "a")), {("m", first, second) for first in "12" for second in "12"})
+        ors = " ".join(f"(or (p ?v{at}) (q ?z))" for at in range(12))
+        game = Game(f"{facts} (<= (legal a ?z) (q ?z) {ors})")
+        self.assertEqual(game.moves(game.position(game.initial), "a"), ["2"])
+        with self.assertRaises(NotFollowed) as why:
+            Game(f"{facts} (<= (legal a ?z) (q ?z) {ors} {ors.replace('?v', '?w')})")
+        self.assertIn("its `or`s can hold in more than 10,000 ways", str(why.exception))
+
+    def test_a_relation_that_denies_itself(self):
+        text = "(role a) (next 1 2) (after 1 2) (after 2 3) (after 3 4) (init s) (<= (won ?m) (after ?m ?n) (not (won ?n))) (<= (legal a ?m) (won ?m) (true s))"
+        game = Game(text.replace("(next 1 2) ", ""))
+        self.assertEqual(set(game.moves(game.position(game.initial), "a")), {"3", "1"})
+        game = Game("(role a) (init s) (<= (p ?x) (q ?x) (not (p ?x))) (q 1) (<= terminal (p 1) (true s))")
+        with self.assertRaises(NotFollowed):
+            game.is_over(game.position(game.initial))
+
+    def test_a_long_body_and_a_long_chain(self):
+        self.addCleanup(sys.setrecursionlimit, sys.getrecursionlimit())
+        sys.setrecursionlimit(MOST_CALLS)
+        names = [f"?v{at}" for at in range(40)]
+        links = " ".join(f"(after {before} {after})" for before, after in zip(names, names[1:]))
+        facts = " ".join(f"(after {at} {at + 1})" for at in range(45))
+        game = Game(f"(role a) {facts} (init (c 0)) (<= (legal a (go ?v39)) (true (c ?v0)) {links})")
+        self.assertEqual(game.moves(game.position(game.initial), "a"), [("go", "39")])
+        chain = " ".join(f"(<= p{at} p{at + 1})" for at in range(900))
+        game = Game(f"(role a) (init s) {chain} (<= p900 (true s)) (<= terminal p0)")
+        self.assertTrue(game.is_over(game.position(game.initial)))
+
+
+class Command(unittest.TestCase):
+    def run_it(self, *words, data=b""):
+        done = subprocess.run([sys.executable, COMMAND, *map(str, words)], input=data, capture_output=True)
+        return done.returncode, done.stdout.decode().splitlines(), done.stderr.decode()
+
+    def test_statuses(self):
+        nim = GAMES / "general/nim.kif"
+        record = json.dumps({"roles": ["first", "second"], "states": [sorted(["(control first)", *(f"(heap {name} {count})" for name, count in zip("abcd", (1, 3, 5, 7)))])], "moves": [], "errors": [], "goalValues": [], "phase": "playing", "cause": None}).encode()
+        self.assertEqual(self.run_it(nim, data=record), (0, ["the same: 0 turns"], ""))
+        wrong = record.replace(b"(heap a 1)", b"(heap a 2)")
+        status, said, _ = self.run_it(nim, data=wrong + b"\n" + record)
+        self.assertEqual((status, said[-1], said[0][:40]), (1, "the same: 0 turns", "differs: the first state lacks (heap a 1"))
+        self.assertEqual(self.run_it(nim, data=b"{}")[:2], (3, ["not followed: it is no record: roles is missing, or of another kind"]))
+        self.assertEqual(self.run_it("--seconds", "0.000001", nim, data=record)[0], 3)
+        self.assertEqual(self.run_it(nim.with_name("none.kif"), data=record)[0], 2)
+        self.assertEqual(self.run_it("--seconds", "0", nim, data=record)[0], 2)
+        self.assertEqual(self.run_it(TOP / "README.md", data=record)[0], 3)
+
+    def test_streams_that_fail(self):
+        words = f"{sys.executable} {COMMAND} {GAMES / 'general/nim.kif'}"
+        for shell, said in ((f"echo 5 | {words} > /dev/full", "standard output: No space left on device"), (f"{words} <&-", "error: standard input is closed")):
+            done = subprocess.run(["sh", "-c", shell], capture_output=True, text=True)
+            self.assertEqual((done.returncode, done.stderr.splitlines()[-1]), (2, f"ggp-hold-against: {said}"))
+
+
+if __name__ == "__main__":
+    unittest.main()

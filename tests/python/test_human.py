@@ -1,0 +1,233 @@
+"""A player whose moves a person makes: what it answers the referee, and what the page is told."""
+
+import http.client
+import json
+import threading
+import unittest
+
+from ggp_tools.holding.game import Game
+from ggp_tools.human.game import Shown, places_of
+from ggp_tools.human.seat import Seat, Unread, read_message
+from ggp_tools.human.server import Server
+from ggp_tools.records.show import boards_of
+from support import GAMES
+
+RULES = (GAMES / "tictactoe.kif").read_text(encoding="ascii")
+# Rules with variables: who says the other number wins.
+OPEN = """
+(role a) (role b) (number 1) (number 2) (init new) (<= (legal ?r (say ?n)) (role ?r) (number ?n) (true new))
+(<= (next (said ?r ?n)) (does ?r (say ?n))) (<= terminal (true (said a ?n))) (<= (goal a 100) (true (said a 1))) (<= (goal a 0) (true (said a 2)))
+(<= (goal b 50) (role b))
+"""
+# A thread that waits for a person in a test may take so long on a busy computer.
+SECONDS = 60
+
+
+class Messages(unittest.TestCase):
+    def test_an_id_is_kept_as_it_is_written(self):
+        self.assertEqual(read_message("(START Ab.c Red ((role red)) 5 7)"), ("start", "Ab.c", ("red", (("role", "red"),), "5", "7")))
+        self.assertEqual(read_message("info"), ("info", "", ()))
+
+    def test_what_is_no_message_is_refused(self):
+        for text in ("", "(", "x", "(PLAY)", "(PLAY a) (PLAY b)"):
+            self.assertRaises(Unread, read_message, text)
+
+
+class Boards(unittest.TestCase):
+    def test_a_move_names_places_of_a_board(self):
+        (board,) = boards_of([["(cell a 1 w)", "(cell b 2 b)", "(cell c 3 w)"]])
+        self.assertEqual(places_of("(move w a 1 c 3)", board), [(1, 1), (3, 3)])
+        self.assertEqual(places_of("noop", board), [])
+
+    def test_terms_that_no_board_shows_stand_beside_it(self):
+        picture = Shown(Game(RULES)).picture(["(mark 1 3)"])
+        self.assertEqual(picture["terms"], ["(control xplayer)"])
+        self.assertEqual(picture["legal"], [{"text": "(mark 1 3)", "places": [[(1, 3)]]}])
+
+
+class Seats(unittest.TestCase):
+    def setUp(self):
+        self.seat, self.answers = Seat(waits_for_page=False), []
+
+    def ask(self, text):
+        """Has the seat answer a message beside the test, as the referee's thread does."""
+        thread = threading.Thread(target=lambda: self.answers.append(self.seat.answer(text)))
+        thread.start()
+        return thread
+
+    def await_phase(self, phase):
+        with self.seat.changed:
+            self.assertTrue(self.seat.changed.wait_for(lambda: self.seat.view["phase"] == phase, SECONDS), phase)
+
+    def begin(self, role="xplayer", rules=RULES):
+        self.assertEqual(self.seat.answer(f"(START M {role} ({rules}) 60 60)"), "ready")
+
+    def test_the_person_moves(self):
+        self.begin()
+        asked = self.ask("(PLAY M NIL)")
+        self.await_phase("moving")
+        self.assertEqual(self.seat.move("(mark 4 4)", self.seat.asked), "that move is not legal")
+        self.assertIsNone(self.seat.move("(mark 2 2)", self.seat.asked))
+        asked.join(SECONDS)
+        self.assertEqual(self.answers, ["(mark 2 2)"])
+        self.assertEqual(self.seat.move("(mark 2 2)", self.seat.asked), "no move is awaited")
+
+    def test_a_single_legal_move_is_made_without_asking(self):
+        self.begin("oplayer")
+        self.assertEqual(self.seat.answer("(PLAY M NIL)"), "noop")
+
+    def test_what_was_replaced_is_said(self):
+        self.begin()
+        asked = self.ask("(PLAY M NIL)")
+        self.await_phase("moving")
+        self.seat.move("(mark 2 2)", self.seat.asked)
+        asked.join(SECONDS)
+        self.seat.answer("(PLAY M ((mark 1 1) noop))")
+        self.assertIn("Your move was replaced by (mark 1 1).", self.seat.view["note"])
+
+    def test_time_that_is_over_is_no_answer(self):
+        self.begin()
+        self.seat.play_clock = 0
+        self.assertIsNone(self.seat.answer("(PLAY M NIL)"))
+        self.assertEqual(self.seat.view["phase"], "late")
+
+    def test_a_move_that_comes_late_is_not_taken(self):
+        self.begin()
+        self.seat.play_clock = 0
+        self.seat.answer("(PLAY M NIL)")
+        self.assertEqual(self.seat.move("(mark 2 2)", self.seat.asked), "no move is awaited")
+        self.assertEqual(self.seat.view["phase"], "late")
+
+    def test_a_click_on_the_turn_before_makes_no_move(self):
+        self.begin()
+        asked = self.ask("(PLAY M NIL)")
+        self.await_phase("moving")
+        self.assertEqual(self.seat.move("(mark 2 2)", self.seat.asked - 1), "that move was chosen for an earlier turn")
+        self.assertIsNone(self.seat.move("(mark 2 2)", self.seat.asked))
+        asked.join(SECONDS)
+
+    def test_what_ends_a_match_ends_the_wait_for_a_move(self):
+        self.begin()
+        asked = self.ask("(PLAY M NIL)")
+        self.await_phase("moving")
+        self.assertEqual(self.seat.answer("(ABORT M)"), "aborted")
+        asked.join(SECONDS)
+        self.assertEqual((self.answers, self.seat.view["phase"]), ([None], "aborted"))
+
+    def test_another_match_begins_only_once_the_referee_is_lost(self):
+        self.begin()
+        asked = self.ask("(PLAY M NIL)")
+        self.await_phase("moving")
+        other = f"(START N oplayer ({RULES}) 60 60)"
+        self.assertEqual(self.seat.answer(other), "busy")
+        self.assertIsNone(self.seat.move("(mark 2 2)", self.seat.asked))
+        asked.join(SECONDS)
+        self.assertEqual(self.answers, ["(mark 2 2)"])
+        self.seat.expected = 0.0
+        self.assertEqual(self.seat.answer(other), "ready")
+
+    def test_messages_of_another_receiver_are_not_this_roles(self):
+        self.assertEqual(self.seat.answer(f"(START M xplayer ({RULES}) 60 60)", "ann"), "ready")
+        self.assertEqual(self.seat.answer(f"(START M oplayer ({RULES}) 60 60)", "bob"), "busy")
+        for message in ("(PLAY M NIL)", "(STOP M NIL)", "(ABORT M)"):
+            self.assertEqual(self.seat.answer(message, "bob"), "busy", message)
+        self.assertEqual((self.seat.view["role"], self.seat.view["phase"]), ("xplayer", "ready"))
+
+    def test_a_message_that_does_not_fit_the_match_changes_nothing(self):
+        self.assertEqual(self.seat.answer(f"(START M nobody ({RULES}) 60 60)"), "busy")
+        self.assertIn("no role nobody", self.seat.view["note"])
+        for clock in ("x", "-1", "1:75:00", "9" * 400, "(1)"):
+            self.assertRaises(Unread, self.seat.answer, f"(START M xplayer ({RULES}) 60 {clock})")
+        self.begin()
+        for moves in ("foo", "(a)", "((mark 1 1))", "(a b c)"):
+            self.assertRaises(Unread, self.seat.answer, f"(PLAY M {moves})")
+        self.assertEqual((len(self.seat.shown.states), self.seat.view["phase"]), (1, "ready"))
+
+    def test_rules_that_are_none_are_refused(self):
+        for rules in ("foo", "()", "(())", "((<= ()))", "(" * 3000 + ")" * 3000, "((role ?x))"):
+            self.assertEqual(self.seat.answer(f"(START M a {rules} 60 60)"), "busy", rules[:20])
+        self.assertEqual(self.seat.answer("(INFO)"), "available")
+
+    def test_a_seat_is_busy_in_a_match_and_free_behind_it(self):
+        self.begin()
+        self.assertEqual(self.seat.answer("(INFO)"), "busy")
+        for message in ("(PLAY N NIL)", "(STOP m NIL)", "(ABORT m)"):
+            self.assertEqual(self.seat.answer(message), "busy", message)
+        self.assertEqual(self.seat.answer("(ABORT M)"), "aborted")
+        self.assertEqual(self.seat.answer("(INFO)"), "available")
+
+    def test_rules_may_have_variables(self):
+        self.begin("a", OPEN)
+        self.seat.legal = []
+        asked = self.ask("(PLAY M NIL)")
+        self.await_phase("moving")
+        self.assertEqual(self.seat.legal, ["(say 1)", "(say 2)"])
+        self.seat.move("(say 1)", self.seat.asked)
+        asked.join(SECONDS)
+        self.assertEqual(self.seat.answer("(STOP M ((say 1) (say 2)))"), "done")
+        self.assertIn("a 100, b 50", self.seat.view["note"])
+
+
+class Pages(unittest.TestCase):
+    def setUp(self):
+        self.seat = Seat()
+        self.server = Server(("127.0.0.1", 0), self.seat)
+        threading.Thread(target=self.server.serve_forever, daemon=True).start()
+        self.addCleanup(self.server.server_close)
+        self.addCleanup(self.server.shutdown)
+
+    def request(self, method, path, body=None, headers=None):
+        line = http.client.HTTPConnection(*self.server.server_address[:2], timeout=SECONDS)
+        self.addCleanup(line.close)
+        line.request(method, path, body, headers or {})
+        return line.getresponse()
+
+    def test_only_the_page_is_served_and_it_loads_nothing(self):
+        page = self.request("GET", "/")
+        self.assertEqual(page.status, 200)
+        self.assertIn("default-src 'none'", page.getheader("Content-Security-Policy"))
+        for path in ("/x", "/../etc/passwd", "/index.html"):
+            self.assertEqual(self.request("GET", path).status, 404)
+
+    def test_start_waits_for_a_page_and_the_page_is_told_of_each_change(self):
+        answered = []
+        body = f"(START M xplayer ({RULES}) 60 60)"
+        asked = threading.Thread(target=lambda: answered.append(self.request("POST", "/", body).read()))
+        asked.start()
+        events = self.request("GET", "/events")
+        asked.join(SECONDS)
+        self.assertEqual(answered, [b"ready"])
+        told = []
+        while not told or told[-1].get("match") != "M":
+            line = events.fp.readline()
+            if line.startswith(b"data: "):
+                told.append(json.loads(line.removeprefix(b"data: ")))
+        self.assertEqual(told[-1]["role"], "xplayer")
+        events.close()
+
+    def test_another_sites_page_can_not_move(self):
+        self.assertEqual(self.request("POST", "/move", '{"move": "noop"}').status, 403)
+        self.assertEqual(self.request("POST", "/move", '{"move": "noop"}', {"X-Player": "human"}).status, 409)
+        self.assertEqual(self.request("POST", "/move", "[", {"X-Player": "human"}).status, 409)
+        self.assertEqual(self.request("POST", "/", "(", {}).status, 400)
+
+    def test_another_sites_page_can_not_speak_for_the_referee_or_be_the_persons(self):
+        here = f"127.0.0.1:{self.server.server_address[1]}"
+        for other in ({"Origin": "http://example.org"}, {"Origin": "null"}, {"Sec-Fetch-Site": "cross-site"}):
+            self.assertEqual(self.request("POST", "/", "(INFO)", other).status, 403)
+            self.assertEqual(self.request("GET", "/events", headers=other).status, 403)
+        # A name that another site has given to this address.
+        named = {"Origin": "http://example.org:1", "Host": "example.org:1", "X-Player": "human"}
+        self.assertEqual(self.request("POST", "/move", "{}", named).status, 403)
+        own = {"Origin": f"http://{here}", "Sec-Fetch-Site": "same-origin", "X-Player": "human"}
+        self.assertEqual(self.request("POST", "/move", "{}", own).status, 409)
+
+    def test_a_message_may_have_16_mib(self):
+        self.assertEqual(self.request("POST", "/", "(INFO)".ljust(16_777_216)).read(), b"available")
+        self.assertEqual(self.request("POST", "/", headers={"Content-Length": "16777217"}).status, 400)
+
+    def test_bytes_beyond_ascii_come_back_as_they_came(self):
+        self.seat.waits_for_page = False
+        self.assertEqual(self.request("POST", "/", b"(START \xff a ((role b)) x y)").status, 400)
+        self.assertEqual(self.request("POST", "/", b"(START M a ((role a) (legal a \xff)) 60 60)").read(), b"ready")
+        self.assertEqual(self.request("POST", "/", b"(PLAY M NIL)").read(), b"\xff")

@@ -1,0 +1,102 @@
+"""A person plays in a browser: by a click on the board, and by the keyboard; and what a stranger's rules can't do to the page."""
+
+import threading
+import unittest
+
+from ggp_tools.human.seat import Seat
+from ggp_tools.human.server import Server
+from browser import HANGS, Browser, Page
+from support import GAMES
+
+RULES = (GAMES / "tictactoe.kif").read_text(encoding="ascii")
+EVIL = "<img/src=x/onerror=document.title=1>"
+HOSTILE = f"(role {EVIL}) (init (cell 1 1 {EVIL})) (init (cell 2 2 b)) (init </script><b>) (legal {EVIL} {EVIL}) (legal {EVIL} <script>document.title=1</script>)"
+CELLS = "[...document.querySelectorAll('.board button')]"
+
+
+class InBrowser(unittest.TestCase):
+    def setUp(self) -> None:
+        self.seat, self.answers = Seat(), []
+        server = Server(("127.0.0.1", 0), self.seat)
+        threading.Thread(target=server.serve_forever, daemon=True).start()
+        self.addCleanup(server.server_close)
+        self.addCleanup(server.shutdown)
+        self.browser = self.enterContext(Browser())
+        self.page = self.browser.page(f"http://127.0.0.1:{server.server_address[1]}/")
+
+    def ask(self, text: str) -> threading.Thread:
+        """Has the seat answer a message beside the test, as the referee's thread does."""
+        thread = threading.Thread(target=lambda: self.answers.append(self.seat.answer(text)), daemon=True)
+        thread.start()
+        return thread
+
+    def answered(self, asked: threading.Thread) -> str | None:
+        asked.join(HANGS)
+        return self.answers.pop()
+
+    def begin(self, role: str, rules: str) -> Page:
+        self.assertEqual(self.answered(self.ask(f"(START M {role} ({rules}) {HANGS} {HANGS})")), "ready")
+        return self.page
+
+    def cells(self) -> dict[str, str]:
+        """Returns what the board shows of each of its places."""
+        return dict(self.page.value(f"{CELLS}.map((cell) => [cell.title, cell.innerText.trim()])"))
+
+    def test_a_person_plays_by_mouse_and_by_keyboard(self) -> None:
+        page = self.begin("xplayer", RULES)
+        asked = self.ask("(PLAY M NIL)")
+        page.until("document.querySelectorAll('.board button.can').length === 9")
+        for words in ("Match M, turn 1: you are xplayer", "(control xplayer)", "(mark 3 3)"):
+            self.assertIn(words, page.text())
+        page.until("/^[0-9]+ s$/.test(document.getElementById('clock').textContent)")
+        self.assertEqual(set(self.cells().values()), {"\u00b7"})
+        self.assertEqual(page.unreadable(), [])
+        page.click(f"{CELLS}.find((cell) => cell.title.startsWith('2 2'))")
+        self.assertEqual(self.answered(asked), "(mark 2 2)")
+        # A single legal move is made without asking.
+        self.assertEqual(self.answered(self.ask("(PLAY M ((mark 2 2) noop))")), "noop")
+        asked = self.ask("(PLAY M (noop (mark 1 3)))")
+        page.until("document.querySelectorAll('.board button.can').length === 7")
+        shown = self.cells()
+        self.assertEqual((shown["2 2: x"], shown["1 3: o"]), ("\u2715", "\u25ef"))
+        self.go_to(page, "(mark 3 1)")
+        page.press("Enter")
+        self.assertEqual(self.answered(asked), "(mark 3 1)")
+        # The filter leaves the moves that are typed.
+        self.assertEqual(self.answered(self.ask("(PLAY M ((mark 3 1) noop))")), "noop")
+        asked = self.ask("(PLAY M (noop (mark 1 2)))")
+        page.until("document.querySelectorAll('.board button.can').length === 5")
+        page.value("document.getElementById('filter').focus()")
+        page.tell("Input.insertText", text="1 1")
+        page.until("document.querySelectorAll('#moves button').length === 1")
+        page.click("document.querySelector('#moves button')")
+        self.assertEqual(self.answered(asked), "(mark 1 1)")
+        self.assertEqual(self.answered(self.ask("(STOP M ((mark 1 1) noop))")), "done")
+        # The end stays to be read where the player ends at once, as that of a single match does.
+        page.until("document.getElementById('note').textContent.includes('The match is over')")
+        page.value("events.onerror()")
+        self.assertRegex(page.text(), r"The match is over: xplayer .*, oplayer .*\. The player does not answer")
+
+    def go_to(self, page: Page, move: str) -> None:
+        """Goes by the keyboard, place by place and move by move, to a move of the list; each is seen to be reached."""
+        reached = ""
+        while reached != move:
+            page.press("Tab")
+            reached, is_seen = page.value("[document.activeElement.innerText, getComputedStyle(document.activeElement).outlineStyle !== 'none']")
+            self.assertTrue(is_seen, reached)
+
+    def test_what_a_referee_says_is_text(self) -> None:
+        page = self.begin(EVIL, HOSTILE)
+        asked = self.ask("(PLAY M NIL)")
+        page.until("document.querySelectorAll('#moves button').length === 2")
+        for words in (f"you are {EVIL}", "</script><b>", "<script>document.title=1</script>"):
+            self.assertIn(words, page.text())
+        self.assertEqual(page.value("[document.title, document.scripts.length, document.querySelectorAll('img, h1 *, #terms *').length]"), ["A match", 1, 0])
+        self.assertEqual(page.unreadable(), [])
+        page.click("document.querySelectorAll('#moves button')[0]")
+        self.assertEqual(self.answered(asked), EVIL)
+        self.assertEqual((self.browser.said, {address.split("/")[2] for address in self.browser.asked}), ([], {page.value("location.host")}))
+
+
+if __name__ == "__main__":
+    unittest.main()

@@ -1,0 +1,114 @@
+"""What is instantiated for a competition: within which seconds, what is kept of it, and ground rules with their description beside them."""
+
+import os
+import pathlib
+import shutil
+import subprocess
+import tempfile
+import unittest
+from unittest import mock
+
+from ggp_tools.descriptions import kept
+from ggp_tools.descriptions.loading import has_variables, sum_of
+from support import GAMES, TOP, InFolder, run, toml
+
+NIM = GAMES / "general/nim.kif"
+PLAYERS = [("ann", "127.0.0.1:9"), ("bob", "127.0.0.1:10")]
+# It has 810,000 instances that no splitting makes fewer, and takes some seconds.
+LONG = "(role a) (init s) " + " ".join(f"(n {at})" for at in range(30)) + "(<= (legal a (m ?a ?b ?c ?d)) (n ?a) (n ?b) (n ?c) (n ?d) (true s))"
+LONG += "(<= terminal (true t)) (goal a 1)"
+
+
+class Kept(unittest.TestCase):
+    def setUp(self):
+        room = tempfile.TemporaryDirectory()
+        self.addCleanup(room.cleanup)
+        self.folder = pathlib.Path(room.name)
+        self.enterContext(mock.patch.dict(os.environ, {"XDG_CACHE_HOME": room.name}))
+
+    def test_what_is_kept(self):
+        key, other = kept.sum_of_work(b"(role a)", []), kept.sum_of_work(b"(role a)", ["--player-rules"])
+        self.assertNotEqual(key, other)
+        self.assertNotEqual(key, kept.sum_of_work(b"(role b)", []))
+        self.assertIsNone(kept.kept(key))
+        kept.keep(key, b"rules\n", b"told")
+        self.assertEqual(kept.kept(key), (b"rules\n", b"told"))
+        self.assertIsNone(kept.kept(other))
+
+    def test_a_file_that_is_cut_off_is_none(self):
+        kept.keep("key", b"rules\n", b"")
+        (self.folder / "ggp_manager/instantiated/key").write_bytes(b"6\nrul")
+        self.assertIsNone(kept.kept("key"))
+        (self.folder / "ggp_manager/instantiated/key").write_bytes(b"")
+        self.assertIsNone(kept.kept("key"))
+
+    def test_what_can_not_be_kept_is_no_fault(self):
+        (self.folder / "ggp_manager").write_bytes(b"")
+        kept.keep("key", b"rules", b"")
+        self.assertIsNone(kept.kept("key"))
+
+    def test_old_ones_go(self):
+        with mock.patch.object(kept, "MOST_KEPT", 2):
+            for key in "abc":
+                kept.keep(key, b"rules", b"")
+        self.assertEqual(len(list((self.folder / "ggp_manager/instantiated").iterdir())), 2)
+
+
+@unittest.skipUnless(shutil.which("gringo"), "gringo is not installed")
+class Seconds(InFolder):
+    def test_a_game_that_is_stopped_has_no_verdict(self):
+        (self.folder / "long.kif").write_text(LONG)
+        status, out, said = run(self.folder, "game", "--instantiate", "1", "long.kif")
+        self.assertEqual((status, out), (3, ""))
+        self.assertIn("stopped after 1 s", said)
+        self.assertIn("`--instantiate T` gives it more time", said)
+
+    def test_a_plan_that_is_stopped_changes_nothing(self):
+        (self.folder / "long.kif").write_text(LONG)
+        (self.folder / "competition.toml").write_text(toml(PLAYERS[:1], [("long", "long.kif", "seconds = 1")]))
+        status, out, said = run(self.folder, "plan")
+        self.assertEqual((status, out), (3, ""))
+        self.assertIn("long.kif: ggp-instantiate: stopped after 1 s", said)
+        self.assertIn("; `seconds` of the game gives it more time; nothing is changed\n", said)
+        self.assertFalse((self.folder / "rules").exists())
+
+
+@unittest.skipUnless(shutil.which("gringo"), "gringo is not installed")
+class Described(InFolder):
+    """Ground rules that have their description with variables beside them."""
+
+    def setUp(self):
+        super().setUp()
+        ground = subprocess.run([TOP / "python/ggp-instantiate", NIM], check=True, capture_output=True).stdout
+        (self.folder / "ground.kif").write_bytes(b"; made by hand\n" + ground)
+        (self.folder / "nim.kif").write_bytes(NIM.read_bytes())
+
+    def planned(self, *more):
+        (self.folder / "competition.toml").write_text(toml(PLAYERS, [("nim", "ground.kif", *more)]))
+        return run(self.folder, "plan")
+
+    def test_the_plan(self):
+        status, out, said = self.planned('described = "nim.kif"', 'player_rules = "variables"')
+        self.assertEqual((status, said), (0, ""), out)
+        self.assertEqual((self.folder / "rules/nim.kif").read_bytes(), (self.folder / "ground.kif").read_bytes())
+        told = subprocess.run([TOP / "python/ggp-instantiate", "--player-rules", "told", NIM], cwd=self.folder, check=True, capture_output=True)
+        self.assertEqual((self.folder / "rules/nim.players").read_bytes(), (self.folder / "told").read_bytes(), told.stderr)
+        sums = f"{sum_of(NIM.read_bytes())}  nim.kif\n"
+        self.assertEqual((self.folder / "rules/DESCRIPTIONS.sha256").read_text(), sums)
+
+    def test_what_does_not_fit(self):
+        said = self.planned('player_rules = "variables"')
+        self.assertEqual(said[0], 2)
+        self.assertIn('ground.kif has no variables: "ground" is wanted', said[2])
+        said = self.planned('described = "ground.kif"')
+        self.assertEqual(said[0], 2)
+        self.assertIn("ground.kif has no variables", said[2])
+        (self.folder / "ground.kif").write_bytes(NIM.read_bytes())
+        said = self.planned('described = "nim.kif"')
+        self.assertEqual(said[0], 2)
+        self.assertIn("it has variables, and so needs no description beside it", said[2])
+        self.assertTrue(has_variables(NIM.read_bytes()))
+
+
+if __name__ == "__main__":
+    unittest.main()

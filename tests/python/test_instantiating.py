@@ -1,0 +1,474 @@
+"""Tests of what `ggp-instantiate` does beside gringo. The games in them are small and made by dice, and each answer is compared with one
+that is found by trying all of it."""
+
+import contextlib
+import hashlib
+import io
+import itertools
+import random
+import unittest
+import unittest.mock
+
+from ggp_tools.instantiating import folding, forms, limits, making, rounds
+from ggp_tools.instantiating.endless import endless
+from ggp_tools.instantiating.grounding import sentence_of
+from ggp_tools.instantiating.sentences import GAME, Literal, Rule, all_rules
+from ggp_tools.instantiating.splitting import MOST_LITERALS, split
+from ggp_tools.instantiating.for_players import text_for_players
+from ggp_tools.kif import Refused, expressions, put, relation, spelled, variables
+from support import GAMES
+
+STATE = ["a", "b", "c", "d"]
+MOVES = {"r": ["m1", "m2", "m3", "m4"], "s": ["n1", "n2"]}
+
+
+def holds(sentences, state, joint):
+    """What is true by ground sentences, found by going on until there is no more. Denials have to be of sentences that come before."""
+    true = {("true", term) for term in state} | set(joint)
+    bodies = {}
+    for sentence in sentences:
+        head, body = (sentence[1], sentence[2:]) if sentence[0] == "<=" else (sentence, ())
+        bodies.setdefault(head, []).append(body)
+    known = {}
+
+    def is_true(literal):
+        match literal:
+            case ("not", inner):
+                return not is_true(inner)
+            case ("or", *inners):
+                return any(map(is_true, inners))
+            case ("true", _) | ("does", _, _):
+                return literal in true
+        if literal not in known:
+            known[literal] = any(all(map(is_true, body)) for body in bodies.get(literal, ()))
+        return known[literal]
+
+    return {head for head in bodies if is_true(head)}
+
+
+def dice_game(dice):
+    """A game without variables: facts of roles and moves, some relations, and the next state. Bodies ask for what comes before."""
+    rules = [Rule(0, ("role", role), ()) for role in MOVES]
+    rules += [Rule(1 + dice.randrange(3), ("legal", role, move), ()) for role, moves in MOVES.items() for move in moves]
+    states = [("true", term) for term in STATE]
+    moves = [("does", role, move) for role, those in MOVES.items() for move in those]
+    before = []
+    heads = [f"p{k}" for k in range(5)] + [("next", term) for term in STATE]
+    for number, head in enumerate(heads, 10):
+        for _ in range(dice.randrange(1, 12)):
+            asked = dice.sample(states + moves + before, dice.randrange(1, 5))
+            rules.append(Rule(number, head, tuple(Literal(dice.random() < 0.7, literal) for literal in asked)))
+        if isinstance(head, str):
+            before.append(head)
+    rules += [Rule(30, ("legal", "r", "m2"), (Literal(True, ("true", "a")),))]
+    return sorted(rules, key=lambda rule: rule.sentence)
+
+
+def refused(rules, most_sentences, most_bytes):
+    """Why a game is not folded at all."""
+    try:
+        folding.folded(rules, most_sentences, most_bytes, True)
+    except folding.Hopeless as why:
+        return str(why)
+    return None
+
+
+def own(heads):
+    return {head for head in heads if (head if isinstance(head, str) else head[0]) in GAME}
+
+
+class Folding(unittest.TestCase):
+    def test_folded_games_are_the_same(self):
+        for seed in range(30):
+            rules = dice_game(random.Random(seed))
+            plain = [sentence_of(rule) for rule in rules]
+            for most in 10_000, 0:
+                found = [sentence for _, sentence in folding.folded(rules, most, most).written()]
+                self.compare(plain, found, seed)
+
+    def test_what_can_not_be_within_the_limits_is_refused_early(self):
+        rules = dice_game(random.Random(0))
+        game = folding.folded(rules, 10_000, 1 << 20)
+        self.assertIsNone(refused(rules, game.sentences(), 1 << 20))
+        self.assertRegex(refused(rules, 3, 1 << 20), r"^sentences \(at least \d+ of 3\)$")
+        text = "(<= (next s) (does r a)) " + " ".join(f"(<= (next {t}) p{k} p{k + 1})" for k, t in enumerate("abcdefgh"))
+        text += " ".join(f"(<= p{k} (true a) (true b{k})) (<= p{k} (not (true c)) (true d{k}) (true e{k}))" for k in range(9))
+        self.assertRegex(refused(all_rules(expressions(text)), 12, 500), r"^bytes \(at least \d+ of 500, since \d+ of 18 sentences have to stand in others\)$")
+
+    def test_what_is_refused_early_has_its_figures(self):
+        text = "(<= (next s) (does r a)) " + " ".join(f"(<= (next {t}) p{k} p{k + 1})" for k, t in enumerate("abcdefgh"))
+        text += " ".join(f"(<= p{k} (true a) (true b{k})) (<= p{k} (not (true c)) (true d{k}) (true e{k}))" for k in range(9))
+        rules = all_rules(expressions(text))
+        for most, most_bytes, words in (
+            (8, 500, "sentences (at least 9 of 8)"), (9, 1_121, "bytes (at least 1,122 of 1,121, since 9 of 18 sentences have to stand in others)"),
+            (12, 500, "bytes (at least 828 of 500, since 6 of 18 sentences have to stand in others)"),
+            (17, 0, "bytes (at least 434 of 0, since 1 of 18 sentences have to stand in others)"), (9, 1_122, None), (18, 0, None),
+        ):
+            self.assertEqual(refused(rules, most, most_bytes), words)
+        with unittest.mock.patch.object(folding, "MOST_DEEP", 6):
+            self.assertEqual(refused(rules, 12, 1 << 20), "sentences (at least 18 of 12)")
+
+    def test_what_games_by_dice_come_to(self):
+        # Sentences, bytes and the beginning of the sum of the text: whatever folds otherwise shows here.
+        for seed, most, most_bytes, *figures in (
+            (0, 10_000, 1 << 20, 42, 1_441, "0978b570"), (0, 20, 1 << 20, 20, 1_471, "d823b622"), (0, 0, 0, 12, 8_518, "0193cc32"), (0, 14, 1 << 20, 14, 2_405, "67a8290d"),
+            (1, 10_000, 1 << 20, 44, 1_510, "dc99034a"), (1, 20, 1 << 20, 20, 1_575, "f6e8ec2f"), (1, 0, 0, 12, 7_326, "75f1bb39"),
+            (2, 10_000, 1 << 20, 28, 985, "9d19918f"), (2, 20, 1 << 20, 20, 1_026, "16d8ccef"), (2, 0, 0, 11, 3_911, "6c23f4a4"),
+            (3, 10_000, 1 << 20, 42, 1_395, "410003ec"), (3, 20, 1 << 20, 20, 1_465, "1868759f"), (3, 0, 0, 12, 4_639, "010299d4"),
+        ):
+            game = folding.folded(dice_game(random.Random(seed)), most, most_bytes)
+            text = "\n".join(f"{number} {spelled(sentence)}" for number, sentence in game.written())
+            self.assertEqual([game.sentences(), game.bytes(), hashlib.sha256(text.encode()).hexdigest()[:8]], figures, (seed, most))
+        for deep, figures in ((5, (30, 1_066)), (6, (27, 1_099)), (10, (22, 1_035)), (13, (18, 1_146)), (14, (13, 1_170)), (24, (12, 1_292)), (25, (11, 3_911))):
+            with unittest.mock.patch.object(folding, "MOST_DEEP", deep):
+                game = folding.folded(dice_game(random.Random(2)), 0, 0)
+                self.assertEqual((game.sentences(), game.bytes()), figures, deep)
+
+    def written(self, text, most=10_000, most_bytes=1 << 20):
+        """Returns what is written of a game behind the sentences of its role and its moves."""
+        moves = [f"(legal r m{k})" for k in range(8)]
+        game = folding.folded(all_rules(expressions(f"(role r) {' '.join(moves)} {text}")), most, most_bytes)
+        return [f"{number} {spelled(sentence)}" for number, sentence in game.written()][9:]
+
+    def test_bodies_and_formulas_become_parts_where_that_is_shorter(self):
+        body, longer = (f"(true a) (true {'b' * count})" for count in (15, 16))
+        self.assertEqual(self.written(f"(<= (next s) {body}) (<= (next t) {body})"), [f"9 (<= (next s) {body})", f"10 (<= (next t) {body})"])
+        self.assertEqual(self.written(f"(<= (next s) {longer}) (<= (next t) {longer})"), ["9 (<= (next s) part1)", "10 (<= (next t) part1)", f"9 (<= part1 {longer})"])
+        self.assertEqual(len(self.written(f"(<= (next s) {longer}) (<= (next t) {longer})", 11)), 2)
+        alone = [f"(<= (next s{k}) (true {'a' * 50}))" for k in range(5)]
+        self.assertEqual(self.written(" ".join(alone)), [f"{number} {sentence}" for number, sentence in enumerate(alone, 9)])
+        either, longer = (f"(or (true a) (true {'b' * count}))" for count in (10, 11))
+        self.assertEqual(self.written(f"(<= (next s) {either} (true c)) (<= (next t) {either} (true d))")[0], f"9 (<= (next s) (true c) {either})")
+        self.assertEqual(self.written(f"(<= (next s) {longer} (true c)) (<= (next t) {longer} (true d))"), [
+            "9 (<= (next s) (true c) part1)", "10 (<= (next t) (true d) part1)", f"9 (<= part1 {longer})",
+        ])
+
+    def test_where_there_is_room_for_one_part_it_is_the_one_that_gains_most(self):
+        one, two = f"(or (true {'a' * 24}) (true b))", f"(or (true {'c' * 32}) (true d))"
+        text = f"(<= (next s) {one} (true e)) (<= (next t) {one} (true f)) (<= (next u) {two} (true g)) (<= (next v) {two} (true h))"
+        self.assertEqual(self.written(text, 14), [
+            f"9 (<= (next s) (true e) {one})", f"10 (<= (next t) (true f) {one})", "11 (<= (next u) (true g) part1)", "12 (<= (next v) (true h) part1)", f"11 (<= part1 {two})",
+        ])
+
+    def test_parts_stand_in_parts(self):
+        long = [f"(true {letter * 30})" for letter in "acd"]
+        inner = f"(or {long[0]} (true b))"
+        first, second = (f"(or (not {inner}) {atom})" for atom in long[1:])
+        self.assertEqual(self.written(f"(<= (next s) (not {first}) (true e)) (<= (next t) {first} (true f)) (<= (next u) {second} (true g)) (<= (next v) {second} (true h))"), [
+            f"9 (<= (next s) (not {long[1]}) (true e) part1)", "10 (<= (next t) (true f) part2)", f"10 (<= (next t) {long[1]} (true f))", "11 (<= (next u) (true g) part2)",
+            f"11 (<= (next u) (true g) {long[2]})", "12 (<= (next v) (true h) part2)", f"12 (<= (next v) {long[2]} (true h))", f"9 (<= part1 {inner})", "10 (<= part2 (not part1))",
+        ])
+
+    def test_no_more_is_placed_than_has_to_be(self):
+        asked = " ".join(f"(<= p{k} (true a{k}) (true b{k})) (<= (next s{k}) p{k} (true c)) (<= (next t{k}) p{k} (true d))" for k in range(3))
+        for most, left in ((18, 3), (17, 2), (16, 1), (15, 0)):
+            found = self.written(asked, most)
+            self.assertEqual((len(found), len([line for line in found if "(<= p" in line])), (most - 9, left))
+
+    def test_denials_are_one(self):
+        self.assertEqual(self.written("(<= (next s) (not (does r m0)) (not (does r m1)) (not (true s)))"), ["9 (<= (next s) (not (or (does r m0) (does r m1) (true s))))"])
+
+    def test_long_names_become_short_where_bytes_are_too_many(self):
+        name, body = "(a-long-name-of-a-relation x)", " ".join(f"(true {letter * 9})" for letter in "abcdefg")
+        text = f"(<= {name} {body}) (<= (next s) {name} (true t)) (<= (next t) (not {name}))"
+        self.assertEqual(self.written(text, 10_000, 0), [f"9 (<= part1 {body})", "10 (<= (next s) (true t) part1)", "11 (<= (next t) (not part1))"])
+        self.assertIn(name, self.written(text)[0])
+
+    def test_what_bodies_share_stands_once_up_to_a_depth(self):
+        bodies = [[*(("true", str(k)) for k in range(count)), ("true", f"z{count}")] for count in range(1, 11)]
+        game = folding.Folded([Rule(0, "p", tuple(Literal(True, atom) for atom in body)) for body in bodies])
+        (bodies,) = game.bodies.values()
+        text = spelled(game.formulas.expression(game.factored(bodies)))
+        self.assertEqual([text.count(f"(true {k})") for k in range(10)], [1, 1, 1, 1, 1, 1, 1, 3, 2, 1])
+
+    def test_how_often_formulas_stand_in_the_text(self):
+        self.assertEqual(folding.Folded(all_rules(expressions("(<= (next a) (true b)) (<= (next c) (not (or p q)))"))).uses(), [0, 0, 0, 1, 0, 1, 1, 1, 1])
+        self.assertEqual(folding.Folded(all_rules(expressions("(<= (next a) (not p))"))).uses(), [0, 0, 0, 1, 1])
+
+    def test_the_sentences_that_cost_most(self):
+        # A frame rule of many moves becomes one short sentence, and the rule that sets the cell stays long.
+        moves = "".join(f"(legal r (m {k}))" for k in range(9))
+        frame = "".join(f"(<= (next c) (true c) (does r (m {k})))" for k in range(8))
+        sets = "".join(f"(<= (next c) (true {k}{t}) (true {t}{k}) (does r (m 8)))" for k, t in enumerate("stuv"))
+        rules = [rule._replace(sentence=number) for number, text in enumerate(["(role r)", moves, frame, sets]) for rule in all_rules(expressions(text))]
+        costs = folding.folded(rules, 10_000, 1 << 20).costs(True)
+        self.assertGreater(costs[3], costs[2])
+
+    def test_what_is_put_into_others_costs_whose_it_is(self):
+        # The long relation is asked for once, and stands in the rule that asks: what it costs there is its own.
+        long = " ".join(f"(true (a-long-name {k}))" for k in range(20))
+        text = f"(role r) (legal r m) (<= (next s) w (true s)) (<= w {long})"
+        game = folding.folded(all_rules(expressions(text)), 3, 1 << 20)
+        self.assertEqual(game.sentences(), 3)
+        costs = game.costs(True)
+        self.assertEqual({sentence: round(cost) for sentence, cost in costs.items()}, {0: 9, 1: 12, 2: 25, 3: 468})
+        self.assertEqual((round(costs.total()), game.costs(False).total()), (game.bytes(), 3))
+
+    def test_parts_cost_those_who_ask_for_them(self):
+        # Two rules of one head; only the second has the body that all the others share, which becomes a part.
+        long = " ".join(f"(true (a-long-name {k}))" for k in range(9))
+        rules = [Rule(2, ("next", "c0"), (Literal(True, ("true", "s")),))]
+        rules += [Rule(3, ("next", f"c{k}"), tuple(Literal(True, atom) for atom in expressions(long))) for k in range(5)]
+        game = folding.folded([*all_rules(expressions("(role r) (legal r m)")), *rules], 10_000, 1 << 20)
+        self.assertEqual(game.part_count, 1)
+        costs = game.costs(True)
+        self.assertGreater(costs[3], 5 * costs[2])
+        self.assertEqual(round(costs.total()), game.bytes())
+
+    def compare(self, plain, found, seed):
+        for count in range(len(STATE) + 1):
+            for state in itertools.combinations(STATE, count):
+                for move, answer in itertools.product(MOVES["r"], MOVES["s"]):
+                    joint = [("does", "r", move), ("does", "s", answer)]
+                    self.assertEqual(own(holds(plain, state, joint)), own(holds(found, state, joint)), seed)
+
+    def test_legal_moves_keep_their_order(self):
+        for seed in range(20):
+            rules = dice_game(random.Random(seed))
+            found = [sentence for _, sentence in folding.folded(rules, 0, 0).written()]
+            self.assertEqual(legal_heads([sentence_of(rule) for rule in rules]), legal_heads(found))
+
+    def test_frames_become_short(self):
+        moves = [f"m{k}" for k in range(100)]
+        rules = [Rule(0, ("role", "r"), ())] + [Rule(1, ("legal", "r", move), ()) for move in moves]
+        for cell, away in enumerate(moves):
+            body = Literal(True, ("true", ("c", str(cell))))
+            rules += [Rule(2, ("next", ("c", str(cell))), (body, Literal(True, ("does", "r", other)))) for other in moves if other != away]
+        found = [sentence for _, sentence in folding.folded(rules, 10_000, 10_000_000).written()]
+        self.assertEqual(len(found), 201)
+        self.assertIn(("<=", ("next", ("c", "7")), ("true", ("c", "7")), ("not", ("does", "r", "m7"))), found)
+
+
+def legal_heads(sentences):
+    heads = (sentence[1] if sentence[0] == "<=" else sentence for sentence in sentences)
+    return list(dict.fromkeys(head for head in heads if head[0] == "legal"))
+
+
+class Rounds(unittest.TestCase):
+    def ways(self, dice, is_closure):
+        """Ways over edges that the state has, from a start or between any two places."""
+        places = [str(k) for k in range(5)]
+        rules = []
+        for start, end in itertools.product(places, repeat=2):
+            edge = Literal(True, ("true", (start, end)))
+            if is_closure:
+                rules.append(Rule(1, ("w", start, end), (edge,)))
+                halves = [[("w", start, middle), ("w", middle, end)] for middle in places]
+                rules += [Rule(2, ("w", start, end), tuple(Literal(True, half) for half in dict.fromkeys(both))) for both in halves]
+            elif start != end:
+                rules.append(Rule(1, ("w", start), (edge, Literal(True, ("w", end)))))
+        if not is_closure:
+            rules.append(Rule(0, ("w", "0"), ()))
+        dice.shuffle(rules)
+        return rules
+
+    def test_ways_are_found_in_rounds(self):
+        for is_closure in True, False:
+            dice = random.Random(3)
+            rules = self.ways(dice, is_closure)
+            found = self.unrolled(rules, 3 if is_closure else 4)
+            for _ in range(40):
+                edges = [pair for pair in itertools.product("01234", repeat=2) if dice.random() < 0.3]
+                self.compare(rules, found, edges)
+
+    def test_ways_that_grow_by_one_edge_are_not_halved(self):
+        # Two ways make a longer one only where the second is an edge of the game: a round then adds one edge, and does not double the way.
+        places = range(6)
+        rules = [Rule(1, ("w", str(a), str(b)), (Literal(True, ("true", (str(a), str(b)))),)) for a, b in itertools.product(places, repeat=2)]
+        for start, middle, end in itertools.product(places, repeat=3):
+            if abs(middle - end) == 1:
+                halves = dict.fromkeys([("w", str(start), str(middle)), ("w", str(middle), str(end))])
+                rules.append(Rule(2, ("w", str(start), str(end)), tuple(Literal(True, half) for half in halves)))
+        found, dice = self.unrolled(rules, 35), random.Random(7)
+        self.compare(rules, found, [(str(k), str(k + 1)) for k in range(5)])
+        for _ in range(20):
+            self.compare(rules, found, [(str(a), str(b)) for a, b in itertools.product(places, repeat=2) if dice.random() < 0.2])
+
+    def test_ways_that_go_over_others_outside_are_not_halved(self):
+        # Any two ways make a longer one, but some of these are part of no other: the way from 0 to 0 over 4, 1 and 2 is not made of halves.
+        ends = ["00", "02", "04", "10", "11", "12", "14", "20", "24", "40", "41", "44"]
+        rules = [Rule(1, ("w", *way), (Literal(True, ("true", way)),)) for way in ends]
+        for way, onward in itertools.product(ends, repeat=2):
+            if way[1] == onward[0]:
+                both = dict.fromkeys([("w", *way), ("w", *onward)])
+                rules.append(Rule(2, ("w", way[0], onward[1]), tuple(Literal(True, half) for half in both)))
+        self.compare(rules, self.unrolled(rules, 11), ["04", "41", "12", "20"])
+
+    def test_sentences_keep_their_places(self):
+        # The first rules of a and b derive nothing that is not derived before: the sentences stand where these stood.
+        asked = [(1, "a", "b"), (2, "b", "b"), (3, "c", "d"), (4, "b", "c"), (5, "d", "a"), (6, "c", "s")]
+        rules = [Rule(number, head, (Literal(True, ("true", asked_for) if asked_for == "s" else asked_for),)) for number, head, asked_for in asked]
+        found, _ = rounds.unrolled(rules)
+        places = {head: min(rule.sentence for rule in found if rule.head == head) for head in "abcd"}
+        self.assertEqual(places, {"a": 1, "b": 2, "c": 3, "d": 5})
+
+    def test_stones_need_fewer_rounds(self):
+        # Four by four cells of six neighbours, and the stones that are joined to the first row.
+        cells = list(itertools.product(range(4), repeat=2))
+        sides = (1, 0), (0, 1), (1, -1), (-1, 0), (0, -1), (-1, 1)
+        named = {cell: f"{cell[0]}{cell[1]}" for cell in cells}
+        rules = []
+        for x, y in cells:
+            stone, joined = Literal(True, ("true", named[x, y])), ("w", named[x, y])
+            rules += [Rule(1, joined, (stone,))] if y == 0 else []
+            beside = [named[x + a, y + b] for a, b in sides if (x + a, y + b) in named]
+            rules += [Rule(2, joined, (stone, Literal(True, ("w", other)))) for other in beside]
+        found, dice = self.unrolled(rules, 11), random.Random(5)
+        for _ in range(200):
+            self.compare(rules, found, [name for name in named.values() if dice.random() < 0.6])
+
+    def test_what_goes_one_way_alone_saves_no_round(self):
+        # 1 can be derived from 2, 3 and 4, 2 from 3 and 4, 3 from 4, and 4 from 1: from 1 on it takes two rounds to 2 and 3.
+        steps = {"1": "234", "2": "34", "3": "4", "4": "1"}
+        for order in itertools.permutations(steps):
+            rules = [Rule(1, ("w", start), (Literal(True, ("true", start)),)) for start in order]
+            rules += [Rule(2, ("w", start), (Literal(True, ("w", end)),)) for start in order for end in steps[start]]
+            found = self.unrolled(rules, 3)
+            for state in (["1"], ["2"], ["3"], ["4"], []):
+                self.compare(rules, found, state)
+
+    def unrolled(self, rules, most):
+        found, circles = rounds.unrolled(rules)
+        self.assertEqual(rounds.circles(found), [])
+        self.assertLessEqual(max(last for _, _, last in circles), most)
+        return found
+
+    def compare(self, rules, found, state):
+        after = holds([sentence_of(rule) for rule in found], state, [])
+        self.assertEqual({head for head in after if head[0] == "w"}, least(rules, state))
+
+
+def least(rules, state):
+    """All that rules without denials derive."""
+    true, count = {("true", term) for term in state}, -1
+    while len(true) > count:
+        count = len(true)
+        true |= {rule.head for rule in rules if all(literal.atom in true for literal in rule.body)}
+    return {head for head in true if head[0] == "w"}
+
+
+class Texts(unittest.TestCase):
+    def number(self, text):
+        rule = endless(all_rules(expressions(text)))
+        return rule and rule.sentence
+
+    def test_what_has_no_end(self):
+        self.assertEqual(self.number("(n 0) (<= (n (s ?x)) (n ?x))"), 1)
+        self.assertEqual(self.number("(<= (next (p ?y (s ?x))) (true (p ?y ?x)))"), 0)
+        self.assertEqual(self.number("(<= (n (t ?x ?y)) (n ?x) (n ?y))"), 0)
+
+    def test_what_may_have_one(self):
+        self.assertIsNone(self.number("(<= (n (s ?x)) (n ?x) (m ?x))"))
+        self.assertIsNone(self.number("(<= (n (s ?x)) (n ?x) (distinct ?x (s 0)))"))
+        self.assertIsNone(self.number("(<= (next (p ?x)) (true (p ?x)))"))
+        self.assertIsNone(self.number("(<= (n (s ?x) a) (n ?x b))"))
+
+    def refusal(self, text, seconds=60):
+        with self.assertRaises(Refused) as why:
+            making.Making(text, seconds, making.NEVER).run()
+        return str(why.exception)
+
+    def test_refusals_say_which_sentence_makes_the_most(self):
+        text = "(role r) (d 1) (d 2) (d 3) (<= (legal r (m ?a ?b)) (d ?a) (d ?b)) (init s)"
+        with unittest.mock.patch.object(forms, "MOST_INSTANCES", 5):
+            said = "there are more than 5 instances; the most instances, "
+            self.assertEqual(self.refusal(text)[: len(said)], said)
+        self.assertEqual(self.refusal(text, 0.000001), "stopped after 1e-06 s, reading it")
+
+    def test_rounds_that_are_too_many_are_said(self):
+        text = (GAMES / "general/hex.kif").read_text()
+        with unittest.mock.patch.dict(limits.MOST, {"sentences": 100}), self.assertRaises(Refused) as why, contextlib.redirect_stderr(io.StringIO()):
+            making.Making(text, 60, making.WHERE_NEEDED).run()
+        said = "nothing is written, since this is past the limit, however it is folded: sentences (at least "
+        self.assertEqual(str(why.exception)[: len(said)], said)
+        self.assertIn(" ground sentences, since 2 cycles of sentences are unrolled, the largest, of 25 sentences with (joined ", str(why.exception))
+        # What is unrolled is more than any sentence's instances.
+        self.assertNotIn("the most instances", str(why.exception))
+
+    def test_few_instances_are_tried_first(self):
+        text = "(role r) (d 1) (d 2) (d 3) (<= (legal r (m ?a ?b ?c)) (d ?a) (d ?b) (d ?c) (true s)) (init s)"
+        text += "(<= (next s) (does r (m ?a ?b ?c)) (does r (m ?d ?b ?e)) (does r (m ?f ?g ?e)))"
+        with contextlib.redirect_stderr(io.StringIO()):
+            self.assertNotIn("split", making.Making(text, 60, making.WHERE_NEEDED).run())
+        with contextlib.redirect_stderr(io.StringIO()), unittest.mock.patch.object(forms, "FEW_INSTANCES", 20):
+            self.assertTrue(making.Making(text, 60, making.WHERE_NEEDED).run().startswith("; split: "))
+
+    def test_told_has_base_and_input(self):
+        sentences = expressions("(p r) (<= (role ?x) (p ?x)) (<= (legal ?r m) (role ?r)) (init s)")
+        rules = [Rule(1, ("role", "r"), ()), Rule(2, ("legal", "r", "m"), ()), Rule(3, ("init", "s"), ())]
+        lines = "(role r)\n(p r)\n(<= (legal ?r m) (role ?r))\n(init s)\n(base s)\n(input r m)\n"
+        self.assertEqual(text_for_players(sentences, rules), lines)
+        self.assertNotIn("(base s)", text_for_players([*sentences, ("base", "t")], rules))
+        self.assertNotIn("(base s)\n", text_for_players([*sentences, *expressions("(<= terminal (not (base s)))")], rules))
+
+    def test_told_has_no_and(self):
+        text = "(<= (p ?x) (and (q ?x) (or a b)) (or c (and (not d) (distinct ?x 1))) (not (and (e (and)) (distinct ?x 2))))"
+        lines = text_for_players(expressions(text), []).splitlines()
+        both = "(<= (p ?x) (q ?x) (or a b)"
+        ways = [f"{literal} (not {denied})" for literal in ("c", "(not d) (distinct ?x 1)") for denied in ("(e (and))", "(distinct ?x 2)")]
+        self.assertEqual(lines, [f"{both} {way})" for way in ways])
+
+
+def joined(rules, domain):
+    """All that rules with variables derive, found by trying all values of their variables again and again."""
+    found, count = set(), -1
+    while len(found) > count:
+        count = len(found)
+        for rule in rules:
+            names = variables((rule.head, *(literal.atom for literal in rule.body)))
+            for values in itertools.product(domain, repeat=len(names)):
+                values = dict(zip(names, values))
+                if all(is_so(literal, values, found) for literal in rule.body):
+                    found.add(put(rule.head, values))
+    return found
+
+
+def is_so(literal, values, found):
+    atom = put(literal.atom, values)
+    return (atom[0] == atom[1] if literal.same else atom in found) == literal.positive
+
+
+def dice_join(dice):
+    """A rule that joins facts at some of its variables, with some that have to differ."""
+    names = [f"?{letter}" for letter in "abcdef"]
+    body = [Literal(True, (dice.choice("pq"), *dice.sample(names, 2))) for _ in range(dice.randrange(2, 5))]
+    bound = variables(tuple(literal.atom for literal in body))
+    body += [Literal(False, tuple(dice.sample(bound, 2)), True) for _ in range(dice.randrange(2))]
+    body += [Literal(False, ("z", *dice.sample(bound, 2))) for _ in range(dice.randrange(2))]
+    return Rule(9, ("h", *dice.sample(bound, dice.randrange(1, 3))), tuple(body))
+
+
+class Splitting(unittest.TestCase):
+    def test_split_rules_derive_the_same(self):
+        dice, domain, count = random.Random(1), ["1", "2", "3"], 0
+        for _ in range(150):
+            facts = [Rule(0, (name, *dice.choices(domain, k=2)), ()) for name in "ppppqqqqz"]
+            rules = [*facts, dice_join(dice)]
+            parts = split(rules)
+            count += len(parts) > len(rules)
+            found = {atom for atom in joined(parts, domain) if not relation(atom)[0].startswith("split")}
+            self.assertEqual(found, joined(rules, domain), rules)
+            self.assertLessEqual(self.width(parts), self.width(rules))
+        self.assertGreater(count, 50)
+
+    def width(self, rules):
+        return max(len(variables((rule.head, *(literal.atom for literal in rule.body)))) for rule in rules)
+
+    def test_names_are_new(self):
+        text = "(<= (h ?a ?c) (p ?a ?b) (p ?b split1) (p ?c ?d) (p ?d split2-))"
+        self.assertEqual({relation(rule.head)[0] for rule in split(all_rules(expressions(text)))}, {"h", "split-1", "split-2"})
+
+    def test_what_stays_as_it_is(self):
+        for text in ["(<= (r ?a ?c) (p ?a ?b) (r ?b ?d) (p ?c ?e))", "(<= (h ?a ?b) (p ?a ?b))", "(<= (h ?a ?c) (p ?a ?b) (p ?b ?c) (p ?c ?a))"]:
+            rules = all_rules(expressions(text))
+            self.assertEqual(split(rules), rules)
+        long = "(<= (h ?a) " + "(p ?a ?b) (p ?b ?c)" * MOST_LITERALS + ")"
+        self.assertEqual(split(all_rules(expressions(long))), all_rules(expressions(long)))
+
+    def test_parts_that_say_the_same_are_one(self):
+        text = "(<= (h ?a) (p ?a ?b) (q ?b ?c)) (<= (g ?x) (p ?x ?y) (q ?y ?z))"
+        self.assertEqual(len(split(all_rules(expressions(text)))), 3)
+
+
+if __name__ == "__main__":
+    unittest.main()

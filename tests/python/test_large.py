@@ -1,0 +1,47 @@
+"""A game that is past the usual limits: looked at, planned, played, published and checked by those for large games."""
+
+import unittest
+
+from ggp_tools.kif import expressions
+from players import TestPlayer
+from support import GAMES, InFolder, call, run, toml
+
+# As many sentences as the usual limits allow, beside those of the game.
+BESIDE = 8_192
+
+
+class Large(InFolder):
+    def setUp(self):
+        super().setUp()
+        self.file = self.folder / "big.kif"
+        self.file.write_text((GAMES / "countdown.kif").read_text() + "".join(f"(beside {number})\n" for number in range(BESIDE)))
+
+    def test_it_is_accepted_only_where_large_games_are_asked_for(self):
+        words = "game", str(self.file), "--matches", "2"
+        status, out, _ = run(self.folder, *words)
+        self.assertEqual((status, "big.kif is not accepted: " in out), (1, True), out)
+        status, out, said = run(self.folder, *words, "--large")
+        self.assertEqual((status, said), (0, ""), out)
+        self.assertIn("random matches, seeds 1 to 2: 2 finished, 0 aborted", out)
+        (self.folder / "competition.toml").write_text(toml([("ann", "h:1"), ("bob", "h:2")], [("big", "big.kif")]))
+        status, out, said = run(self.folder, "plan")
+        self.assertEqual((status, out), (2, ""), said)
+        self.assertIn("games.file: ", said)
+
+    def test_it_is_played_published_and_checked(self):
+        players = [TestPlayer(name, "good", at) for at, name in enumerate(("ann", "bob"))]
+        schedule = self.plan([(player.name, player.place()) for player in players], [("big", "big.kif", "large = true")])
+        status, out, said = run(self.folder, "play")
+        self.assertEqual((status, said), (0, ""), out)
+        self.assertEqual([len(player.told[schedule[0][0]]) for player in players], [len(expressions(self.file.read_text()))] * 2)
+        rules, record = self.folder / "rules/big.kif", (self.folder / f"records/{schedule[0][0]}.json").read_bytes()
+        self.assertEqual(call("verify", "--rules-file", rules, data=record), b"")
+        self.assertEqual(call("verify", "--large", "--rules-file", rules, data=record), b"lawful\n")
+        self.assertEqual(run(self.folder, "publish")[0], 0)
+        status, out, said = run(self.folder, "check", "cup.tar.gz")
+        self.assertEqual((status, said), (0, ""), out)
+        self.assertIn(f"{len(schedule)} records and accounts", out)
+
+
+if __name__ == "__main__":
+    unittest.main()

@@ -1,0 +1,283 @@
+"""The pages of 300 matches: each link leads to a page that is there, and what names and rules say is text."""
+
+import html.parser
+import json
+import os
+import pathlib
+import re
+import subprocess
+import tempfile
+import time
+import unittest
+from dataclasses import replace
+from unittest.mock import patch
+
+from ggp_tools.competition import pages as pages_module
+from ggp_tools.competition.competition_file import read_competition
+from ggp_tools.descriptions.loading import Rules
+from ggp_tools.competition.files import Folder
+from ggp_tools.competition.pages import Pages, made_side_by_side, seconds_between, spelt
+from ggp_tools.competition.plan import Plan
+from ggp_tools.competition.results import result_of
+from ggp_tools.referee import Unchecked
+from planning import planned
+from support import toml
+
+BEGAN, ENDED = "began 2026-01-02T03:04:05.000Z\n", "ended 2026-01-02T03:04:07.500Z\n"
+LOG = f"{BEGAN}m role 0 ann message 1 (START m a (..: ready, 7 ms\n{ENDED}".encode()
+
+
+class Links(html.parser.HTMLParser):
+    def __init__(self, text):
+        super().__init__()
+        self.links, self.tags = [], set()
+        self.feed(text)
+
+    def handle_starttag(self, tag, attributes):
+        self.tags.add(tag)
+        self.links += [value for key, value in attributes if key in ("href", "src")]
+
+
+def record_of(match, number):
+    """Returns a record of a match, with texts that no page may take for anything but text."""
+    return {
+        "cause": None, "endMarks": ["", ""], "errors": [["", "IL <script>"]], "goalValues": [number % 101, 50], "matchId": match.id,
+        "moves": [["<b>", "noop"]], "phase": "finished", "playClock": 10, "players": list(match.players), "roles": ["<i>", "b"],
+        "startClock": 10, "startMarks": ["", ""], "states": [["(a 1)"], ["(a 2)"]], "strikes": 0, "version": 2,
+    }
+
+
+def number_text(number):
+    return b"%d" % number
+
+
+def killed(_):
+    os._exit(1)
+
+
+class Seconds(unittest.TestCase):
+    def test_a_time_that_no_clock_shows_tells_nothing(self):
+        for end, words in (("2026-01-01T01:15:00.500Z", "4500.5"), ("2026-01-01T01:75:00.500Z", ""), (None, "")):
+            self.assertEqual(seconds_between({"begin": "2026-01-01T00:00:00.000Z", "end": end, "isSetBack": False}), words, end)
+
+
+class SideBySide(unittest.TestCase):
+    def setUp(self):
+        for name, value in (("MANY", 2), ("PROCESSORS", 2), ("CHUNK", 1)):
+            self.enterContext(patch.object(pages_module, name, value))
+
+    def test_what_is_made_comes_in_order(self):
+        self.assertEqual(list(made_side_by_side(number_text, [(number,) for number in range(40)])), [b"%d" % number for number in range(40)])
+        self.assertEqual(list(made_side_by_side(number_text, [])), [])
+
+    def test_a_process_that_is_killed_is_a_shortage(self):
+        with self.assertRaisesRegex(Unchecked, "a process was ended"):
+            list(made_side_by_side(killed, [(1,), (2,)]))
+
+
+class PagesOfMany(unittest.TestCase):
+    def setUp(self):
+        room = tempfile.TemporaryDirectory()
+        self.addCleanup(room.cleanup)
+        folder = Folder(pathlib.Path(room.name))
+        folder.make(folder.records, folder.logs)
+        players = [(f"p{count}", f"h:{count + 1}") for count in range(25)]
+        competition = read_competition(toml(players, [("one", "f")], 'kind = "gauntlet"\none = "p0"\nrounds = 7').encode())
+        rules = Rules(b"; </pre><script>\n(role a)", "0" * 64, ("<i>", "b"), b"(role ?<script>)")
+        self.plan = Plan(folder, competition, {"one": rules}, [])
+        self.plan.matches = planned(competition, {"one": 2})[:300]
+        self.results = []
+        for number, match in enumerate(self.plan.matches):
+            record = record_of(match, number)
+            folder.record(match.id).write_text(json.dumps(record))
+            folder.log(match.id).write_bytes(LOG)
+            self.results.append(result_of(record, match))
+
+    def test_each_link_leads_to_a_page(self):
+        pages = Pages(self.plan)
+        pages.write(self.results)
+        files = [path for path in pages.folder.rglob("*") if path.is_file()]
+        # Those of 300 matches, 25 players, one game, all matches, and the first one.
+        self.assertEqual(len(files), 328)
+        linked = {pages.folder / "index.html"}
+        for file in files:
+            found = Links(file.read_text("ascii"))
+            self.assertFalse(found.tags & {"b", "img"} and file.parent.name != "matches")
+            for link in found.links:
+                if not link.startswith("#"):
+                    linked.add((file.parent / link.partition("#")[0]).resolve())
+        self.assertEqual({path.resolve() for path in linked}, {path.resolve() for path in files})
+        first = (pages.folder / "index.html").read_text()
+        self.assertIn("300 of 300 matches are over. From 2026-01-02 03:04:05 to 2026-01-02 03:04:07 UTC.", first)
+        self.assertIn("<td>2.5", first)
+        for text in ("&lt;/pre&gt;&lt;script&gt;", "(role ?&lt;script&gt;)"):
+            self.assertIn(text, (pages.folder / "games/one.html").read_text())
+        self.assertNotIn("<script", first + (pages.folder / "games/one.html").read_text())
+
+    def test_lists_of_many_matches_come_in_parts(self):
+        with patch.object(pages_module, "MOST_LISTED", 120):
+            pages = Pages(self.plan)
+            pages.write(self.results)
+            files = {file.name for file in pages.folder.iterdir() if file.is_file()}
+            self.assertEqual(files, {"index.html", "matches.html", "matches-2.html", "matches-3.html"})
+            texts = [(pages.folder / name).read_text() for name in ("matches.html", "matches-2.html", "matches-3.html")]
+            self.assertEqual([text.count('<tr id="match-') for text in texts], [120, 120, 60])
+            self.assertIn('cup-001 to cup-120, <a href="matches-2.html">cup-121 to cup-240</a>', texts[0])
+            game, player = ((pages.folder / name).read_text() for name in ("games/one.html", "players/player-p0.html"))
+            for text in (game, player):
+                self.assertEqual((text.count('<tr id="match-'), text.count('id="match-cup-300"')), (120, 1))
+                self.assertIn('These are 120 of 300; the others are among <a href="../matches.html">all matches</a>.', text)
+            # With fewer matches there are fewer pages.
+            pages.write(self.results[:120])
+            self.assertEqual({file.name for file in pages.folder.iterdir() if file.is_file()}, {"index.html", "matches.html"})
+            gaps = Pages(self.plan, shows_gaps=True)
+            gaps.write(self.results[:10])
+            self.assertIn("And 170 more, which GAPS.tsv names.", (gaps.folder / "index.html").read_text())
+
+    def test_what_a_log_says_is_text(self):
+        for match, log in zip(self.plan.matches, (b"began <plaintext>\n" + LOG, LOG + b"began <plaintext>\nended <plaintext>\n")):
+            self.plan.folder.log(match.id).write_bytes(log)
+        pages = Pages(self.plan)
+        pages.write(self.results[:3])
+        for name in ("index.html", "games/one.html"):
+            self.assertNotIn("plaintext", (pages.folder / name).read_text())
+        self.assertEqual((spelt("<b>2026-01-02T03:04:05.678Z"), spelt(None)), ("&lt;b&gt;2026-01-02 03:04", ""))
+
+    def test_the_page_of_a_player(self):
+        match, player = self.plan.matches[0], self.plan.matches[0].players[1]
+        lines = [b"%s role 1 %s message 2 (PLAY %s NIL): <script>, 1500 ms" % (match.id.encode(), player.encode(), match.id.encode())]
+        # What was said before the match began anew on another host does not count.
+        before = b"%s role 1 %s message 2 (PLAY %s NIL): lost, 9000 ms\n" % (match.id.encode(), player.encode(), match.id.encode())
+        self.plan.folder.log(match.id).write_bytes(before + LOG + b"\n".join(lines) + b"\n")
+        pages = Pages(self.plan)
+        pages.write(self.results[:1])
+        text = (pages.folder / f"players/player-{player}.html").read_text()
+        self.assertIn("Place 1 of 2 in all games: 1 matches, mean goal 50.00, 1 won, 0 drawn, 0 lost; 1 of 1 moves replaced", text)
+        self.assertIn("<td class=\"left\">b<td>1<td>50.00<td>1 of 1<td><td>1,500 ms", text)
+        for word in (f"<code>(PLAY {match.id} NIL)</code>", "<code>&lt;script&gt;</code>", "<code>noop</code>", "the answer was no legal move", "<svg"):
+            self.assertIn(word, text)
+        self.assertIn("It has played no match.", (pages.folder / "players/player-p24.html").read_text())
+        self.assertIn("No move of it was replaced.", (pages.folder / f"players/player-{match.players[0]}.html").read_text())
+
+    def test_the_last_errors_of_a_match_stand_on_the_page_of_a_player(self):
+        match = self.plan.matches[0]
+        turns = 15
+        record = record_of(match, 0) | {"errors": [["", "TO"]] * turns, "moves": [["noop", "noop"]] * turns, "states": [["(a 1)"]] * (turns + 1)}
+        self.plan.folder.record(match.id).write_text(json.dumps(record))
+        pages = Pages(self.plan)
+        pages.write([result_of(record, match)])
+        text = (pages.folder / f"players/player-{match.players[1]}.html").read_text()
+        self.assertEqual(re.findall(r'#state-(\d+)"', text), [str(turn) for turn in range(15, 5, -1)])
+        for words in ("The last 100, and of a match the last 10.", "5 more stand in the records"):
+            self.assertIn(words, text)
+
+    def test_a_clock_that_is_set_back(self):
+        match = self.plan.matches[0]
+        times = ["10:00:00", "10:00:01", "09:00:02", "09:00:03"]
+        for ended in ("09:00:03", "10:30:00"):
+            began, *said, last = [f"2026-01-02T{time}.000Z" for time in (*times[:3], ended)]
+            lines = "".join(f"{time} m role 0 ann message {number} (PLAY m NIL): noop, 1 ms\n" for number, time in enumerate(said, 2))
+            self.plan.folder.log(match.id).write_text(f"began {began}\n{lines}ended {last}\n")
+            pages = Pages(self.plan)
+            pages.write(self.results[:1])
+            text = (pages.folder / "index.html").read_text()
+            self.assertIn("2026-01-02 10:00:00<td>the clock was set back", text)
+
+    def test_of_a_log_that_is_too_long_the_first_lines_are_read(self):
+        match = self.plan.matches[0]
+        line = f"{match.id} role 1 {match.players[1]} message {{}} (PLAY {match.id} NIL): <script>, {{}} ms\n"
+        log = BEGAN + "".join(line.format(number, 10 * number) for number in range(2, 300)) + line.format(300, 77_777) + ENDED
+        self.plan.folder.log(match.id).write_text(log)
+        name = f"players/player-{match.players[1]}.html"
+        for most, longest, is_cut in ((len(log), "77,777 ms", False), (len(log) - len(ENDED) - 1, "2,990 ms", True), (log.index("message 5"), "40 ms", True)):
+            pages = Pages(self.plan)
+            with patch.object(pages_module, "MOST_OF_LOG", most):
+                pages.write(self.results[:1])
+            text = (pages.folder / name).read_text()
+            self.assertIn(f"<td>{longest}", text)
+            self.assertEqual(f"Of the logs of {match.id} the first 16 MiB are read" in text, is_cut)
+            # When it began and ended is known all the same.
+            self.assertIn("2026-01-02 03:04:05<td>2.5", text)
+
+    def test_a_match_that_was_ordered_again_counts_nowhere(self):
+        old, new = self.plan.matches[0], self.plan.matches[48]
+        self.assertEqual(old.players, new.players)
+        old = self.plan.matches[0] = replace(old, again=new.id, reason="the network was down")
+        new = self.plan.matches[48] = replace(new, instead_of=old.id)
+        player = old.players[1]
+        for match in (old, new):
+            line = f"{match.id} role 1 {player} message 2 (PLAY {match.id} NIL): <script>, {9_000 if match is old else 1_500} ms\n"
+            self.plan.folder.log(match.id).write_bytes(LOG + line.encode())
+        results = [result_of(record_of(match, number), match) for number, match in enumerate((old, new))]
+        pages = Pages(self.plan)
+        pages.write(results)
+        text = (pages.folder / f"players/player-{player}.html").read_text()
+        self.assertIn('<td class="left">b<td>1<td>50.00<td>1 of 1<td><td>1,500 ms', text)
+        self.assertEqual((text.count("<code>&lt;script&gt;</code>"), text.count(f"{old.id} does not count: {new.id} was ordered in its place")), (1, 2))
+        self.assertNotIn("9,000", text)
+        self.assertIn("1 of 299 matches are over.", (pages.folder / "index.html").read_text())
+        # As long as the new one is not played there is nothing that counts.
+        pages = Pages(self.plan)
+        pages.write(results[:1])
+        text = (pages.folder / f"players/player-{player}.html").read_text()
+        self.assertIn("It has played no match that counts.", text)
+        self.assertNotIn("Goals by game and seat", text)
+        self.assertIn("0 of 299 matches are over.", (pages.folder / "index.html").read_text())
+
+    def test_a_page_is_made_again_only_where_something_has_changed(self):
+        pages = Pages(self.plan)
+        pages.write(self.results[:2])
+        untouched, changed = pages.folder / "players/player-p24.html", pages.folder / "games/one.html"
+        self.assertNotIn("p24", {player for result in self.results[:3] for player in result.match.players})
+        before = untouched.stat().st_ino, changed.stat().st_ino
+        pages.write(self.results[:3])
+        self.assertEqual((untouched.stat().st_ino == before[0], changed.stat().st_ino == before[1]), (True, False))
+        # What another run has written there in the meantime is made again.
+        text = untouched.read_text()
+        untouched.unlink()
+        untouched.write_text("another")
+        pages.write(self.results[:3])
+        self.assertEqual(untouched.read_text(), text)
+
+    def test_now_and_then(self):
+        pages, began, asked = Pages(self.plan), time.process_time(), []
+        for count in range(1, 301):
+            pages.write_now_and_then(lambda: asked.append(count) or self.results[:count])
+        self.assertIn("1 of 300 matches", (pages.folder / "index.html").read_text())
+        self.assertLess(time.process_time() - began, 30)
+        self.assertEqual(asked[0], 1)
+        self.assertLess(len(asked), 20)
+        pages.write(self.results[:20])
+        self.assertEqual(len(list((pages.folder / "matches").iterdir())), 20)
+
+    def test_what_can_not_be_written_is_not_tried_at_once_again(self):
+        pages, tried = Pages(self.plan), []
+        pages.folder.write_text("")
+        with self.assertRaises(OSError):
+            pages.write_now_and_then(lambda: self.results[:1])
+        pages.write_now_and_then(lambda: tried.append(1))
+        self.assertEqual(tried, [])
+
+    def test_two_runs_at_once(self):
+        one, other = Pages(self.plan), Pages(self.plan)
+        one.write(self.results[:3])
+        with subprocess.Popen(["sleep", "60"]) as alive:
+            gone = subprocess.Popen(["true"])
+            gone.wait()
+            places = [one.folder, *(one.folder / name for name in ("matches", "games", "players"))]
+            for number in (alive.pid, gone.pid, os.getpid(), "cup"):
+                for spot in places:
+                    (spot / f".unfinished-{number}-x.html").touch()
+            (one.folder / "matches/mine").mkdir()
+            other.write(self.results[:2])
+            left = [file.name for place in places for file in place.iterdir() if file.name.startswith(".")]
+            alive.kill()
+        self.assertEqual(left, [f".unfinished-{alive.pid}-x.html"] * 4)
+        one.write(self.results[:3])
+        matches = {f"{result.match.id}.html" for result in self.results[:3]}
+        self.assertEqual({file.name for file in (one.folder / "matches").iterdir()}, {*matches, "mine"})
+        self.assertEqual(sorted(file.name for file in one.folder.iterdir() if file.is_file()), ["index.html", "matches.html"])
+
+
+if __name__ == "__main__":
+    unittest.main()

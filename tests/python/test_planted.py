@@ -1,0 +1,198 @@
+"""Ground rules that are instantiated wrongly are found by the match that shows it, and by nothing before that.
+
+Ten games of different kinds get a fault each: a rule that is dropped, two moves in each other's place, a goal that is off by one, and a
+rule without its last literal, or, in the game with a cycle, a cycle that is unrolled in half its rounds. Dice choose the place, and
+matches by the wrong rules are played until one reaches it: its answers make another record by the right rules. No random match needs
+so many rounds of a cycle, so there red's stones are given, which wind from side to side.
+
+The program loads such rules, plays the match by them, finds its record lawful, and its account gives the record again: what is wrong
+with the rules does not show there. `ggp-hold-against` has to find it, and nothing in the record by the right rules.
+"""
+
+import functools
+import json
+import random
+import shutil
+import subprocess
+import tempfile
+import unittest
+from collections.abc import Callable
+from unittest import mock
+
+from ggp_tools import ground_games
+from ggp_tools.holding.command import DIFFERENT, SAME, Holding
+from ggp_tools.instantiating import making, rounds
+from ggp_tools.kif import Expression, relation
+from ground_matches import Record, Sentences, begun, description, ended, instantiated, played, played_again
+from support import program
+
+PLANTED_IN = "tictactoe", "nim", "connectfour", "auction", "minority", "hanoi", "river", "prisoners", "foxandhounds", "hex"
+WITH_A_CYCLE = "hex"
+TRIES = 60
+# Of these stones the last one is ten steps from the side, and no other way is shorter; blue's are where red does not go.
+WINDING = "11 21 22 23 24 25 35 44 43 42 51".split()
+Plant = Callable[[str, random.Random], Sentences]
+
+
+@functools.cache
+def right_rules(name: str) -> Sentences:
+    # The cycle is the same in fewer sentences, which the referee reads sooner.
+    return instantiated(description(name), making.ALWAYS if name == WITH_A_CYCLE else making.WHERE_NEEDED)
+
+
+@functools.cache
+def holding(name: str) -> Holding:
+    return Holding(description(name))
+
+
+def head_of(sentence: Expression) -> Expression:
+    return sentence[1] if sentence[0] == "<=" else sentence
+
+
+def places(sentences: Sentences, names: tuple[str, ...]) -> list[int]:
+    """Returns where rules with heads of these relations stand."""
+    return [at for at, sentence in enumerate(sentences) if sentence[0] == "<=" and relation(head_of(sentence))[0] in names]
+
+
+def dropped(name: str, dice: random.Random) -> Sentences:
+    """The rules without one of a `legal` or a `next`."""
+    sentences = right_rules(name)
+    at = dice.choice(places(sentences, ("legal", "next")))
+    return sentences[:at] + sentences[at + 1 :]
+
+
+def swapped(name: str, dice: random.Random) -> Sentences:
+    """The rules with two legal moves of a role in each other's place."""
+    sentences = right_rules(name)
+    heads = list(dict.fromkeys(head_of(sentence) for sentence in sentences if relation(head_of(sentence)) == ("legal", 2)))
+    role = dice.choice(heads)[1]
+    one, other = dice.sample([head for head in heads if head[1] == role], 2)
+    instead = {one: other, other: one}
+    found, seen = [], set()
+    for sentence in sentences:
+        head = head_of(sentence)
+        if head not in instead:
+            found.append(sentence)
+        elif head not in seen:
+            found += [sentence for sentence in sentences if head_of(sentence) == instead[head]]
+        seen.add(head)
+    return found
+
+
+def goal_off(name: str, dice: random.Random) -> Sentences:
+    """The rules with a goal that is off by one."""
+    sentences = right_rules(name)
+    at = dice.choice(places(sentences, ("goal",)))
+    _, role, value = head_of(sentences[at])
+    head = ("goal", role, str(int(value) + (1 if value == "0" else -1)))
+    return [*sentences[:at], ("<=", head, *sentences[at][2:]), *sentences[at + 1 :]]
+
+
+def without_last_literal(name: str, dice: random.Random) -> Sentences:
+    """The rules with one that has lost its last literal."""
+    sentences = right_rules(name)
+    at = dice.choice([at for at, sentence in enumerate(sentences) if sentence[0] == "<=" and len(sentence) > 3])
+    return [*sentences[:at], sentences[at][:-1], *sentences[at + 1 :]]
+
+
+def in_half_the_rounds(name: str) -> Sentences:
+    """The rules with the cycle unrolled in half the rounds that it needs."""
+    last = rounds.last_round
+    with mock.patch.object(rounds, "last_round", lambda circle, rules_for: last(circle, rules_for) // 2):
+        return instantiated(description(name), making.ALWAYS)
+
+
+def wound(sentences: Sentences) -> Record:
+    """The record of the match in which red's stones wind from side to side."""
+    match = begun(sentences)
+    cells = [("place", x, y) for x, y in WINDING]
+    others = sorted(head[2] for head in match.game.heads["legal", 2] if head[1] == "blue" and head[2] not in (*cells, "noop"))
+    for cell, other in zip(cells, [*others, None]):
+        for turn in ((cell, "noop"), ("noop", other)):
+            if match.phase()[0] == "playing":
+                match.turn([(move, "") for move in turn])
+    return ended(match)
+
+
+def reached(name: str, plant: Plant) -> tuple[Sentences, Record, Record]:
+    """Rules with something planted, and the records of a match that reaches it: by these and by the right rules."""
+    for number in range(TRIES):
+        wrong = plant(name, random.Random(f"{name} {number}"))
+        record = played(wrong, number)
+        right = played_again(right_rules(name), record)
+        if record != right:
+            return wrong, record, right
+    raise AssertionError(f"{name}: no match reaches what {plant.__name__} plants")
+
+
+def script_of(record: Record) -> list[str]:
+    """The lines from which a desk makes this record."""
+    name, roles = record["matchId"], range(len(record["roles"]))
+    lines = [f"open {name} 0 {record['startClock']} {record['playClock']} {' '.join(record['players'])}"]
+    lines += [f"submit {name} {role} 0 READY" for role in roles]
+    for number, (moves, errors) in enumerate(zip(record["moves"], record["errors"]), 1):
+        for role, move, error in zip(roles, moves, errors):
+            answer = error.removeprefix("IL ") if error.startswith("IL ") else move
+            lines.append(f"miss {name} {role} {number} silent" if error == "TO" else f"submit {name} {role} {number} {answer}")
+    if record["phase"] in ("finished", "aborted"):
+        lines += [f"submit {name} {role} {len(record['moves']) + 1} DONE" for role in roles]
+    return lines
+
+
+def asked(command: str, rules: str, data: str) -> list[str]:
+    """The lines that the program prints with these rules."""
+    done = subprocess.run([program(), command, "--rules-file", rules], input=data, stdout=subprocess.PIPE, text=True, check=True)
+    return done.stdout.splitlines()
+
+
+def made_by_program(sentences: Sentences, record: Record) -> str:
+    """The record that the program makes of the same answers by these rules. It has to find that lawful, and to replay it."""
+    with tempfile.NamedTemporaryFile("w", suffix=".kif") as file:
+        file.write("".join(f"{ground_games.text_of(sentence)}\n" for sentence in sentences))
+        file.flush()
+        script = script_of(record)
+        *replies, line = asked("desk", file.name, "".join(f"{text}\n" for text in script))
+        if replies != ["opened", *["taken"] * (len(script) - 1)]:
+            raise AssertionError(f"the desk does not take the match: {replies}")
+        account = "".join(f"0\t{call}\t{reply}\n" for call, reply in zip(script, replies))
+        if asked("verify", file.name, line) != ["lawful"] or asked("replay", file.name, account)[1:] != [line]:
+            raise AssertionError("the program refuses a match of its own")
+        return line
+
+
+@unittest.skipUnless(shutil.which("gringo"), "gringo is not installed")
+class Planted(unittest.TestCase):
+    def assert_found(self, name: str, wrong: Sentences, record: Record, right: Record) -> None:
+        """Looks that what is wrong is found in the program's record, and nothing in the right one."""
+        line = made_by_program(wrong, record)
+        self.assertEqual({key: json.loads(line)[key] for key in ("moves", "errors", "states", "goalValues")}, {key: record[key] for key in ("moves", "errors", "states", "goalValues")})
+        status, words = holding(name).held(line)
+        self.assertEqual((status, words.partition(":")[0]), (DIFFERENT, "differs"), words)
+        self.assertEqual(holding(name).held(json.dumps(right)), (SAME, f"the same: {len(right['moves']):,} turns"))
+
+    def assert_each_is_found(self, plant: Plant, names: tuple[str, ...] = PLANTED_IN) -> None:
+        for name in names:
+            with self.subTest(name):
+                self.assert_found(name, *reached(name, plant))
+
+    def test_a_dropped_rule(self):
+        self.assert_each_is_found(dropped)
+
+    def test_moves_in_the_wrong_order(self):
+        self.assert_each_is_found(swapped)
+
+    def test_a_goal_off_by_one(self):
+        self.assert_each_is_found(goal_off)
+
+    def test_a_rule_without_its_last_literal(self):
+        self.assert_each_is_found(without_last_literal, tuple(name for name in PLANTED_IN if name != WITH_A_CYCLE))
+
+    def test_half_the_rounds_of_a_cycle(self):
+        wrong = in_half_the_rounds(WITH_A_CYCLE)
+        record, right = wound(wrong), wound(right_rules(WITH_A_CYCLE))
+        self.assertEqual((record["phase"], right["phase"], right["goalValues"]), ("playing", "finished", [100, 0]))
+        self.assert_found(WITH_A_CYCLE, wrong, record, right)
+
+
+if __name__ == "__main__":
+    unittest.main()

@@ -1,0 +1,764 @@
+"""How matches are played: players that are busy, silent, or sit in several matches; Ctrl-C; a full disk; two runs in one folder."""
+
+import contextlib
+import json
+import os
+import pathlib
+import pty
+import resource
+import shutil
+import signal
+import subprocess
+import tempfile
+import time
+import types
+import unittest
+
+from ggp_tools.competition.children import UNSAID, end_with
+from ggp_tools.competition.files import held
+from ggp_tools.competition.playing import MOST_LINES, interrupts_counted
+from players import TestPlayer
+from support import GAMES, InFolder, program, program_but, run, run_into_full, start
+
+COUNTDOWN = [("countdown", GAMES / "countdown.kif")]
+HEAD = "start = 5\nplay = 5\nstrikes = 1\nwait = 1\ninfo = 5\ntries = 2\n"
+
+
+def lines(out, word):
+    return [line for line in out.splitlines() if line.startswith(word)]
+
+
+def read_to_close(terminal):
+    """Returns all that comes out of a terminal until its other end is closed."""
+    said = b""
+    with contextlib.suppress(OSError):
+        while piece := os.read(terminal, 4096):
+            said += piece
+    os.close(terminal)
+    return said.decode()
+
+
+class Play(InFolder):
+    def planned(self, kinds, head=HEAD, more=(), most=1, **rest):
+        """Plans a competition among players of these kinds."""
+        self.players = [TestPlayer(f"p{at}", kind, at, most) for at, kind in enumerate(kinds)]
+        self.schedule = self.plan([(player.name, player.place(), *more) for player in self.players], COUNTDOWN, head=head, **rest)
+
+    def test_a_line_as_each_begins_and_ends(self):
+        self.planned(["good", "lying", "good"])
+        status, out, said = run(self.folder, "play")
+        self.assertEqual((status, said), (0, ""))
+        self.assertEqual(sorted(line.split()[1] for line in lines(out, "begin")), [planned[0] for planned in self.schedule])
+        ends = lines(out, "end")
+        self.assertEqual(len(ends), 6)
+        self.assertRegex(ends[0], r"^end cup-\d{3} countdown p\d \d+, p\d \d+(, replaced p1 \d of \d)?, \d+\.\d s$")
+        self.assertEqual(sum("replaced p1" in end for end in ends), 4)
+        self.assertEqual(out.splitlines()[-1], "6 of 6 matches have a lawful record")
+        self.assert_sound(self.schedule)
+        status, out, _ = run(self.folder, "play")
+        self.assertEqual((status, out), (0, "6 of 6 matches have a lawful record\n"))
+
+    def test_who_has_lost_by_forfeit_is_told(self):
+        for head, said in (("forfeit = true\n", True), ("", False)):
+            self.planned(["good", "lying"], head=HEAD + head)
+            out = run(self.folder, "play")[1]
+            self.assertEqual([", forfeit: p1 (IL in turn 1), counts as " in line for line in lines(out, "end")], [said] * 2, out)
+            self.assertEqual(["p0 100" in line.partition("counts as")[2] for line in lines(out, "end")], [said] * 2, out)
+            run(self.folder, "pages")
+            pages = [self.folder / "pages" / name for name in ("index.html", "games/countdown.html", "matches/cup-001.html")]
+            self.assertEqual(["forfeit: p1 (IL in turn 1)" in page.read_text() for page in pages], [said] * 3)
+            shutil.rmtree(self.folder / "records")
+
+    def test_times_stand_in_matches_jsonl(self):
+        self.planned(["good", "slow"])
+        run(self.folder, "play")
+        found = [json.loads(line) for line in (self.folder / "matches.jsonl").read_text().splitlines()]
+        records = self.records()
+        self.assertEqual([match["id"] for match in found], ["cup-001", "cup-002"])
+        for match in found:
+            record, slow = records[match["id"]], match["players"].index("p1")
+            self.assertEqual((match["goals"], match["turns"], match["errors"]), (record["goalValues"], len(record["moves"]), [{}, {}]))
+            self.assertEqual([len(role) for role in match["messages"]], [match["turns"] + 2] * 2)
+            self.assertTrue(all(ms >= 120 for _, ms in match["messages"][slow]), match)
+            self.assertLess(match["begin"], match["end"])
+            self.assertEqual([kind for kind, _ in match["messages"][0]], ["start", *["play"] * match["turns"], "stop"])
+
+    def test_a_busy_player_is_asked_again_and_told(self):
+        self.planned(["good", "good", "good"])
+        self.players[0].status = "busy"
+        status, out, _ = run(self.folder, "play")
+        self.assertEqual(status, 1)
+        self.assertEqual(len(lines(out, "end")), 2)
+        self.assertEqual(len(lines(out, "back")), 1)
+        self.assertEqual(len(lines(out, "no record")), 4)
+        self.assertEqual({line.split(": ")[1] for line in lines(out, "missing")}, {"p0 is busy"})
+        self.players[0].status = None
+        status, out, _ = run(self.folder, "play")
+        self.assertEqual((status, len(lines(out, "end"))), (0, 4))
+        self.assert_sound(self.schedule)
+
+    def test_a_silent_player_is_left_or_played(self):
+        self.planned(["good", "good"], head=HEAD + 'absent = "play"\n')
+        self.players[1].leave()
+        status, out, _ = run(self.folder, "play")
+        self.assertEqual(status, 0, out)
+        self.assertEqual(len(lines(out, "absent")), 2)
+        self.assertEqual({tuple(sorted(set(map(str, turn)))) for record in self.records().values() for turn in record["errors"]}, {("", "CE"), ("", "RT")})
+        toml = self.folder / "competition.toml"
+        toml.write_text(toml.read_text().replace('"play"', '"leave"'))
+        shutil.rmtree(self.folder / "records")
+        status, out, _ = run(self.folder, "play")
+        self.assertEqual((status, lines(out, "begin")), (1, []))
+        self.assertEqual({line.split(": ")[1] for line in lines(out, "missing")}, {"p1 is silent"})
+
+    def test_a_line_of_the_log_is_no_word_of_why_there_is_no_record(self):
+        self.planned(["good", "good"])
+        log = "echo 'cup-001 role 0 p0 message 1 (PLAY cup-001 nil): x, 3 ms' >&2; printf 'cup-001 role 1 p1 mes' >&2"
+        # Status 1 without a word is that of a full disk, also where the log was written before.
+        for done, words, count in (("kill -9 $$", UNSAID.format(-9), 2), ("exit 1", UNSAID.format(1), 1)):
+            faulty = program_but(self.folder / "faulty", '"$1" = run', f"{log}; {done}")
+            status, out, _ = run(self.folder, "play", "--at-once", "1", "--program", faulty)
+            self.assertEqual((status, lines(out, "no record")), (1, [f"no record {planned[0]}: {words}" for planned in self.schedule[:count]]), out)
+
+    def test_a_folder_whose_name_is_no_text(self):
+        self.planned(["good", "good"])
+        cup = self.folder / os.fsdecode(b"\xff")
+        cup.mkdir()
+        for name in ("competition.toml", "schedule.tsv", "rules"):
+            shutil.move(self.folder / name, cup)
+        said = f"ggp_competition: {self.folder}/\\udcff: the path of a competition has to be UTF-8, since the referee takes no other\n"
+        self.assertEqual(run(cup, "play"), (2, "", said))
+        self.assertEqual(([run(cup, command)[0] for command in ("plan", "table")], list(cup.glob("open"))), ([0, 0], []))
+
+    def test_files_without_a_record_are_set_aside(self):
+        self.planned(["good", "good"])
+        run(self.folder, "play")
+        kept = {name: (self.folder / name).read_bytes() for name in ("accounts/cup-001.txt", "logs/cup-001.txt")}
+        (self.folder / "records/cup-001.json").unlink()
+        status, out, _ = run(self.folder, "play")
+        told = ["aside cup-001: it has no record; its other files are set aside, and it is played"]
+        self.assertEqual((status, lines(out, "aside"), len(lines(out, "end"))), (0, told, 1), out)
+        self.assertEqual({name: (self.folder / f"{name}.refused").read_bytes() for name in kept}, kept)
+        self.assert_sound(self.schedule)
+
+    def test_a_fault_of_info_is_not_the_player_s(self):
+        self.planned(["good", "good"], head=HEAD + 'absent = "play"\nhosts = ["nowhere"]\n')
+        write_fault = "ggp_manager: write fault"
+        # The disk may be full where a write fails, and where nothing can be said of it.
+        for done, words, count in ((f"echo '{write_fault}' >&2; exit 1", write_fault, 1), ("exit 1", UNSAID.format(1), 1), ("kill -9 $$", UNSAID.format(-9), 2)):
+            faulty = program_but(self.folder / "faulty", f'"$1" = info && "$3" = p0*', done)
+            status, out, _ = run(self.folder, "play", "--at-once", "1", "--program", faulty)
+            told = [f"no record {planned[0]}: p0 could not be asked: {words}" for planned in self.schedule]
+            self.assertEqual((status, lines(out, "no record"), lines(out, "begin")), (1, told[:count], []), out)
+            self.assertNotIn("silent", out)
+
+    def test_a_shortage_of_the_referee_is_not_the_player_s(self):
+        # It is waited for as long as INFO may take, and said after that.
+        self.planned(["good", "good"], head='start = 5\nplay = 5\ninfo = 10\nabsent = "play"\n')
+        unsent = "ggp_manager: not sent: out of ports"
+        short = program_but(self.folder / "short", '"$1" = info && "$3" = p0*', f"sleep 10; echo '{unsent}' >&2; exit 1")
+        status, out, _ = run(self.folder, "play", "--program", short)
+        told = [f"no record {planned[0]}: p0 could not be asked: {unsent}" for planned in self.schedule]
+        self.assertEqual((status, lines(out, "no record"), lines(out, "begin")), (1, told, []), out)
+        self.assertNotIn("silent", out)
+
+    def test_what_becomes_of_a_match_is_told_once_all_players_are_judged(self):
+        for head, first, second, words in (
+            ('absent = "play"\ntries = 1', "gone", "busy", ["no record cup-001: p1 is busy"]),
+            ('absent = "play"\ntries = 1', "busy", "gone", ["no record cup-001: p0 is busy"]),
+            ("tries = 1", "gone", "busy", ["no record cup-001: p0 is silent, p1 is busy"]),
+            ("tries = 2", "gone", "busy", ["back cup-001: p0 is silent, p1 is busy", "no record cup-001: p0 is silent, p1 is busy"]),
+            ('absent = "play"\ntries = 2', "gone", "gone", ["back cup-001: p0 is silent, p1 is silent", *(f"absent cup-001: p{number} is silent, and the match is played" for number in (0, 1))]),
+        ):
+            self.planned(["good", "good"], head=HEAD.replace("tries = 2\n", f"{head}\n"), form='kind = "schedule"\nlines = ["countdown p0 p1"]')
+            for player, kind in zip(self.players, (first, second)):
+                player.status = "busy"
+                if kind == "gone":
+                    player.leave()
+            out = run(self.folder, "play")[1]
+            self.assertEqual([line for line in out.splitlines() if line.split()[0] in ("back", "absent", "no")], words)
+
+    def test_one_player_s_last_try_is_another_s_first(self):
+        self.planned(["good"] * 3, form='kind = "schedule"\nlines = ["countdown p0 p1", "countdown p0 p2"]')
+        self.players[0].leave()
+        self.players[2].status = "busy"
+        out = run(self.folder, "play", "--at-once", "1")[1]
+        self.assertEqual(lines(out, "back"), ["back cup-001: p0 is silent"])
+        self.assertEqual(lines(out, "no record"), [f"no record cup-00{number}: p0 is silent" for number in (2, 1)])
+
+    def test_a_player_that_stays_busy_is_made_silent(self):
+        self.planned(["good", "good", "good"])
+        self.players[2].status = "busy"
+        status, out, _ = run(self.folder, "play")
+        self.assertEqual((status, len(lines(out, "end"))), (1, 2))
+        self.assertIn("nothing is published: 4 matches have no lawful record", run(self.folder, "publish")[2])
+        file, nobody = self.folder / "competition.toml", TestPlayer("nobody")
+        nobody.leave()
+        text = file.read_text().replace(self.players[2].place(), nobody.place())
+        for old, new in (("strikes", 'absent = "play"\nforfeit = true\nstrikes'), ("tries = 2", "tries = 1"), ("wait = 1", "wait = 0"), ("info = 5", "info = 9")):
+            text = text.replace(old, new)
+        file.write_text(f"{text}concurrent = 2\n")
+        status, out, _ = run(self.folder, "play")
+        self.assertEqual((status, len(lines(out, "absent")), len(lines(out, "end"))), (0, 4, 4), out)
+        self.assertEqual([run(self.folder, command)[0] for command in ("plan", "table", "publish")], [0, 0, 0])
+        self.assertEqual(run(self.folder, "check", "cup.tar.gz")[0], 0)
+        self.assert_sound(self.schedule)
+
+    def most_at_once(self, more, most):
+        """Plays among slow players that take so many matches. Returns in how many at once one of them sat."""
+        self.planned(["slow"] * 3, more=more, most=most)
+        status, _, _ = run(self.folder, "play", "--at-once", "6")
+        self.assertEqual((status, [player.clashes for player in self.players]), (0, [[]] * 3))
+        return max(player.sat for player in self.players)
+
+    def test_a_player_sits_in_one_match_at_a_time(self):
+        self.assertEqual(self.most_at_once((), 1), 1)
+
+    def test_a_player_may_sit_in_several(self):
+        found = self.most_at_once(("concurrent = 3",), 3)
+        self.assertGreater(found, 1)
+        self.assertLessEqual(found, 3)
+
+    def test_more_matches_than_a_shell_lets_files_be_open(self):
+        self.planned(["good"] * 4, more=("concurrent = 12",), most=12)
+        (self.folder / "begun").mkdir()
+        together = f"mkdir {self.folder}/begun/$$; until [ $(ls {self.folder}/begun | wc -l) -ge 12 ]; do sleep 0.1; done"
+        few = {"preexec_fn": lambda: resource.setrlimit(resource.RLIMIT_NOFILE, (24, resource.getrlimit(resource.RLIMIT_NOFILE)[1]))}
+        words = "play", "--at-once", "12", "--program", program_but(self.folder / "waiting", '"$1" = run', together)
+        self.assertEqual(run(self.folder, *words, **few)[::2], (0, ""))
+        self.assert_sound(self.schedule)
+
+    def test_a_short_outage_is_one_try_of_a_player_with_several_seats(self):
+        self.planned(["good"] * 3, head=HEAD.replace("wait = 1", "wait = 4"), more=("concurrent = 4",), most=4)
+        for player in self.players:
+            player.go_away()
+        playing = start(self.folder, "play", "--at-once", "6")
+        said = [playing.stdout.readline() for _ in range(6)]
+        for player in self.players:
+            player.come_back()
+        out, _ = playing.communicate(timeout=600)
+        self.assertEqual(([line.split()[0] for line in said], playing.returncode), (["back"] * 6, 0), out)
+        self.assertEqual((lines(out, "no record"), len(lines(out, "end"))), ([], 6))
+
+    def let_think(self, seconds):
+        """Has the players think so long before each move. A match has two moves of each at least."""
+        for player in self.players:
+            player.thinks = seconds
+
+    def interrupted(self, *signals):
+        """Plays among slow players, and sends it these signals while the first matches are open."""
+        self.planned(["slow"] * 4, head="start = 5\nplay = 5\n")
+        self.let_think(1)
+        # The tests themselves may run under nohup.
+        playing = start(self.folder, "play", preexec_fn=lambda: signal.signal(signal.SIGHUP, signal.SIG_DFL))
+        while len(list((self.folder / "open").glob("*/players"))) < 2:
+            time.sleep(0.02)
+        for number in signals:
+            playing.send_signal(number)
+            time.sleep(0.1)
+        out, said = playing.communicate(timeout=600)
+        self.assertEqual((playing.returncode, said), (1, ""))
+        self.let_think(0)
+        return out
+
+    def test_one_interrupt_waits_for_open_matches(self):
+        out = self.interrupted(signal.SIGINT)
+        self.assertEqual(len(lines(out, "begin")), len(lines(out, "end")))
+        missing = 12 - len(lines(out, "end"))
+        self.assertEqual(len(lines(out, "missing")), missing if missing <= MOST_LINES else 1)
+        self.assertEqual([player.aborted for player in self.players], [[]] * 4)
+
+    def test_one_interrupt_tells_the_number_of_what_is_missing(self):
+        self.planned(["slow"] * 8)
+        playing = start(self.folder, "play", "--at-once", "1")
+        while not list((self.folder / "open").glob("*/players")):
+            time.sleep(0.02)
+        playing.send_signal(signal.SIGINT)
+        out, said = playing.communicate(timeout=600)
+        self.assertEqual((playing.returncode, said, len(lines(out, "missing"))), (1, "", 1))
+        count = 56 - len(lines(out, "end"))
+        self.assertIn(f"missing {count} matches, {self.schedule[56 - count][0]} to cup-056: it was not begun\n{56 - count} of 56 matches have", out)
+
+    def test_a_run_after_a_killed_one_tells_at_once_for_whom_it_waits(self):
+        self.planned(["slow", "slow"])
+        self.let_think(1)
+        playing = start(self.folder, "play")
+        while not self.players[0].matches:
+            time.sleep(0.02)
+        playing.kill()
+        playing.communicate()
+        self.let_think(0)
+        # It comes before anything is looked at or sent.
+        waiting = program_but(self.folder / "waiting", '"$1" = abort', "sleep 60")
+        playing = start(self.folder, "play", "--program", waiting)
+        self.assertEqual(playing.stdout.readline(), "open 1 matches, when a play before this one was ended; their players are sent ABORT\n")
+        self.assertEqual([player.aborted for player in self.players], [[], []])
+        playing.kill()
+        playing.communicate()
+        self.assertEqual(run(self.folder, "play")[0], 0)
+
+    def test_a_second_interrupt_ends_them_and_frees_the_players(self):
+        self.look_at_ended_ones(self.interrupted(signal.SIGINT, signal.SIGINT))
+
+    def test_a_termination_ends_them_at_once(self):
+        self.look_at_ended_ones(self.interrupted(signal.SIGTERM))
+
+    def test_a_hang_up_ends_them_at_once(self):
+        self.look_at_ended_ones(self.interrupted(signal.SIGHUP))
+
+    def hung_up(self, *outputs):
+        """Plays with these outputs at a terminal that goes away while the first match is open, and ignores the hang-up. Returns the
+        status and what was printed elsewhere."""
+        self.planned(["slow"] * 3)
+        ours, theirs = pty.openpty()
+        ignored = {"preexec_fn": lambda: signal.signal(signal.SIGHUP, signal.SIG_IGN)}
+        playing = start(self.folder, "play", **dict.fromkeys(outputs, theirs), **ignored)
+        os.close(theirs)
+        while not list((self.folder / "open").glob("*/players")):
+            time.sleep(0.02)
+        os.close(ours)
+        playing.send_signal(signal.SIGHUP)
+        out, _ = playing.communicate(timeout=600)
+        self.assertEqual([(player.matches, player.aborted) for player in self.players], [({}, [])] * 3)
+        self.assertEqual(list((self.folder / "open").iterdir()), [])
+        return playing.returncode, out
+
+    def test_a_terminal_that_is_gone_ends_no_open_match(self):
+        status, out = self.hung_up("stderr")
+        self.assertEqual((status, out.splitlines()[-1]), (0, "6 of 6 matches have a lawful record"))
+
+    def test_nor_does_one_that_has_all_the_output(self):
+        status, out = self.hung_up("stdout", "stderr")
+        self.assertEqual((status, out), (1, None))
+        self.assertIn(len(self.records()), range(1, 6))
+
+    def test_signals_are_as_before_when_it_is_over(self):
+        playing = types.SimpleNamespace(interrupts=0)
+        numbers = signal.SIGINT, signal.SIGTERM, signal.SIGHUP
+        self.addCleanup(signal.signal, signal.SIGHUP, signal.signal(signal.SIGHUP, signal.SIG_DFL))
+        before = [signal.getsignal(number) for number in numbers]
+        with interrupts_counted(playing):
+            for number in numbers:
+                os.kill(os.getpid(), number)
+        self.assertEqual(([signal.getsignal(number) for number in numbers], playing.interrupts), (before, 5))
+
+    def look_at_ended_ones(self, out):
+        ended = [line.split()[1].rstrip(":") for line in lines(out, "abort")]
+        self.assertGreaterEqual(len(ended), 2)
+        self.assertEqual(sorted(match for player in self.players for match in player.aborted), sorted(2 * ended))
+        self.assertEqual([player.matches for player in self.players], [{}] * 4)
+        for match in ended:
+            self.assertIn(f"missing {match}: it was ended before its end", out)
+        self.assertEqual(list((self.folder / "open").iterdir()), [])
+        self.assertEqual(run(self.folder, "play")[0], 0)
+        self.assertEqual([player.clashes for player in self.players], [[]] * 4)
+        self.assert_sound(self.schedule)
+
+    def at_play(self):
+        """Returns how many processes play matches of this folder."""
+        commands = []
+        for file in pathlib.Path("/proc").glob("[0-9]*/cmdline"):
+            try:
+                commands.append(file.read_bytes())
+            except OSError:
+                continue
+        return sum(b"\0run\0" in command and os.fsencode(self.folder) in command for command in commands)
+
+    def test_a_killed_run_leaves_no_match_at_play(self):
+        self.planned(["slow"] * 4, head="start = 600\nplay = 600\n")
+        self.let_think(600)
+        playing = start(self.folder, "play")
+        while not self.at_play():
+            time.sleep(0.01)
+        playing.kill()
+        playing.communicate()
+        # On a busy computer the end of a process takes a moment; a match takes longer.
+        end = time.monotonic() + 120
+        while self.at_play() and time.monotonic() < end:
+            time.sleep(0.01)
+        self.assertEqual(self.at_play(), 0)
+
+    def test_a_match_begun_as_its_run_is_killed_is_not_played(self):
+        with subprocess.Popen(["sleep", "60"], preexec_fn=lambda: end_with(0)) as orphan:
+            self.assertEqual(orphan.wait(10), -signal.SIGKILL)
+
+    def test_an_abort_without_an_answer_is_due_until_it_is_answered(self):
+        self.planned(["slow", "slow"], head=HEAD.replace("tries = 2", "tries = 1"), form='kind = "schedule"\nlines = ["countdown p0 p1"]')
+        away, players = self.players[0], self.folder / "open/cup-001/players"
+        self.let_think(1)
+        playing = start(self.folder, "play")
+        while not away.matches:
+            time.sleep(0.02)
+        playing.kill()
+        playing.communicate()
+        self.let_think(0)
+        away.go_away()
+        unanswered = [f"no answer to abort cup-001: p0@{away.place()}"]
+        status, out, _ = run(self.folder, "play")
+        self.assertEqual((status, lines(out, "no answer"), players.exists()), (1, unanswered, True), out)
+        for number in (signal.SIGTERM, signal.SIGINT):
+            playing = start(self.folder, "play", "--program", program_but(self.folder / "slow", '"$1" = info', "sleep 60"))
+            while not (self.folder / "open/cup-001/info-1").exists() or playing.stdout.readline() != f"{unanswered[0]}\n":
+                time.sleep(0.02)
+            playing.send_signal(number)
+            out, _ = playing.communicate(timeout=600)
+            self.assertEqual((playing.returncode, players.exists()), (1, True), out)
+        away.come_back()
+        self.assertEqual((len(away.matches), away.aborted), (1, []))
+        status, out, _ = run(self.folder, "play")
+        self.assertEqual((status, away.aborted, lines(out, "no answer"), len(lines(out, "end"))), (0, ["cup-001"], [], 1), out)
+        self.assertFalse(players.exists())
+
+    def test_a_journal_that_can_not_be_written_ends_no_open_match(self):
+        self.planned(["good"] * 3)
+        (self.folder / "play.log").symlink_to("/dev/full")
+        status, out, _ = run(self.folder, "play", "--at-once", "1")
+        told = ["play.log is not written, and no more matches begin: No space left on device"]
+        self.assertEqual((status, lines(out, "play.log"), [player.matches for player in self.players]), (1, told, [{}] * 3), out)
+        (self.folder / "play.log").unlink()
+        self.assertEqual(run(self.folder, "play")[0], 0)
+        self.assert_sound(self.schedule)
+
+    def held_up(self):
+        """Plays until a match is open, which goes on once the file `go` is there."""
+        self.planned(["slow", "slow"])
+        waiting = program_but(self.folder / "waiting", '"$1" = run', f"until [ -e {self.folder}/go ]; do sleep 0.05; done")
+        playing = start(self.folder, "play", "--program", waiting)
+        while not list((self.folder / "open").glob("*/players")):
+            time.sleep(0.02)
+        return playing
+
+    def test_two_runs_in_one_folder(self):
+        playing = self.held_up()
+        self.assertEqual(run(self.folder, "play"), (2, "", "ggp_competition: .: another run plans, plays or publishes this competition\n"))
+        (self.folder / "go").touch()
+        playing.communicate(timeout=600)
+        self.assertEqual(playing.returncode, 0)
+
+    def test_no_plan_is_made_while_matches_are_played(self):
+        playing = self.held_up()
+        file, before = self.folder / "competition.toml", (self.folder / "schedule.tsv").read_bytes()
+        text = file.read_text()
+        file.write_text(text.replace("play = 5", "play = 6"))
+        self.assertEqual(run(self.folder, "plan"), (2, "", "ggp_competition: .: another run plans, plays or publishes this competition\n"))
+        file.write_text(text)
+        (self.folder / "go").touch()
+        playing.communicate(timeout=600)
+        self.assertEqual((playing.returncode, (self.folder / "schedule.tsv").read_bytes()), (0, before))
+        self.assertEqual(run(self.folder, "play"), (0, "2 of 2 matches have a lawful record\n", ""))
+
+    def test_a_folder_whose_name_begins_with_a_hyphen(self):
+        self.planned(["good", "good"])
+        cup = self.folder / "-cup"
+        cup.mkdir()
+        shutil.move(self.folder / "competition.toml", cup)
+        shutil.copy(GAMES / "countdown.kif", cup / "-countdown.kif")
+        file = cup / "competition.toml"
+        file.write_text(file.read_text().replace(str(GAMES / "countdown.kif"), "-countdown.kif"))
+        for words in (("plan", "./-cup"), ("play", "./-cup"), ("play", "--program", program(), "--", "-cup"), ("table", "./-cup"), ("publish", "./-cup"), ("check", "./-cup/cup.tar.gz")):
+            status, out, said = run(self.folder, *words)
+            self.assertEqual((status, said), (0, ""), out)
+        self.folder = cup
+        self.assert_sound(self.schedule)
+
+    def test_a_folder_that_is_not_there(self):
+        self.assertEqual(run(self.folder, "play", "none"), (2, "", "ggp_competition: none can't be read: No such file or directory\n"))
+
+    def test_what_is_not_lawful_is_played_again(self):
+        self.planned(["good", "good", "good"])
+        run(self.folder, "play")
+        changes = [
+            ("records/cup-001.json", lambda text: text.replace(b"(take 1)", b"(take 2)", 1), "not lawful"),
+            ("records/cup-002.json", lambda text: text[:-20], "not one line"),
+            ("accounts/cup-003.txt", lambda text: text.replace(b"taken", b"over", 1), "does not give its record again"),
+            ("accounts/cup-004.txt", None, "its account is missing"),
+            ("records/cup-005.json", lambda _: (self.folder / "records/cup-006.json").read_bytes(), "does not give its record again"),
+        ]
+        for name, change, _ in changes:
+            file = self.folder / name
+            file.write_bytes(change(file.read_bytes())) if change else file.unlink()
+        status, out, _ = run(self.folder, "play")
+        self.assertEqual((status, len(lines(out, "refused")), len(lines(out, "end"))), (0, 5, 5), out)
+        for (_, _, words), line in zip(changes, lines(out, "refused")):
+            self.assertIn(words, line)
+        self.assert_sound(self.schedule)
+        self.assertTrue((self.folder / "records/cup-001.json.refused").exists())
+
+    def files(self):
+        """Returns the files of the matches, by their names."""
+        return {str(file.relative_to(self.folder)): file.read_bytes() for kind in ("records", "accounts", "logs") for file in (self.folder / kind).iterdir()}
+
+    def test_what_can_not_be_checked_is_not_touched(self):
+        self.planned(["good", "good", "good"])
+        run(self.folder, "play")
+        before = self.files()
+        short = "echo 'ggp_manager: want of memory' >&2; exit 3"
+        shortages = [
+            ('"$1 $2" = "verify --lines"', short, "`ggp_manager verify` came to no verdict with rules/countdown.kif: want of memory, status 3"),
+            ('"$1" = verify', "kill -9 $$", "`ggp_manager verify` came to no verdict with rules/countdown.kif: it said nothing, status -9"),
+            ('"$1" = verify', "echo lawful; exit 0", "`ggp_manager verify` came to no verdict with rules/countdown.kif: it said nothing, status 0"),
+            ('"$1" = verify', "cat > /dev/null; echo 'ggp_manager: input too long' >&2; exit 1", "input too long, status 1"),
+            ('"$1" = verify', f"{program()} \"$@\"; echo 'ggp_manager: read fault' >&2; exit 1", "read fault, status 1"),
+            ('"$1" = replay', "kill -9 $$", "`ggp_manager replay` came to no verdict with rules/countdown.kif: it said nothing, status -9"),
+            ('"$1" = replay', short, "want of memory, status 3"),
+        ]
+        for at, (asked, done, words) in enumerate(shortages):
+            short_one = program_but(self.folder / "short", asked, done)
+            for command in ("play", "table", "pages", "publish") if at == 0 else ("play",):
+                with self.subTest(f"{command}: {asked}: {done}"):
+                    status, out, said = run(self.folder, command, "--program", short_one)
+                    self.assertEqual((status, out), (3, ""), said)
+                    self.assertRegex(said, r"^ggp_competition: `ggp_manager (verify|replay)` came to no verdict [^\n]*; nothing is changed\n$")
+                    self.assertIn(words, said)
+                    self.assertEqual(self.files(), before)
+        self.assertEqual(run(self.folder, "play")[:2], (0, "6 of 6 matches have a lawful record\n"))
+
+    def test_a_shortage_for_many_accounts_is_none_for_one(self):
+        self.planned(["good", "good"])
+        run(self.folder, "play")
+        alone = program_but(self.folder / "short", '"$1" = replay', 'all=$(cat); [ $(grep -c "open " <<< "$all") -gt 1 ] && exit 3; exec %s "$@" <<< "$all"' % program())
+        self.assertEqual(run(self.folder, "play", "--program", alone), (0, "2 of 2 matches have a lawful record\n", ""))
+
+    def test_a_damaged_record_costs_no_other(self):
+        self.planned(["good", "good", "good"])
+        run(self.folder, "play")
+        record, before = self.folder / "records/cup-001.json", self.files()
+        damages = [
+            (b"5\n", "its record does not begin with `{`"),
+            (b"\n", "its record does not begin with `{`"),
+            (before["records/cup-001.json"][:-1] + b" " * (16 << 20) + b"\n", "its record has more than 16,777,216 bytes"),
+        ]
+        for (data, words), ending in zip(damages, ("refused", "refused.2", "refused.3")):
+            with self.subTest(words):
+                record.write_bytes(data)
+                self.assertIn(f"ggp_competition: cup-001 does not count: {words}\n", run(self.folder, "table")[2])
+                status, out, _ = run(self.folder, "play")
+                self.assertEqual((status, lines(out, "refused")), (0, [f"refused cup-001: {words}; its files are set aside, and it is played again"]))
+                after = self.files()
+                self.assertEqual([name for name in before if "cup-001" not in name and after[name] != before[name]], [])
+                self.assertEqual(after[f"records/cup-001.json.{ending}"], data)
+
+    def test_a_replay_that_is_ended_during_play_is_told_as_it_is(self):
+        self.planned(["good", "good"])
+        ended = program_but(self.folder / "short", '"$1" = replay', "kill -9 $$")
+        status, out, _ = run(self.folder, "play", "--program", ended)
+        self.assertEqual((status, len(lines(out, "no record"))), (1, 2))
+        self.assertTrue(all("it ended with status -9" in line for line in lines(out, "no record")), out)
+
+    def test_a_match_that_was_played_and_not_checked_is_kept_aside(self):
+        self.planned(["good", "good"])
+        short = "echo 'ggp_manager: want of memory' >&2; exit 3"
+        played = ("records/cup-001.json", "accounts/cup-001.txt", "logs/cup-001.txt")
+        # With --lines `verify` only says whether the rules are accepted, as the plan is read.
+        record = '"$1" = verify && "$2" != --lines'
+        shortages = [(record, short, "want of memory"), (record, "kill -9 $$", "status -9"), ('"$1" = replay', short, "want of memory")]
+        for (asked, done, words), ending in zip(shortages, ("unchecked", "unchecked.2", "unchecked.3")):
+            before = self.files() if (self.folder / "records").exists() else {}
+            status, out, _ = run(self.folder, "play", "--program", program_but(self.folder / "short", asked, done))
+            told = lines(out, "no record cup-001")
+            self.assertEqual((status, len(told), self.records()), (1, 1, {}), out)
+            self.assertIn(f"it was played, but not checked, and is kept as records/cup-001.json.{ending}: ", told[0])
+            self.assertIn(words, told[0])
+            after = self.files()
+            self.assertEqual({name: after[name] for name in before}, before)
+            self.assertLess({f"{match}.{ending}" for match in played}, set(after) - set(before))
+        for match in played:
+            os.rename(self.folder / f"{match}.unchecked", self.folder / match)
+        kept = (self.folder / played[0]).read_bytes()
+        status, out, _ = run(self.folder, "play")
+        self.assertEqual((status, len(lines(out, "end")), (self.folder / played[0]).read_bytes()), (0, 1, kept), out)
+        self.assertTrue((self.folder / "records/cup-001.json.unchecked.2").exists())
+        self.assert_sound(self.schedule)
+
+    def test_a_record_that_does_not_verify_does_not_count(self):
+        self.planned(["good", "good"])
+        goals = 's/"goalValues":.100,0./"goalValues":[50,50]/; s/"goalValues":.0,100./"goalValues":[50,50]/'
+        for change, words in ((goals, "not lawful: goals"), ("s/taken$/over/", "its account does not give its record again")):
+            liar = self.folder / "liar"
+            liar.write_text(f"#!/bin/bash\nset -o pipefail\n[ \"$1\" = run ] || exec {program()} \"$@\"\n{program()} \"$@\" | sed '{change}'\n")
+            liar.chmod(0o755)
+            status, out, _ = run(self.folder, "play", "--program", liar)
+            self.assertEqual((status, len(lines(out, "no record")), lines(out, "end")), (1, 2, []), out)
+            self.assertTrue(all(words in line for line in lines(out, "no record")), out)
+            self.assertEqual([*self.folder.glob("*/cup-*")], [])
+        status, out, _ = run(self.folder, "play")
+        self.assertEqual((status, len(lines(out, "end"))), (0, 2))
+
+    def test_lawful_records_of_other_matches_are_not_touched(self):
+        self.planned(["good", "good"])
+        run(self.folder, "play")
+        toml = self.folder / "competition.toml"
+        toml.write_text(toml.read_text().replace("strikes = 1", "strikes = 2"))
+        status, out, said = run(self.folder, "play")
+        self.assertEqual((status, out), (2, ""))
+        self.assertIn("records/cup-001.json is lawful, and of another match: its strikes is 1, and competition.toml has 2", said)
+        self.assertEqual(len(list((self.folder / "records").iterdir())), 2)
+
+    def test_a_record_of_no_match_is_to_be_moved(self):
+        self.planned(["good", "good"])
+        run(self.folder, "play")
+        before, records = self.files(), self.folder / "records"
+        for name, more in (("cup-099.json", ""), ("cup-100.json", ", and 1 more")):
+            (records / name).touch()
+            said = f"ggp_competition: records/cup-099.json is of no match of the schedule{more}: move what is of no match out of records, and play again\n"
+            self.assertEqual(run(self.folder, "play"), (2, "", said))
+            self.assertEqual(run(self.folder, "table")[::2], (0, ""))
+        for name in ("cup-099.json", "cup-100.json"):
+            (records / name).rename(self.folder / name)
+        self.assertEqual(run(self.folder, "play"), (0, "2 of 2 matches have a lawful record\n", ""))
+        self.assertEqual(self.files(), before)
+
+    def test_plan_does_not_change_what_was_played(self):
+        self.planned(["good", "good"])
+        run(self.folder, "play")
+        self.assertEqual(run(self.folder, "plan")[0], 0)
+        file = self.folder / "competition.toml"
+        file.write_text(file.read_text().replace("play = 5", "play = 6"))
+        status, _, said = run(self.folder, "plan")
+        self.assertEqual(status, 2)
+        self.assertIn("the clocks of countdown were 5 and 5, and are 5 and 6: put back what was changed", said)
+
+    @unittest.skipIf(os.geteuid(), "only root can mount a small disk")
+    def test_a_full_disk_costs_the_open_matches_alone(self):
+        self.planned(["good"] * 4)
+        room = tempfile.mkdtemp()
+        if subprocess.run(["mount", "-t", "tmpfs", "-o", "size=120k", "none", room], capture_output=True).returncode:
+            self.skipTest("a small disk can't be mounted here")
+        try:
+            small = pathlib.Path(room) / "cup"
+            shutil.copytree(self.folder, small)
+            status, out, _ = run(small, "play", "--at-once", "2")
+            kept = [file for file in (small / "records").glob("*.json") if not file.name.startswith(".")]
+            self.assertEqual(status, 1, out)
+            self.assertRegex(out, "No space left on device|write fault|the disk is full")
+            self.assertNotIn("begin ", out.partition("no record")[2])
+            self.assertEqual([player.matches for player in self.players], [{}] * 4)
+            shutil.rmtree(self.folder)
+            shutil.copytree(small, self.folder)
+        finally:
+            subprocess.run(["umount", room], check=True)
+            os.rmdir(room)
+        status, out, _ = run(self.folder, "play")
+        self.assertEqual((status, lines(out, "refused"), len(lines(out, "end"))), (0, [], 12 - len(kept)))
+        self.assert_sound(self.schedule)
+
+    def test_a_full_output_ends_no_open_match(self):
+        self.planned(["slow"] * 4)
+        said = "ggp_competition: standard output: No space left on device\n"
+        self.assertEqual(run_into_full(self.folder, "play", "--at-once", "2"), (1, said))
+        kept = len(self.records())
+        self.assertIn(kept, (1, 2))
+        self.assertEqual([player.matches for player in self.players], [{}] * 4)
+        self.assertEqual(([player.aborted for player in self.players], list((self.folder / "open").iterdir())), ([[]] * 4, []))
+        self.assertEqual(run_into_full(self.folder, "table"), (1, said))
+        status, out, _ = run(self.folder, "play")
+        self.assertEqual((status, len(lines(out, "end"))), (0, 12 - kept))
+        self.assertEqual(run_into_full(self.folder, "publish"), (1, said))
+        self.assert_sound(self.schedule)
+
+    def test_a_reader_that_wants_no_more_ends_no_open_match(self):
+        self.planned(["slow"] * 4)
+        self.let_think(1)
+        playing = start(self.folder, "play", "--at-once", "2")
+        self.assertIn("begin", playing.stdout.readline())
+        self.assertIn("begin", playing.stdout.readline())
+        playing.stdout.close()
+        said = playing.stderr.read()
+        playing.stderr.close()
+        self.assertEqual((playing.wait(60), said), (1, "ggp_competition: standard output: Broken pipe\n"))
+        # A match that begins while the first is checked is played to its end too.
+        self.assertIn(len(self.records()), (2, 3, 4))
+        self.assertEqual(list((self.folder / "open").iterdir()), [])
+        self.assertEqual([(player.matches, player.aborted) for player in self.players], [({}, [])] * 4)
+
+    def test_a_table_that_can_not_be_written_is_printed(self):
+        self.planned(["good", "good"])
+        run(self.folder, "play")
+        for name in ("table.json", "matches.jsonl"):
+            shutil.rmtree(self.folder / name) if (self.folder / name).is_dir() else (self.folder / name).unlink(missing_ok=True)
+            (self.folder / name).mkdir()
+            status, out, said = run(self.folder, "table")
+            self.assertEqual((status, said), (1, f"ggp_competition: {name}: Is a directory\n"))
+            self.assertTrue(out.startswith("cup: 2 of 2 matches\n"), out)
+
+    def test_what_is_no_room_of_a_match_is_left_alone(self):
+        self.planned(["good", "good"])
+        rooms = self.folder / "open"
+        rooms.mkdir()
+        (rooms / ".DS_Store").touch()
+        (rooms / "mine").mkdir()
+        (rooms / "mine/notes").touch()
+        (rooms / "link").symlink_to(self.folder)
+        (rooms / "cup-001").mkdir()
+        words = b"hello", b"p0@127.0.0.1", b"p0@127.0.0.1:65536", b"p0@127.0.0.1:1 and more", b"\xff", b""
+        for at, word in enumerate(words):
+            (rooms / f"foo-{at}").mkdir()
+            (rooms / f"foo-{at}/players").write_bytes(word)
+        (rooms / "cup-002").mkdir()
+        (rooms / "cup-002/players").write_bytes(words[0])
+        (rooms / "old-001").mkdir()
+        (rooms / "old-001/players").write_text(f"p0@{self.players[0].place()}\n")
+        status, out, said = run(self.folder, "play")
+        self.assertEqual((status, said, lines(out, "abort")), (0, "", [f"abort old-001: p0@{self.players[0].place()}"]), out)
+        self.assertEqual(sorted(file.name for file in rooms.iterdir()), [".DS_Store", *(f"foo-{number}" for number in range(6)), "link", "mine"])
+        self.assertTrue((rooms / "mine/notes").exists() and (self.folder / "schedule.tsv").exists())
+
+    def test_a_match_without_its_log_counts(self):
+        self.planned(["good", "good"])
+        run(self.folder, "play")
+        before = self.files()
+        (self.folder / "logs/cup-001.txt").unlink()
+        said = "ggp_competition: cup-001 counts without its times: its log is missing\n"
+        self.assertEqual(run(self.folder, "play"), (0, "2 of 2 matches have a lawful record\n", said))
+        found = json.loads((self.folder / "matches.jsonl").read_text().splitlines()[0])
+        self.assertEqual((found["begin"], found["messages"]), (None, [[], []]))
+        self.assertEqual(run(self.folder, "table")[::2], (0, said))
+        self.assertEqual(run(self.folder, "pages")[::2], (0, ""))
+        self.assertEqual(run(self.folder, "publish")[::2], (0, said))
+        self.assertEqual(run(self.folder, "check", "cup.tar.gz")[::2], (0, ""))
+        self.assertEqual(self.files(), {name: data for name, data in before.items() if name != "logs/cup-001.txt"})
+
+    def test_streams_that_are_closed(self):
+        self.planned(["good", "good"])
+        self.assertEqual((run(self.folder, "play", preexec_fn=lambda: os.close(2))[0], len(self.records())), (0, 2))
+        shutil.rmtree(self.folder / "records")
+        self.assertEqual(run(self.folder, "play", preexec_fn=lambda: os.closerange(0, 3)), (0, "", ""))
+        self.assert_sound(self.schedule)
+        with held(self.folder):
+            self.assertEqual(run(self.folder, "play", preexec_fn=lambda: os.close(2)), (2, "", ""))
+            self.assertEqual(run(self.folder, "play", preexec_fn=lambda: os.close(1))[:2], (2, ""))
+
+    def test_progress_on_a_terminal(self):
+        self.planned(["slow", "slow"])
+        ours, theirs = pty.openpty()
+        playing = start(self.folder, "play", stdout=subprocess.DEVNULL, stderr=theirs)
+        os.close(theirs)
+        said = read_to_close(ours)
+        self.assertEqual(playing.wait(), 0)
+        self.assertRegex(said, r"over 0, open 1, to come 1, left unknown")
+        self.assertRegex(said, r"over 1, open [01], to come [01], left 0:00:\d\d")
+
+    def test_watch_writes_the_pages(self):
+        self.planned(["slow"] * 4)
+        playing = start(self.folder, "play", "--watch", "--at-once", "1")
+        first = self.folder / "pages/index.html"
+        while playing.poll() is None and not (first.exists() and list((self.folder / "open").glob("*/players"))):
+            time.sleep(0.02)
+        self.assertRegex(first.read_text(), r"\b([1-9]|1[01]) of 12 matches are over")
+        out, said = playing.communicate(timeout=600)
+        self.assertEqual((playing.returncode, said, lines(out, "pages")), (0, "", []))
+        self.assertIn("12 of 12 matches are over", first.read_text())
+        self.assertEqual(len(list((self.folder / "pages/matches").iterdir())), 12)
+
+    def test_pages_that_can_not_be_written_end_no_open_match(self):
+        self.planned(["slow"] * 4)
+        (self.folder / "pages").touch()
+        status, out, said = run(self.folder, "play", "--watch", "--at-once", "2")
+        self.assertEqual((status, said, len(lines(out, "end"))), (1, "", 12), out)
+        self.assertEqual({*lines(out, "pages")}, {"pages are not written: pages/matches: Not a directory"})
+        self.assertEqual(out.splitlines()[-1], "12 of 12 matches have a lawful record")
+        self.assertEqual([player.aborted for player in self.players], [[]] * 4)
+
+
+if __name__ == "__main__":
+    unittest.main()

@@ -1,0 +1,28 @@
+"""Random descriptions are instantiated in four forms that are one game, that of the description; and a fault in that shows."""
+
+import shutil
+import unittest
+from unittest import mock
+
+from ggp_tools.instantiating import rounds
+from random_descriptions import Tried
+
+FEW = range(12)
+# Among these is one whose cycle needs more than one round in its first match.
+WITH_A_CYCLE = range(12, 18)
+
+
+@unittest.skipUnless(shutil.which("gringo"), "gringo is not installed")
+class RandomDescriptions(unittest.TestCase):
+    def test_four_forms_are_one_game(self):
+        tried = [Tried(seed) for seed in FEW]
+        self.assertEqual([match.fault for match in tried], [None] * len(FEW))
+        self.assertGreater(sum(match.turns for match in tried), 100)
+
+    def test_a_fault_shows(self):
+        with mock.patch.object(rounds, "last_round", lambda circle, rules_for: 0):
+            self.assertTrue(any(Tried(seed).fault for seed in WITH_A_CYCLE))
+
+
+if __name__ == "__main__":
+    unittest.main()

@@ -1,0 +1,361 @@
+"""Competitions by rounds, in a folder: each round follows from the records of the one before, and a schedule that does not is refused. The
+referee is a stand-in here, and the records are only what results are read from."""
+
+import json
+import pathlib
+import re
+import tempfile
+import unittest
+from collections import Counter
+from unittest import mock
+
+from ggp_tools.competition.again import order_again
+from ggp_tools.competition.competition_file import Mistaken, read_competition
+from ggp_tools.competition.files import Folder, Refused
+from ggp_tools.competition.growth import Again
+from ggp_tools.competition.history import again_text
+from ggp_tools.competition.kept import result_in_file
+from ggp_tools.competition.pages import Site
+from ggp_tools.competition.plan import grows, make_plan, plan_next_round, read_plan, refuse_lost_results, round_words, rounds_left, sums_text
+from ggp_tools.competition.round_pages import count_of_all, round_text, rounds_part, rounds_words
+from ggp_tools.competition.rounds import Round, bracket, matches_to_come, paired, rounds_of
+from ggp_tools.competition.schedule import Match, asked
+from ggp_tools.competition.table import tables_of
+from ggp_tools.competition.table_text import notes, standings_rows, table_files
+from support import stand_in, toml
+
+REFEREE = stand_in(roles=lambda *_: ("a", "b"))
+SWISS = 'kind = "swiss"\nrounds = {}'
+
+
+def record(match, goals, **more):
+    """Returns what of a record its result is read from."""
+    said = {"matchId": match.id, "players": list(match.players), "startClock": match.start, "playClock": match.play, "strikes": 0, "phase": "finished"}
+    return {**said, "cause": None, "goalValues": goals, "moves": [["m", "m"]], "errors": [["", ""]], **more}
+
+
+def is_lawful(_, __, ___, matches):
+    """Stands in for what says that a match counts."""
+    return iter([(matches[0], None, None, object())])
+
+
+class ByRounds(unittest.TestCase):
+    def setUp(self):
+        room = tempfile.TemporaryDirectory()
+        self.addCleanup(room.cleanup)
+        self.folder = Folder(pathlib.Path(room.name))
+        (self.folder.path / "game.kif").write_text("(role a)\n(role b)\n")
+        self.folder.make(self.folder.records)
+
+    def write(self, count, form, head="", step=1):
+        text = toml([(f"p{at}", f"h:{at + 1}") for at in range(count)[::step]], [("game", "game.kif", "aborts = true")], form, head)
+        self.folder.competition.write_text(text)
+
+    def make(self):
+        return make_plan(self.folder.path, REFEREE)
+
+    def read(self):
+        return read_plan(self.folder.path, REFEREE)
+
+    def play(self, plan, goals_of=lambda match: [100, 0] if match.players < match.players[::-1] else [0, 100]):
+        """Writes records of all matches that have none: the player with the lower number wins, unless it is said otherwise."""
+        for match in plan.matches:
+            if not self.folder.record(match.id).exists() and not match.again:
+                self.folder.record(match.id).write_text(json.dumps(record(match, goals_of(match))) + "\n")
+        return {match.id: found for match in plan.matches if (found := result_in_file(self.folder, plan.competition, match))}
+
+    def pairs(self, plan):
+        return [(found.pairs, found.byes) for found in plan.rounds]
+
+    def assert_refused(self, words, call=None):
+        with self.assertRaises(Refused) as why:
+            (call or self.read)()
+        self.assertIn(words, str(why.exception))
+
+    def test_a_swiss_competition_from_its_first_round_to_its_table(self):
+        self.write(5, SWISS.format(3))
+        plan = self.make()
+        self.assertEqual(round_words(plan, plan.matches), "round 1 of 3: cup-001 to cup-004; bye: p4")
+        self.assertEqual([match.players for match in plan.matches], [("p0", "p1"), ("p2", "p3"), ("p1", "p0"), ("p3", "p2")])
+        self.assertEqual((rounds_left(plan), plan_next_round(plan, {})), (2, []))
+        results = self.play(plan)
+        new = plan_next_round(plan, results)
+        # p0, p2 and p4 have two points; the bye has no opponent whose points would count.
+        self.assertEqual(round_words(plan, new), "round 2 of 3: cup-005 to cup-008; bye: p3")
+        self.assertEqual(self.pairs(plan)[1], ((("p0", "p2"), ("p4", "p1")), ("p3",)))
+        self.assertEqual((self.read().matches, self.pairs(self.read())), (plan.matches, self.pairs(plan)))
+        plan_next_round(plan, self.play(plan))
+        results = self.play(plan)
+        self.assertEqual((plan_next_round(plan, results), rounds_left(plan)), ([], 0))
+        tables = tables_of(plan.competition, list(results.values()), plan.rounds)
+        heads, *rows = standings_rows(tables[0])
+        self.assertEqual(heads[:6], ["", "player", "matches", "points", "Buchholz", "goals"])
+        # By hand: p0 has beaten p1, p2 and p4, p1 has beaten p4 and p3, p2 has beaten p3.
+        wanted = [["1", "p0", "6", "6", "10"], ["2", "p1", "6", "4", "10"], ["3", "p2", "4", "4", "8"], ["4", "p4", "4", "2", "10"], ["5", "p3", "4", "2", "8"]]
+        self.assertEqual([row[:5] for row in rows], wanted)
+        self.assertEqual(list(notes(tables[0]))[:3], [f"round {found.number}; bye: {found.byes[0]}" for found in plan.rounds])
+        files = table_files(plan, tables)
+        self.assertTrue(files["table.txt"].startswith(b"cup: 12 of 12 matches, 3 of 3 rounds\n"))
+        self.assertEqual([[found["round"], *found["byes"]] for found in json.loads(files["table.json"])["rounds"]], [[1, "p4"], [2, "p3"], [3, plan.rounds[2].byes[0]]])
+
+    def test_a_knockout_from_its_first_round_to_its_table(self):
+        self.write(6, 'kind = "knockout"')
+        plan = self.make()
+        self.assertEqual(self.pairs(plan), [((("p3", "p4"), ("p2", "p5")), ("p0", "p1"))])
+        # All draws: the better seed goes on.
+        plan_next_round(plan, self.play(plan, lambda _: [50, 50]))
+        self.assertEqual(self.pairs(plan)[1], ((("p0", "p3"), ("p1", "p2")), ()))
+        # One win each: the goals decide.
+        plan_next_round(plan, self.play(plan, lambda match: [40, 0] if match.players[0] in ("p0", "p1") else [60, 0]))
+        self.assertEqual(self.pairs(plan)[2], ((("p3", "p2"),), ()))
+        results = self.play(plan, lambda match: [100, 0] if match.players[0] == "p2" else [0, 100])
+        self.assertEqual((plan_next_round(plan, results), rounds_left(plan)), ([], 0))
+        table = tables_of(plan.competition, list(results.values()), plan.rounds)[0]
+        heads, *rows = standings_rows(table)
+        self.assertEqual(heads[3], "rounds won")
+        self.assertEqual([(row[0], row[1], row[3]) for row in rows], [("1", "p2", "3"), ("2", "p3", "2"), ("3", "p0", "1"), ("3", "p1", "1"), ("5", "p4", "0"), ("5", "p5", "0")])
+
+    def test_what_the_pages_say_of_rounds(self):
+        for form, wanted in (('kind = "knockout"', ["0 of 6 ", "Round 1 of 2; 2 matches"]), (SWISS.format(3), ["0 of 12 ", "Round 1 of 3; 8 matches"])):
+            with self.subTest(form):
+                self.write(4, form)
+                head = Site(plan := self.make()).head([]).text
+                self.assertIn(f"{wanted[0]}matches are over. {wanted[1]} of later rounds are to come, which are not planned yet.", head)
+        self.write(6, 'kind = "knockout"')
+        plan = self.make()
+        plan_next_round(plan, self.play(plan, lambda _: [50, 50]))
+        results = self.play(plan, lambda match: [40, 0] if match.players[0] in ("p0", "p1") else [60, 0])
+        rows = [re.sub("<[^>]*>+", " ", line).split() for line in rounds_part(plan, list(results.values()), 9).text.splitlines()[2:-1]]
+        both = "p0 p3 1 : 1 40 : 60 2 of 2"
+        self.assertEqual([" ".join(row) for row in rows][:4], [f"2 {both}", "2 p1 p2 1 : 1 40 : 60 2 of 2", "1 p3 p4 1 : 1 100 : 100 2 of 2", "1 p2 p5 1 : 1 100 : 100 2 of 2"])
+        self.assertEqual([" ".join(row) for row in rows][4:], ["1 p0 (bye)", "1 p1 (bye)"])
+        self.assertIn("Round 2 of 3.", round_text(plan.competition, plan.matches[-1]))
+        plan_next_round(plan, results)
+        self.assertEqual((count_of_all(plan), rounds_words(plan)), (10, " Round 3 of 3."))
+
+    def test_a_schedule_that_does_not_follow_from_the_records(self):
+        self.write(4, SWISS.format(3))
+        plan = self.make()
+        plan_next_round(plan, self.play(plan))
+        text = self.folder.schedule.read_text()
+        self.assertIn("cup-005\tgame\t10\t10\tp0 p2\n", text)
+        self.folder.schedule.write_text(text.replace("cup-005\tgame\t10\t10\tp0 p2", "cup-005\tgame\t10\t10\tp0 p3"))
+        self.assert_refused("schedule.tsv is not what")
+        self.folder.schedule.write_text(text)
+        self.read()
+        first = self.folder.record("cup-001")
+        before = first.read_text()
+        # p1 has won against p0 by now, so they stand otherwise.
+        for number in (1, 3):
+            self.folder.record(f"cup-00{number}").write_text(json.dumps(record(plan.matches[number - 1], [0, 100] if number == 1 else [100, 0])))
+        self.assert_refused("schedule.tsv is not what")
+        self.folder.record("cup-003").write_text(json.dumps(record(plan.matches[2], [0, 100])))
+        first.unlink()
+        lost = "schedule.tsv has round 2, which was paired by cup-001, and that has no record of this match"
+        self.assert_refused(lost)
+        # As long as none of its matches has a record the round may be planned anew.
+        self.make()
+        self.assertEqual(len(self.read().matches), 4)
+        first.write_text(before)
+        plan_next_round(plan := self.read(), self.play(plan))
+        self.play(plan)
+        first.unlink()
+        self.assert_refused(lost)
+        self.assert_refused("schedule.tsv would change, and matches were played", self.make)
+        first.write_text(before)
+        plan = self.read()
+        self.assertEqual(len(plan.matches), 8)
+        results = self.play(plan)
+        refuse_lost_results(plan, results)
+        refuse_lost_results(plan, {match: found for match, found in results.items() if match != "cup-007"})
+        self.assert_refused("cup-002 has no record that counts, and a later round was paired by it", lambda: refuse_lost_results(plan, {match: found for match, found in results.items() if match != "cup-002"}))
+
+    def test_it_grows(self):
+        self.write(4, SWISS.format(1))
+        plan = self.make()
+        results = self.play(plan)
+        self.assertEqual(plan_next_round(plan, results), [])
+        self.write(5, SWISS.format(3))
+        plan = self.make()
+        self.assertEqual((len(plan.matches), plan.known), (4, 4))
+        plan_next_round(plan, self.play(plan))
+        self.assertEqual(self.pairs(plan)[1], ((("p0", "p2"), ("p1", "p3")), ("p4",)))
+        self.write(6, SWISS.format(3))
+        self.make()
+        plan = self.read()
+        plan_next_round(plan, self.play(plan))
+        self.assertEqual({name for pair in self.pairs(plan)[2][0] for name in pair}, {f"p{at}" for at in range(6)})
+        self.assertEqual(self.read().matches, plan.matches)
+        self.assertEqual(sorted(file.name for file in self.folder.earlier.iterdir()), ["4.toml", "8.toml"])
+        for count, form, head, words in (
+            (6, SWISS.format(2), "", "form.rounds was 3 and is 2"), (5, SWISS.format(3), "", "the player p5 is there no more"),
+            (6, SWISS.format(3), "forfeit = true", "forfeit was False and is True"), (6, 'kind = "knockout"', "", "form.kind was 'swiss' and is 'knockout'"),
+        ):
+            self.write(count, form, head)
+            self.assert_refused(words, self.make)
+
+    def test_a_knockout_takes_no_further_player(self):
+        self.write(3, 'kind = "knockout"')
+        self.play(self.make())
+        self.write(4, 'kind = "knockout"')
+        self.assert_refused("the number of players was 3 and is 4", self.make)
+
+    def test_players_may_stand_in_another_order(self):
+        self.write(4, SWISS.format(2))
+        first = self.make().matches
+        self.play(self.read(), lambda _: [50, 50])
+        self.write(4, SWISS.format(2), step=-1)
+        self.assert_refused("schedule.tsv is not what")
+        plan = self.make()
+        self.assertEqual(([file.name for file in self.folder.earlier.iterdir()], plan.matches), (["4.toml"], first))
+        # All have the same points, so the order of the file decides.
+        plan_next_round(plan, self.play(plan, lambda _: [50, 50]))
+        self.assertEqual(self.pairs(plan)[1], ((("p3", "p1"), ("p2", "p0")), ()))
+        self.assertEqual(self.read().matches, plan.matches)
+
+    def test_a_file_that_added_nothing_is_replaced_by_the_next(self):
+        form = 'kind = "round_robin"'
+        self.write(3, form)
+        self.play(self.make())
+        self.write(4, form)
+        self.play(self.make())
+        text = self.folder.competition.read_bytes()
+        self.write(4, form, step=-1)
+        self.assertEqual(self.make().matches, self.read().matches)
+        self.write(5, form)
+        plan = self.make()
+        self.assertEqual((len(plan.matches), plan.known), (20, 12))
+        self.assertEqual(sorted(file.name for file in self.folder.earlier.iterdir()), ["12.toml", "6.toml"])
+        self.assertEqual((self.folder.earlier / "12.toml").read_bytes(), text)
+        self.assertEqual(self.read().matches, plan.matches)
+
+    def broken_off(self, form):
+        """Begins a competition in a folder of its own, in which an order to play a match again was broken off before the schedule was
+        written. Returns its plan from before, and the id of the match that was ordered."""
+        self.setUp()
+        self.write(4, form)
+        self.play(plan := self.make())
+        self.folder.again.write_bytes(again_text((Again(plan.next_id(), "cup-001", "late"),)))
+        return plan, plan.next_id()
+
+    def test_an_order_that_was_broken_off_is_made_up_for(self):
+        for form in (SWISS.format(2), 'kind = "knockout"', 'kind = "round_robin"'):
+            with self.subTest(form):
+                before, new = self.broken_off(form)
+                self.assert_refused("schedule.tsv is not what")
+                plan = self.make()
+                self.assertEqual((plan.known, plan.matches[1:-1]), (len(before.matches), before.matches[1:]))
+                self.assertEqual([(match.id, match.instead_of) for match in plan.matches[-1:]], [(new, "cup-001")])
+                self.assertEqual((self.read().matches, self.make().matches), (plan.matches, plan.matches))
+
+    def test_it_grows_where_the_schedule_is_missing(self):
+        for form in (SWISS.format(2), 'kind = "round_robin"'):
+            with self.subTest(form):
+                before, new = self.broken_off(form)
+                self.folder.schedule.unlink()
+                self.write(5, form)
+                plan = self.make()
+                self.assertEqual([file.name for file in self.folder.earlier.iterdir()], [f"{len(before.matches) + 1}.toml"])
+                self.assertEqual((plan.matches[len(before.matches)].id, plan.matches[len(before.matches)].instead_of), (new, "cup-001"))
+                self.assertEqual((self.read().matches, self.make().matches), (plan.matches, plan.matches))
+
+    def test_a_match_may_be_ordered_again_once_a_player_was_added(self):
+        self.write(4, SWISS.format(2))
+        self.play(self.make())
+        self.write(5, SWISS.format(2))
+        self.make()
+        with mock.patch("ggp_tools.competition.again.looked_at", is_lawful):
+            self.assertEqual(order_again(self.folder.path, REFEREE, "cup-002", "late").id, "cup-005")
+        self.assertEqual([(match.id, match.instead_of) for match in self.read().matches[3:]], [("cup-004", ""), ("cup-005", "cup-002")])
+
+    def test_a_match_of_the_last_round_may_be_ordered_again(self):
+        self.write(4, SWISS.format(2))
+        plan = self.make()
+        self.play(plan)
+        with mock.patch("ggp_tools.competition.again.looked_at", is_lawful):
+            new = order_again(self.folder.path, REFEREE, "cup-001", "the power was out")
+            self.assertEqual((new.id, new.players, new.round, new.instead_of), ("cup-005", ("p0", "p1"), 1, "cup-001"))
+            plan = self.read()
+            results = {match.id: found for match in plan.matches if (found := result_in_file(self.folder, plan.competition, match))}
+            self.assertEqual((sorted(results), plan_next_round(plan, results)), (["cup-001", "cup-002", "cup-003", "cup-004"], []))
+            results = self.play(plan, lambda match: [0, 100])
+            # What was ordered again does not count, so nothing waits for it.
+            del results["cup-001"]
+            self.assertEqual([match.id for match in plan_next_round(plan, results)], ["cup-006", "cup-007", "cup-008", "cup-009"])
+            refuse_lost_results(plan, results)
+            self.assertEqual(self.read().matches, plan.matches)
+            self.assert_refused("cup-002 is of round 1, by which the next one was paired, so it can't be played again", lambda: order_again(self.folder.path, REFEREE, "cup-002", "x"))
+
+    def test_what_stands_in_a_file_may_be_anything(self):
+        self.write(2, SWISS.format(2))
+        plan = self.make()
+        match, good = plan.matches[0], record(plan.matches[0], [100, 0])
+        for wrong in (
+            [], 7, None, {**good, "goalValues": ["a", "b"]}, {**good, "goalValues": [1]}, {**good, "goalValues": 3}, {**good, "errors": [["", 1]]}, {**good, "errors": [[""]]},
+            {**good, "errors": None}, {**good, "moves": 1}, {**good, "goalValues": [True, False]}, {**good, "matchId": "cup-002"}, {key: good[key] for key in good if key != "phase"},
+        ):
+            self.folder.record(match.id).write_text(json.dumps(wrong))
+            self.assertIsNone(result_in_file(self.folder, plan.competition, match), wrong)
+            self.assertEqual(len(self.read().matches), 2)
+        for wrong in ("", "{", "[" * 100_000):
+            self.folder.record(match.id).write_text(wrong)
+            self.assertIsNone(result_in_file(self.folder, plan.competition, match))
+        self.folder.record(match.id).write_text(json.dumps({key: good[key] for key in good if key != "cause"}))
+        self.assertEqual(result_in_file(self.folder, plan.competition, match).goals, (100, 0))
+
+
+class Refusals(unittest.TestCase):
+    def test_games_of_other_numbers_of_roles(self):
+        found = read_competition(toml([("ann", "h:1"), ("bob", "h:2"), ("cid", "h:3")], [("one", "f"), ("two", "f"), ("three", "f")], 'kind = "knockout"').encode())
+        with self.assertRaises(Mistaken) as why:
+            asked(found, {"one": 1, "two": 2, "three": 3})
+        words = ["the kind knockout is for games of two roles, and one has 1", "the kind knockout is for games of two roles, and three has 3"]
+        self.assertEqual([(mistake.line, mistake.words) for mistake in why.exception.mistakes], [(4, words[0]), (10, words[1])])
+
+    def test_a_bracket_has_each_seed_once(self):
+        for count in range(1, 70):
+            seeds = bracket(count)
+            self.assertEqual(sorted(seeds), list(range(len(seeds))))
+            self.assertTrue(len(seeds) == 1 or len(seeds) < 2 * count)
+            sums = [seed + second for seed, second in zip(seeds[::2], seeds[1::2])]
+            self.assertEqual(set(sums), {len(seeds) - 1} if sums else set())
+
+    def test_pairs_that_have_met_exchange_with_the_nearest_ones(self):
+        for order, met, wanted in (
+            # c has met all that stand below it: its pair is the second of three.
+            ("abcdef", "cd ce cf", "ac bd ef"),
+            # From e and f both new pairs of c come; only then can c and d exchange, with the pair just below.
+            ("abcdef", "ac cd ce cf ef", "ae fd bc"),
+            # g and h exchange with c and d. Then e and f could with the pair just below, and do so with the one far above.
+            ("abcdefgh", "ce ef eg eh gh", "ae cg bf dh"),
+        ):
+            found = paired(order, Counter(map(frozenset, met.split())))
+            self.assertEqual(" ".join(map("".join, found)), wanted)
+
+    def test_where_all_have_met_each_meets_whom_it_has_met_least(self):
+        self.assertEqual(paired("abcd", Counter(map(frozenset, "ba ba ca da cb db dc".split()))), [("a", "c"), ("b", "d")])
+
+    def test_how_many_rounds_and_matches_are_to_come(self):
+        players, games = [(f"p{at}", f"h:{at + 1}") for at in range(7)], [("one", "f"), ("two", "f")]
+        first = [Round(1, (("p0", "p1"), ("p2", "p3"), ("p4", "p5")), ("p6",))]
+        # Of 7 players, in 2 games: 3 meetings of 4 matches in each of 4 further rounds; in a knockout 6 meetings in all.
+        for form, rounds, left in ((SWISS.format(5), 5, 48), ('kind = "knockout"', 3, 12), ('kind = "round_robin"', 0, None)):
+            found = read_competition(toml(players, games, form).encode())
+            self.assertEqual(rounds_of(found), rounds)
+            if left is not None:
+                self.assertEqual(matches_to_come(found, first), left)
+
+    def test_sums_of_what_was_planned_stay(self):
+        first, other = "0" * 64, "1" * 64
+        old, more, changed = sums_text({"a.kif": first}), sums_text({"a.kif": first, "b.kif": other}), sums_text({"a.kif": other, "b.kif": other})
+        folder = Folder("cup")
+        for file in (folder.rule_sums(), folder.description_sums()):
+            self.assertEqual([grows(folder, file, old, new) for new in (old, more, changed, b"", b"x")], [True, True, False, False, False])
+            self.assertEqual([grows(folder, file, spoilt, more) for spoilt in (b"", b"x", old * 2)], [False] * 3)
+
+    def test_a_line_has_no_round(self):
+        self.assertEqual(Match("cup-1", "game", 1, 2, ("a", "b"), 3).line(), "cup-1\tgame\t1\t2\ta b\n")
+
+
+if __name__ == "__main__":
+    unittest.main()

@@ -1,0 +1,424 @@
+"""The live pages, over HTTP: what stands there as matches go, what is refused, and that a page is told of what changes."""
+
+import contextlib
+import http.client
+import io
+import json
+import os
+import re
+import signal
+import socket
+import sys
+import tempfile
+import threading
+import time
+import unittest
+import urllib.request
+from unittest.mock import Mock, patch
+
+from ggp_tools.competition import files, live, pages, serving
+from ggp_tools.competition.live_site import LiveSite
+from ggp_tools.competition.page_changes import changes
+from ggp_tools.competition.page_parts import Items, Part
+from ggp_tools.referee import NoReferee
+from live_support import SILENT, begin, end, line, plan_in, record_of, started
+from support import GAMES, InFolder, run, start
+from test_pages import Links
+
+HOSTILE = ["<script>alert(1)</script>", "\"'><img src=x onerror=alert(1)>", "</tbody></table><b>", "&lt;&#65;", "<!--"]
+
+
+def setUpModule():
+    """On a busy computer a look at the records may take long. Here none waits for that."""
+    unittest.enterModuleContext(patch.object(live, "SHARE", 0))
+
+
+class Served(unittest.TestCase):
+    """A server of a competition in a folder. Nobody looks at the folder but the tests."""
+
+    MOST = 40
+    STRIKES = ""
+
+    def setUp(self):
+        room = tempfile.TemporaryDirectory()
+        self.addCleanup(room.cleanup)
+        self.plan = plan_in(room.name, ["ann", "bob", "cid"], head=self.STRIKES)
+        self.site = LiveSite(self.plan, lambda: self.plan)
+        self.site.look()
+        self.server = serving.Server(("127.0.0.1", 0), self.site, self.MOST)
+        thread = threading.Thread(target=self.server.serve_forever, args=(0.01,), daemon=True)
+        thread.start()
+        self.addCleanup(self.end, thread)
+
+    def end(self, thread):
+        self.server.is_over.set()
+        with self.site.changed:
+            self.site.changed.notify_all()
+        self.server.shutdown()
+        thread.join()
+        self.server.server_close()
+
+    def ask(self, path, method="GET", **headers):
+        """Returns the status and the text of an answer."""
+        asking = http.client.HTTPConnection("127.0.0.1", self.server.server_port, timeout=60)
+        with contextlib.closing(asking):
+            asking.request(method, path, headers=headers)
+            answer = asking.getresponse()
+            return answer.status, answer.read().decode()
+
+    def page(self, path):
+        status, text = self.ask(path)
+        self.assertEqual(status, 200, path)
+        return text
+
+    def events(self, page):
+        """Opens the events of a page, and returns the answer."""
+        asking = http.client.HTTPConnection("127.0.0.1", self.server.server_port, timeout=60)
+        self.addCleanup(asking.close)
+        asking.request("GET", re.search('data-events="([^"]*)"', page)[1])
+        return asking.getresponse()
+
+    def next_event(self, answer):
+        """Returns what the next event tells; lines that only say that the server is there are skipped."""
+        while not (said := answer.readline()).startswith(b"data: "):
+            self.assertNotEqual(said, b"")
+        return json.loads(said.removeprefix(b"data: "))
+
+    def play(self, match, number, moves, answers):
+        return "".join(line(match, role, number, f"(PLAY {match.id} {moves})", answer) for role, answer in enumerate(answers))
+
+    def say(self, log, text):
+        with open(log, "a") as file:
+            file.write(text)
+        self.site.look()
+
+
+class Pages(Served):
+    def test_what_stands_there_as_a_match_goes(self):
+        match = self.plan.matches[0]
+        self.assertIn("0 matches are open, 6 wait. No run is at work", self.page("/"))
+        self.assertIn("It has not begun.", self.page(f"/matches/{match.id}.html"))
+        log = begin(self.plan, match, started(match))
+        self.site.look()
+        self.assertIn("1 match is open, 5 wait.", self.page("/index.html"))
+        self.say(log, self.play(match, 2, "NIL", ["(take 2)", "noop"]))
+        first, own = self.page("/index.html"), self.page(f"/matches/{match.id}.html")
+        self.assertIn("after turn 1", first)
+        self.assertIn('title="1 2: black king"', first)
+        self.assertRegex(first, f'<tr id="open-{match.id}">.*turn 2<td>.*</tr>')
+        self.assertIn("State 1, after turn 1", own)
+        self.assertIn("<code>(take 2)</code>", own)
+        self.say(log, self.play(match, 3, "((take 2) noop)", [SILENT]))
+        self.assertIn("no answer came in time", self.page("/"))
+        self.assertIn("player-bob.html\">bob</a>: turn 2 (", self.page(f"/matches/{match.id}.html"))
+        moves, errors = [["(take 2)", "noop"], ["noop", "(take 1)"]], [["", ""], ["TO", ""]]
+        text = started(match) + self.play(match, 2, "NIL", ["(take 2)", "noop"]) + self.play(match, 3, "((take 2) noop)", [SILENT, "(take 1)"])
+        end(self.plan, match, record_of(match, moves, errors, [0, 100]), text)
+        self.site.look()
+        self.assertIn("1 of 6 matches are over.", self.page("/"))
+        self.assertIn('id="state-2"', self.page(f"/matches/{match.id}.html"))
+        player = self.page("/players/player-ann.html")
+        for text in ("no answer came in time", f"(PLAY {match.id} ((take 2) noop))", "<code>TO</code>", f"<code>{SILENT}</code>", "5 ms", "<svg"):
+            self.assertIn(text, player)
+        self.assertIn(f"matches/{match.id}.html", self.page("/games/heap.html"))
+        self.assertIn(f"matches/{match.id}.html", self.page("/matches.html"))
+
+    def test_each_link_leads_to_a_page(self):
+        begin(self.plan, self.plan.matches[0], started(self.plan.matches[0]))
+        end(self.plan, self.plan.matches[1], record_of(self.plan.matches[1], [["(take 2)", "noop"]], [["", "TO"]], [50, 50]))
+        self.site.look()
+        known, todo = set(), ["/index.html"]
+        while todo:
+            path = todo.pop()
+            known.add(path)
+            found = [os.path.normpath(os.path.join(os.path.dirname(path), link.partition("#")[0])) for link in Links(self.page(path)).links if link[0] != "#"]
+            todo += [path for path in dict.fromkeys(found) if path not in known and path not in todo]
+        self.assertEqual(len(known), len({"index", "all matches", "game"}) + 3 + 2)
+
+    def test_a_list_of_many_matches_comes_in_pages(self):
+        with patch.object(pages, "MOST_LISTED", 2):
+            for match in self.plan.matches[:3]:
+                end(self.plan, match, record_of(match, [], [], [50, 50]))
+            self.site.look()
+            self.assertEqual([self.page(f"/matches{more}.html").count('<tr id="match-') for more in ("", "-2")], [2, 1])
+            self.assertEqual([self.ask(f"/matches-{more}.html")[0] for more in ("3", "0", "1", "x")], [404] * 4)
+
+    def test_a_record_is_read_once_and_a_page_made_once(self):
+        match = self.plan.matches[0]
+        end(self.plan, match, record_of(match, [], [], [50, 50]))
+        self.site.look()
+        self.page("/")
+        made = self.site.pages["/index.html"].parts
+        self.plan.folder.log(match.id).write_bytes(b"")
+        self.site.look()
+        self.page("/")
+        self.assertIs(self.site.pages["/index.html"].parts, made)
+
+    def test_a_record_that_has_become_too_long(self):
+        long, other = self.plan.matches[:2]
+        for match in (long, other):
+            end(self.plan, match, record_of(match, [], [], [50, 50]))
+        self.site.reader.look()
+        with open(self.plan.folder.record(long.id), "r+b") as file:
+            file.truncate(1 << 40)
+        self.site.look()
+        first = self.page("/")
+        self.assertIn("1 of 6 matches are over.", first)
+        self.assertIn(f"{long.id} does not count: it is longer than 16 MiB", first)
+
+    def test_a_plan_that_changes(self):
+        events = self.events(self.page("/"))
+        self.plan.folder.schedule.write_text("another")
+        self.site.look()
+        self.assertTrue(self.next_event(events)["reload"])
+        self.assertTrue(self.next_event(self.events(self.page("/").replace("?after=", "?after=old")))["reload"])
+
+    def test_a_plan_that_can_not_be_read(self):
+        match, other, path = *self.plan.matches[:2], self.plan.folder.path
+        end(self.plan, other, record_of(other, [["(take 1)", "noop"]], [["", ""]], [0, 100]))
+        self.site.look()
+        faults = (
+            (files.Refused(f"{path}/schedule.tsv is not what {path}/competition.toml says"), "schedule.tsv is not what competition.toml says"),
+            (files.Refused(f"{path}/schedule.tsv: /opt/games/heap.kif is there"), "schedule.tsv: heap.kif is there"),
+            (OSError(5, "Input/output error", f"{path}/rules/heap.kif"), "rules/heap.kif: Input/output error"),
+            (NoReferee(f"{path}/ggp_manager is no program that can be run"), "the program can&#x27;t be asked for its rules"),
+        )
+        places = ["/", "/matches.html", "/games/heap.html", f"/matches/{match.id}.html", f"/matches/{other.id}.html", "/players/player-ann.html"]
+        for number, (fault, said) in enumerate(faults):
+            self.site.read_plan = Mock(side_effect=fault)
+            self.plan.folder.schedule.write_text("x" * number)
+            with patch.object(sys, "stderr", io.StringIO()) as told:
+                self.site.look()
+            self.assertIn(str(fault), told.getvalue())
+            for place in places:
+                text = self.page(place)
+                self.assertIn(f"what stands here is of the plan before: {said}", text, place)
+                self.assertFalse(str(path) in text or "/opt" in text, place)
+
+    def test_a_plan_that_changes_while_it_is_read(self):
+        read = []
+
+        def read_plan():
+            read.append(self.plan)
+            self.plan.folder.schedule.write_text("a round more" * len(read))
+            return self.plan
+
+        self.site.read_plan = read_plan
+        self.plan.folder.schedule.write_text("another")
+        self.site.look()
+        self.site.look()
+        self.assertEqual(len(read), 2)
+
+
+class Refused(Served):
+    def test_other_paths(self):
+        self.plan.folder.competition.write_text("secret")
+        places = (
+            "/competition.toml", "/../competition.toml", "/matches/../competition.toml", "/matches/%2e%2e/competition.toml", "/matches/none.html",
+            "/games/..html", "/players/ann.html", "/players/player-zoe.html", "/records/", "//etc/passwd", "//[", "/index.html/", "/events/", "/events/x",
+            "/matches/..%2f..%2fcompetition.html", "/index", "/%00", "/matches/\\..\\x.html", "*", "/?x", "/index.html?x",
+        )
+        for path in places:
+            status, text = self.ask(path)
+            self.assertEqual(status, 200 if path.endswith("?x") else 404, path)
+            self.assertNotIn("secret", text)
+        self.assertEqual(self.ask("/events/matches/none.html?after=0")[0], 503)
+
+    def test_other_methods(self):
+        for method in ("HEAD", "POST", "PUT", "DELETE", "OPTIONS", "PATCH"):
+            self.assertEqual(self.ask("/", method)[0], 405, method)
+        self.assertEqual(self.ask("/", "BREW")[0], 501)
+
+    def test_other_names(self):
+        # A site that gives its name to this address does not get the pages of a server that this computer alone can reach.
+        self.assertEqual(self.ask("/", Host="evil.example")[0], 403)
+        for host in ("localhost:80", "127.0.0.1", "[::1]:80"):
+            self.assertEqual(self.ask("/", Host=host)[0], 200, host)
+
+    def test_a_loopback_address_in_whatever_form(self):
+        for address, is_open in (("127.0.0.1", False), ("::1", False), ("::ffff:127.0.0.1", False), ("192.0.2.1", True)):
+            self.server.server_name = address
+            self.assertEqual(self.server.is_open_to("evil.example"), is_open, address)
+
+    def test_nothing_is_written(self):
+        match = self.plan.matches[0]
+        begin(self.plan, match, started(match))
+        before = {str(path): path.stat().st_mtime_ns for path in self.plan.folder.path.rglob("*")}
+        self.site.look()
+        self.page("/")
+        self.page(f"/matches/{match.id}.html")
+        self.assertEqual({str(path): path.stat().st_mtime_ns for path in self.plan.folder.path.rglob("*")}, before)
+
+
+class Limits(Served):
+    MOST = 8
+
+    def test_connections(self):
+        page = self.page("/")
+        # The one of that page may be ended by now, and counts until it is.
+        while self.server.connections:
+            time.sleep(0.01)
+        held = [socket.create_connection(("127.0.0.1", self.server.server_port), timeout=60) for _ in range(self.MOST)]
+        while len(self.server.connections) < self.MOST:
+            time.sleep(0.01)
+        with socket.create_connection(("127.0.0.1", self.server.server_port), timeout=60) as one_more:
+            self.assertTrue(one_more.recv(100).startswith(b"HTTP/1.0 503 "))
+        # Those that ask for nothing are ended.
+        for request in list(self.server.connections):
+            self.server.connections[request] -= 2 * serving.PATIENCE
+        self.server.end_idle()
+        self.assertEqual([connection.recv(100) for connection in held], [b""] * self.MOST)
+        for connection in held:
+            connection.close()
+        while self.server.connections:
+            time.sleep(0.01)
+        # Those who are told of changes leave some connections free.
+        answers = [self.events(page) for _ in range(self.MOST)]
+        self.assertEqual([answer.status for answer in answers], [200] * 7 + [503])
+        while len(self.server.connections) > 7:
+            time.sleep(0.01)
+        self.assertEqual(self.ask("/")[0], 200)
+
+
+class Events(Served):
+    def test_a_page_is_told_of_what_changes(self):
+        match, other = self.plan.matches[0], self.plan.matches[5]
+        log = begin(self.plan, match, started(match))
+        self.site.look()
+        events = self.events(self.page("/"))
+        self.say(log, self.play(match, 2, "NIL", ["(take 1)", "noop"]))
+        told = self.next_event(events)
+        self.assertIn(f"open-{match.id}", [name for name, _ in told["set"]])
+        begin(self.plan, other, started(other))
+        self.site.look()
+        told = self.next_event(events)
+        self.assertEqual([added[:2] for added in told["add"] if added[0] == "open"], [["open", None]])
+        end(self.plan, match, record_of(match, [["(take 1)", "noop"]], [["", ""]], [0, 100]))
+        self.site.look()
+        told = self.next_event(events)
+        self.assertTrue(told.get("reload") or f"open-{match.id}" in told["drop"])
+
+    def test_a_fault_in_a_look_is_said_and_the_next_look_goes_on(self):
+        page = self.site.opened("/index.html")
+        page.viewers += 1
+        with patch.object(self.site.reader, "look", side_effect=KeyError("a fault")):
+            with self.assertRaises(KeyError) as raised:
+                self.site.look()
+            self.site.fail(raised.exception)
+        self.assertIn("these pages have a fault", "".join(part.html() for part in page.parts))
+        begin(self.plan, self.plan.matches[0])
+        self.site.look()
+        said = "".join(part.html() for part in page.parts)
+        self.assertEqual(("fault" in said, "1 match is open" in said), (False, True))
+
+    def test_a_match_that_ends_gets_its_other_page(self):
+        match = self.plan.matches[0]
+        begin(self.plan, match, started(match))
+        self.site.look()
+        events = self.events(self.page(f"/matches/{match.id}.html"))
+        end(self.plan, match, record_of(match, [], [], [0, 100]))
+        self.site.look()
+        self.assertTrue(self.next_event(events)["reload"])
+        self.assertEqual(events.read().strip(), b"")
+
+    def test_who_comes_late_gets_what_it_missed(self):
+        match = self.plan.matches[0]
+        log = begin(self.plan, match, started(match))
+        self.site.look()
+        page = self.page("/")
+        answers = [self.events(page)]
+        for number in range(2, 5):
+            self.say(log, self.play(match, number, "NIL", ["(take 1)", "noop"]))
+        answers.append(self.events(page))
+        told = [[self.next_event(answer) for _ in range(3)] for answer in answers]
+        self.assertEqual(told[0], told[1])
+        self.assertTrue(self.next_event(self.events(page.replace("?after=", "?after=other")))["reload"])
+
+    def test_a_page_that_nobody_looks_at_is_not_made(self):
+        match = self.plan.matches[0]
+        log = begin(self.plan, match, started(match))
+        self.page("/")
+        made = self.site.pages["/index.html"].parts
+        self.say(log, self.play(match, 2, "NIL", ["(take 1)", "noop"]))
+        self.assertIs(self.site.pages["/index.html"].parts, made)
+        self.site.pages["/index.html"].touched -= 100
+        self.site.look()
+        self.assertEqual((dict(self.site.pages), self.site.boards), ({}, {}))
+
+
+class Hostile(Served):
+    def test_what_players_say_is_text(self):
+        match, other = self.plan.matches[:2]
+        log = started(match)
+        for number, text in enumerate(HOSTILE, 2):
+            log += line(match, 0, number, f"(PLAY m {text})", text) + line(match, 1, number, f"(PLAY m {text})", f"CE ({text})")
+        begin(self.plan, match, log + "".join(f"{text}\n" for text in HOSTILE))
+        moves, errors = [[text, "noop"] for text in HOSTILE], [[f"IL {text}", text] for text in HOSTILE]
+        record = record_of(other, moves, errors, [0, 100]) | {"roles": HOSTILE[:2]}
+        end(self.plan, other, record, "".join(line(other, 0, number, f"(PLAY m {text})", text) for number, text in enumerate(HOSTILE, 2)))
+        self.site.look()
+        self.page(f"/matches/{match.id}.html")
+        self.site.look()
+        places = ["/", "/matches.html", "/games/heap.html", f"/matches/{match.id}.html", f"/matches/{other.id}.html"]
+        for path in [*places, *(f"/players/player-{name}.html" for name in ("ann", "bob", "cid"))]:
+            text = self.page(path)
+            found = Links(text)
+            self.assertFalse(found.tags & {"img", "plaintext"}, path)
+            self.assertLessEqual(text.count("<script"), 1, path)
+            self.assertEqual([word for word in HOSTILE if word in text], [], path)
+        own = self.page(f"/matches/{match.id}.html")
+        self.assertEqual((own.count('id="turn-'), own.count("IL &lt;!--"), own.count("&lt;!--")), (len(HOSTILE), 1, 6))
+        self.assertIn("&lt;script&gt;alert(1)&lt;/script&gt;", self.page(f"/players/player-{other.players[0]}.html"))
+
+
+class Command(InFolder):
+    def test_it_is_served_until_it_is_interrupted(self):
+        self.plan([("ann", "127.0.0.1:9"), ("bob", "127.0.0.1:10")], [("tictactoe", GAMES / "tictactoe.kif")])
+        for number in (signal.SIGINT, signal.SIGTERM):
+            with self.subTest(number):
+                self.look_at_a_server_until(number)
+
+    def look_at_a_server_until(self, number: int) -> None:
+        """Starts a server as a shell does in the background, where interrupts are ignored, and ends it by this signal."""
+        ignoring = {"preexec_fn": lambda: signal.signal(signal.SIGINT, signal.SIG_IGN)}
+        with start(self.folder, "serve", "--port", "0", **ignoring) as serving_it:
+            address = serving_it.stdout.readline().strip()
+            self.assertRegex(address, r"http://127\.0\.0\.1:[0-9]+/")
+            port = address.rpartition(":")[2].strip("/")
+            self.assertIn("can't be served: Address already in use", run(self.folder, "serve", "--port", port)[2])
+            with urllib.request.urlopen(address, timeout=60) as answer:
+                self.assertIn(b"0 of 2 matches are over.", answer.read())
+            serving_it.send_signal(number)
+            self.assertEqual((serving_it.communicate(timeout=60), serving_it.returncode), (("", ""), 0))
+
+    def test_what_is_asked_wrong(self):
+        for words in (("--port", "65536"), ("--port", "x"), ("--bind", "localhost"), ("--connections", "0")):
+            self.assertEqual(run(self.folder, "serve", *words)[0], 2, words)
+        self.assertEqual(run(self.folder, "serve")[0], 2)
+
+
+class Changes(unittest.TestCase):
+    def items(self, *names):
+        return Items("list", "<ul id=list>", tuple((name, f"<li id={name[0]}>{name}</li>") if len(name) > 1 else (name, f"<li id={name}>") for name in names), "</ul>")
+
+    def applied(self, told, names):
+        """Returns the items that a browser has after it was told of changes."""
+        names = [name for name in names if name not in told["drop"]]
+        for _, before, text in told["add"]:
+            names.insert(names.index(before) if before else len(names), re.search("id=([a-z])", text)[1])
+        return names
+
+    def test_items_that_come_go_and_move(self):
+        for old, new in (("abc", "abc"), ("abc", "bcd"), ("", "abc"), ("abc", ""), ("abcd", "dabc"), ("abc", "axbyc"), ("ac", "xabcz")):
+            told = changes([self.items(*old)], [self.items(*new)])
+            self.assertEqual(self.applied(told, list(old)) if told else list(old), list(new), (old, new))
+
+    def test_parts(self):
+        one, other = Part("a", "x"), Part("a", "y")
+        self.assertIsNone(changes([one], [one]))
+        self.assertEqual(changes([one], [other])["set"], [["a", '<section id="a">y</section>']])
+        self.assertEqual(changes([one], [one, Part("b", "")]), {"reload": True})
+
+
+if __name__ == "__main__":
+    unittest.main()

@@ -1,0 +1,273 @@
+"""The table: against a plain recount of random results, and in the cases that its words name."""
+
+import csv
+import json
+import random
+import unittest
+from collections import Counter
+from dataclasses import replace
+from unittest import mock
+
+from ggp_tools.competition.competition_file import read_competition
+from ggp_tools.competition.plan import Plan
+from ggp_tools.competition.ratings import Rating
+from ggp_tools.competition.results import Result, Retirement, result_of, times_of
+from ggp_tools.competition.rounds import Round
+from ggp_tools.competition.schedule import Match
+from ggp_tools.competition.table import Line, Table, tables_of
+from ggp_tools.competition.table_text import HEADS, crosstable_rows, csv_text, fields, notes, rating_text, standings_rows, table_files
+from support import toml
+
+NAMES = ["ann", "bob", "cid", "dan"]
+
+
+def competition(head=""):
+    return read_competition(toml([(name, f"h:{at + 1}") for at, name in enumerate(NAMES)], [("two", "f"), ("three", "f"), ("one", "f")], head=head).encode())
+
+
+def result(players, goals, wrong=None, retired=None, game="two", forfeit=True):
+    """Returns the result of a match in which so many moves of each player were replaced."""
+    wrong = wrong or [0] * len(players)
+    errors = tuple(Counter({"TO": count} if count else {}) for count in wrong)
+    retirements = tuple(Retirement(("TO",), 5) if gone else None for gone in retired or [False] * len(players))
+    return Result(Match("m", game, 1, 1, tuple(players)), tuple(goals), 5, errors, retirements, "finished", None, forfeit)
+
+
+def line(results, player, head="", game=0):
+    return tables_of(competition(head), results)[game].lines[player]
+
+
+class Tables(unittest.TestCase):
+    def test_plain_recount(self):
+        chance = random.Random(5)
+        results = []
+        for _ in range(400):
+            players = chance.sample(NAMES, chance.choice((1, 2, 3)))
+            game = {1: "one", 2: "two", 3: "three"}[len(players)]
+            results.append(result(players, [chance.choice((0, 50, 100)) for _ in players], [chance.randrange(3) for _ in players], game=game))
+        for table in tables_of(competition(), results):
+            of_game = [one_result for one_result in results if table.game in ("all games", one_result.match.game)]
+            self.assertEqual(table.matches, len(of_game))
+            for name in NAMES:
+                mine = [(played, played.match.players.index(name)) for played in of_game if name in played.match.players]
+                found = table.lines[name]
+                versus = [(played.goals[at], [goal for other, goal in enumerate(played.goals) if other != at]) for played, at in mine if len(played.goals) > 1]
+                self.assertEqual(found.matches, len(mine))
+                self.assertEqual(found.goals, sum(played.goals[at] for played, at in mine))
+                self.assertEqual(found.won, sum(own > max(others) for own, others in versus))
+                self.assertEqual(found.lost, sum(own < max(others) for own, others in versus))
+                self.assertEqual(found.drawn, sum(own == max(others) for own, others in versus))
+                self.assertEqual(found.replaced, sum(played.replaced(at) for played, at in mine))
+                self.assertEqual((found.scored, found.moves, found.absent, found.retired), (len(mine), 5 * len(mine), sum(played.replaced(at) == 5 for played, at in mine), 0))
+                points = sum((own > other_goal) + (own == other_goal) / 2 for own, others in versus for other_goal in others)
+                self.assertEqual(sum(got for (player, _), got in table.points.items() if player == name), points)
+
+    def test_the_order_and_places(self):
+        # Means of 33.333.. and 33.33 are printed alike, so wins decide; then losses; else the place is shared.
+        line = Line("x", matches=3, scored=3, goals=100, won=1, lost=2)
+        changes = [
+            ({}, {"goals": 101}, 1), ({"goals": 3333, "scored": 100}, {"won": 0}, -1), ({}, {"goals": 3333, "scored": 100}, 0),
+            ({}, {"won": 0, "lost": 0}, -1), ({}, {"lost": 1}, 1), ({"goals": 0, "scored": 0}, {"goals": 0}, 0), ({}, {"drawn": 2, "replaced": 7}, 0),
+        ]
+        for change_before, change_after, sign in changes:
+            orders = [replace(line, **change).order("goals") for change in (change_before, change_after)]
+            self.assertEqual((orders[0] > orders[1]) - (orders[0] < orders[1]), sign, (change_before, change_after))
+        results = [result(["dan", "bob"], [100, 0]), result(["cid", "ann"], [0, 50]), result(["bob", "cid"], [50, 50]), result(["ann", "dan"], [0, 50])]
+        results += [result(["bob", "cid"], [0, 0])]
+        table = tables_of(competition(), results)[0]
+        found = [(place, standing.player, standing.mean(), standing.won, standing.lost) for place, standing in zip(table.places(), table.standings())]
+        self.assertEqual(found, [(1, "dan", 75, 2, 0), (2, "ann", 25, 1, 1), (3, "bob", 16.67, 0, 1), (3, "cid", 16.67, 0, 1)])
+        self.assertEqual([row[:2] for row in standings_rows(table)][1:], [["1", "dan"], ["2", "ann"], ["3", "bob"], ["3", "cid"]])
+        self.assertEqual([row[0] for row in crosstable_rows(table)], ["", "1", "2", "3", "4"])
+        alone = tables_of(competition(), [result([name], [40], game="one") for name in ("bob", "cid", "dan")] + [result(["ann"], [30], game="one")])[0]
+        self.assertEqual((alone.places(), [standing.player for standing in alone.standings()]), ([1, 1, 1, 4], ["bob", "cid", "dan", "ann"]))
+
+    def test_who_made_no_move_is_told(self):
+        results = [result(["ann", "bob"], [100, 0], [0, 5]), result(["bob", "ann"], [0, 100], [5, 0]), result(["bob", "cid"], [100, 0], [5, 4])]
+        table = tables_of(competition(), results)[0]
+        self.assertEqual([(standing.player, standing.absent) for standing in table.standings()], [("ann", 0), ("bob", 3), ("cid", 0)])
+        said = table_files(Plan(None, competition(), {}, [played.match for played in results]), [table])["table.txt"].decode()
+        self.assertIn("* bob made no move of its own: all of its moves were replaced", said)
+
+    def test_forfeit(self):
+        def found(forfeit, goals, retired):
+            lines = tables_of(competition(), [result(["ann", "bob"], goals, [0, 5], retired=retired, forfeit=forfeit)])[0].lines
+            return [(of.won, of.lost, of.mean(), of.won_by_forfeit, of.lost_by_forfeit) for of in (lines["ann"], lines["bob"])]
+
+        self.assertEqual(found(False, [0, 100], [False, True]), [(0, 1, 0, 0, 0), (1, 0, 100, 0, 0)])
+        # Neither the goals that substituted moves have led to, nor that there are none, make a difference.
+        for goals in ([0, 100], [100, 0], [50, 50], [30, 10], []):
+            self.assertEqual(found(True, goals, [False, True]), [(1, 0, 100, 1, 0), (0, 1, 0, 0, 1)])
+            self.assertEqual(found(True, goals, [True, True]), [(0, 1, 0, 0, 1), (0, 1, 0, 0, 1)])
+        self.assertEqual(found(False, [], [False, True]), [(0, 0, None, 0, 0), (0, 0, None, 0, 0)])
+        both = [result(["ann", "bob"], [], [5, 5], retired=[True, True])]
+        self.assertEqual(tables_of(competition(), both)[0].met, {})
+
+    def test_a_match_that_all_have_forfeited_shows_the_forfeits(self):
+        table = tables_of(competition(), [result(["ann", "bob"], [50, 50], [5, 5], retired=[True, True])])[0]
+        rows = list(standings_rows(table))
+        self.assertEqual([row[rows[0].index("by forfeit")] for row in rows[1:]], ["0 won, 1 lost"] * 2)
+
+    def test_who_was_retired_is_counted(self):
+        for forfeit in (False, True):
+            lines = tables_of(competition(), [result(["ann", "bob"], [0, 100], retired=[False, True], forfeit=forfeit)] * 2)[0].lines
+            self.assertEqual((lines["ann"].retired, lines["bob"].retired), (0, 2))
+
+    def test_substituted_moves_do_not_decide_places(self):
+        # By the goals alone bob, with fewer wins, would stand above ann.
+        results = [result(["ann", "cid"], [0, 100], [0, 5], retired=[False, True])] * 10 + [result(["ann", "dan"], [100, 0])] * 8
+        results += [result(["ann", "dan"], [0, 100])] * 2 + [result(["bob", "dan"], [100, 0])] * 17 + [result(["bob", "dan"], [0, 100])] * 3
+        table = tables_of(competition("forfeit = true"), results)[0]
+        self.assertEqual([(of.player, of.won, of.mean()) for of in table.standings()][:2], [("ann", 18, 90), ("bob", 17, 85)])
+        rows = list(standings_rows(table))
+        self.assertEqual([row[rows[0].index("by forfeit")] for row in rows[1:]], ["10 won, 0 lost", "0 won, 0 lost", "0 won, 0 lost", "0 won, 10 lost"])
+        self.assertNotIn("by forfeit", next(standings_rows(tables_of(competition(), results[10:])[0])))
+
+    def test_a_forfeit_with_more_players(self):
+        for goals in ([0, 100, 0], [100, 0, 0], [0, 0, 100], []):
+            three = [result(["ann", "bob", "cid"], goals, [0, 5, 0], retired=[False, True, False], game="three")]
+            table = tables_of(competition(), three)[0]
+            found = [(of.won, of.drawn, of.lost, of.mean()) for of in map(table.lines.get, ("ann", "bob", "cid"))]
+            self.assertEqual(found, [(0, 1, 0, 50), (0, 0, 1, 0), (0, 1, 0, 50)])
+            self.assertEqual([table.points[pair] for pair in (("ann", "bob"), ("bob", "ann"), ("ann", "cid"))], [1, 0, 0.5])
+            two = tables_of(competition(), [result(["ann", "bob", "cid"], goals, retired=[True, True, False], game="three")])[0]
+            self.assertEqual([(of.won, of.lost, of.mean()) for of in map(two.lines.get, ("ann", "cid"))], [(0, 1, 0), (1, 0, 100)])
+
+    def test_the_order_by_points(self):
+        # More goals for ann, more points for bob.
+        results = [result(["ann", "bob"], [60, 70]), result(["ann", "cid"], [90, 10]), result(["bob", "cid"], [40, 40]), result(["dan", "cid"], [0, 5])]
+        for head, order, places in (("", ["ann", "bob", "cid", "dan"], [1, 2, 3, 4]), ('order = "points"', ["bob", "cid", "ann", "dan"], [1, 2, 3, 4])):
+            table = tables_of(competition(head), results)[0]
+            self.assertEqual(([of.player for of in table.standings()], table.places()), (order, places))
+        self.assertEqual([of.points() for of in table.standings()], [1.5, 1.5, 1, 0])
+        rows = list(standings_rows(table))
+        self.assertEqual([row[3] for row in rows], ["points", "1.5", "1.5", "1", "0"])
+
+    def test_three_players(self):
+        results = [result(["ann", "bob", "cid"], [50, 50, 0], game="three")]
+        found = [line(results, name) for name in ("ann", "bob", "cid")]
+        self.assertEqual([(row.won, row.drawn, row.lost) for row in found], [(0, 1, 0), (0, 1, 0), (0, 0, 1)])
+        table = tables_of(competition(), results)[0]
+        self.assertEqual([table.points[pair] for pair in (("ann", "bob"), ("bob", "ann"), ("ann", "cid"), ("cid", "ann"))], [0.5, 0.5, 1, 0])
+
+    def test_no_goals_and_one_role(self):
+        results = [result(["ann", "bob"], []), result(["ann"], [40], game="one")]
+        found = line(results, "ann")
+        self.assertEqual((found.matches, found.mean(), found.won, found.drawn, found.lost), (2, 40, 0, 0, 0))
+        self.assertIsNone(line(results, "bob").mean())
+
+    def test_who_is_retired(self):
+        record = {"errors": [["", "TO"], ["CE", "TO"], ["", "RT"]], "moves": [[], [], []], "goalValues": [1, 2], "strikes": 2, "phase": "finished", "cause": None}
+        match = Match("m", "two", 1, 1, ("ann", "bob"))
+        self.assertEqual(result_of(record, match).retirements, (None, Retirement(("TO", "TO"), 2)))
+        self.assertEqual(result_of({**record, "strikes": 0}, match).retirements, (None, None))
+        # Where the match ended with its last strike there is no `RT`.
+        last = {**record, "errors": [["", ""], ["", "TO"], ["", "IL x"]]}
+        self.assertEqual(result_of(last, match).retirements, (None, Retirement(("TO", "IL"), 3)))
+        self.assertEqual(result_of(last, match).errors[1], {"TO": 1, "IL": 1})
+
+    def test_a_match_that_was_ordered_again_counts_for_nobody(self):
+        first, second = result(["ann", "bob"], [100, 0]), result(["ann", "bob"], [0, 100])
+        first = replace(first, match=replace(first.match, again="m2", reason="the host's cable"))
+        tables = tables_of(competition(), [first, second])
+        self.assertEqual([(of.player, of.matches, of.won) for of in tables[0].standings()], [("bob", 1, 1), ("ann", 1, 0)])
+        files = table_files(Plan(None, competition(), {}, [first.match, second.match]), tables)
+        self.assertIn("cup: 1 of 1 matches\n", files["table.txt"].decode())
+        self.assertIn("* m does not count: m2 was ordered in its place: the host's cable\n", files["table.txt"].decode())
+
+    def test_a_line_and_a_table_begin_with_nothing(self):
+        values = vars(Line("x"))
+        self.assertEqual({name: value for name, value in values.items() if value}, {"player": "x"})
+        self.assertEqual([name for name, value in values.items() if value is None], ["rating", "buchholz", "rounds_won"])
+        table = Table("two", {})
+        self.assertEqual((table.matches, table.points, table.met, table.by, table.again, table.rounds, table.standings(), table.places(), table.is_of_pairs(), table.has_forfeits()), (0, {}, {}, "", [], (), [], [], False, False))
+
+    def test_what_orders_a_line(self):
+        line = Line("x", scored=3, goals=200, won=3, drawn=3, lost=1, bye_points=4)
+        self.assertEqual((line.points(), line.mean(), Line("x", scored=3, goals=100).mean(), Line("x").mean()), (8.5, 66.67, 33.33, None))
+        self.assertEqual((line.order("goals"), line.order("points")), ((-66.67, -3, 1), (-8.5, -66.67, -3, 1)))
+        self.assertEqual((Line("x").order("goals"), Line("x").order("points")), ((0, 0, 0), (0, 0, 0, 0)))
+        self.assertEqual((line.order("swiss"), replace(line, buchholz=2.5).order("swiss")), ((-8.5, 0), (-8.5, -2.5)))
+        self.assertEqual((line.order("knockout"), replace(line, rounds_won=2).order("knockout")), ((0,), (-2,)))
+
+    def by_rounds(self, kind, rounds, results):
+        """Returns the tables of a competition by rounds: results are the players of a match, its goals, its round, and the match in its place."""
+        players = [(name, f"h:{at + 1}") for at, name in enumerate(NAMES[:3])]
+        found = read_competition(toml(players, [("two", "f"), ("other", "f")], f'kind = "{kind}"' + "\nrounds = 2" * (kind == "swiss")).encode())
+        made = [replace(played, match=replace(played.match, round=number, again=again)) for played, number, again in ((result(names, goals), number, again) for names, goals, number, again in results)]
+        return tables_of(found, made, rounds)
+
+    def test_a_swiss_table_counts_byes_and_the_points_of_opponents(self):
+        rounds = [Round(1, (("ann", "bob"),), ("cid",)), Round(2, (("cid", "ann"),), ("bob",))]
+        results = [(("ann", "bob"), [100, 0], 1, ""), (("bob", "ann"), [50, 50], 1, ""), (("bob", "ann"), [100, 0], 1, "m2"), (("cid", "ann"), [0, 100], 2, "")]
+        whole, two, other = self.by_rounds("swiss", rounds, results)
+        self.assertEqual([(of.player, of.byes, of.bye_points, of.points(), of.buchholz, of.rounds_won) for of in whole.standings()],
+                         [("bob", 1, 4, 4.5, 2.5, None), ("cid", 1, 4, 4, 2.5, None), ("ann", 0, 0, 2.5, 8.5, None)])
+        self.assertEqual((whole.places(), whole.rounds, whole.by, whole.matches, len(whole.again)), ([1, 2, 3], rounds, "swiss", 3, 1))
+        # The tables of games know nothing of rounds.
+        self.assertEqual([(of.player, of.byes, of.points()) for of in two.standings()], [("ann", 0, 2.5), ("bob", 0, 0.5), ("cid", 0, 0)])
+        self.assertEqual((two.by, two.rounds, other.standings()), ("points", (), []))
+
+    def test_who_had_a_bye_alone_stands_in_the_table(self):
+        whole, *_ = self.by_rounds("swiss", [Round(1, (("ann", "bob"),), ("cid",))], [])
+        self.assertEqual([(of.player, of.matches, of.rating) for of in whole.standings()], [("cid", 0, None)])
+
+    def test_a_knockout_table_counts_rounds(self):
+        rounds = [Round(1, (("bob", "cid"),), ("ann",)), Round(2, (("ann", "cid"),), ())]
+        first = [(pair, goals, 1, "") for pair, goals in ((("bob", "cid"), [0, 100]), (("cid", "bob"), [100, 0])) for _ in range(2)]
+        whole, two, _ = self.by_rounds("knockout", rounds, [*first, (("ann", "cid"), [100, 0], 2, "")])
+        self.assertEqual([(of.player, of.rounds_won, of.byes, of.buchholz, of.bye_points) for of in whole.standings()], [("ann", 1, 1, None, 0), ("cid", 1, 0, None, 0), ("bob", 0, 0, None, 0)])
+        self.assertEqual((whole.places(), whole.by, two.by), ([1, 1, 3], "knockout", "points"))
+        second = [(pair, goals, 2, "") for pair, goals in ((("ann", "cid"), [0, 100]), (("cid", "ann"), [100, 0])) for _ in range(2)]
+        self.assertEqual([(of.player, of.rounds_won) for of in self.by_rounds("knockout", rounds, [*first, *second])[0].standings()], [("cid", 2), ("ann", 1), ("bob", 0)])
+
+    def test_a_rating_next_to_nothing_has_no_sign(self):
+        for rating, said in ((-0.4, "0 +- 118"), (0.4, "0 +- 118"), (-0.6, "-1 +- 118"), (-118.5, "-118 +- 118")):
+            lines = {"ann": Line("ann", matches=1, rating=Rating(rating, 118.2, 1))}
+            self.assertEqual(rating_text(Table("two", lines), lines["ann"]), said)
+
+    def test_a_rating_next_to_nothing_has_no_sign_in_a_file(self):
+        for rating, said in ((-0.04, "0.0"), (-0.0, "0.0"), (0.04, "0.0"), (-0.06, "-0.1")):
+            line = Line("ann", matches=1, rating=Rating(rating, 118.24, 1))
+            text, row = csv_text([Table("two", {"ann": line})]), dict(zip(HEADS, fields(line)))
+            self.assertEqual([json.dumps(row["rating"]), *(cells[key] for cells in csv.DictReader(text.splitlines()) for key in ("rating", "half"))], [said, said, "118.2"])
+
+    def test_a_rating_that_is_not_settled_is_told(self):
+        results = [result(names, goals) for names in (NAMES[:2], NAMES[1:3], NAMES[2:]) for goals in ([100, 0], [100, 0], [0, 100])]
+        for steps, said in ((100_000, []), (3, ["rating not settled: ann, bob, cid, dan (after 100,000 steps it was still changing)"])):
+            with mock.patch("ggp_tools.competition.ratings.MOST_STEPS", steps):
+                tables = tables_of(competition(), results)
+            self.assertEqual(list(notes(tables[0])), said)
+            self.assertEqual(json.loads(table_files(Plan(None, competition(), {}, [played.match for played in results]), tables)["table.json"])["tables"][0]["notes"], said)
+
+    def test_files_say_the_same(self):
+        results = [result(["ann", "bob"], [100, 0]), result(["bob", "ann"], [50, 50]), result(["cid"], [30], game="one")]
+        files = table_files(Plan(None, competition(), {}, [played.match for played in results]), tables_of(competition(), results))
+        said = json.loads(files["table.json"])
+        lines = [line.split(",") for line in files["table.csv"].decode().splitlines()[1:]]
+        self.assertEqual(len(lines), sum(len(of_game["lines"]) for of_game in said["tables"]))
+        flat = [(table["game"], row["player"], row["goals"], row["rating"]) for table in said["tables"] for row in table["lines"]]
+        self.assertEqual([(line[0], line[1], float(line[3]), float(line[11]) if line[11] else None) for line in lines], flat)
+        self.assertIn("all games,ann,bob,2,1.5\n", files["crosstable.csv"].decode())
+
+    def test_times_of_a_log(self):
+        log = (
+            b"began 2026-01-02T03:04:05.678Z\nhost one\nm1 role 1 bob message 1 (START m1 b (..: ready, 7 ms\n"
+            b"m1 role 0 ann message 2 (PLAY m1 NIL): TO (no answer, 3 ms, in time), 1000 ms\nParallel: a word\nended 2026-01-02T03:04:06.000Z\n"
+        )
+        found = times_of(log, 2)
+        self.assertEqual(found["messages"], [[["play", 1000]], [["start", 7]]])
+        self.assertEqual((found["begin"], found["end"], found["host"]), ("2026-01-02T03:04:05.678Z", "2026-01-02T03:04:06.000Z", "one"))
+
+    def test_numbers_of_a_log_that_are_too_long(self):
+        for line in ("m1 role {} ann message 1 (PLAY m1 nil): x, 3 ms", "m1 role 0 ann message {} (PLAY m1 nil): x, 3 ms", "m1 role 0 ann message 1 (PLAY m1 nil): x, {} ms"):
+            self.assertEqual(times_of(line.format("0" * 5000).encode(), 1)["messages"], [[]])
+
+    def test_times_that_are_none(self):
+        for line in ("began <plaintext>", "began 2026-01-02T03:04:05.678Z<b>", "began 2026-01-02", "ended now", "began 2026-01-02T03:04:05Z"):
+            found = times_of(line.encode(), 1)
+            self.assertEqual((found["begin"], found["end"]), (None, None), line)
+
+
+if __name__ == "__main__":
+    unittest.main()

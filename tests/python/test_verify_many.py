@@ -1,0 +1,275 @@
+"""Records checked by many processes: the answer is that of one. A stand-in for the program takes a line with `ok` for lawful, and one that begins with
+a digit for one of an account."""
+
+import contextlib
+import io
+import itertools
+import os
+import pathlib
+import signal
+import subprocess
+import sys
+import tempfile
+import types
+import unittest
+from unittest import mock
+
+from ggp_tools.records import verify_many
+from ggp_tools.records.verify_many import Fault, arguments, check, check_all, copy_out, in_memory, pieces
+from support import TOP
+
+STAND_IN = """#!/bin/sh
+echo "$@" >> "$(dirname "$0")/words"
+exec awk '
+/^[0-9]/ { skipped++; next }
+/short/ { print "ggp_manager: want of memory" > "/dev/stderr"; exit 3 }
+/ok/ { print "lawful"; next }
+{ print "not lawful: goals"; wrong++ }
+END {
+    if (skipped) print "ggp_manager: lines of accounts skipped " skipped > "/dev/stderr"
+    if (wrong) { print "ggp_manager: records not lawful " wrong > "/dev/stderr"; exit 1 }
+}'
+"""
+
+
+def reading(read):
+    """Has standard input be read so, by this module alone."""
+    return mock.patch.object(verify_many, "os", types.SimpleNamespace(**{**vars(os), "read": read}))
+
+
+class Pieces(unittest.TestCase):
+    def pieces(self, size, *parts):
+        """Returns the pieces of an input that is read in these parts; a fault is one in which reading fails."""
+        reads = iter(parts)
+
+        def read(stream, most):
+            self.assertEqual((stream, most), (0, min(size, verify_many.CHUNK)))
+            part = next(reads, b"")
+            if isinstance(part, Exception):
+                raise part
+            return part
+
+        with reading(read):
+            return [piece if isinstance(piece, Fault) else b"".join(piece) for piece in pieces(size)]
+
+    def test_the_first_one_is_empty(self):
+        self.assertEqual(self.pieces(9), [b""])
+
+    def test_they_are_cut_at_line_ends_once_they_are_large_enough(self):
+        self.assertEqual(self.pieces(4, b"a\nb\n", b"c\nd", b"e\nf", b"g"), [b"", b"a\nb\n", b"c\nde\n", b"fg"])
+        self.assertEqual(self.pieces(5, b"a\nb\n", b"cd\n", b"e"), [b"", b"a\nb\ncd\n", b"e"])
+        self.assertEqual(self.pieces(1, b"a", b"b", b"\n", b"c\n"), [b"", b"ab\n", b"c\n"])
+
+    def test_no_byte_is_lost_however_it_is_read(self):
+        text = b"one\ntwo\n\nthree\nfour"
+        for cuts in itertools.combinations(range(1, len(text)), 3):
+            parts = [text[begin:end] for begin, end in itertools.pairwise((0, *cuts, len(text)))]
+            for size in (1, 7, 99):
+                found = self.pieces(size, *parts)
+                self.assertEqual(b"".join(found), text)
+                self.assertTrue(all(piece.endswith(b"\n") for piece in found[1:-1]), (found, size))
+
+    def test_a_line_that_is_too_long_ends_the_last_piece(self):
+        with mock.patch.object(verify_many, "LONGEST_LINE", 4):
+            self.assertEqual(self.pieces(99, b"a\n", b"bb", b"bb", b"b", b"\nc\n"), [b"", b"a\nbbbbb"])
+            self.assertEqual(self.pieces(99, b"a\n", b"bb", b"bb", b"\nc\n"), [b"", b"a\nbbbb\nc\n"])
+            self.assertEqual(self.pieces(99, b"aa", b"aa", b"\nc\n"), [b"", b"aaaa\nc\n"])
+            self.assertEqual(self.pieces(99, b"aaaaa\nbb", b"bb", b"\n"), [b"", b"aaaaa\nbbbb\n"])
+        self.assertEqual(verify_many.LONGEST_LINE, 68_719_476_736)
+
+    def test_where_reading_fails_whole_lines_are_checked_first(self):
+        *found, fault = self.pieces(99, b"a\nb", b"c", OSError(5, "bad"))
+        self.assertEqual((found, fault.said, fault.status), ([b"", b"a\n"], b"ggp_manager: read fault\n", 1))
+        self.assertEqual(self.pieces(2, b"a\nb", OSError(5, "bad"))[:-1], [b"", b"a\n", b""])
+
+
+class WithProgram(unittest.TestCase):
+    def setUp(self):
+        self.folder = pathlib.Path(self.enterContext(tempfile.TemporaryDirectory()))
+        self.program = self.stand_in("program", STAND_IN)
+
+    def stand_in(self, name, text):
+        path = self.folder / name
+        path.write_text(text)
+        path.chmod(0o755)
+        return str(path)
+
+
+class Checks(WithProgram):
+    def checked(self, piece, program=None):
+        """Returns the verdicts on a piece, the counts, and the fault."""
+        found = check([program or self.program, "verify"], piece)
+        verdicts = b""
+        if found.verdicts:
+            with found.verdicts:
+                found.verdicts.seek(0)
+                verdicts = found.verdicts.read()
+        return verdicts, found.skipped, found.unlawful, found.fault and (found.fault.said, found.fault.status)
+
+    def test_verdicts_and_counts(self):
+        self.assertEqual(self.checked([b"ok\n", b"ok\n"]), (b"lawful\nlawful\n", 0, 0, None))
+        self.assertEqual(self.checked([b"ok\nno\n7\n8\nno\n"]), (b"lawful\nnot lawful: goals\nnot lawful: goals\n", 2, 2, None))
+        self.assertEqual((self.checked([b"7\n"]), self.checked([])), ((b"", 1, 0, None), (b"", 0, 0, None)))
+
+    def test_a_fault_of_the_program(self):
+        self.assertEqual(self.checked([b"ok\nshort\n"])[3], (b"ggp_manager: want of memory\n", 3))
+        wrong = self.stand_in("wrong", "#!/bin/sh\ncat > /dev/null\necho 'ggp_manager: records not lawful 1' >&2\nexit 2\n")
+        self.assertEqual(self.checked([b"no\n"], wrong)[3], (b"ggp_manager: records not lawful 1\n", 2))
+        silent = self.stand_in("silent", "#!/bin/sh\ncat > /dev/null\nexit 1\n")
+        self.assertEqual(self.checked([b"no\n"], silent)[3], (b"", 1))
+        # What has counted faults has status 1, and else 0.
+        other = self.stand_in("other", "#!/bin/sh\ncat > /dev/null\necho 'ggp_manager: records not lawful 1' >&2\n")
+        self.assertEqual(self.checked([b"no\n"], other)[1:], (0, 0, None))
+
+    def test_a_signal(self):
+        killed = self.stand_in("killed", "#!/bin/sh\ncat > /dev/null\necho some >&2\nkill -9 $$\n")
+        self.assertEqual(self.checked([b"ok\n"], killed)[3], (f"some\nggp-verify-records: {killed} was ended by signal 9\n".encode(), 137))
+
+    def test_a_program_that_can_not_be_run(self):
+        none = str(self.folder / "none")
+        self.assertEqual(self.checked([b"ok\n"], none), (b"", 0, 0, (f"ggp-verify-records: {none} can't be run: No such file or directory\n".encode(), 2)))
+
+    def test_one_that_reads_no_further(self):
+        deaf = self.stand_in("deaf", "#!/bin/sh\necho 'ggp_manager: bad description' >&2\nexit 1\n")
+        self.assertEqual(self.checked([b"x" * (1 << 20)], deaf)[3], (b"ggp_manager: bad description\n", 1))
+
+    def test_only_unlawful_records_have_1_with_why(self):
+        for said, status, wanted in (
+            (b"ggp_manager: records not lawful 2\n", 1, 1),
+            (b"ggp_manager: lines of accounts skipped 3\nggp_manager: records not lawful 2\n", 1, 1),
+            (b"ggp_manager: records not lawful \n", 1, 2),
+            (b"ggp_manager: read fault\n", 1, 2),
+            (b"ggp_manager: want of memory\n", 3, 2),
+            (b"ggp_manager: bad description\n", 2, 2),
+            (b"ggp-verify-records: x was ended by signal 9\n", 137, 137),
+        ):
+            self.assertEqual(Fault(said, status).status_with_why(), wanted, said)
+
+    def test_a_fault_of_the_input_is_passed_on(self):
+        self.assertEqual(self.checked(Fault(b"ggp_manager: read fault\n")), (b"", 0, 0, (b"ggp_manager: read fault\n", 1)))
+
+    def test_verdicts_that_can_not_be_written(self):
+        file = in_memory("some")
+        file.write(b"x" * 10)
+        with mock.patch.object(verify_many, "write_whole", side_effect=OSError(28, "full")), self.assertRaises(Fault) as why:
+            copy_out(file)
+        self.assertEqual((why.exception.said, why.exception.status, file.closed), (b"ggp_manager: write fault\n", 1, True))
+
+
+class All(WithProgram):
+    def all(self, text, jobs=2, size=8, program=None):
+        """Returns what is written, what is said, and the fault, where this input is checked."""
+        written, said, reads = [], [], iter([text[at : at + 3] for at in range(0, len(text), 3)])
+        with contextlib.ExitStack() as stack:
+            stack.enter_context(reading(lambda *_: next(reads, b"")))
+            stack.enter_context(mock.patch.object(verify_many, "write_whole", lambda stream, some: (written if stream == 1 else said).append(bytes(some))))
+            try:
+                check_all([program or self.program, "verify", "--lines"], jobs, size)
+            except Fault as fault:
+                return b"".join(written), b"".join(said), (fault.said, fault.status)
+        return b"".join(written), b"".join(said), None
+
+    def test_the_answer_is_that_of_one_process(self):
+        text = b"ok\nno\n7\nok\n" * 9 + b"no"
+        verdicts = b"lawful\nnot lawful: goals\nlawful\n" * 9 + b"not lawful: goals\n"
+        for jobs, size in ((1, 1), (1, 999), (3, 1), (3, 20)):
+            self.assertEqual(self.all(text, jobs, size), (verdicts, b"ggp_manager: lines of accounts skipped 9\n", (b"ggp_manager: records not lawful 10\n", 1)))
+        self.assertEqual(self.all(b"ok\n" * 5), (b"lawful\n" * 5, b"", None))
+        self.assertEqual(self.all(b""), (b"", b"", None))
+        self.assertEqual(set((self.folder / "words").read_text().splitlines()), {"verify --lines"})
+
+    def test_behind_a_fault_nothing_is_written(self):
+        text = b"ok\nno\n7\n" * 3 + b"ok\nshort\n" + b"ok\n" * 20
+        for size in (1, 4):
+            written, said, fault = self.all(text, 3, size)
+            self.assertEqual((written, said, fault), (b"lawful\nnot lawful: goals\n" * 3 + b"lawful\n", b"", (b"ggp_manager: want of memory\n", 3)))
+
+    def test_a_thread_that_can_not_be_made_is_want_of_memory(self):
+        with mock.patch.object(verify_many.threading.Thread, "start", side_effect=RuntimeError), self.assertRaises(MemoryError):
+            self.all(b"ok\n")
+
+    def test_the_size_is_that_of_pieces(self):
+        sizes = []
+        with mock.patch.object(verify_many, "pieces", lambda size: sizes.append(size) or iter(())):
+            self.all(b"", jobs=3, size=9)
+        self.assertEqual(sizes, [9])
+
+    def test_so_many_pieces_are_in_memory(self):
+        started, start = [], verify_many.threading.Thread.start
+        with mock.patch.object(verify_many.threading.Thread, "start", lambda thread: started.append(thread) or start(thread)):
+            self.all(b"ok\n", jobs=3)
+        self.assertEqual(len(started), 5)
+
+    def test_no_more_processes_at_a_time_than_were_asked_for(self):
+        counting = self.stand_in("counting", '#!/bin/sh\ncd "$(dirname "$0")"\nmkdir run.$$\nls -d run.* | wc -l >> counts\nsleep 0.05\nrmdir run.$$\ncat > /dev/null\n')
+        self.all(b"ok\n" * 12, 2, 1, counting)
+        counts = list(map(int, (self.folder / "counts").read_text().split()))
+        self.assertEqual((len(counts), max(counts) <= 2), (13, True))
+
+
+class Commands(WithProgram):
+    def run_command(self, *words, text=b""):
+        ran = subprocess.run([sys.executable, TOP / "python/ggp-verify-records", *words], input=text, capture_output=True)
+        return ran.returncode, ran.stdout, ran.stderr
+
+    def test_words(self):
+        given, options = arguments(["--jobs", "3", "--piece", "1", "program", "--", "--countdown", "3", "--"])
+        self.assertEqual((given.jobs, given.piece, given.program, options), (3, 1, "program", ["--countdown", "3", "--"]))
+        given, options = arguments(["program", "--"])
+        self.assertEqual((given.jobs, given.piece, options), (len(os.sched_getaffinity(0)), 4_194_304, []))
+        for words in (["--jobs", "1024", "--piece", str(1 << 30)], ["--jobs", "1"]):
+            arguments([*words, "program", "--"])
+        with mock.patch("os.sched_getaffinity", lambda process: () if process else range(7)):
+            self.assertEqual(arguments(["program", "--"])[0].jobs, 7)
+        with mock.patch("sys.stdout", io.StringIO()) as out, self.assertRaises(SystemExit), mock.patch.dict(os.environ, {"COLUMNS": "500"}):
+            arguments(["--help"])
+        lines = out.getvalue().splitlines()
+        self.assertEqual(lines[0], "usage: ggp-verify-records [--jobs N] [--piece BYTES] PROGRAM -- OPTIONS < records > verdicts")
+        self.assertEqual((lines[2], lines[-1][-35:]), (verify_many.__doc__.splitlines()[0], "It needs only Python 3.11 or later."))
+
+    def test_words_that_are_none(self):
+        for words in (["program"], ["--"], ["--jobs", "0", "p", "--"], ["--jobs", "1025", "p", "--"], ["--piece", "0", "p", "--"], ["--piece", str((1 << 30) + 1), "p", "--"], ["--jobs", "x", "p", "--"], ["--jobs", "-1", "p", "--"], ["--jobs", "1_0", "p", "--"]):
+            with self.assertRaises(SystemExit) as why, mock.patch("sys.stderr"):
+                arguments(words)
+            self.assertEqual(why.exception.code, 2, words)
+
+    def test_status_and_streams_are_those_of_the_program(self):
+        self.assertEqual(self.run_command(self.program, "--", "x", text=b"ok\nno\n7\n"), (
+            1, b"lawful\nnot lawful: goals\n", b"ggp_manager: lines of accounts skipped 1\nggp_manager: records not lawful 1\n",
+        ))
+        self.assertEqual((self.folder / "words").read_text().splitlines()[-1], "verify --lines x")
+        self.assertEqual(self.run_command(self.program, "--", text=b"ok\n"), (0, b"lawful\n", b""))
+        self.assertEqual(self.run_command(self.program, "--", text=b"short\n"), (3, b"", b"ggp_manager: want of memory\n"))
+
+    def ended(self, *words, fault=None, handler=None):
+        """Returns the status of a run whose check comes to this fault, what is checked, what is said, and the signals that are set."""
+        checked, said, signals = mock.Mock(side_effect=fault), [], mock.Mock()
+        with contextlib.ExitStack() as stack:
+            for name, other in (("check_all", checked), ("say", said.append), ("hold_closed_streams", mock.Mock())):
+                stack.enter_context(mock.patch.object(verify_many, name, other))
+            for name, other in (("sys.argv", ["x", *words]), ("os._exit", sys.exit), ("signal.signal", signals), ("signal.getsignal", lambda _: handler)):
+                stack.enter_context(mock.patch(name, other))
+            with self.assertRaises(SystemExit) as why:
+                verify_many.main()
+        return why.exception.code, checked.call_args.args, b"".join(said), [call.args for call in signals.call_args_list]
+
+    def test_how_a_run_ends(self):
+        words, more = ("--jobs", "3", "--piece", "9", "p", "--"), (["p", "verify", "--lines"], 3, 9)
+        self.assertEqual(self.ended(*words), (0, more, b"", []))
+        # Ctrl-C ends it as it ends the program, unless it is ignored.
+        self.assertEqual(self.ended(*words, handler=signal.default_int_handler)[3], [(signal.SIGINT, signal.SIG_DFL)])
+        for fault, said, status, with_why in (
+            (Fault(b"ggp_manager: records not lawful 1\n"), b"ggp_manager: records not lawful 1\n", 1, 1), (Fault(b"bad\n", 3), b"bad\n", 3, 2),
+            (MemoryError(), b"ggp_manager: want of memory\n", 3, 2),
+        ):
+            self.assertEqual((self.ended(*words, fault=fault), self.ended(*words, "--why", fault=fault)[::2]), ((status, more, said, []), (with_why, said)))
+
+    def test_streams_that_are_closed(self):
+        words = f"{sys.executable} {TOP}/python/ggp-verify-records {self.program} --"
+        for closed, status, said in (("<&-", 1, "ggp_manager: read fault\n"), (">&- < /dev/null", 0, ""), ("2>&- < /dev/null", 0, "")):
+            ran = subprocess.run(["sh", "-c", f"{words} {closed}"], capture_output=True, text=True, stdin=subprocess.DEVNULL)
+            self.assertEqual((ran.returncode, ran.stderr, ran.stdout), (status, said, ""), closed)
+
+
+if __name__ == "__main__":
+    unittest.main()

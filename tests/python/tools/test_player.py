@@ -1,0 +1,218 @@
+"""The example player: how it answers, also to what it may not expect, and that it goes on."""
+import contextlib
+import io
+import os
+import queue
+import socket
+import subprocess
+import sys
+import threading
+import time
+import unittest
+import unittest.mock
+
+import player
+from ports import free_ports
+
+TOP = os.path.dirname(os.path.dirname(os.path.dirname(os.path.dirname(os.path.realpath(__file__)))))
+
+RULES = "((role red) (init p) (legal red go) (legal red (stay 1)))"
+SECONDS = 600
+TRIES = 5
+
+
+def asked(port, body, size=None):
+    """Returns the status of the answer to a message whose length is said to be this, and its body; nothing where there is no answer."""
+    head = f"POST / HTTP/1.0\r\nReceiver: ann\r\nContent-Length: {len(body) if size is None else size}\r\n\r\n"
+    with socket.create_connection(("127.0.0.1", port), SECONDS) as connection:
+        connection.sendall((head + body).encode())
+        said = b""
+        while piece := connection.recv(65536):
+            said += piece
+    head, _, answer = said.decode().partition("\r\n\r\n")
+    return (int(head.split()[1]), answer) if said else None
+
+
+@contextlib.contextmanager
+def server():
+    """The port of a server inside this process, and what it says."""
+    with contextlib.redirect_stderr(io.StringIO()) as said, player.Server(("127.0.0.1", 0), player.Player(lambda moves: moves[0])) as host:
+        threading.Thread(target=host.serve_forever, daemon=True).start()
+        try:
+            yield host.server_port, said
+        finally:
+            host.shutdown()
+
+
+@contextlib.contextmanager
+def started(name, errors):
+    """The port of a player that is a process of its own, and takes connections. Another process may take the port before it does."""
+    for port in free_ports(TRIES):
+        with subprocess.Popen([sys.executable, "-B", f"{TOP}/examples/players/{name}.py", str(port), "1"], stderr=errors) as child:
+            try:
+                if is_there(child, port):
+                    yield port
+                    return
+            finally:
+                child.kill()
+    raise AssertionError("no player was begun")
+
+
+def is_there(child, port):
+    """Waits until a player takes connections. Returns whether it does: it may have ended."""
+    while child.poll() is None:
+        with socket.socket() as connection:
+            if connection.connect_ex(("127.0.0.1", port)) == 0:
+                return True
+        time.sleep(0.02)
+    return False
+
+
+class Answers(unittest.TestCase):
+    def setUp(self):
+        self.player = player.Player(lambda moves: moves[-1])
+
+    def answer(self, text):
+        return self.player.answer(player.read_message(text))
+
+    def test_a_match(self):
+        said = [self.answer(message) for message in ("(INFO)", f"(START m red {RULES} 1 1)", "INFO", "(PLAY m NIL)", "(STOP m (go))", "(INFO)")]
+        self.assertEqual(said, ["available", "ready", "busy", "(stay 1)", "done", "available"])
+
+    def test_the_end_of_another_match_ends_none(self):
+        self.assertEqual(self.answer("(ABORT other)"), "done")
+        self.answer(f"(START m red {RULES} 1 1)")
+        for other in "(ABORT other)", "(STOP other NIL)":
+            self.assertEqual((self.answer(other), self.answer("(INFO)"), self.answer("(PLAY m NIL)")), ("done", "busy", "(stay 1)"))
+        self.assertEqual((self.answer("(ABORT m)"), self.answer("(INFO)")), ("done", "available"))
+
+    def test_capitals_count_in_the_id_alone(self):
+        self.answer(f"(Start ; (x)\n M RED {RULES.upper()} 1 1)")
+        said = [self.answer(message) for message in ("(play m NIL)", "(PLAY M nil)", "(stop m nil)", "(Info)", "(abort M)", "info")]
+        self.assertEqual(said, ["busy", "(stay 1)", "done", "busy", "done", "available"])
+
+    def test_a_start_that_fails_leaves_the_match(self):
+        self.answer(f"(START m red {RULES} 1 1)")
+        for rules in "(())", "((role red) (<= (init p)) (<= (init)))":
+            with self.assertRaises(IndexError):
+                self.answer(f"(START other red {rules} 1 1)")
+            self.assertEqual(self.answer("(PLAY m NIL)"), "(stay 1)")
+
+    def test_a_move_that_is_too_long_to_be_answered(self):
+        for size, chosen in (player.MOST_ANSWER, "long"), (player.MOST_ANSWER + 1, "short"):
+            long = f"(m {'x' * (size - 4)})"
+            self.answer(f"(START m red ((role red) (legal red go) (legal red {long})) 1 1)")
+            self.assertEqual(self.answer("(PLAY m NIL)"), {"long": long, "short": "go"}[chosen])
+        self.answer(f"(START m red ((role red) (legal red {long})) 1 1)")
+        self.assertEqual(self.answer("(PLAY m NIL)"), long)
+
+    def test_lists_in_one_another(self):
+        most = player.MOST_LISTS
+        self.assertEqual(player.show(player.read("(" * most + ")" * most)[0]), "(" * most + ")" * most)
+        self.assertRaises(ValueError, player.read, "(" * (most + 1) + ")" * (most + 1))
+
+
+class Serving(unittest.TestCase):
+    def test_a_length_that_is_none_or_too_large(self):
+        with server() as (port, _):
+            for size in "-1", "x", "", str(player.MOST_BYTES + 1), "1" * 5000:
+                self.assertEqual(asked(port, "(INFO)", size)[0], 400, size)
+            self.assertEqual(asked(port, "(INFO)"), (200, "available"))
+
+    def test_a_large_game(self):
+        """More bytes than the usual limits allow, and rules that ask for one another more deeply."""
+        count, lists = 4_500, 60
+        steps = (f"(<= (c {number}) {'(or ' * lists}(c {number + 1}){')' * lists})" for number in range(count))
+        rules = f"((role red) (legal red go) (<= (legal red deep) (c 0)) {' '.join(steps)} (c {count}) (f {'x' * 4_194_304}))"
+        with server() as (port, _):
+            self.assertEqual(asked(port, f"(START m red {rules} 1 1)"), (200, "ready"))
+            self.assertEqual(asked(port, "(PLAY m NIL)"), (200, "go"))
+
+    def test_a_connection_that_sends_nothing_is_closed(self):
+        with unittest.mock.patch.object(player.Handler, "timeout", 0.5), server() as (port, _):
+            with socket.create_connection(("127.0.0.1", port), SECONDS) as silent:
+                self.assertEqual(asked(port, "(INFO)"), (200, "available"))
+                self.assertEqual(silent.recv(1), b"")
+
+    def test_connections_that_are_slow_hold_up_nobody(self):
+        with server() as (port, _), contextlib.ExitStack() as slow:
+            for part in (b"", b"POST", b"POST / HTTP/1.0\r\nContent-Length: 9\r\n\r\n(PLAY") * 3:
+                slow.enter_context(socket.create_connection(("127.0.0.1", port), SECONDS)).sendall(part)
+            began = time.monotonic()
+            self.assertEqual(asked(port, "(INFO)"), (200, "available"))
+            self.assertLess(time.monotonic() - began, player.Handler.timeout / 2)
+
+    def test_messages_are_answered_in_their_order(self):
+        came, may_go = threading.Semaphore(0), threading.Event()
+
+        class Queue(queue.SimpleQueue):
+            def put(self, item):
+                super().put(item)
+                came.release()
+
+        def answer(message):
+            may_go.wait(SECONDS)
+            heard.append(message)
+            return "done"
+
+        heard, sent = [], [f"m{number:02}" for number in range(20)]
+        with contextlib.ExitStack() as held:
+            held.enter_context(unittest.mock.patch.object(player.queue, "SimpleQueue", Queue))
+            held.enter_context(unittest.mock.patch.object(player.Player, "answer", lambda _, text: answer(text)))
+            port, _ = held.enter_context(server())
+            for body in sent:
+                connection = held.enter_context(socket.create_connection(("127.0.0.1", port), SECONDS))
+                connection.sendall(f"POST / HTTP/1.0\r\nContent-Length: 3\r\n\r\n{body}".encode())
+                self.assertTrue(came.acquire(timeout=SECONDS))
+            may_go.set()
+            asked(port, "end")
+        self.assertEqual(heard, [*sent, "end"])
+
+    def test_what_is_said_is_visible(self):
+        with server() as (port, said):
+            self.assertEqual(asked(port, "\x1b[2J\x07\rx\r\n"), (200, "busy"))
+            self.assertIsNone(asked(port, ""))
+        self.assertRegex(said.getvalue(), r"\Aann: \?\[2J\?\?x\?\n -> busy\n[ -~\n]*IndexError[ -~\n]*\Z")
+
+    def test_a_message_that_is_none_leaves_the_next_one(self):
+        with server() as (port, said):
+            self.assertIsNone(asked(port, ""))
+            self.assertEqual(asked(port, "(INFO)"), (200, "available"))
+        self.assertIn("IndexError", said.getvalue())
+
+    def test_nobody_reads_what_a_player_says(self):
+        for name in "player", "interpreting":
+            ours, theirs = os.pipe()
+            os.close(ours)
+            with started(name, theirs) as port:
+                os.close(theirs)
+                self.assertEqual(asked(port, f"(START m red {RULES} 1 1)"), (200, "ready"))
+                self.assertIsNone(asked(port, ""))
+                self.assertEqual(asked(port, "(PLAY m NIL)")[0], 200)
+
+    def test_a_pipe_that_nobody_reads(self):
+        ours, theirs = os.pipe()
+        for name in "player", "interpreting":
+            with started(name, theirs) as port:
+                for _ in range(100):
+                    self.assertIsNone(asked(port, ")"))
+                self.assertEqual(asked(port, "(INFO)"), (200, "available"))
+        os.close(ours)
+        os.close(theirs)
+
+    def test_as_many_rules_and_lists_as_a_game_may_have(self):
+        chain = " ".join(f"(<= p{number} {'(or ' * 60}p{number + 1}{')' * 60})" for number in range(3_000))
+        with started("player", subprocess.DEVNULL) as port:
+            self.assertEqual(asked(port, f"(START m red ((role red) (init s) (<= (legal red go) p0) {chain} (<= p3000 (true s))) 1 1)"), (200, "ready"))
+            self.assertEqual(asked(port, "(PLAY m NIL)"), (200, "go"))
+
+    def test_a_chain_of_as_many_rules_as_a_game_may_have(self):
+        chain = " ".join(f"(<= (a {number + 1}) (or (b {number}) (not (not (a {number})))))" for number in range(8186))
+        rules = f"((role red) (init p) (a 0) {chain} (<= (legal red go) (a 8186)))"
+        with started("player", subprocess.DEVNULL) as port:
+            self.assertEqual(asked(port, f"(START m red {rules} 1 1)"), (200, "ready"))
+            self.assertEqual(asked(port, "(PLAY m NIL)"), (200, "go"))
+
+
+if __name__ == "__main__":
+    unittest.main()

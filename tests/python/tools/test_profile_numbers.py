@@ -1,0 +1,32 @@
+"""Limits that a program which checks memory does not come to within minutes: the number in the code is that of docs/PROFILE.md."""
+import os
+import re
+import unittest
+
+TOP = os.path.dirname(os.path.dirname(os.path.dirname(os.path.dirname(os.path.realpath(__file__)))))
+# The file and the name of a constant, what stands around its number in the profile, and a file that uses it with what follows there.
+LIMITS = [
+    ("crates/game_commands/src/replaying.rt", "MAX_ACCOUNT", r"accounts, each of at most ([\d,]+) bytes", "crates/game_commands/src/replaying.rt", "- self.text.len();"),
+    ("crates/command_faults/src/files.rt", "MAX_LINE", r"records, one a line, each of at most ([\d,]+) bytes", "crates/game_commands/src/checking.rt", ") {"),
+]
+
+
+def text_of(file):
+    with open(f"{TOP}/{file}", encoding="utf-8") as stream:
+        return stream.read()
+
+
+class Limits(unittest.TestCase):
+    def test_the_code_has_the_numbers_of_the_profile(self):
+        profile = text_of("docs/PROFILE.md")
+        for file, name, words, user, behind in LIMITS:
+            said = re.findall(words, profile)
+            self.assertEqual(re.findall(rf"\bconst {name}: usize = ([\d_]+);", text_of(file)), [number.replace(",", "_") for number in said], name)
+            # The constant is used in one place there, where it is the limit as it stands.
+            self.assertEqual(len(said), 1, name)
+            code = "".join(line for line in text_of(user).splitlines(True) if not line.startswith("use "))
+            self.assertEqual(re.findall(rf"\b{name}\b *(?!: usize)(.*)", code), [behind], name)
+
+
+if __name__ == "__main__":
+    unittest.main()

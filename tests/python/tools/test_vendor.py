@@ -1,0 +1,45 @@
+"""What `tools/vendor` leaves alone in the repository to which it copies crates."""
+import os
+import pathlib
+import subprocess
+import tempfile
+import unittest
+
+TOP = os.path.dirname(os.path.dirname(os.path.dirname(os.path.dirname(os.path.realpath(__file__)))))
+# A crate that stands on no other.
+CRATE = "game_core"
+
+
+class Vendor(unittest.TestCase):
+    def setUp(self):
+        self.target = pathlib.Path(self.enterContext(tempfile.TemporaryDirectory()))
+        self.folder = self.target / "crates" / CRATE
+        self.folder.parent.mkdir()
+
+    def vendor(self):
+        return subprocess.run([f"{TOP}/tools/vendor", CRATE, self.target], capture_output=True, text=True)
+
+    def test_a_crate_is_copied_and_replaced(self):
+        rows = self.target / "crates.txt"
+        rows.write_bytes(b"# caf\xe9\nown: other\n")
+        for _ in range(2):
+            self.assertEqual(self.vendor().returncode, 0)
+        lines = rows.read_bytes().splitlines()
+        self.assertEqual((lines[1:], lines[0].startswith(CRATE.encode())), ([b"# caf\xe9", b"own: other"], True))
+        self.assertTrue((self.folder / "src").is_dir())
+
+    def test_what_has_the_name_of_a_crate_and_is_none_of_these_is_left_alone(self):
+        elsewhere = self.target / "elsewhere"
+        (elsewhere / "src").mkdir(parents=True)
+        (elsewhere / "vendored").touch()
+        for make in (self.folder.mkdir, self.folder.touch, lambda: self.folder.symlink_to("nowhere"), lambda: self.folder.symlink_to(elsewhere)):
+            make()
+            self.assertEqual(self.vendor().returncode, 1)
+            self.folder.rmdir() if self.folder.is_dir() and not self.folder.is_symlink() else self.folder.unlink()
+        self.assertEqual(sorted(path.name for path in self.target.rglob("*")), ["crates", "elsewhere", "src", "vendored"])
+
+    def test_a_line_for_a_crate_of_their_own_is_left_alone(self):
+        rows = self.target / "crates.txt"
+        rows.write_text(f"{CRATE}: theirs\n", encoding="utf-8")
+        self.assertEqual(self.vendor().returncode, 1)
+        self.assertEqual(rows.read_text(encoding="utf-8"), f"{CRATE}: theirs\n")

@@ -1,0 +1,107 @@
+"""About how many megabytes a check lays out of each crate, which is what its proof costs on any machine: estimated from the functions and
+their steps in the library that `rt ci` builds."""
+import json
+import os
+from collections.abc import Iterator
+from dataclasses import dataclass, field
+
+from crates import TOP
+
+MEASURED = f"{TOP}/bin/budget.json"
+BUDGET = f"{TOP}/tools/budget.txt"
+HEAD = """\
+# About how many megabytes a check lays out of each crate; then of all crates, and of the longest chain of crates that stand on one
+# another, each with its aim. `tools/budget --write` writes this file.
+"""
+TOTALS = {"in_all": "in all", "longest_chain": "longest chain"}
+# Fitted to whole checks of 27 libraries of 24 to 393 MB: mostly off by 6%, and by a fifth at most. A step counts for more in a generic
+# function, by each of its type parameters.
+OF_A_FUNCTION, OF_A_STEP, OF_A_PARAMETER = 0.80, 0.0031, 0.00068
+# A check lays out nothing of what a trait only declares.
+DECLARED = "+decl"
+# How far a crate, and a total, may be above its figure.
+LEEWAY, LEEWAY_OF_TOTALS = 1.1, 1.03
+
+Sizes = dict[str, int]
+
+
+@dataclass
+class Budget:
+    """The figures of tools/budget.txt in megabytes: of the crates, of the totals, and the aims of the totals."""
+
+    crates: Sizes
+    totals: Sizes = field(default_factory=dict)
+    aims: Sizes = field(default_factory=dict)
+
+
+def steps_in(body: object) -> int:
+    """Returns how many steps a compiled function has: the leaves of its tree, and the names of their parts."""
+    count, left = 0, [body]
+    while left:
+        part = left.pop()
+        count += len(part) if isinstance(part, dict) else not isinstance(part, list)
+        left += part.values() if isinstance(part, dict) else part if isinstance(part, list) else ()
+    return count
+
+
+def size_of(name: str, top: str) -> int | None:
+    """Returns the megabytes of the crate's library below a directory, or None if there is no library."""
+    try:
+        with open(f"{top}/crates/{name}/out/rlib/{name}.rlib/toolchain/mir.json", encoding="utf-8") as file:
+            functions = [function for path, function in json.load(file) if not path.endswith(DECLARED)]
+        return round(sum(OF_A_FUNCTION + (OF_A_STEP + OF_A_PARAMETER * len(it["generics"]["types"])) * steps_in(it["body"]) for it in functions))
+    except (OSError, ValueError, KeyError, TypeError):
+        return None
+
+
+def read_measured(file: str = MEASURED) -> Sizes:
+    """Returns the sizes that the last proof measured."""
+    try:
+        with open(file, encoding="utf-8") as stream:
+            return json.load(stream)
+    except (OSError, ValueError):
+        return {}
+
+
+def keep_measured(sizes: Sizes, file: str = MEASURED) -> None:
+    os.makedirs(os.path.dirname(file), exist_ok=True)
+    with open(file, "w", encoding="utf-8") as stream:
+        json.dump(sizes, stream, indent=1)
+
+
+def read_budget(file: str = BUDGET) -> Budget:
+    with open(file, encoding="utf-8") as lines:
+        rows = {words[0]: [*map(int, words[1:])] for line in lines if (words := line.partition("#")[0].split())}
+    totals = {name: rows.pop(name) for name in TOTALS if name in rows}
+    return Budget({name: row[0] for name, row in rows.items()}, {name: row[0] for name, row in totals.items()}, {name: row[1] for name, row in totals.items()})
+
+
+def write_budget(budget: Budget, file: str = BUDGET) -> None:
+    totals = (f"{name} {figure} {budget.aims[name]}\n" for name, figure in budget.totals.items())
+    with open(file, "w", encoding="utf-8") as stream:
+        stream.writelines([HEAD, *(f"{name} {figure}\n" for name, figure in budget.crates.items()), *totals])
+
+
+def totals_of(sizes: Sizes, known: dict[str, list[str]]) -> Sizes:
+    """Returns the megabytes of all crates, and of the longest chain of crates that stand on one another."""
+    chains: Sizes = {}
+    for name, deps in known.items():
+        chains[name] = sizes.get(name, 0) + max((chains[dep] for dep in deps), default=0)
+    return {"in_all": sum(sizes.values()), "longest_chain": max(chains.values(), default=0)}
+
+
+def above(sizes: Sizes, budget: Budget, known: dict[str, list[str]]) -> list[str]:
+    """Returns the crates and totals that are above their figure or have none."""
+    totals = totals_of(sizes, known)
+    crates = [name for name, size in sizes.items() if size > LEEWAY * budget.crates.get(name, 0)]
+    return crates + [name for name, size in totals.items() if size > LEEWAY_OF_TOTALS * budget.totals.get(name, 0)]
+
+
+def table(sizes: Sizes, budget: Budget, known: dict[str, list[str]]) -> Iterator[str]:
+    """Yields a row for each crate and each total, with its size and its figure."""
+    figures, wrong = {**budget.crates, **budget.totals}, above(sizes, budget, known)
+    for name, size in {**sizes, **totals_of(sizes, known)}.items():
+        figure = figures.get(name)
+        change = f"{100 * size / figure - 100:+.0f}%" if figure else "no figure"
+        aim = f", aim {budget.aims[name]}" if name in budget.aims else ""
+        yield f"{TOTALS.get(name, name):22} {size:6} of {figure or 0:6} MB, {change}{aim}{': ABOVE ITS BUDGET' if name in wrong else ''}"

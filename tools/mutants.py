@@ -1,0 +1,197 @@
+"""Small wrong changes of Python code, one at a time, as a slip or a refactoring makes them: a comparison turned, a bound moved by one, a
+condition negated or left out, a constant or a compared word changed, a call, a raise or a change of state dropped, two arguments swapped."""
+import ast
+import copy
+import difflib
+from collections.abc import Iterator
+from dataclasses import dataclass
+
+TURNED = {
+    ast.Lt: (ast.LtE, ast.Gt), ast.LtE: (ast.Lt, ast.GtE), ast.Gt: (ast.GtE, ast.Lt), ast.GtE: (ast.Gt, ast.LtE), ast.Eq: (ast.NotEq,),
+    ast.NotEq: (ast.Eq,), ast.In: (ast.NotIn,), ast.NotIn: (ast.In,), ast.Is: (ast.IsNot,), ast.IsNot: (ast.Is,),
+}
+EXCHANGED = {
+    ast.Add: ast.Sub, ast.Sub: ast.Add, ast.Mult: ast.Add, ast.Div: ast.Mult, ast.FloorDiv: ast.Mult, ast.Mod: ast.FloorDiv,
+    ast.BitAnd: ast.BitOr, ast.BitOr: ast.BitAnd,
+}
+OTHER_CALLS = {"min": "max", "max": "min", "any": "all", "all": "any", "set": "list", "reversed": "iter"}
+# A call of such a method gives a value of the same kind as it has.
+SAME_KIND = ("strip", "lstrip", "rstrip", "lower", "upper", "copy", "removeprefix", "removesuffix")
+# Swapped arguments of these change nothing, or fail wherever they run.
+SHOWN_AT_ONCE = ("min", "max", "range", "print", "isinstance", "map", "filter", "decode", "encode", "sub", "get", "getattr", "open")
+# What these fields hold is no code that runs, or only names types.
+IGNORED = ("annotation", "returns", "decorator_list")
+FUNCTIONS = (ast.FunctionDef, ast.AsyncFunctionDef)
+
+
+@dataclass(frozen=True)
+class Mutant:
+    """A changed module: in which function or class the change is, how the text differs, and the module's text."""
+
+    where: str
+    change: str
+    text: str
+
+    def __str__(self) -> str:
+        return f"{self.where or 'the module'}: {self.change}"
+
+
+@dataclass(frozen=True)
+class Slot:
+    """A place in a tree: the field of a node, or an element of the list in that field. With the names of the definitions around it."""
+
+    parent: ast.AST
+    field: str
+    index: int | None
+    where: tuple[str, ...]
+
+    def read(self) -> ast.AST:
+        held = getattr(self.parent, self.field)
+        return held if self.index is None else held[self.index]
+
+    def write(self, node: ast.AST) -> None:
+        if self.index is None:
+            setattr(self.parent, self.field, node)
+        else:
+            getattr(self.parent, self.field)[self.index] = node
+
+    def is_last_of_function(self) -> bool:
+        return isinstance(self.parent, FUNCTIONS) and self.index == len(self.parent.body) - 1
+
+
+def slots(node: ast.AST, where: tuple[str, ...] = ()) -> Iterator[Slot]:
+    """Gives every place of a tree whose code runs, in the order of the text."""
+    if isinstance(node, (*FUNCTIONS, ast.ClassDef)):
+        where = (*where, node.name)
+    for field, held in ast.iter_fields(node):
+        for index, child in enumerate(held) if isinstance(held, list) else [(None, held)]:
+            if isinstance(child, ast.AST) and field not in IGNORED and not is_prose(node, child):
+                yield Slot(node, field, index, where)
+                yield from slots(child, where)
+
+
+def is_prose(parent: ast.AST, child: ast.AST) -> bool:
+    """Returns whether a node is a docstring, or the text of an f-string."""
+    is_text = isinstance(child, ast.Expr) and isinstance(child.value, ast.Constant) and isinstance(child.value.value, str)
+    return is_text or isinstance(parent, ast.JoinedStr) and isinstance(child, ast.Constant)
+
+
+def is_word(node: ast.AST) -> bool:
+    return isinstance(node, ast.Constant) and isinstance(node.value, (str, bytes)) and len(node.value) > 0
+
+
+def with_item(node: ast.AST, field: str, index: int, item: ast.AST) -> ast.AST:
+    """Returns a copy of a node with another element in one of its lists."""
+    new = copy.deepcopy(node)
+    getattr(new, field)[index] = item
+    return new
+
+
+def other_comparisons(node: ast.Compare) -> Iterator[ast.AST]:
+    """Gives a comparison with each of its operators turned, and with the last character of each compared word cut off."""
+    for index, operator in enumerate(node.ops):
+        yield from (with_item(node, "ops", index, other()) for other in TURNED[type(operator)])
+    for index, compared in enumerate(node.comparators):
+        if is_word(compared):
+            yield with_item(node, "comparators", index, ast.Constant(compared.value[:-1]))
+
+
+def other_constants(value: object) -> list[object]:
+    if isinstance(value, bool):
+        return [not value]
+    if isinstance(value, int):
+        return [value + 1, *([value - 1] if value else [])]
+    return [value * 2 + 1] if isinstance(value, float) else []
+
+
+def other_calls(node: ast.Call) -> Iterator[ast.AST]:
+    """Gives a call with two neighbouring arguments swapped, with a bound of a range moved, of the opposite function, and what it is called of."""
+    name = node.func.id if isinstance(node.func, ast.Name) else getattr(node.func, "attr", "")
+    for index in range(1, len(node.args)):
+        if name not in SHOWN_AT_ONCE and not any(isinstance(argument, ast.Starred) for argument in node.args[index - 1 : index + 1]):
+            yield with_item(with_item(node, "args", index, node.args[index - 1]), "args", index - 1, node.args[index])
+    if isinstance(node.func, ast.Attribute) and name in SAME_KIND:
+        yield node.func.value
+    elif isinstance(node.func, ast.Name) and name in OTHER_CALLS:
+        yield ast.Call(ast.Name(OTHER_CALLS[name]), node.args, [] if OTHER_CALLS[name] == "list" else node.keywords)
+    elif isinstance(node.func, ast.Name) and name == "range":
+        yield from (with_item(node, "args", index, more_by_one(bound)) for index, bound in enumerate(node.args) if not isinstance(bound, ast.Constant))
+
+
+def more_by_one(node: ast.expr) -> ast.expr:
+    return ast.BinOp(node, ast.Add(), ast.Constant(1))
+
+
+def other_slices(node: ast.Slice) -> Iterator[ast.AST]:
+    """Gives a slice with each of its bounds moved by one. Constants are changed elsewhere."""
+    for name in ("lower", "upper"):
+        bound = getattr(node, name)
+        if bound is not None and not isinstance(bound, (ast.Constant, ast.UnaryOp)):
+            yield ast.Slice(**{"lower": node.lower, "upper": node.upper, "step": node.step, name: more_by_one(bound)})
+
+
+def is_dropped(slot: Slot, node: ast.stmt) -> bool:
+    """Returns whether a mutant drops a statement. Without its last return, or an assignment of `__init__`, a function fails wherever it runs."""
+    match node:
+        case ast.Expr(value=ast.Call() | ast.Await() | ast.Yield() | ast.YieldFrom()) | ast.Raise() | ast.Continue() | ast.Break() | ast.Delete():
+            return True
+        case ast.Return(value=value):
+            return value is not None and not slot.is_last_of_function()
+        case ast.Assign(targets=[ast.Attribute() | ast.Subscript()]):
+            return slot.where[-1:] != ("__init__",)
+    return False
+
+
+def joins_text(node: ast.BinOp) -> bool:
+    return any(isinstance(side, (ast.JoinedStr, ast.List, ast.Tuple)) or is_word(side) for side in (node.left, node.right))
+
+
+def variants(slot: Slot) -> Iterator[ast.AST]:
+    """Gives what a mutant may have in a place."""
+    node = slot.read()
+    match node:
+        case ast.stmt() if is_dropped(slot, node):
+            yield ast.Pass()
+        case ast.AugAssign(op=op) if type(op) in EXCHANGED:
+            yield ast.AugAssign(node.target, EXCHANGED[type(op)](), node.value)
+        case ast.Compare():
+            yield from other_comparisons(node)
+        case ast.BoolOp(values=values):
+            lefts = [values[:index] + values[index + 1 :] for index in range(len(values))]
+            yield from (left[0] if len(left) == 1 else ast.BoolOp(node.op, left) for left in lefts)
+        case ast.UnaryOp(op=ast.Not()):
+            yield node.operand
+        case ast.Constant(value=value):
+            yield from (ast.Constant(other) for other in other_constants(value))
+        case ast.BinOp(op=op) if type(op) in EXCHANGED and not joins_text(node):
+            yield ast.BinOp(node.left, EXCHANGED[type(op)](), node.right)
+        case ast.Slice():
+            yield from other_slices(node)
+        case ast.Call():
+            yield from other_calls(node)
+    if slot.field in ("test", "guard") and not isinstance(node, (ast.Compare, ast.BoolOp, ast.UnaryOp)):
+        yield ast.UnaryOp(ast.Not(), node)
+    if slot.field == "ifs":
+        yield ast.Constant(True)
+
+
+def difference(plain: str, text: str) -> str:
+    """Returns how two texts differ, in one line."""
+    lines = difflib.unified_diff(plain.splitlines(), text.splitlines(), lineterm="", n=0)
+    return " | ".join(line[0] + line[1:].strip() for line in lines if not line.startswith(("---", "+++", "@@")))
+
+
+def mutants(source: str) -> Iterator[Mutant]:
+    """Gives each mutant of a module."""
+    tree = ast.parse(source)
+    plain = ast.unparse(tree)
+    texts = {plain}
+    for slot in [*slots(tree)]:
+        node = slot.read()
+        for variant in [*variants(slot)]:
+            slot.write(ast.fix_missing_locations(ast.copy_location(variant, node)))
+            text = ast.unparse(tree)
+            slot.write(node)
+            if text not in texts:
+                texts.add(text)
+                yield Mutant(".".join(slot.where), difference(plain, text), text)
