@@ -94,7 +94,7 @@ def published(log: bytes) -> bytes:
     any other line, neither what a host has said nor what was before its match began again."""
     begin = log.rfind(b"\nbegan ") + 1
     lines = log[begin:].decode("ascii", "replace").splitlines()
-    return "".join(f"{line}\n" for line in lines if STAGE.fullmatch(line) or log_line(line)).encode("ascii")
+    return "".join(f"{line}\n" for line in lines if STAGE.fullmatch(line) or LINE.fullmatch(line)).encode("ascii")
 
 
 def reasons(log: bytes, match: Match) -> dict[tuple[int, int], str]:

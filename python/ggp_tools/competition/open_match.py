@@ -336,7 +336,7 @@ class OpenMatch:
         held, why_not = self.hold()
         while not all(child.is_over() for child in (verified, replayed, *([held] if held else []))):
             yield
-        is_lawful = verified.status() == 0 and verified.printed() == LAWFUL
+        is_lawful = verified.status() == 0 and file_bytes(verified.out, MOST_OF_MESSAGE) == f"{LAWFUL}\n".encode()
         if not is_lawful and is_not_lawful(verified.status(), verified.last_words()):
             self.why = verified.printed()
         elif not is_lawful or replayed.status() and not is_not_replayed(replayed.status(), replayed.last_words()):

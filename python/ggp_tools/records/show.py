@@ -264,7 +264,7 @@ def read_record(data: bytes) -> dict:
         return checked_record(parsed(data))
     rest = without_states(data)
     if len(rest) > LONGEST_RECORD:
-        raise NoRecord("it is longer than 16 MiB, also without its states")
+        raise NoRecord("it is longer than 16 MiB")
     record = parsed(rest)
     if isinstance(record, dict):
         record["states"] = first_states(data, LONGEST_RECORD)
