@@ -24,7 +24,7 @@ from support import GAMES, TOP, InFolder, command_of, program, program_but, run,
 
 HEAD = "start = 5\nplay = 5\nstrikes = 1\nwait = 0\ninfo = 5\ntries = 3\n"
 # The command with another silence after which a match on a lost host has ended, since the tests need not wait for it.
-QUICK = f"import sys; sys.path.insert(0, {str(TOP / 'python')!r})\nfrom ggp_tools.competition import command, open_match\nopen_match.SILENCE = 0.5\nsys.exit(command.main())"
+QUICK = f"import sys; sys.path.insert(0, {str(TOP / 'python')!r})\n" "from ggp_tools.competition import command, open_match\nopen_match.SILENCE = 0.5\nopen_match.MOST_SILENCE = {silence}\nsys.exit(command.main())"
 
 
 def lines(out, word):
@@ -187,7 +187,7 @@ class ManyHosts(InFolder):
         for player in self.players:
             player.thinks = 1
         playing = subprocess.Popen(
-            [sys.executable, "-c", QUICK, "play", "--program", program()],
+            [sys.executable, "-c", QUICK.replace("{silence}", "120"), "play", "--program", program()],
             cwd=self.folder, env=self.environment, text=True, stdout=subprocess.PIPE, stderr=subprocess.PIPE,
         )
         while not all(player.matches for player in self.players):
@@ -210,6 +210,18 @@ class ManyHosts(InFolder):
         for words in ("begin cup-001 countdown p0 p1 on a", "lost cup-001 on a: ssh: ", "abort cup-001 p1: answered", "begin cup-001 countdown p0 p1 on b"):
             self.assertRegex(told, rf"(?m)^{MOMENT} {words}")
         self.assertNotIn("abort cup-001 p0", told)
+        self.assert_sound(self.schedule)
+
+    def test_a_host_that_says_that_it_is_connected_and_nothing_more(self):
+        self.planned('["a", "b"]')
+        hung = f'[[ ${{@: -2:1}} = a ]] && {{ echo "{hosts.CONNECTED}" >&2; printf "\\033]0;title\\007" >&2; exec sleep 6000; }}'
+        ssh = self.folder / "ssh"
+        ssh.write_text(ssh.read_text().replace("exec 3<&0\n", f"{hung}\nexec 3<&0\n"))
+        quick = QUICK.replace("{silence}", "20")
+        done = subprocess.run([sys.executable, "-c", quick, "play", "--program", program()], cwd=self.folder, env=self.environment, text=True, capture_output=True, timeout=600)
+        self.assertEqual((done.returncode, done.stderr, len(lines(done.stdout, "end"))), (0, "", 1), done.stdout)
+        self.assertIn("lost cup-001 on a: nothing was heard of it for 25 s; no match goes there for 0 s", done.stdout)
+        self.assertNotIn("\x1b", done.stdout + (self.folder / "play.log").read_text())
         self.assert_sound(self.schedule)
 
     def test_a_referee_that_is_killed_on_a_host_costs_its_match_alone(self):
