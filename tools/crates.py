@@ -3,7 +3,7 @@ import hashlib
 import os
 import re
 
-from needs import kit_said
+from needs import toolchain_version
 
 TOP = os.path.dirname(os.path.dirname(os.path.realpath(__file__)))
 PROGRAM = "ggp_manager"
@@ -81,8 +81,8 @@ def text_sum(names, parts=PARTS):
 
 
 def made_from(parts=PARTS):
-    """Returns what the program is made from, in lines: the kit, and a sum of the text."""
-    return f"kit: {kit_said()}\ntext: {text_sum(with_below([PROGRAM], crates()), parts)}\n"
+    """Returns what the program is made from, in lines: the toolchain, and a checksum of the text."""
+    return f"kit: {toolchain_version()}\ntext: {text_sum(with_below([PROGRAM], crates()), parts)}\n"
 
 
 def said_of(program, made):

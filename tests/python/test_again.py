@@ -112,7 +112,3 @@ class OrderedAgain(unittest.TestCase):
         self.assertEqual(refuse_match(self.plan, Lawful(), "cup-001").id, "cup-001")
         self.plan.matches[0] = dataclasses.replace(self.plan.matches[0], again="cup-003", reason="late")
         self.assert_refused("cup-001 was ordered again already, as cup-003: late", "cup-001")
-
-
-if __name__ == "__main__":
-    unittest.main()

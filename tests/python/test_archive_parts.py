@@ -414,7 +414,3 @@ class Parts(unittest.TestCase):
         with mock.patch.object(archive, "PROCESSORS", 3), mock.patch.object(archive, "held_records", held):
             self.assertEqual(archive.held_side_by_side("f", list(range(7))), list("0123456"))
         self.assertEqual(sorted(parts), [[0, 1, 2], [3, 4, 5], [6]])
-
-
-if __name__ == "__main__":
-    unittest.main()

@@ -107,7 +107,3 @@ class Counted(unittest.TestCase):
         ):
             self.assertEqual(fault_of_files(record, account, b""), words)
         self.assertIsNone(fault_of_files(RECORD, ACCOUNT, b""))
-
-
-if __name__ == "__main__":
-    unittest.main()

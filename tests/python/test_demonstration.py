@@ -255,7 +255,3 @@ class Demonstration(InFolder):
         page.go(f"{address}index.html")
         self.assertEqual(page.value("document.getElementById('standings').innerText"), standings)
         self.assertIn(f"{FIRST} does not count: cup-019 was ordered in its place", page.text())
-
-
-if __name__ == "__main__":
-    unittest.main()

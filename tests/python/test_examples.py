@@ -358,7 +358,3 @@ class Explained(unittest.TestCase):
         with open("/dev/full", "w") as full:
             self.assertEqual(run(EXPLAIN, program(), "--countdown=3", RECORD, stdout=full), (3, None, f"ggp-explain-record: {FULL}\n"))
         self.assertEqual(run(EXPLAIN, program(), "--countdown=3", RECORD, preexec_fn=lambda: os.close(2)), (0, "lawful\n", ""))
-
-
-if __name__ == "__main__":
-    unittest.main()

@@ -310,7 +310,3 @@ class Commands(WithStandIn):
         for fault, words in ((MemoryError(), "out of memory"), (OSError(28, "full"), "standard output can't be written: full"), (OSError(28, "full", "x"), "x can't be written: full")):
             with mock.patch.object(explain, "explain_one", side_effect=fault):
                 self.assertEqual(self.run_main(str(RECORD), "--countdown=3"), (3, "", f"ggp-explain-record: {words}\n"))
-
-
-if __name__ == "__main__":
-    unittest.main()

@@ -192,7 +192,3 @@ class OfFormulas(unittest.TestCase):
         self.assertEqual(self.formulas.renamed(third, known), third)
         # Where two become one, it stands alone.
         self.assertEqual(self.formulas.renamed(self.formulas.any([one, other]), {one: third, other: third}), third)
-
-
-if __name__ == "__main__":
-    unittest.main()

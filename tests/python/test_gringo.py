@@ -191,7 +191,3 @@ class Runs(unittest.TestCase):
         self.assertEqual(({(number, tuple(listed)) for number, listed in found}, len(found)), (wanted, len(set(wanted))))
         self.assertGreater(len(wanted), 8)
         self.assertEqual(spelled(program.kept[0][0].head), "(role r)")
-
-
-if __name__ == "__main__":
-    unittest.main()

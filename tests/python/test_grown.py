@@ -145,7 +145,3 @@ class Spoilt(unittest.TestCase):
         lines = json.loads((self.folder / "table.json").read_text())["tables"][0]["lines"]
         self.assertEqual([line["rounds_won"] for line in lines], [2, 1, 0])
         self.assertEqual(sorted(line["player"] for line in lines), ["ann", "bob", "cid"])
-
-
-if __name__ == "__main__":
-    unittest.main()

@@ -80,7 +80,3 @@ class Histories(unittest.TestCase):
             with self.assertRaises(Refused) as why:
                 read_again(self.folder)
             self.assertEqual(str(why.exception), f"{self.folder.again} is not what `ggp_competition again` writes")
-
-
-if __name__ == "__main__":
-    unittest.main()

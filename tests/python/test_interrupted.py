@@ -60,7 +60,3 @@ class NotBegun(unittest.TestCase):
         with mock.patch.object(children, "started", started), self.assertRaises(IsADirectoryError):
             TimedChild(["sleep", "600"], folder, "played", LineReader(), Limits(1, 1, 600))
         self.assertEqual([process.poll() is not None for process in begun], [True])
-
-
-if __name__ == "__main__":
-    unittest.main()

@@ -446,7 +446,3 @@ class Files(unittest.TestCase):
             with mock.patch("ggp_tools.competition.kept.write_whole", full), self.assertRaises(OSError):
                 keep(folder, "m", b"record", b"account", b"log")
             self.assertEqual([file.read_bytes() for file in (folder.record("m"), folder.account("m"), folder.log("m"))], [b"record", b"account", b"log"])
-
-
-if __name__ == "__main__":
-    unittest.main()

@@ -257,7 +257,3 @@ class Files(InCache):
         status, out, said = run(self.folder, "table")
         self.assertEqual((status, out.splitlines()[0]), (1, "cup: 2 of 3 matches"))
         self.assertIn("does not count: not lawful", said)
-
-
-if __name__ == "__main__":
-    unittest.main()

@@ -41,7 +41,3 @@ class Large(InFolder):
         status, out, said = run(self.folder, "check", "cup.tar.gz")
         self.assertEqual((status, said), (0, ""), out)
         self.assertIn(f"{len(schedule)} records and accounts", out)
-
-
-if __name__ == "__main__":
-    unittest.main()

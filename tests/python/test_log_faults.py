@@ -121,7 +121,3 @@ class OfCompetition(unittest.TestCase):
             results.append(types.SimpleNamespace(match=match))
         found = list(faults_of_logs(types.SimpleNamespace(folder=folder), results, folder.whole_log))
         self.assertEqual(found, ["cup-002: line 2 of its log is not what its account says"])
-
-
-if __name__ == "__main__":
-    unittest.main()

@@ -655,7 +655,3 @@ class OnHosts(WithMatch):
                         child.lines.count += 1
             except StopIteration as end:
                 self.assertEqual((count, end.value), (steps, found), text)
-
-
-if __name__ == "__main__":
-    unittest.main()

@@ -277,7 +277,3 @@ class PagesOfMany(unittest.TestCase):
         matches = {f"{result.match.id}.html" for result in self.results[:3]}
         self.assertEqual({file.name for file in (one.folder / "matches").iterdir()}, {*matches, "mine"})
         self.assertEqual(sorted(file.name for file in one.folder.iterdir() if file.is_file()), ["index.html", "matches.html"])
-
-
-if __name__ == "__main__":
-    unittest.main()

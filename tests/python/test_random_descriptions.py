@@ -22,7 +22,3 @@ class RandomDescriptions(unittest.TestCase):
     def test_a_fault_shows(self):
         with mock.patch.object(rounds, "last_round", lambda circle, rules_for: 0):
             self.assertTrue(any(Tried(seed).fault for seed in WITH_A_CYCLE))
-
-
-if __name__ == "__main__":
-    unittest.main()

@@ -270,7 +270,3 @@ class Finding(unittest.TestCase):
             find_program(None)
         places = f"{self.folder}/python, {self.folder}/bin, {pathlib.Path(__file__).resolve().parents[2]}/bin"
         self.assertEqual(str(why.exception), f"ggp_manager is not in {places}, nor on the path of the shell (PATH); `--program FILE` names it")
-
-
-if __name__ == "__main__":
-    unittest.main()

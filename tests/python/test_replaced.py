@@ -115,7 +115,3 @@ class Growing(unittest.TestCase):
         self.assertEqual((self.tail.has_changed(), self.tail.changed), (True, 7))
         self.tail.lines()
         self.assertEqual(self.tail.changed, 9)
-
-
-if __name__ == "__main__":
-    unittest.main()

@@ -218,7 +218,3 @@ class Began(unittest.TestCase):
             ([f"began {second}", f"x {first}", "host one"], False),
         ):
             self.assertEqual(is_set_back("".join(f"{line}\n" for line in lines).encode()), wanted, lines)
-
-
-if __name__ == "__main__":
-    unittest.main()

@@ -401,7 +401,3 @@ class Refusals(unittest.TestCase):
 
     def test_a_line_has_no_round(self):
         self.assertEqual(Match("cup-1", "game", 1, 2, ("a", "b"), 3).line(), "cup-1\tgame\t1\t2\ta b\n")
-
-
-if __name__ == "__main__":
-    unittest.main()

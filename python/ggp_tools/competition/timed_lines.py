@@ -12,6 +12,7 @@ import threading
 import time
 from typing import IO
 
+from ggp_tools.competition.files import new_file
 from ggp_tools.moments import MOMENT, moment
 
 TIMED = re.compile(rf"^{MOMENT} ".encode("ascii"))
@@ -32,7 +33,7 @@ class TimedLines:
     """What comes out of a pipe, line by line, and goes into a file."""
 
     def __init__(self, pipe: IO[bytes], path: pathlib.Path, beaten: IO[bytes] | None, most: float) -> None:
-        self.pipe, self.file, self.beaten = pipe, open(path, "wb", buffering=0), beaten
+        self.pipe, self.file, self.beaten = pipe, new_file(path), beaten
         self.rest, self.is_over = b"", False
         # How many more bytes are written. What comes after them is lost, and below 0 something was.
         self.left = most

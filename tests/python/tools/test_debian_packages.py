@@ -22,7 +22,3 @@ class Installed(unittest.TestCase):
         self.assertEqual(closure(["shell"], known), ["base", "library", "mawk", "shell"])
         self.assertEqual(closure(["library", "mawk"], known), ["library", "mawk"])
         self.assertEqual(known["other"].provides, ["some-name", "another"])
-
-
-if __name__ == "__main__":
-    unittest.main()

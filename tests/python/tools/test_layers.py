@@ -47,7 +47,3 @@ class Unmentioned(unittest.TestCase):
 
     def test_a_comment_is_no_mention(self):
         self.assertEqual(unmentioned(["low"], ["// low\n", "-- as low says\n"]), ["low"])
-
-
-if __name__ == "__main__":
-    unittest.main()

@@ -38,7 +38,3 @@ class Sentences(unittest.TestCase):
 
     def test_no_full_stop_in_code_ends_a_sentence(self) -> None:
         self.assertEqual(sentences("It is `a. b`, or `c`. Then `d`!"), ["It is `a. b`, or `c`.", "Then `d`!"])
-
-
-if __name__ == "__main__":
-    unittest.main()

@@ -33,7 +33,3 @@ class Indexed(unittest.TestCase):
 
     def test_a_part_of_a_crate_names_none(self):
         self.assertIsNone(indexed("`read_one`: `fault`"))
-
-
-if __name__ == "__main__":
-    unittest.main()

@@ -8,7 +8,7 @@ use Rattle.game_core.specs.Play.{Rules}
 use Rattle.match_book.specs.MatchValue.{GameMatch}
 use Rattle.match_desk.specs.ManagerValue.{ManagerValue, DeskMatch, game_of, game_match}
 use Rattle.match_record.specs.RecordTree.{record_text}
-use Rattle.desk_scripts.specs.Script.{record_line, records}
+use Rattle.game_commands.specs.Script.{record_line, records}
 
 -- the record of a match with its game, as a line: nothing if there is no such match
 abbrev pub line_of : {G S M : Type 0} → (G → Rules S M) → Option (GameMatch G M) → List ℕ

@@ -1,7 +1,7 @@
 use Rattle.std.proofs.Common.{◌≡◌, ◌≤◌, ◌+◌, ◌++◌, length}
 use Rattle.std.specs.Str.Lines.{lines}
-use Rattle.desk_scripts.specs.Script.{answer_lines, after_lines, bad_lines}
-use Rattle.desk_scripts.proofs.script.answer_input.Given as goal
+use Rattle.game_commands.specs.Script.{answer_lines, after_lines, bad_lines}
+use Rattle.game_commands.proofs.answers.answer_input.Given as goal
 
 abbrev pub invariant-loop-rest : goal.invariant-loop-rest
 invariant-loop-rest g l = record {

@@ -3,7 +3,7 @@ ghost use Rattle.std.specs.Prelude.{◌≡◌, ◌++◌, ◌∷◌, [], IfOk, On
 ghost use Rattle.std.specs.Str.Lines.{lines};
 ghost use Rattle.game_core.specs.Bytes.{line_feed};
 ghost use Rattle.desk_text.specs.ScriptLines.{call_of};
-ghost use Rattle.desk_scripts.specs.Script.{line_answer, after_line, answer_lines, after_lines, bad_lines, records, script_output};
+ghost use Rattle.game_commands.specs.Script.{line_answer, after_line, answer_lines, after_lines, bad_lines, records, script_output};
 
 use call_history::Object;
 use desk_calls::{Call, Reply};

@@ -1,9 +1,9 @@
 use Rattle.std.proofs.Common.{◌+◌, ap, sym, ◌∙◌, take}
 use Rattle.std.specs.Prelude.{option_copied}
 use Rattle.match_record.specs.RecordTree.{record_text}
-use Rattle.desk_scripts.specs.Script.{records}
-use Rattle.desk_scripts.proofs.Records.{one_match, one_line}
-use Rattle.desk_scripts.proofs.script.push_records.Goals as goal
+use Rattle.game_commands.specs.Script.{records}
+use Rattle.game_commands.proofs.Records.{one_match, one_line}
+use Rattle.game_commands.proofs.answers.push_records.Goals as goal
 
 pub loop-place-preserved : goal.loop-place-preserved
 loop-place-preserved g c =
