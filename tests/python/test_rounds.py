@@ -318,12 +318,17 @@ class ByRounds(unittest.TestCase):
         self.assertEqual(self.make().matches, plan.matches)
         # With another key, or without it, they would be others.
         self.folder.key.unlink()
-        self.assert_refused("ids.key is not there: put it back: the ids of the matches follow from it")
-        self.assert_refused("is not the next match", self.make)
+        for call in (self.read, self.make):
+            self.assert_refused("ids.key is not there: put it back: the ids of the matches follow from it", call)
         self.assertFalse(self.folder.key.exists())
         self.folder.key.write_bytes(key)
         self.write(4, SWISS.format(3))
         self.assert_refused("ids was 'random' and is 'counted'", self.make)
+        # So is the other way round.
+        self.folder.planned.write_bytes(self.folder.competition.read_bytes())
+        self.folder.key.unlink()
+        self.write(4, SWISS.format(3), 'ids = "random"')
+        self.assert_refused("ids was 'counted' and is 'random'", self.make)
 
     def test_the_ids_of_another_competition_of_this_name_are_others(self):
         self.write(4, SWISS.format(2), 'ids = "random"')

@@ -164,6 +164,8 @@ def make_plan(path: str, referee: Referee) -> Plan:
         key = read_key(folder, competition)
         new_key = secrets.token_hex(16).encode("ascii") + b"\n" if key is None else key
         history, wanted = history_of(folder, competition, rules, new_key) if is_begun else (History(key=new_key), {})
+        if is_begun and key is None:
+            raise lost_key(folder)
         wanted |= {folder.key: new_key} if key is None else {}
         schedule = schedule_of(folder, competition, rules, history, known)
         wanted |= files
@@ -237,6 +239,10 @@ def write_plan(folder: Folder, wanted: dict[Path, bytes], is_begun: bool) -> Non
         raise Refused(f"{folder.path} can't be written: {why.filename}: {os.strerror(why.errno)}") from None
 
 
+def lost_key(folder: Folder) -> Refused:
+    return Refused(f"{folder.key} is not there", "put it back: the ids of the matches follow from it")
+
+
 def key_files(plan: Plan) -> list[Path]:
     """Returns the file of the key that the ids of the matches follow from, where there is one."""
     return [plan.folder.key] if plan.history.key else []
@@ -306,7 +312,7 @@ def read_plan(path: str, referee: Referee) -> Plan:
     schedule, rules, history = read_planned(folder.schedule), read_rules(folder, competition, referee), read_history(folder)
     key = read_key(folder, competition)
     if key is None:
-        raise Refused(f"{folder.key} is not there", "put it back: the ids of the matches follow from it")
+        raise lost_key(folder)
     history = replace(history, key=key)
     try:
         found = schedule_of(folder, competition, rules, history, count_of_matches(folder))
