@@ -22,6 +22,7 @@ from ggp_tools.competition.schedule import Match
 from ggp_tools.descriptions.loading import Rules
 from ggp_tools.records.lengths import longest_record
 from ggp_tools.referee import Unchecked
+from support import InFolder
 
 RULES = Rules(b"(role a) (role b)", "", ("a", "b"))
 
@@ -59,9 +60,7 @@ def broken_off(function, count, fault):
 
 class Kept(unittest.TestCase):
     def setUp(self):
-        room = tempfile.TemporaryDirectory()
-        self.addCleanup(room.cleanup)
-        self.folder = Folder(pathlib.Path(room.name))
+        self.folder = Folder(pathlib.Path(self.enterContext(tempfile.TemporaryDirectory())))
         self.folder.make(self.folder.records, self.folder.accounts)
         competition = types.SimpleNamespace(strikes=0)
         self.plan = types.SimpleNamespace(folder=self.folder, competition=competition, rules={"one": RULES}, matches=[], judge=lambda referee, _: referee)
@@ -355,11 +354,8 @@ class Looked(unittest.TestCase):
         self.assertEqual(strangers(types.SimpleNamespace(folder=Folder(self.folder.path / "none"), matches=[])), [])
 
 
-class Files(unittest.TestCase):
+class Files(InFolder):
     """What is said of files by their bytes alone."""
-
-    def setUp(self):
-        self.folder = pathlib.Path(self.enterContext(tempfile.TemporaryDirectory()))
 
     def test_what_is_not_handed_to_the_referee(self):
         account = b"0\topen cup-1 0 1 1 a\topened\n"

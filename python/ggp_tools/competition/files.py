@@ -220,7 +220,8 @@ class Folder:
             raise Refused(f"{self.path.absolute()}: the path of a competition has to be UTF-8, since the referee takes no other") from None
 
     def make(self, *folders: pathlib.Path) -> None:
-        """Makes folders that are not there, so that they last as long as what is written into them. That of open matches is for its owner."""
+        """Makes folders that are not there, so that they last as long as what is written into them. Only their owner reads that of open
+        matches."""
         for place in (self.path, *folders):
             if not place.is_dir():
                 place.mkdir(parents=True, exist_ok=True)

@@ -237,7 +237,7 @@ class Server(ThreadingHTTPServer):
         """Returns whether one more connection of an address is served. Where there are too many, the oldest one that has asked for nothing
         gives way, of the address that has most of these."""
         count = sum(own == address for own, _ in self.connections.values())
-        if count >= self.most_of(address):
+        if count >= self.most_of(address) < self.most:
             return False
         if len(self.connections) < self.most:
             return True
@@ -317,7 +317,8 @@ class Server(ThreadingHTTPServer):
         """Gives a page to somebody who is told of its changes: none where there is none, or too many look at pages. The last eighth of all
         connections, and of those of an address, is for pages."""
         with self.site.changed:
-            has_room = all(count < most - most // 8 for count, most in ((self.viewers.total(), self.most), (self.viewers[address], self.most_of(address))))
+            counts = (self.viewers.total(), self.most), (self.viewers[address], self.most_of(address))
+            has_room = all(count < most - most // 8 for count, most in counts)
             found = self.site.opened(path) if has_room else None
             if found:
                 found.viewers += 1
