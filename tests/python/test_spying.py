@@ -148,7 +148,3 @@ class Files(InFolder):
         self.assertLessEqual({os.path.basename(path) for path in others}, {"players", "record", "account"})
         for player in players:
             player.leave()
-
-
-if __name__ == "__main__":
-    unittest.main()
