@@ -6,7 +6,6 @@ import re
 import stat
 import tempfile
 import threading
-import unittest
 
 from ggp_tools.competition.live_site import LiveSite
 from live_support import SILENT, begin, line, plan_in
