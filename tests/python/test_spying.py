@@ -6,7 +6,6 @@ import re
 import stat
 import tempfile
 import threading
-import unittest
 
 from ggp_tools.competition.live_site import LiveSite
 from live_support import SILENT, begin, line, plan_in
@@ -148,7 +147,3 @@ class Files(InFolder):
         self.assertLessEqual({os.path.basename(path) for path in others}, {"players", "record", "account"})
         for player in players:
             player.leave()
-
-
-if __name__ == "__main__":
-    unittest.main()
