@@ -45,3 +45,11 @@ def pytest_runtest_makereport(item: pytest.Item) -> Iterator[None]:
     report = (yield).get_result()
     if report.skipped and item.config.option.no_skips:
         report.outcome, report.longrepr = "failed", f"skipped: {report.longrepr[2] if isinstance(report.longrepr, tuple) else report.longrepr}"
+
+
+@pytest.fixture(autouse=True)
+def keep_recursion_limit() -> Iterator[None]:
+    """Commands raise the limit for their process. Here the next test shares that."""
+    before = sys.getrecursionlimit()
+    yield
+    sys.setrecursionlimit(before)

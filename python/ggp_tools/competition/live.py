@@ -28,7 +28,7 @@ from ggp_tools.competition.schedule import Match
 from ggp_tools.competition.tail import Tail
 from ggp_tools.kif import Expression, spelled
 from ggp_tools.moments import MOMENT
-from ggp_tools.records.show import LONGEST_RECORD, NoRecord, read_record
+from ggp_tools.records.show import NoRecord, read_record
 
 # All records are listed for at most so small a part of the time, and read for so many seconds in a look. The record of a match that was open
 # is read at once.
@@ -437,8 +437,7 @@ class Reader:
             found = self.plan.folder.record(name).stat()
             if self.delay and found.st_mtime > self.now():
                 return
-            # Of a longer file so much is enough to refuse it.
-            record = read_record(self.plan.folder.read_record(name, LONGEST_RECORD + 2))
+            record = read_record(self.plan.read_record(match))
         except FileNotFoundError:
             return
         except (OSError, NoRecord) as why:

@@ -23,7 +23,7 @@ from ggp_tools.competition.plan import read_plan
 from ggp_tools.competition.results import Result
 from ggp_tools.ground_games import MOST_CALLS
 from ggp_tools.human.server import is_own_name
-from ggp_tools.records.show import BOARD_STYLE, LONGEST_RECORD, NoRecord
+from ggp_tools.records.show import BOARD_STYLE, NoRecord
 from ggp_tools.referee import Referee
 from ggp_tools.reporting import say
 
@@ -302,7 +302,7 @@ class Server(ThreadingHTTPServer):
     def keep(self, path: str, result: Result) -> bytes | None:
         """Returns the page of a match that is over, and keeps it for a while; none where its record is there no more."""
         try:
-            record = self.site.plan.folder.read_record(result.match.id, LONGEST_RECORD + 2)
+            record = self.site.plan.read_record(result.match)
             data = self.site.site.match_page(result, record)
         except (OSError, NoRecord):
             return None
