@@ -6,7 +6,7 @@ from crates import TOP, below, crate_rows, crates
 from unit_crates import UNIT, unit_crates
 
 CRATES = "| Crate | Stands on | What it is for |"
-TESTS = "| Crate of tests | What it tries |"
+TESTS = "| Crate of tests | What it tests |"
 # The layers stand in a block of code behind this line.
 LAYERS = "The program's crates, each over some of the lines below its own:\n"
 LAYER_ROWS = r"\n(?:    .*\n)*"

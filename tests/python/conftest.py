@@ -6,10 +6,14 @@ import sys
 from collections.abc import Iterator
 
 import pytest
+from hypothesis import settings
 from support import program
 
 sys.dont_write_bytecode = True
 os.environ["PYTHONDONTWRITEBYTECODE"] = "1"
+# The same examples in each run, however long one takes on a busy computer.
+settings.register_profile("fixed", derandomize=True, deadline=None, database=None)
+settings.load_profile("fixed")
 # These modules play matches and take longest. They begin first, so that no worker is left with one of them at the end.
 LONG = ("demonstration", "hosts", "archive", "play", "whole", "many_hosts", "grown", "told", "why")
 

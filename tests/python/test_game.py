@@ -274,7 +274,7 @@ class Game(InFolder):
                 1, "seed 1: the program's record is not that of the interpreter of ggp_competition, by states: please report it\n", "",
             ),
             program() + ''' "$@" <<< "$input" | sed 's/"states":/"states":1,"is":/'; exit 0''': (1, "by states: please report it\n", ""),
-            "exec sleep 30": (0, "the program had not played 1 of them after 1 s: their records are not compared\n", ""),
+            "exec sleep 600": (0, "the program had not played 1 of them after 5 s: their records are not compared\n", ""),
             "echo 'ggp_manager: want of memory' >&2; exit 3": (
                 3, "",
                 "ggp_competition: `ggp_manager desk` came to no verdict with game.kif: want of memory, status 3\n",
@@ -284,7 +284,7 @@ class Game(InFolder):
         for done, (wanted, printed, told) in cases.items():
             path = program_but(self.folder / "other", '"$1" = desk', other.format(done))
             # Only a program that never answers has to be cut off soon.
-            seconds = "1" if "sleep" in done else "60"
+            seconds = "5" if "sleep" in done else "600"
             status, out, said = run(self.folder, "game", "game.kif", "--matches", "1", "--seconds", seconds, "--program", path)
             self.assertEqual((status, said), (wanted, told), out)
             self.assertIn(printed, out)

@@ -9,6 +9,7 @@ import time
 from collections.abc import Callable
 from typing import Any
 
+from ggp_tools.competition.files import new_file
 from ggp_tools.competition.timed_lines import LineReader, untimed
 from ggp_tools.moments import moment
 
@@ -39,7 +40,7 @@ class Child:
     def __init__(self, words: list[str], folder: pathlib.Path, name: str, given: pathlib.Path | str) -> None:
         self.out, self.said = folder / name, folder / f"{name}.said"
         self.began = time.monotonic()
-        with open(given, "rb") as stdin, open(self.out, "wb") as out, open(self.said, "wb") as said:
+        with open(given, "rb") as stdin, new_file(self.out) as out, new_file(self.said) as said:
             self.process = started(words, stdin=stdin, stdout=out, stderr=said)
 
     def is_over(self) -> bool:
@@ -74,7 +75,7 @@ class TimedChild(Child):
         self.out, self.said = folder / name, folder / f"{name}.said"
         self.began, self.began_at, self.ended = time.monotonic(), moment(), 0.0
         given = subprocess.PIPE if is_beaten else subprocess.DEVNULL
-        with open(self.out, "wb") as out:
+        with new_file(self.out) as out:
             self.process = started(words, stdin=given, stdout=out, stderr=subprocess.PIPE, bufsize=0)
         try:
             self.reader, self.lines = reader, reader.read(self.process.stderr, self.said, self.process.stdin)

@@ -116,6 +116,11 @@ def drop_unfinished(folder: pathlib.Path) -> None:
             file.unlink(missing_ok=True)
 
 
+def new_file(path: str | pathlib.Path) -> BinaryIO:
+    """Opens a file of an open match to be written. Others on this computer, who may play it, can't read it: it has what players answer."""
+    return open(path, "wb", buffering=0, opener=lambda name, flags: os.open(name, flags, 0o600))
+
+
 def opened_file(path: str | pathlib.Path) -> BinaryIO:
     """Opens a file to be read, and nothing else: a pipe would hold up the reader until somebody writes into it."""
     found = os.open(path, os.O_RDONLY | os.O_NONBLOCK | os.O_CLOEXEC)
@@ -208,11 +213,13 @@ class Folder:
             raise Refused(f"{self.path.absolute()}: the path of a competition has to be UTF-8, since the referee takes no other") from None
 
     def make(self, *folders: pathlib.Path) -> None:
-        """Makes folders that are not there, so that they last as long as what is written into them."""
+        """Makes folders that are not there, so that they last as long as what is written into them. That of open matches is for its owner."""
         for place in (self.path, *folders):
             if not place.is_dir():
                 place.mkdir(parents=True, exist_ok=True)
                 sync(place.parent)
+            if place == self.open:
+                place.chmod(0o700)
 
     def drop_unfinished(self) -> None:
         """Takes away what a write that was broken off has left. Below the folder nobody writes but who holds it."""

@@ -75,7 +75,7 @@ class OpenMatch:
 
     def go(self) -> Steps:
         """The steps of the match."""
-        self.room.mkdir(parents=True, exist_ok=True)
+        self.room.mkdir(0o700, parents=True, exist_ok=True)
         if not (yield from self.ask()) or not self.may_begin:
             self.close()
             return

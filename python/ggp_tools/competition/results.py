@@ -21,6 +21,8 @@ HOST_LINE = re.compile(r"(host) (\S+)")
 WON, DRAWN, LOST = "won", "drawn", "lost"
 # What a player that is left alone by a forfeit gets, and several that are left share.
 FULL_GOAL = 100
+# Of a value that is wrong so many signs are cited.
+MOST_CITED = 200
 
 
 @dataclass(frozen=True)
@@ -123,7 +125,10 @@ def fault_of_record(record: dict, match: Match, strikes: int) -> str | None:
     for key, value in wanted.items():
         if record.get(key) != value:
             said = "competition.toml" if key == "strikes" else "the schedule"
-            return f"its {key} is {record.get(key)!r}, and {said} has {value!r}"
+            found = repr(record.get(key))
+            return f"its {key} is {found[:MOST_CITED]}{'..' * (len(found) > MOST_CITED)}, and {said} has {value!r}"
+    if not all(0 <= goal <= FULL_GOAL for goal in record["goalValues"]):
+        return f"one of its goals is not from 0 to {FULL_GOAL}"
     return None if record["phase"] in ("finished", "aborted") else f"its match is not over: {record['phase']}"
 
 

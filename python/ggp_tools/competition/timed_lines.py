@@ -11,6 +11,7 @@ import threading
 import time
 from typing import IO
 
+from ggp_tools.competition.files import new_file
 from ggp_tools.moments import MOMENT, moment
 
 TIMED = re.compile(rf"^{MOMENT} ".encode("ascii"))
@@ -31,7 +32,7 @@ class TimedLines:
     """What comes out of a pipe, line by line, and goes into a file."""
 
     def __init__(self, pipe: IO[bytes], path: pathlib.Path, beaten: IO[bytes] | None) -> None:
-        self.pipe, self.file, self.beaten = pipe, open(path, "wb", buffering=0), beaten
+        self.pipe, self.file, self.beaten = pipe, new_file(path), beaten
         self.rest, self.is_over = b"", False
         # How often something was written, so that nobody has to read the file to see that.
         self.count = 0

@@ -12,7 +12,6 @@ FILES = {
     "package/__init__.py": 'VERSION = "{}"\n',
     "README.md": "    ggp_manager {}\n",
     "docs/COMPETITION.md": "published with ggp_manager {}, checked by ggp_competition {}\n",
-    "tests/unit/some_tests/src/words.rt.test": 'b"ggp_manager {}\\n"\n',
 }
 
 
