@@ -20,8 +20,8 @@ from ggp_tools.competition.known import Known
 from ggp_tools.competition.plan import make_plan
 from ggp_tools.competition.table_text import in_order
 from ggp_tools.referee import Unchecked
-from live_support import BEGAN, ENDED, RULES, line, record_of, started
-from support import toml
+from live_support import BEGAN, ENDED, RULES, record_of, started
+from support import InFolder, toml
 from test_archive import changed, files_of, packed, without
 
 HEAD = "start = 5\nplay = 5\n"
@@ -315,10 +315,7 @@ class Held(Made):
             self.assertIn("the pages are right; 3 matches are those of descriptions with variables; published with", self.check()[1])
 
 
-class Parts(unittest.TestCase):
-    def setUp(self):
-        self.folder = pathlib.Path(self.enterContext(tempfile.TemporaryDirectory()))
-
+class Parts(InFolder):
     def write(self, **files):
         for name, data in files.items():
             file = self.folder / name.replace("__", "/").replace("_", ".")

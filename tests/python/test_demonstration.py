@@ -8,7 +8,6 @@ import signal
 import subprocess
 import threading
 import time
-import unittest
 
 from browser import PHONE, WIDE, Browser, Page
 from players import TestPlayer, example

@@ -59,9 +59,7 @@ SWISS = {
 class Spoilt(unittest.TestCase):
     def folder_of(self, players, **more):
         """Returns the folder of a competition among these players."""
-        room = tempfile.TemporaryDirectory()
-        self.addCleanup(room.cleanup)
-        self.folder = pathlib.Path(room.name)
+        self.folder = pathlib.Path(self.enterContext(tempfile.TemporaryDirectory()))
         self.write(players, **more)
 
     def write(self, players, **more):

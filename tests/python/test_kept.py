@@ -20,6 +20,7 @@ from ggp_tools.competition.kept import (
 from ggp_tools.competition.known import Known
 from ggp_tools.competition.schedule import Match
 from ggp_tools.referee import Unchecked
+from support import InFolder
 
 
 class Counting:
@@ -55,9 +56,7 @@ def broken_off(function, count, fault):
 
 class Kept(unittest.TestCase):
     def setUp(self):
-        room = tempfile.TemporaryDirectory()
-        self.addCleanup(room.cleanup)
-        self.folder = Folder(pathlib.Path(room.name))
+        self.folder = Folder(pathlib.Path(self.enterContext(tempfile.TemporaryDirectory())))
         self.folder.make(self.folder.records, self.folder.accounts)
         competition = types.SimpleNamespace(strikes=0)
         self.plan = types.SimpleNamespace(folder=self.folder, competition=competition, matches=[], judge=lambda referee, _: referee)
@@ -359,11 +358,8 @@ class Looked(unittest.TestCase):
         self.assertEqual(strangers(types.SimpleNamespace(folder=Folder(self.folder.path / "none"), matches=[])), [])
 
 
-class Files(unittest.TestCase):
+class Files(InFolder):
     """What is said of files by their bytes alone."""
-
-    def setUp(self):
-        self.folder = pathlib.Path(self.enterContext(tempfile.TemporaryDirectory()))
 
     def test_the_most_of_files_are_those_that_the_referee_reads(self):
         self.assertEqual((kept.MOST_OF_RECORD, kept.MOST_OF_ACCOUNT), (16 << 20, 256 << 20))

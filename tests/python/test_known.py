@@ -4,7 +4,6 @@ import os
 import pathlib
 import shutil
 import tempfile
-import unittest
 from dataclasses import replace
 from unittest import mock
 

@@ -1,6 +1,5 @@
 """A game that is past the usual limits: looked at, planned, played, published and checked by those for large games."""
 
-import unittest
 
 from ggp_tools.kif import expressions
 from players import TestPlayer

@@ -33,9 +33,7 @@ def setUpModule():
 
 class InRoom(unittest.TestCase):
     def setUp(self):
-        room = tempfile.TemporaryDirectory()
-        self.addCleanup(room.cleanup)
-        self.plan = plan_in(room.name, ["ann", "bob", "cid"])
+        self.plan = plan_in(self.enterContext(tempfile.TemporaryDirectory()), ["ann", "bob", "cid"])
         self.match = self.plan.matches[0]
 
     def say(self, file, text):

@@ -6,7 +6,6 @@ import random
 import socket
 import subprocess
 import threading
-import unittest
 
 from ggp_tools.competition.live import Seen
 from ggp_tools.competition.live_board import LiveBoard

@@ -22,7 +22,7 @@ from fake_ssh import calls, deafen, lose, write_ssh
 from players import TestPlayer
 from support import GAMES, TOP, InFolder, command_of, program, program_but, run, start
 
-HEAD = "start = 60\nplay = 60\nstrikes = 1\nwait = 0\ninfo = 60\ntries = 3\n"
+HEAD = "start = 60\nplay = 60\nstrikes = 1\nwait = 0\ninfo = 10\ntries = 3\n"
 # The command with another silence: `play` takes it from `open_match`, and the script on a host from `hosts`.
 SILENT = f"import sys; sys.path.insert(0, {str(TOP / 'python')!r})\nfrom ggp_tools.competition import command, hosts, open_match\n%s = %s\nsys.exit(command.main())"
 
@@ -252,7 +252,7 @@ class ManyHosts(InFolder):
 
     def seconds_to_end(self):
         """Returns how many seconds it takes to end four matches that a host plays at once, and of how many ABORT is due again."""
-        waiting = program_but(self.folder / "waiting", '"$1" = run', "exec sleep 60")
+        waiting = program_but(self.folder / "waiting", '"$1" = run', "exec sleep 3600")
         playing = start(self.folder, "play", "--at-once", "4", "--program", waiting, env=self.environment)
         self.assertEqual(sorted(playing.stdout.readline() for _ in range(4)), [f"begin cup-00{at} countdown p0 p1 on a\n" for at in range(1, 5)])
         began = time.monotonic()

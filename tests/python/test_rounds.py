@@ -41,9 +41,7 @@ def is_lawful(_, __, ___, matches):
 
 class ByRounds(unittest.TestCase):
     def setUp(self):
-        room = tempfile.TemporaryDirectory()
-        self.addCleanup(room.cleanup)
-        self.folder = Folder(pathlib.Path(room.name))
+        self.folder = Folder(pathlib.Path(self.enterContext(tempfile.TemporaryDirectory())))
         (self.folder.path / "game.kif").write_text("(role a)\n(role b)\n")
         self.folder.make(self.folder.records)
 

@@ -41,9 +41,7 @@ class Served(unittest.TestCase):
     STRIKES = ""
 
     def setUp(self):
-        room = tempfile.TemporaryDirectory()
-        self.addCleanup(room.cleanup)
-        self.plan = plan_in(room.name, ["ann", "bob", "cid"], head=self.STRIKES)
+        self.plan = plan_in(self.enterContext(tempfile.TemporaryDirectory()), ["ann", "bob", "cid"], head=self.STRIKES)
         self.site = LiveSite(self.plan, lambda: self.plan)
         self.site.look()
         self.server = serving.Server(("127.0.0.1", 0), self.site, self.MOST)
@@ -122,7 +120,10 @@ class Pages(Served):
         end(self.plan, match, record_of(match, moves, errors, [0, 100]), text)
         self.site.look()
         self.assertIn("1 of 6 matches are over.", self.page("/"))
-        self.assertIn('id="state-2"', self.page(f"/matches/{match.id}.html"))
+        over = self.page(f"/matches/{match.id}.html")
+        self.assertIn('id="state-2"', over)
+        self.assertIn(f"<p>{match.players[1]} won.</p>", over)
+        self.assertIn(f"{match.players[1]}</a> 100</strong>", self.page("/"))
         player = self.page("/players/player-ann.html")
         for text in ("no answer came in time", f"(PLAY {match.id} ((take 2) noop))", "<code>TO</code>", f"<code>{SILENT}</code>", "5 ms", "<svg"):
             self.assertIn(text, player)
@@ -171,6 +172,42 @@ class Pages(Served):
         first = self.page("/")
         self.assertIn("1 of 6 matches are over.", first)
         self.assertIn(f"{long.id} does not count: it is longer than 16 MiB", first)
+
+    def test_a_record_that_can_not_be_one_is_named_and_stops_nothing(self):
+        match, other = self.plan.matches[:2]
+        turns = [["(take 2)", "noop"]], [["", ""]]
+        good = record_of(match, *turns, [0, 100])
+        end(self.plan, other, record_of(other, *turns, [0, 100]))
+        bad = (
+            ({"goalValues": [0, 10**400]}, "one of its goals is not from 0 to 100"), ({"goalValues": [101, 0]}, "one of its goals is not from 0 to 100"),
+            ({"matchId": "x" * 10**6}, "..,"), ({"startClock": 10**400}, "..,"), ({"errors": [["", 1]]}, "no list of lists of texts"),
+        )
+        for wrong, said in bad:
+            with self.subTest(said=said):
+                end(self.plan, match, good | wrong)
+                # `serve` begins with it, too.
+                self.site = self.server.site = LiveSite(self.plan, lambda: self.plan)
+                self.site.look()
+                first = self.page("/")
+                self.assertIn("1 of 6 matches are over.", first)
+                self.assertRegex(first, f"{match.id} does not count: .*{re.escape(said)}")
+                self.assertLess(len(first), 100_000)
+                self.assertIn("does not count", self.page(f"/matches/{match.id}.html"))
+        end(self.plan, match, good)
+        self.site = self.server.site = LiveSite(self.plan, lambda: self.plan)
+        self.site.look()
+        self.assertIn("2 of 6 matches are over.", self.page("/"))
+
+    def test_records_are_read_bit_by_bit(self):
+        for match in self.plan.matches:
+            end(self.plan, match, record_of(match, [], [], [50, 50]))
+        with patch.object(live, "READING", -1):
+            self.site.look()
+            self.assertIn("6 records are still to be read, so the standings lack them", self.page("/"))
+            self.assertIn("0 of 6 matches are over.", self.page("/"))
+        self.site.look()
+        self.assertNotIn("still to be read", self.page("/"))
+        self.assertIn("6 of 6 matches are over.", self.page("/"))
 
     def test_a_plan_that_changes(self):
         events = self.events(self.page("/"))
@@ -337,12 +374,13 @@ class Limits(Served):
         held = [socket.create_connection(("127.0.0.1", self.server.server_port), timeout=60) for _ in range(self.MOST)]
         while len(self.server.connections) < self.MOST:
             time.sleep(0.01)
+        for request, (address, _) in self.server.connections.items():
+            self.server.connections[request] = address, None
         with socket.create_connection(("127.0.0.1", self.server.server_port), timeout=60) as one_more:
             self.assertTrue(one_more.recv(100).startswith(b"HTTP/1.0 503 "))
         # Those that ask for nothing are ended.
-        for request in list(self.server.connections):
-            address, since = self.server.connections[request]
-            self.server.connections[request] = address, since - 2 * serving.HEAD
+        for request, (address, _) in self.server.connections.items():
+            self.server.connections[request] = address, time.monotonic() - 2 * serving.HEAD
         self.server.end_idle()
         self.assertEqual([connection.recv(100) for connection in held], [b""] * self.MOST)
         for connection in held:
@@ -355,6 +393,37 @@ class Limits(Served):
         while len(self.server.connections) > 7:
             time.sleep(0.01)
         self.assertEqual(self.ask("/")[0], 200)
+
+
+    def connect(self, *said):
+        """Opens a connection and sends the beginning of a request."""
+        connection = self.enterContext(socket.create_connection(("127.0.0.1", self.server.server_port), timeout=60))
+        for text in said:
+            connection.sendall(text)
+        return connection
+
+    def test_half_requests_of_an_address_give_way(self):
+        half = [self.connect(b"GET / HTTP/1.1\r\nHost: ") for _ in range(self.MOST)]
+        while len(self.server.connections) < self.MOST:
+            time.sleep(0.01)
+        # Others are served, whoever comes, at the price of the oldest of them.
+        for at in range(3):
+            self.assertEqual(self.ask("/")[0], 200)
+            self.assertEqual(half[at].recv(100), b"")
+
+    def test_one_address_does_not_take_all_connections(self):
+        for address, has_room in (("192.0.2.1", [True] * 4 + [False]), ("127.0.0.1", [True] * 8 + [False])):
+            self.server.connections = {}
+            found = []
+            for at in range(len(has_room)):
+                found.append(self.server.has_room_for(address))
+                self.server.connections[at] = address, None
+            self.assertEqual(found, has_room)
+        self.server.connections = {}
+        with contextlib.ExitStack() as viewers:
+            found = [viewers.enter_context(self.server.viewing("/index.html", "192.0.2.1")) is not None for _ in range(5)]
+            found += [viewers.enter_context(self.server.viewing("/index.html", "192.0.2.2")) is not None for _ in range(4)]
+        self.assertEqual(found, [True] * 4 + [False] + [True] * 3 + [False])
 
 
 class Events(Served):

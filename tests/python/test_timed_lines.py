@@ -19,9 +19,7 @@ SECONDS = 600
 
 class Lines(unittest.TestCase):
     def setUp(self):
-        room = tempfile.TemporaryDirectory()
-        self.addCleanup(room.cleanup)
-        self.file = pathlib.Path(room.name) / "lines"
+        self.file = pathlib.Path(self.enterContext(tempfile.TemporaryDirectory())) / "lines"
 
     def read(self, reader, *beaten):
         """Has a pipe read, and returns its other end, and what is read of it."""

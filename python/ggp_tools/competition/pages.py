@@ -25,7 +25,7 @@ from ggp_tools.competition.page_parts import Items, PageParts, Part, link, page,
 from ggp_tools.competition.plan import Plan
 from ggp_tools.competition.player_pages import page_name, player_link, player_parts, standing_of, standing_texts
 from ggp_tools.competition.plots import rating_plot
-from ggp_tools.competition.results import Result, is_set_back, remarks, times_of
+from ggp_tools.competition.results import WON, Result, is_set_back, remarks, times_of, winner_words
 from ggp_tools.competition.round_pages import count_of_all, round_text, rounds_part, rounds_words
 from ggp_tools.competition.sittings import Sitting, sitting_of_values, sittings_of, values_of
 from ggp_tools.competition.table import Table, tables_of
@@ -90,7 +90,8 @@ def match_row(result: Result, times: dict, up: str) -> tuple[str, str]:
     """Returns what the list of matches says of one: its links go from a page that stands so far below the first."""
     match = result.match
     goals = result.goals or ["none"] * len(match.players)
-    who = ", ".join(f"{player_link(player, up)} {goal}" for player, goal in zip(match.players, goals))
+    told = [f"{player_link(player, up)} {goal}" for player, goal in zip(match.players, goals)]
+    who = ", ".join(f"<strong>{text}</strong>" if result.outcome(role) == WON else text for role, text in enumerate(told))
     replaced = ", ".join(f"{html.escape(name)} {result.replaced(role)}" for role, name in enumerate(match.players) if result.replaced(role))
     cause = f" ({html.escape(result.cause)})" if result.cause else ""
     more = "".join(f'<br><span class="odd">{html.escape(remark)}</span>' for remark in remarks(result))
@@ -187,7 +188,8 @@ class Site:
         match = result.match
         players = ", ".join(player_link(player, "../") for player in match.players)
         way = f"<p>{link('../index.html', self.plan.competition.name)} / {link(f'../games/{match.game}.html', match.game)} / {players}</p>"
-        way += round_text(self.plan.competition, match) + "".join(f"<p>{html.escape(remark)}</p>" for remark in remarks(result))
+        said = [winner_words(result), *remarks(result)]
+        way += round_text(self.plan.competition, match) + "".join(f"<p>{html.escape(text)}</p>" for text in filter(None, said))
         return way.encode("ascii")
 
     def match_work(self, result: Result, data: bytes) -> tuple[bytes, bytes, bytes, dict[tuple[int, int], str]]:

@@ -98,6 +98,15 @@ def forfeit_words(result: Result) -> str:
     return f"forfeit: {', '.join(f'{players[role]} ({why.words()})' for role, why in lost.items())}, counts as {counts}"
 
 
+def winner_words(result: Result) -> str:
+    """Returns who won a match, or who drew. Empty where no goals count, and for one role."""
+    outcomes = [result.outcome(role) for role in range(len(result.match.players))]
+    for outcome, said in ((WON, "won"), (DRAWN, "drew")):
+        if names := [player for player, own in zip(result.match.players, outcomes) if own == outcome]:
+            return f"{' and '.join(names)} {said}."
+    return ""
+
+
 def again_words(match: Match) -> str:
     """Returns why a match does not count any more."""
     return f"{match.id} does not count: {match.again} was ordered in its place: {match.reason}"

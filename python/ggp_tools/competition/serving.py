@@ -237,7 +237,7 @@ class Server(ThreadingHTTPServer):
         """Returns whether one more connection of an address is served. Where there are too many, the oldest one that has asked for nothing
         gives way, of the address that has most of these."""
         count = sum(own == address for own, _ in self.connections.values())
-        if count >= self.most_of(address):
+        if count >= self.most_of(address) < self.most:
             return False
         if len(self.connections) < self.most:
             return True
