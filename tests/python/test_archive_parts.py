@@ -75,7 +75,7 @@ class Made(unittest.TestCase):
         """Writes the files of a match: its account has the calls that its log tells of."""
         folder = self.plan.folder
         folder.record(match.id).write_text(json.dumps(record_of(match, [["(take 2)", "noop"], ["noop", "(take 1)"]], [["", ""], ["", ""]], goals)) + "\n")
-        calls = "".join(f"{at}\tnext {match.id} {at}\towe {at} start\n{at}\tsubmit {match.id} {at} 1 ready\ttaken\n" for at in (0, 1))
+        calls = "".join(f"{at + 1}\tnext {match.id} {at}\towe 0 start\n{at + 1}\tsubmit {match.id} {at} 0 ready\ttaken\n" for at in (0, 1))
         folder.account(match.id).write_text(f"0\topen {match.id} 0 5 5\topened\n{calls}")
         folder.log(match.id).write_bytes(BEGAN + started(match).encode() + ENDED)
 
@@ -127,7 +127,7 @@ class Checked(Made):
             (without("cup/logs/cup-002.txt"), "cup-002: its log is missing"),
             (without("cup/records/cup-002.json"), "cup-002: it has no record"),
             (without("cup/accounts/cup-002.txt"), "cup-002: its account is missing"),
-            (changed("cup/accounts/cup-001.txt", lambda data: data.replace(b"1 ready", b"1 go")), "cup-001: line 2 of its log is not what its account says"),
+            (changed("cup/accounts/cup-001.txt", lambda data: data.replace(b"0 ready", b"0 go")), "cup-001: line 2 of its log is not what its account says"),
             (changed("cup/games/heap.kif", more), "games/heap.kif is not the description that the rules of heap were made from"),
             (changed("cup/VERSION", lambda _: b"ggp_manager 9.9.9\n"), None),
         ):

@@ -22,7 +22,6 @@ def why_not():
     return f"network namespaces can't be made here: {made.stderr.strip()}" if made.returncode else None
 
 
-@pytest.mark.timeout(3600)
 def test_two_hosts(request):
     if why := why_not():
         pytest.skip(why)

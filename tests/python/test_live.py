@@ -110,7 +110,7 @@ class Lines(InRoom):
         end(self.plan, other, record_of(other, [["(take 1)", "noop"]], [["", ""]], [0, 100]))
         reader.look()
         self.assertEqual((list(reader.open), list(reader.results)), ([self.match.id], [other.id]))
-        self.assertEqual(reader.faults, {pipe.id: "it can't be read: it is no file", long.id: "it is longer than 16 MiB"})
+        self.assertEqual(reader.faults, {pipe.id: "it can't be read: it is not a regular file", long.id: "it is longer than 16 MiB"})
 
     def test_a_silent_player_that_is_retired_is_not_awaited(self):
         plan = plan_in(self.plan.folder.path, ["ann", "bob"], head="strikes = 2\n")

@@ -213,6 +213,18 @@ class ManyHosts(InFolder):
         self.assertNotIn("abort cup-001 p0", told)
         self.assert_sound(self.schedule)
 
+    def test_a_host_that_says_that_it_is_connected_and_nothing_more(self):
+        self.planned('["a", "b"]')
+        hung = f'[[ ${{@: -2:1}} = a ]] && {{ echo "{hosts.CONNECTED}" >&2; printf "\\033]0;title\\007" >&2; exec sleep 6000; }}'
+        ssh = self.folder / "ssh"
+        ssh.write_text(ssh.read_text().replace("exec 3<&0\n", f"{hung}\nexec 3<&0\n"))
+        playing = self.started_with("open_match.SILENCE = 0.5\nopen_match.MOST_SILENCE", -30, program())
+        out, said = playing.communicate(timeout=800)
+        self.assertEqual((playing.returncode, said, len(lines(out, "end"))), (0, "", 1), out)
+        self.assertIn("lost cup-001 on a: nothing was heard of it for 30 s; no match goes there for 0 s", out)
+        self.assertNotIn("\x1b", out + (self.folder / "play.log").read_text())
+        self.assert_sound(self.schedule)
+
     def test_a_referee_that_is_killed_on_a_host_costs_its_match_alone(self):
         self.planned('["a"]', 6)
         once = program_but(self.folder / "killed", f'"$1" = run && ! -e {self.folder}/once', f"touch {self.folder}/once; kill -9 $$")

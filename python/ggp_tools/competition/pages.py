@@ -32,7 +32,7 @@ from ggp_tools.competition.table import Table, tables_of
 from ggp_tools.competition.table_text import FORFEIT, METHOD, crosstable_rows, notes, standings_rows, without_record
 from ggp_tools.descriptions.loading import Rules, sum_of
 from ggp_tools.referee import Unchecked
-from ggp_tools.records.show import LONGEST_RECORD, NoRecord, page_of, read_record
+from ggp_tools.records.show import NoRecord, page_of, read_record
 
 # While matches are played, the pages are written again after SECONDS seconds at the earliest, and for at most a tenth of the time.
 SECONDS, SHARE = 2, 10
@@ -167,7 +167,7 @@ class Site:
         """Reads what is to be told of a match that is over, and returns its record. Refuses one that is longer than a record may be. What
         is known to be told of the same files is not looked for again."""
         match, folder = result.match, self.plan.folder
-        data = folder.read_record(match.id, LONGEST_RECORD + 2)
+        data = self.plan.read_record(match)
         log, is_cut = folder.read_lines_of_log(match.id, MOST_OF_LOG)
         key = known.key(repr(result).encode(), data, log, b"%d" % is_cut) if known else ""
         values = known.get("told", key) if known else None

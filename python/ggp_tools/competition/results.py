@@ -10,6 +10,7 @@ from typing import NamedTuple
 
 from ggp_tools.competition.schedule import Match
 from ggp_tools.moments import MOMENT
+from ggp_tools.records.lengths import without_states
 
 # No number is longer, so that a log of an archive can't be one that Python refuses to read.
 LOG_LINE = re.compile(rf"(?:{MOMENT} )?(\S+) role (\d{{1,9}}) (\S+) message (\d{{1,9}}) \((\w+) .*, (\d{{1,18}}) ms")
@@ -182,8 +183,8 @@ def result_of_values(values: list, match: Match, has_forfeits: bool) -> Result:
 
 
 def read_record(data: bytes) -> dict:
-    """Returns the record that the bytes of a file spell, which `verify` has called lawful."""
-    return json.loads(data)
+    """Returns the record that the bytes of a file spell, which `verify` has called lawful, without its states."""
+    return json.loads(without_states(data))
 
 
 def times_of(log: bytes, roles: int) -> dict[str, object]:

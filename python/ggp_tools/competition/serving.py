@@ -23,7 +23,7 @@ from ggp_tools.competition.plan import read_plan
 from ggp_tools.competition.results import Result
 from ggp_tools.ground_games import MOST_CALLS
 from ggp_tools.human.server import is_own_name
-from ggp_tools.records.show import BOARD_STYLE, LONGEST_RECORD, NoRecord
+from ggp_tools.records.show import BOARD_STYLE, NoRecord
 from ggp_tools.referee import Referee
 from ggp_tools.reporting import say
 
@@ -302,7 +302,7 @@ class Server(ThreadingHTTPServer):
     def keep(self, path: str, result: Result) -> bytes | None:
         """Returns the page of a match that is over, and keeps it for a while; none where its record is there no more."""
         try:
-            record = self.site.plan.folder.read_record(result.match.id, LONGEST_RECORD + 2)
+            record = self.site.plan.read_record(result.match)
             data = self.site.site.match_page(result, record)
         except (OSError, NoRecord):
             return None
@@ -317,7 +317,8 @@ class Server(ThreadingHTTPServer):
         """Gives a page to somebody who is told of its changes: none where there is none, or too many look at pages. The last eighth of all
         connections, and of those of an address, is for pages."""
         with self.site.changed:
-            has_room = all(count < most - most // 8 for count, most in ((self.viewers.total(), self.most), (self.viewers[address], self.most_of(address))))
+            counts = (self.viewers.total(), self.most), (self.viewers[address], self.most_of(address))
+            has_room = all(count < most - most // 8 for count, most in counts)
             found = self.site.opened(path) if has_room else None
             if found:
                 found.viewers += 1

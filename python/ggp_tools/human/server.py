@@ -1,5 +1,5 @@
-"""Serves the referee and the person's browser on one port: POST / is a message of the referee, GET /TOKEN/ the page. Only the person has the
-token, so nobody else sees the page or the chosen move: no other user of this computer, and no page of another site."""
+"""Serves the referee and the person's browser on one port: POST / is a message of the referee, GET /TOKEN/ the page. Only the person has
+the token, so nobody else sees the page or the chosen move: no other user of this computer, and no page of another site."""
 
 import ipaddress
 import json
