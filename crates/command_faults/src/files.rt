@@ -3,12 +3,14 @@ ghost use Rattle.std.specs.Prelude.{◌≡◌, IfErr};
 ghost use Rattle.command_faults.specs.Faults.{IsFileFault, input_file_fault, reading_fault};
 
 use crate::fault::Fault;
+use crate::printable::Printable;
 use game_core::Counted;
 use std::alloc::Global;
-use std::io::ErrorKind;
+use std::fmt::Write as _;
+use std::io::{ErrorKind, Write};
 use std::rt::Files;
 use std::{fs, io};
-use whole_streams::{InputFault, read_to_end};
+use whole_streams::{InputFault, Pieces, read_to_end};
 
 /// The limit of the bytes in a file of rules for players, which is that of a text.
 pub const MAX_PLAYER_RULES: usize = 1_048_576;
@@ -52,10 +54,12 @@ pub enum FileFault {
     NotRegular,
     /// Another program adds to it.
     InUse,
-    /// Its last line is cut off, and can't be moved to another file.
+    /// What is cut off at its end can't be moved to another file.
     Unmended,
-    /// Standard output goes to it, and it is empty.
-    IsOutput,
+    /// The account of a record in it is not whole.
+    Partial,
+    /// Another file or stream of the command is the same file.
+    Shared,
 }
 
 impl FileFault {
@@ -65,13 +69,23 @@ impl FileFault {
             FileFault::Unopened => "the file can't be opened",
             FileFault::Unread => "the file can't be read",
             FileFault::TooLong => "the file is too long",
-            FileFault::NotRegular => "it is no regular file",
+            FileFault::NotRegular => "it is not a regular file",
             FileFault::InUse => "another program adds to the file",
-            FileFault::Unmended => "its last line is cut off, and can't be moved",
-            FileFault::IsOutput =>
-                "the output goes there and has emptied it; --records FILE adds to it",
+            FileFault::Unmended => "its end is cut off, and can't be moved",
+            FileFault::Partial => "the account of a record is not whole",
+            FileFault::Shared => "another file or stream of this command is the same file",
         }
     }
+}
+
+/// Reports in a line why the file at this path can't be used. A failed write is skipped.
+pub fn tell_of_file<E: Write>(errors: &mut E, path: &str, why: &str) {
+    let mut pieces = Pieces { stream: errors };
+    let _ = writeln!(
+        pieces,
+        "ggp_manager: {} can't be used: {why}",
+        Printable(path)
+    );
 }
 
 /// The fault for a file that can't be opened.
@@ -92,6 +106,20 @@ pub fn opened<F: Files>(files: &F, named: NamedFile, path: &str) -> Result<Count
     match fs::open(files, path) {
         Ok(file) => Ok(Counted::new(file)),
         Err(error) => Err(opening_fault(named, error)),
+    }
+}
+
+/// Opens the regular file at this path, which is named for this. A pipe or a device is not opened, since that may wait.
+pub fn opened_regular<F: Files>(
+    files: &F,
+    named: NamedFile,
+    path: &str,
+) -> Result<Counted<F::File>, Fault>
+    ensures { IfErr result (IsFileFault named) }
+{
+    match fs::metadata(files, path) {
+        Ok(found) if !found.is_file() => Err(Fault::File(named, FileFault::NotRegular)),
+        _ => opened(files, named, path),
     }
 }
 

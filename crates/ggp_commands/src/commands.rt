@@ -12,6 +12,7 @@ use crate::explaining::{Subject, explain};
 use crate::faults::{argument_fault, command_end, status_of, task_end};
 use crate::loaded_game::{LoadedGame, load};
 use crate::matches::{ReadyTask, input_of, play_with_reports};
+use crate::shared_files::{refuse_shared, tell_file};
 use crate::surroundings::Surroundings;
 use command_faults::Fault;
 use command_line::{
@@ -64,16 +65,7 @@ where
     };
     let performed = match texts(around.alloc, words) {
         Ok(words) => match task_of(around.alloc, &words, &mut reports.evidence) {
-            Ok(task) => {
-                let (performed, _writer) = perform_task::<Brand, H, S, R, W, E>(
-                    around,
-                    &task,
-                    reader,
-                    writer,
-                    &mut reports,
-                );
-                performed
-            }
+            Ok(task) => { perform::<H, S, R, W, E>(around, &task, reader, writer, &mut reports) }
             Err(fault) => Err(fault),
         },
         Err(AllocError) => Err(Fault::Memory),
@@ -90,6 +82,29 @@ where
         &mut errors,
     );
     end(performed, around.terminals.why, &mut errors)
+}
+
+/// Performs a task, unless two of its files and streams are one file. It is reported which file a fault is about.
+fn perform<H, S, R: Read, W: Write, E: Write + Send>(
+    around: &Surroundings<'_, H, S>,
+    task: &Task<'_>,
+    reader: &mut Counted<R>,
+    writer: &mut Counted<W>,
+    reports: &mut Reports<E>,
+) -> Result<(), Fault>
+where
+    H: Net + Clock + LockedFiles + Threads + Wait + Sync,
+    S: Reach + ReportsShortages + Sync,
+    S::Player: Player + Explains + Drop + Send,
+{
+    refuse_shared(around.rt, around.alloc, task, &mut reports.errors)?;
+    let (performed, _writer) = perform_task::<Brand, H, S, R, W, E>(
+        around, task, reader, writer, reports,
+    );
+    if let Err(fault) = performed {
+        tell_file(around.alloc, task, fault, &mut reports.errors);
+    }
+    performed
 }
 
 /// The words as texts.

@@ -1,5 +1,6 @@
 //! The lines that explain a command's fault, or say what it skipped.
 
+use command_faults::Printable;
 use command_line::{MatchTask, RunPlan};
 use described_games::DescriptionFault;
 use explanations::{
@@ -7,7 +8,7 @@ use explanations::{
     push_several_lines, push_skipped_lines,
 };
 use game_commands::Evidence;
-use std::alloc::Global;
+use std::alloc::{AllocError, Global};
 use std::fmt::Write as _;
 use std::io::Write;
 use whole_streams::Pieces;
@@ -47,6 +48,11 @@ fn push_evidence(
     Ok(())
 }
 
+/// An id as a line shows it. An id that is not lawful does not become lawful by this.
+fn one_line(alloc: Global, id: &str) -> Result<String, AllocError> {
+    format!(in alloc; "{}", Printable(id))
+}
+
 /// Appends the lines about this subject to `lines`. The error means that memory was refused.
 fn push_lines(
     alloc: Global,
@@ -57,7 +63,7 @@ fn push_lines(
         Subject::Evidence(evidence) => return push_evidence(alloc, *evidence, lines),
         Subject::Schedule(schedule) => push_refused_matches(*schedule, lines)?,
         Subject::Opening(MatchTask::Run(RunPlan { plan, .. }), roles) => push_broken_rules(
-            plan.id,
+            one_line(alloc, plan.id)?.as_str(),
             [plan.start, plan.play],
             plan.players.len(),
             *roles,
@@ -67,16 +73,27 @@ fn push_lines(
             push_broken_rules("check", [plan.start, plan.play], *roles, *roles, lines)?
         }
         Subject::Opening(MatchTask::Season(_), _) => {}
-        Subject::Id(id) => push_broken_rules(*id, [1, 1], 1, 1, lines)?,
+        Subject::Id(id) => push_broken_rules(one_line(alloc, *id)?.as_str(), [1, 1], 1, 1, lines)?,
     }
     Ok(())
+}
+
+/// The lines as they are shown: what they have of words from outside has no control characters.
+fn shown(alloc: Global, lines: &str) -> Result<String, AllocError> {
+    let mut shown = String::new(alloc);
+    for line in lines.lines() {
+        writeln!(shown, "{}", Printable(line))?;
+    }
+    Ok(shown)
 }
 
 /// Writes the lines about this subject if they are wanted, as far as the stream takes them, or nothing if they are out of memory.
 pub fn explain<E: Write>(alloc: Global, are_wanted: bool, subject: &Subject<'_>, errors: &mut E) {
     let mut lines = String::new(alloc);
     if are_wanted && push_lines(alloc, subject, &mut lines).is_ok() {
-        let mut pieces = Pieces { stream: errors };
-        let _ = pieces.write_str(lines.as_str());
+        if let Ok(shown) = shown(alloc, lines.as_str()) {
+            let mut pieces = Pieces { stream: errors };
+            let _ = pieces.write_str(shown.as_str());
+        }
     }
 }

@@ -15,6 +15,7 @@ mod faults;
 mod loaded_game;
 mod matches;
 mod records_file;
+mod shared_files;
 mod surroundings;
 
 pub use command_faults::{Fault, FileFault, NamedFile};

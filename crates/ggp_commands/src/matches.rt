@@ -17,7 +17,7 @@ ghost use Rattle.ggp_commands.specs.Tasks.{EndsTask, HasNoInput, ReadsInput, Wri
 use crate::descriptors::allowed_form;
 use crate::explaining::{Subject, explain};
 use crate::faults::{check_fault, match_fault, season_fault};
-use crate::records_file::{records_file, tell_of_file};
+use crate::records_file::{mend_records, records_file, tell_state};
 use crate::surroundings::{Surroundings, Terminals};
 use command_faults::{Fault, NamedFile, file_text};
 use command_line::{MatchTask, RunPlan, SeasonPlan};
@@ -32,7 +32,7 @@ use match_season::{SeasonSurroundings, play_season};
 use matches_to_play::{plans_of, undone};
 use network_players::Explains;
 use player_check::check_player;
-use process_streams::LockedFiles;
+use process_streams::{LockedFiles, RecordsState};
 use std::alloc::Global;
 use std::io::{Read, Write};
 use std::marker::PhantomData;
@@ -200,20 +200,24 @@ where
 {
     let Surroundings { rt, alloc, .. } = *around;
     let mut errors = ReportStream::new(rt, &console.notices);
-    let mut file = Counted::new(records_file(rt, alloc, path, &mut errors)?);
+    let mut file = records_file(rt, alloc, path, &mut errors)?;
+    mend_records(
+        &mut file,
+        rt,
+        alloc,
+        game.game,
+        form.has_history,
+        path,
+        &mut errors,
+    )?;
+    let mut file = Counted::new(file);
     let left = undone(rt, alloc, game.game, Some(path), plans, &mut errors)?;
     let played = play_plans(around, form, game, &left, &mut file, console);
-    if file.end().is_kept() {
-        return played;
-    }
-    tell_of_file(
-        &mut errors,
-        path,
-        "is no longer the file that records were added to",
-    );
-    match played {
-        Ok(_) => Err(Fault::WriteFault),
-        Err(fault) => Err(fault),
+    let state = file.end().state();
+    tell_state(&mut errors, path, state);
+    match (state, played) {
+        (RecordsState::Lost | RecordsState::Cut, Ok(_)) => Err(Fault::WriteFault),
+        (_, played) => played,
     }
 }
 

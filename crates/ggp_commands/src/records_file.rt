@@ -4,8 +4,12 @@ ghost use Rattle.command_faults.specs.Faults.{IsFileFault};
 ghost use Rattle.command_faults.specs.declared.files.NamedFile.TheVariants.{Records};
 
 use crate::faults::records_fault;
-use command_faults::Fault;
-use process_streams::{FILE_SIZE, LockedFiles, RecordsFault, RecordsFile, limit_of, open_records};
+use command_faults::{Fault, FileFault, NamedFile, Printable, tell_of_file};
+use matches_to_play::{PartialRecord, partial_record};
+use packed_rules::PackedGame;
+use process_streams::{
+    FILE_SIZE, LockedFiles, RecordsFault, RecordsFile, RecordsState, limit_of, open_records,
+};
 use std::alloc::Global;
 use std::fmt::Write as _;
 use std::io::Write;
@@ -13,22 +17,77 @@ use std::rt::Files;
 use whole_streams::Pieces;
 
 /// Reports something of the file at this path.
-pub fn tell_of_file<E: Write>(errors: &mut E, path: &str, what: &str) {
+fn tell<E: Write>(errors: &mut E, path: &str, what: &str) {
     let mut pieces = Pieces { stream: errors };
-    let _ = writeln!(pieces, "ggp_manager: {path} {what}");
+    let _ = writeln!(pieces, "ggp_manager: {} {what}", Printable(path));
 }
 
-/// Reports that the last line of a file lacked its end, and was moved to another file.
-fn tell_torn<E: Write>(errors: &mut E, path: &str, torn: &str) {
+/// Reports what became of the file while records were added to it.
+pub fn tell_state<E: Write>(errors: &mut E, path: &str, state: RecordsState) {
+    match state {
+        RecordsState::Kept => {}
+        RecordsState::Lost => tell(
+            errors,
+            path,
+            "is no longer the file that records were added to",
+        ),
+        RecordsState::Cut => tell(
+            errors,
+            path,
+            "was cut by another program while records were added to it",
+        ),
+        RecordsState::Grown => tell(
+            errors,
+            path,
+            "has lines that another program added: --records needs a file that no other program writes to",
+        ),
+    }
+}
+
+/// Reports that the end of a file was cut off, and was moved to another file: the record in this line with its account, or a last line.
+fn tell_torn<E: Write>(errors: &mut E, path: &str, first: Option<u64>, torn: &str) {
+    let (path, torn) = (Printable(path), Printable(torn));
+    let mut pieces = Pieces { stream: errors };
+    let _ = match first {
+        Some(line) => writeln!(
+            pieces,
+            "ggp_manager: the last account of {path} is cut off: its record, line {line}, is now in {torn}, and its match is played again"
+        ),
+        None => writeln!(
+            pieces,
+            "ggp_manager: the last line of {path} is cut off, and is now in {torn}"
+        ),
+    };
+}
+
+/// Reports a record in the middle of a file whose account is not whole.
+fn tell_partial<E: Write>(errors: &mut E, path: &str, line: u64) {
     let mut pieces = Pieces { stream: errors };
     let _ = writeln!(
         pieces,
-        "ggp_manager: the last line of {path} is cut off, and is now in {torn}"
+        "ggp_manager: line {line} of {}: the account of this record is not whole: take both out of the file, or leave --history out",
+        Printable(path)
     );
 }
 
-/// Opens the file of records to add to. It is reported if its last line lacked its end and was moved to another file, and if it does not
-/// begin with a record.
+/// Reports why the file of records can't be used. Returns the program's fault.
+fn refused<E: Write>(errors: &mut E, path: &str, fault: RecordsFault) -> Fault
+    ensures { IsFileFault Records result }
+{
+    let fault_of_program = records_fault(fault);
+    match fault_of_program {
+        Fault::File(_, _) if matches!(fault, RecordsFault::NoRecords) => tell(
+            errors,
+            path,
+            "is no file of records: it does not begin with {",
+        ),
+        Fault::File(_, why) => tell_of_file(errors, path, why.words()),
+        _ => {}
+    }
+    fault_of_program
+}
+
+/// Opens the file of records to add to.
 pub fn records_file<'a, F: LockedFiles, E: Write>(
     files: &'a F,
     alloc: Global,
@@ -38,22 +97,62 @@ pub fn records_file<'a, F: LockedFiles, E: Write>(
     ensures fault { IfErr result (IsFileFault Records) }
 {
     let limit = limit_of(files, alloc, FILE_SIZE);
-    match open_records(files, alloc, path, limit) {
-        Ok(file) => {
-            if let Some(torn) = &file.torn {
-                tell_torn(errors, path, torn);
-            }
-            Ok(file)
+    match open_records(files, path, limit) {
+        Ok(file) => Ok(file),
+        Err(fault) => Err(refused(errors, path, fault)),
+    }
+}
+
+/// The line of the last record in the file at this path, if its account is to be whole and is not. A record before it whose account is not
+/// whole is a fault.
+fn last_partial<F: Files, E: Write>(
+    files: &F,
+    alloc: Global,
+    game: &PackedGame,
+    path: &str,
+    errors: &mut E,
+) -> Result<Option<u64>, Fault>
+    ensures fault { IfErr result (IsFileFault Records) }
+{
+    match partial_record(files, alloc, game, path)? {
+        None => Ok(None),
+        Some(
+            PartialRecord {
+                line,
+                is_last: true,
+            },
+        ) => Ok(Some(line)),
+        Some(PartialRecord { line, .. }) => {
+            tell_partial(errors, path, line);
+            Err(Fault::File(NamedFile::Records, FileFault::Partial))
         }
-        Err(fault) => {
-            if let RecordsFault::NoRecords = fault {
-                tell_of_file(
-                    errors,
-                    path,
-                    "is no file of records: it does not begin with {",
-                );
-            }
-            Err(records_fault(fault))
+    }
+}
+
+/// Moves the end of the file of records that is cut off to another file, and reports it: a last line without its line feed, and if records
+/// have accounts, the last record whose account is not whole.
+pub fn mend_records<F: LockedFiles, E: Write>(
+    file: &mut RecordsFile<'_, F, <F as Files>::File>,
+    files: &F,
+    alloc: Global,
+    game: &PackedGame,
+    has_history: bool,
+    path: &str,
+    errors: &mut E,
+) -> Result<(), Fault>
+    ensures fault { IfErr result (IsFileFault Records) }
+{
+    let first = if has_history {
+        last_partial(files, alloc, game, path, errors)?
+    } else {
+        None
+    };
+    match file.mend(alloc, first) {
+        Ok(None) => Ok(()),
+        Ok(Some(torn)) => {
+            tell_torn(errors, path, first, torn.as_str());
+            Ok(())
         }
+        Err(fault) => Err(refused(errors, path, fault)),
     }
 }

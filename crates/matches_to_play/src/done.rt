@@ -8,7 +8,7 @@ ghost use Rattle.matches_to_play.specs.Done.{AreDone, AreNamesOf, is_noted, matc
 ghost use Rattle.command_faults.specs.Faults.{IsFileFault};
 ghost use Rattle.command_faults.specs.declared.files.NamedFile.TheVariants.{Records};
 
-use command_faults::{Fault, FileFault, MAX_LINE, NamedFile, opened, reading_fault};
+use command_faults::{Fault, FileFault, MAX_LINE, NamedFile, opened_regular, reading_fault};
 use desk_text::is_account_line;
 use game_core::{Counted, Game};
 use indexmap::IndexSet;
@@ -177,6 +177,6 @@ pub(crate) fn done_matches<F: Files, G: Game>(
     ensures done { IfOk result (λ done. (input : List ℕ) × AreDone (G.rules game.now) (lines input) done) }
     ensures fault { IfErr result (IsFileFault Records) }
 {
-    let mut file = opened(files, NamedFile::Records, path)?;
+    let mut file = opened_regular(files, NamedFile::Records, path)?;
     done_in(alloc, game, &mut file)
 }

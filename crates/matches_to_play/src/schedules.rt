@@ -1,16 +1,20 @@
 //! The matches of a season that are played.
-ghost use Rattle.std.specs.Prelude.{◌≡◌, ◌⊎◌, IfErr, IfOk, is_some, true};
+ghost use Rattle.std.specs.Prelude.{◌≡◌, ◌⊎◌, ℕ, List, IfErr, IfOk, is_some, true};
+ghost use Rattle.std.specs.Str.Lines.{lines};
+ghost use Rattle.ground_rules.specs.LoadedGame.{loaded_game};
+ghost use Rattle.packed_rules.specs.PackedGames.{tables_of};
 ghost use Rattle.command_faults.specs.Faults.{IsFileFault};
 ghost use Rattle.command_faults.specs.declared.files.NamedFile.TheVariants.{Records};
+ghost use Rattle.matches_to_play.specs.Done.{AreDone};
 ghost use Rattle.matches_to_play.specs.ToPlay.{AreLeft, AreUndone, HasNoUndone, is_left, left_of};
 
+use crate::accounts::{PartialRecord, partial_record};
 use crate::done::{DoneMatches, done_matches};
-use command_faults::{Fault, FileFault, NamedFile};
+use command_faults::{Fault, Printable, tell_of_file};
 use command_line::SeasonPlan;
 use game_core::Game;
 use match_plans::{MatchPlan, read_schedule};
 use packed_rules::PackedGame;
-use process_streams::is_emptied_output;
 use std::alloc::{AllocError, Global};
 use std::fmt::Write as _;
 use std::io::Write;
@@ -46,12 +50,43 @@ fn tell_other_lines<E: Write>(errors: &mut E, path: &str, count: u64) {
     let mut pieces = Pieces { stream: errors };
     let _ = match count {
         0 => Ok(()),
-        1 => writeln!(pieces, "ggp_manager: 1 line of {path} is no lawful record"),
+        1 => writeln!(
+            pieces,
+            "ggp_manager: 1 line of {} is no lawful record",
+            Printable(path)
+        ),
         _ => writeln!(
             pieces,
-            "ggp_manager: {count} lines of {path} are no lawful records"
+            "ggp_manager: {count} lines of {} are no lawful records",
+            Printable(path)
         ),
     };
+}
+
+/// The matches that are over by the file of records at this path. It is reported how many of its lines are neither lawful records nor lines
+/// of accounts, or why the file can't be used.
+fn done_by<F: Files, E: Write>(
+    files: &F,
+    alloc: Global,
+    game: &PackedGame,
+    path: &str,
+    errors: &mut E,
+) -> Result<DoneMatches, Fault>
+    ensures done { IfOk result (λ done. (input : List ℕ) × AreDone (loaded_game (tables_of game.now)) (lines input) done) }
+    ensures fault { IfErr result (IsFileFault Records) }
+{
+    match done_matches(files, alloc, game, path) {
+        Ok(done) => {
+            tell_other_lines(errors, path, done.other_lines());
+            Ok(done)
+        }
+        Err(fault) => {
+            if let Fault::File(_, why) = fault {
+                tell_of_file(errors, path, why.words());
+            }
+            Err(fault)
+        }
+    }
 }
 
 /// The matches that are not over by the file of records that is named, if one is. It is reported how many of its lines are neither lawful
@@ -70,23 +105,31 @@ pub fn undone<'a, F: Files, E: Write>(
     match file {
         None => Ok(plans),
         Some(path) => {
-            let done = done_matches(files, alloc, game, path)?;
-            tell_other_lines(errors, path, done.other_lines());
+            let done = done_by(files, alloc, game, path, errors)?;
             Ok(left_over(alloc, plans, &done)?)
         }
     }
 }
 
-/// Refuses a file of records that the output goes to and that is empty: a shell has emptied it.
-fn refuse_output<F: Files>(files: &F, file: Option<&str>) -> Result<(), Fault>
-    ensures fault { IfErr result (λ fault. (is_some file.entry ≡ true) × IsFileFault Records fault) }
+/// Reports the first record in the file of finished matches whose account is not whole. Its match counts as over.
+fn tell_partial<F: Files, E: Write>(
+    files: &F,
+    alloc: Global,
+    game: &PackedGame,
+    path: &str,
+    errors: &mut E,
+) -> Result<(), Fault>
+    ensures fault { IfErr result (IsFileFault Records) }
 {
-    match file {
-        Some(path) if is_emptied_output(files, path) => {
-            Err(Fault::File(NamedFile::Records, FileFault::IsOutput))
-        }
-        _ => Ok(()),
+    if let Some(PartialRecord { line, .. }) = partial_record(files, alloc, game, path)? {
+        let mut pieces = Pieces { stream: errors };
+        let _ = writeln!(
+            pieces,
+            "ggp_manager: line {line} of {}: the account of this record is not whole, but its match counts as over",
+            Printable(path)
+        );
     }
+    Ok(())
 }
 
 /// Reports that no match of a schedule is over by the file that is named.
@@ -94,7 +137,8 @@ fn tell_none_done<E: Write>(errors: &mut E, path: &str) {
     let mut pieces = Pieces { stream: errors };
     let _ = writeln!(
         pieces,
-        "ggp_manager: no match of the schedule is over by {path}"
+        "ggp_manager: no match of the schedule is over by {}",
+        Printable(path)
     );
 }
 
@@ -112,12 +156,15 @@ pub fn plans_of<'a, F: Files, E: Write>(
     ensures fault { IfErr result (HasNoUndone game.now season.entry.strikes season.entry.done schedule.now) }
 {
     let plans = read_schedule(alloc, schedule, game.roles(), season.strikes)?;
-    refuse_output(files, season.done)?;
     let all = plans.len();
     let left = undone(files, alloc, game, season.done, plans, errors)?;
-    match season.done {
-        Some(path) if left.len() == all => tell_none_done(errors, path),
-        _ => {}
+    if let Some(path) = season.done {
+        if left.len() == all {
+            tell_none_done(errors, path);
+        }
+        if season.form.has_history {
+            tell_partial(files, alloc, game, path, errors)?;
+        }
     }
     Ok(left)
 }

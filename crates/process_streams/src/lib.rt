@@ -9,5 +9,7 @@ mod standard;
 
 pub use limits::{DESCRIPTORS, FILE_SIZE, limit_in, limit_of};
 pub use placeholders::hold_closed;
-pub use records_file::{LockedFiles, RecordsFault, RecordsFile, is_emptied_output, open_records};
+pub use records_file::{
+    LockedFiles, RecordsFault, RecordsFile, RecordsState, is_one_file, open_records,
+};
 pub use standard::{ERRORS, INPUT, OUTPUT, Standard};

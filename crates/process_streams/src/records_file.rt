@@ -4,7 +4,6 @@ ghost use Rattle.std.specs.Io.{WritesAtMost};
 ghost use Rattle.std.specs.Io.KnownBytes.{Appends, WriteAppends};
 ghost use Rattle.process_streams.specs.Records.{EndsLine, may_hold_records};
 
-use crate::standard::OUTPUT;
 use std::alloc::Global;
 use std::fs::{File, Metadata, OpenFile, OpenOptions, TryLockError};
 use std::io::{Error, ErrorKind, Read, Seek, SeekFrom, Write};
@@ -12,7 +11,7 @@ use std::os::unix::fs::MetadataExt;
 use std::rt::Files;
 use std::{fs, io};
 
-/// The number of bytes that are looked at together, from the end of a file on.
+/// The number of bytes of a file that are read together.
 const PIECE: usize = 16_384;
 
 /// The limit of the number behind `.torn.` in the name of a file.
@@ -31,7 +30,7 @@ pub enum RecordsFault {
     Unread,
     /// It does not begin as a record does.
     NoRecords,
-    /// Its last line is cut off, and can't be moved to another file.
+    /// What is cut off at its end can't be moved to another file.
     Unmended,
     /// Out of memory.
     Memory,
@@ -58,7 +57,21 @@ fn is_same(one: &Metadata, other: &Metadata) -> bool {
     one.dev() == other.dev() && one.ino() == other.ino()
 }
 
+/// What became of a file while records were added to it.
+#[derive(Clone, Copy)]
+pub enum RecordsState {
+    /// It has only what was added.
+    Kept,
+    /// It was removed, renamed or replaced: its path does not name it any more.
+    Lost,
+    /// Another program has cut it.
+    Cut,
+    /// Another program has added to it.
+    Grown,
+}
+
 /// A file that records are added to. What a write took is on the disk before the write returns, and the file's path still names it then.
+/// If another program has added to the file and has left its last line open, a write ends that line first.
 #[derive(Drop)]
 pub struct RecordsFile<'a, R, F> {
     files: &'a R,
@@ -68,8 +81,10 @@ pub struct RecordsFile<'a, R, F> {
     opened: Metadata,
     /// The limit of the file's size in bytes.
     limit: Option<u64>,
-    /// The name of the file that a last line without its end was moved to.
-    pub torn: Option<String>,
+    /// The file's length in bytes when it was opened, mended or written to last.
+    length: u64,
+    /// Whether another program has added to the file.
+    is_shared: bool,
 }
 
 impl<R: Files, F> RecordsFile<'_, R, F> {
@@ -83,9 +98,31 @@ impl<R: Files, F> RecordsFile<'_, R, F> {
         }
     }
 
-    /// Whether the file's path still names it. Otherwise it was removed, renamed or replaced.
-    pub fn is_kept(&self) -> bool {
-        self.named().is_ok()
+    /// What became of the file since it was opened.
+    pub fn state(&self) -> RecordsState {
+        match self.named() {
+            Err(_) => RecordsState::Lost,
+            Ok(named) if named.len() < self.length => RecordsState::Cut,
+            Ok(named) if self.is_shared || named.len() > self.length => RecordsState::Grown,
+            Ok(_) => RecordsState::Kept,
+        }
+    }
+
+    /// Ends the last line of the file, which another program has made this long. An error says that it was cut instead.
+    fn end_line(&self, length: u64) -> io::Result<()> {
+        if length < self.length {
+            return Err(Error::from(ErrorKind::UnexpectedEof));
+        }
+        let mut options = OpenOptions::new();
+        options.read(true).append(true);
+        let mut file = options.open(self.files, self.path)?;
+        file.seek(SeekFrom::Start(length.saturating_sub(1)))?;
+        let mut last = [0u8; 1];
+        file.read_exact(&mut last)?;
+        if last[0] != b'\n' {
+            file.write_all(b"\n")?;
+        }
+        Ok(())
     }
 }
 
@@ -95,16 +132,26 @@ impl<R: Files, F: Write + OpenFile> Write for RecordsFile<'_, R, F> {
         ensures bytes { WriteAppends None None result bytes.now }
         ensures added { IfOk result (λ count. Appends (F.contents self.old.file) (F.contents self.new.file) (take count bytes.now)) }
     {
-        let named = self.named()?;
+        let mut begin = self.named()?.len();
+        if begin != self.length {
+            self.end_line(begin)?;
+            self.is_shared = true;
+            begin = self.named()?.len();
+        }
         if let Some(limit) = self.limit {
             // One more byte there would end the process by a signal.
-            if named.len() >= limit {
+            if begin >= limit {
                 return Err(Error::from(ErrorKind::FileTooLarge));
             }
         }
         let count = self.file.write(bytes)?;
         self.file.sync_data()?;
-        self.named()?;
+        self.length = self.named()?.len();
+        if self.length != begin.saturating_add(count as u64) {
+            // What another program added in between may stand on the same line.
+            self.is_shared = true;
+            return Err(Error::from(ErrorKind::InvalidData));
+        }
         Ok(count)
     }
 
@@ -113,10 +160,10 @@ impl<R: Files, F: Write + OpenFile> Write for RecordsFile<'_, R, F> {
     }
 }
 
-/// Whether standard output goes to the file at this path, and the file is empty.
-pub fn is_emptied_output<F: Files>(files: &F, path: &str) -> bool {
-    match (fs::metadata(files, path), fs::metadata(files, OUTPUT)) {
-        (Ok(file), Ok(output)) => file.is_file() && file.len() == 0 && is_same(&file, &output),
+/// Whether these two paths name one regular file.
+pub fn is_one_file<F: Files>(files: &F, path: &str, other: &str) -> bool {
+    match (fs::metadata(files, path), fs::metadata(files, other)) {
+        (Ok(file), Ok(other)) => file.is_file() && is_same(&file, &other),
         _ => false,
     }
 }
@@ -185,25 +232,74 @@ fn move_rest<F: Read + Write + Seek + OpenFile>(
     file.set_len(whole)
 }
 
-/// Moves a last line without its line feed to a new file, which is removed again if it can't be written whole. Returns its name.
-fn mend<F: Files>(
+/// The number of a file's bytes before the line of this number, counted from 1.
+fn line_start<F: Read + Seek>(file: &mut F, number: u64) -> io::Result<u64> {
+    let mut piece = [0u8; PIECE];
+    let mut left = number.saturating_sub(1);
+    let mut start = 0u64;
+    file.seek(SeekFrom::Start(0))?;
+    for _ in 0..u64::MAX {
+        if left == 0 {
+            return Ok(start);
+        }
+        let count = file.read(&mut piece)?;
+        if count == 0 {
+            break;
+        }
+        for byte in &piece[..count] {
+            if left > 0 {
+                start = start.saturating_add(1);
+                if *byte == b'\n' {
+                    left -= 1;
+                }
+            }
+        }
+    }
+    Err(Error::from(ErrorKind::UnexpectedEof))
+}
+
+/// Moves what follows these bytes of a file to a new file beside it, which is removed again if it can't be written whole. Returns its name.
+fn move_beside<F: Files>(
     files: &F,
     alloc: Global,
     path: &str,
     file: &mut F::File,
-    length: u64,
-) -> io::Result<Option<String>> {
-    let whole = whole_lines(file, length)?;
-    if whole == length {
-        return Ok(None);
-    }
+    whole: u64,
+) -> io::Result<String> {
     let (name, mut torn) = new_beside(files, alloc, path)?;
     if let Err(error) = move_rest(file, &mut torn, whole) {
         let _ = fs::remove_file(files, name.as_str());
         return Err(error);
     }
     file.sync_all()?;
-    Ok(Some(name))
+    Ok(name)
+}
+
+impl<'a, R: Files> RecordsFile<'a, R, <R as Files>::File> {
+    /// Moves the end of the file that is not whole to another file, which gets a name that is free: what begins with the line of this
+    /// number, counted from 1, or without a number a last line that lacks its line feed. Returns the name, if there is such an end.
+    pub fn mend(
+        &mut self,
+        alloc: Global,
+        first: Option<u64>,
+    ) -> Result<Option<String>, RecordsFault> {
+        let found = match first {
+            Some(number) => line_start(&mut self.file, number),
+            None => whole_lines(&mut self.file, self.length),
+        };
+        let whole = match found {
+            Ok(whole) if whole == self.length => return Ok(None),
+            Ok(whole) => whole,
+            Err(error) => return Err(fault_of(error, RecordsFault::Unmended)),
+        };
+        match move_beside(self.files, alloc, self.path, &mut self.file, whole) {
+            Ok(name) => {
+                self.length = whole;
+                Ok(Some(name))
+            }
+            Err(error) => Err(fault_of(error, RecordsFault::Unmended)),
+        }
+    }
 }
 
 /// The fault for an error where there may be no memory.
@@ -214,14 +310,24 @@ fn fault_of(error: Error, other: RecordsFault) -> RecordsFault {
     }
 }
 
+/// Whether the path names something else than a regular file: a directory, a pipe or a device. None of them is opened, since that may wait.
+fn is_special<F: Files>(files: &F, path: &str) -> bool {
+    match fs::metadata(files, path) {
+        Ok(found) => !found.is_file(),
+        Err(_) => false,
+    }
+}
+
 /// Opens the file at this path to add to it, and makes it if it is not there. It is locked as long as it is open. A file that does not
-/// begin as a record does is refused as it is. A last line without its line feed is moved to another file, which gets a name that is free.
+/// begin as a record does is refused as it is.
 pub fn open_records<'a, R: LockedFiles>(
     files: &'a R,
-    alloc: Global,
     path: &'a str,
     limit: Option<u64>,
 ) -> Result<RecordsFile<'a, R, <R as Files>::File>, RecordsFault> {
+    if is_special(files, path) {
+        return Err(RecordsFault::NotRegular);
+    }
     let mut options = OpenOptions::new();
     options.read(true).append(true).create(true);
     let file = match options.open(files, path) {
@@ -244,19 +350,15 @@ pub fn open_records<'a, R: LockedFiles>(
         file,
         opened,
         limit,
-        torn: None,
+        length,
+        is_shared: false,
     };
-    if !records.is_kept() {
+    if records.named().is_err() {
         return Err(RecordsFault::Unopened);
     }
     match may_hold_records(&mut records.file) {
-        Ok(true) => {}
-        Ok(false) => return Err(RecordsFault::NoRecords),
-        Err(error) => return Err(fault_of(error, RecordsFault::Unread)),
+        Ok(true) => Ok(records),
+        Ok(false) => Err(RecordsFault::NoRecords),
+        Err(error) => Err(fault_of(error, RecordsFault::Unread)),
     }
-    match mend(files, alloc, path, &mut records.file, length) {
-        Ok(torn) => records.torn = torn,
-        Err(error) => return Err(fault_of(error, RecordsFault::Unmended)),
-    }
-    Ok(records)
 }

@@ -58,6 +58,13 @@ def whole_lines(text):
     return (whole + feed).splitlines(keepends=True), cut
 
 
+def partial_records(lines):
+    """Returns the numbers, from 1 on, of the lines with records whose accounts are not whole: that of each role ends with `over`."""
+    places = [place for place, line in enumerate(lines) if line.startswith(b"{")]
+    ends = [*places[1:], len(lines)]
+    return [place + 1 for place, end in zip(places, ends) if sum(line.endswith(b"\tover\n") for line in lines[place:end]) != len(ROLES)]
+
+
 def cut_off(folder):
     """Takes the last line of the file `records` in this folder away where it was cut."""
     subprocess.run(["bash", "-c", CUT_OFF], cwd=folder, check=True)

@@ -1,0 +1,201 @@
+//! The files and streams of a command: which are one file, and which of them a fault is about.
+
+use command_faults::{Fault, FileFault, NamedFile, Printable, tell_of_file};
+use command_line::{GameOptions, MatchTask, SeasonPlan, Task};
+use match_plans::{GameCommand, GameSource, GameTask, RulesSource};
+use process_streams::{ERRORS, INPUT, OUTPUT, is_one_file};
+use std::alloc::{AllocError, Global};
+use std::fmt::Write as _;
+use std::fs;
+use std::io::Write;
+use std::rt::Files;
+use whole_streams::Pieces;
+
+/// What a file or stream of a command is for.
+#[derive(Clone, Copy)]
+enum Role {
+    Input,
+    Output,
+    Errors,
+    Rules,
+    PlayerRules,
+    NamedInput,
+    Done,
+    Records,
+}
+
+impl Role {
+    fn words(self) -> &'static str {
+        match self {
+            Role::Input => "standard input",
+            Role::Output => "standard output",
+            Role::Errors => "standard error",
+            Role::Rules => "the file of --rules-file",
+            Role::PlayerRules => "the file of --player-rules",
+            Role::NamedInput => "the file of the input",
+            Role::Done => "the file of --done",
+            Role::Records => "the file of --records",
+        }
+    }
+
+    /// What a fault says that the file was named for.
+    fn named(self) -> NamedFile {
+        match self {
+            Role::Rules => NamedFile::Rules,
+            Role::PlayerRules => NamedFile::PlayerRules,
+            Role::Done | Role::Records => NamedFile::Records,
+            Role::Input | Role::Output | Role::Errors | Role::NamedInput => NamedFile::Input,
+        }
+    }
+
+    fn is_written(self) -> bool {
+        matches!(self, Role::Output | Role::Errors | Role::Records)
+    }
+}
+
+/// A file or stream of a command, by the path at which the system shows it.
+#[derive(Clone, Copy)]
+struct Used<'a> {
+    role: Role,
+    path: &'a str,
+}
+
+/// Adds a file if it is named.
+fn push<'a>(used: &mut Vec<Used<'a>>, role: Role, path: Option<&'a str>) -> Result<(), AllocError> {
+    if let Some(path) = path {
+        used.push(Used { role, path })?;
+    }
+    Ok(())
+}
+
+/// The file of a game's rules, if one is named.
+fn rules_file<'a>(game: GameSource<'a>) -> Option<&'a str> {
+    match game {
+        GameSource::Described(RulesSource::File(path), _) => Some(path),
+        _ => None,
+    }
+}
+
+/// Adds the files and streams of a season but for those of its game.
+fn push_season<'a>(used: &mut Vec<Used<'a>>, plan: &SeasonPlan<'a>) -> Result<(), AllocError> {
+    match plan.schedule {
+        Some(path) => push(used, Role::NamedInput, Some(path))?,
+        None => push(used, Role::Input, Some(INPUT))?,
+    }
+    push(used, Role::Done, plan.done)?;
+    push(used, Role::Records, plan.records)
+}
+
+/// The files that a command reads or writes. Standard input is among them where only this program's own commands read it.
+fn used_by<'a>(alloc: Global, task: &Task<'a>) -> Result<Vec<Used<'a>>, AllocError> {
+    let mut used = Vec::new(alloc);
+    push(&mut used, Role::Output, Some(OUTPUT))?;
+    push(&mut used, Role::Errors, Some(ERRORS))?;
+    match task {
+        Task::Host(options, task) => {
+            let GameOptions {
+                game,
+                player_rules,
+                ..
+            } = *options;
+            push(&mut used, Role::Rules, rules_file(game))?;
+            push(&mut used, Role::PlayerRules, player_rules)?;
+            if let MatchTask::Season(plan) = task {
+                push_season(&mut used, plan)?;
+            }
+        }
+        Task::Game(task) => {
+            let GameTask {
+                command,
+                game,
+                file,
+            } = *task;
+            push(&mut used, Role::Rules, rules_file(game))?;
+            push(&mut used, Role::NamedInput, file)?;
+            if let (GameCommand::Replay, None) = (command, file) {
+                push(&mut used, Role::Input, Some(INPUT))?;
+            }
+        }
+        Task::Info(_) | Task::Abort(_) | Task::Show(_) => {}
+    }
+    Ok(used)
+}
+
+/// Whether the file at this path is empty, as a shell makes the file of its output.
+fn is_empty<F: Files>(files: &F, path: &str) -> bool {
+    match fs::metadata(files, path) {
+        Ok(found) => found.len() == 0,
+        Err(_) => false,
+    }
+}
+
+/// Whether two uses of one file destroy it or what is written. Matches can be over by the file that records are added to, and by one that
+/// standard output is added to.
+fn are_at_odds<F: Files>(files: &F, one: Used<'_>, other: Used<'_>) -> bool {
+    if !one.role.is_written() && !other.role.is_written() {
+        return false;
+    }
+    match (one.role, other.role) {
+        (Role::Output, Role::Errors) | (Role::Done, Role::Records) => return false,
+        (Role::Output, Role::Done) if !is_empty(files, other.path) => return false,
+        _ => {}
+    }
+    is_one_file(files, one.path, other.path)
+}
+
+/// Reports that two uses are of one file.
+fn tell_shared<F: Files, E: Write>(files: &F, one: Used<'_>, other: Used<'_>, errors: &mut E) {
+    let emptied = if is_empty(files, other.path) {
+        ", and is empty now, as `>` of the shell makes it"
+    } else {
+        ""
+    };
+    let mut pieces = Pieces { stream: errors };
+    let _ = writeln!(
+        pieces,
+        "ggp_manager: {} is {} and {}{emptied}: name two files",
+        Printable(other.path),
+        other.role.words(),
+        one.role.words()
+    );
+}
+
+/// Refuses a command if two of its files and streams are one regular file, and one of the two is written.
+pub fn refuse_shared<F: Files, E: Write>(
+    files: &F,
+    alloc: Global,
+    task: &Task<'_>,
+    errors: &mut E,
+) -> Result<(), Fault> {
+    let used = used_by(alloc, task)?;
+    for (place, other) in used.iter().enumerate() {
+        for one in &used[..place] {
+            if are_at_odds(files, *one, *other) {
+                tell_shared(files, *one, *other, errors);
+                return Err(Fault::File(other.role.named(), FileFault::Shared));
+            }
+        }
+    }
+    Ok(())
+}
+
+/// Reports which file a fault is about, unless it was reported where the fault was found.
+pub fn tell_file<E: Write>(alloc: Global, task: &Task<'_>, fault: Fault, errors: &mut E) {
+    let Fault::File(named, why) = fault else {
+        return;
+    };
+    let Ok(used) = used_by(alloc, task) else {
+        return;
+    };
+    for file in &used {
+        let is_it = match file.role {
+            Role::Rules => matches!(named, NamedFile::Rules),
+            Role::PlayerRules => matches!(named, NamedFile::PlayerRules),
+            Role::NamedInput => matches!(named, NamedFile::Input),
+            _ => false,
+        };
+        if is_it {
+            tell_of_file(errors, file.path, why.words());
+        }
+    }
+}
