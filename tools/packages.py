@@ -38,6 +38,7 @@ NEEDS = (
     Need("openssh-server", ("sshd",), "the hosts of the competition that tests play on several machines"),
     Need("openssh-client", ("ssh", "ssh-keygen"), "reaches these hosts"),
     Need("iproute2", ("ip",), "gives these hosts networks"),
+    Need("nftables", ("nft",), "gives a player and the referee firewalls"),
     Need("util-linux", ("unshare", "nsenter", "setpriv"), "namespaces, and tests as another user"),
     Need("mount", ("mount", "umount"), "a full disk"),
     Need("python3", ("/usr/bin/python3",), "runs the Python tests"),

@@ -1,5 +1,5 @@
 -- What an exchange with a player counts as.
-use Rattle.std.specs.Prelude.{ℕ, ℤ, Bool, if◌then◌else◌, List, Option, Some, None, Result, Ok, Err}
+use Rattle.std.specs.Prelude.{ℕ, ℤ, Bool, true, false, if◌then◌else◌, List, Option, Some, None, Result, Ok, Err}
 use Rattle.std.specs.declared.io.ErrorKind.{ErrorKind}
 use Rattle.std.specs.declared.io.ErrorKind.TheVariants.{WouldBlock, TimedOut}
 use Rattle.desk_calls.specs.declared.answer.Answer.{Answer}
@@ -59,6 +59,25 @@ short_fault None = faults.NoConnection
 abbrev pub address_fault : ErrorKind → Option ℤ → ContactFault
 address_fault TimedOut None = faults.Late Unconnected
 address_fault kind number = short_fault (system_shortage kind number)
+
+-- The fault of an address to which no connection was made. If the error may come from this computer or from the player, it is this
+-- computer's if it would not send to the address: this is what it is short of for that.
+abbrev pub connect_fault : ErrorKind → Option ℤ → Bool → Option Shortage → ContactFault
+connect_fault kind number true refusal = short_fault refusal
+connect_fault kind number false refusal = address_fault kind number
+
+-- whether a message failed on the network, and not by what the player sent
+abbrev pub is_of_network : ContactFault → Bool
+is_of_network (faults.Late received) = true
+is_of_network faults.NoConnection = true
+is_of_network (faults.Exchange (exchange_faults.ReadFault kind) received) = true
+is_of_network (faults.Exchange exchange_faults.WriteFault received) = true
+is_of_network fault = false
+
+-- What the player is blamed for: nothing if this computer would not send to the player.
+abbrev pub fault_at_refusal : Option Shortage → ContactFault → ContactFault
+fault_at_refusal (Some shortage) fault = faults.Shortage shortage
+fault_at_refusal None fault = fault
 
 -- The fault of all addresses so far, by the fault of those before and of the last one. A lack of ports or of a network counts only if no
 -- address gave another fault.

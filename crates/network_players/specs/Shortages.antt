@@ -1,7 +1,7 @@
 -- Shortages of the referee.
 use Rattle.std.specs.Prelude.{◌≡◌, ◌⊎◌, ℕ, ℤ, unsigned_abs, ◌==◌, if◌then◌else◌, Bool, true, false, List, [], ◌∷◌, Option, Some, None, unwrap_or, Result, Ok, Err}
 use Rattle.std.specs.declared.io.ErrorKind.{ErrorKind}
-use Rattle.std.specs.declared.io.ErrorKind.TheVariants.{WouldBlock, TimedOut, AddrNotAvailable, OutOfMemory, NetworkDown, NetworkUnreachable, PermissionDenied}
+use Rattle.std.specs.declared.io.ErrorKind.TheVariants.{WouldBlock, TimedOut, AddrNotAvailable, OutOfMemory, NetworkDown}
 use Rattle.match_plans.specs.declared.shortages.Shortage.{Shortage}
 use Rattle.match_plans.specs.declared.shortages.Shortage.TheVariants.{Descriptors, Ports, Memory, Clock, Resolver, Network, NotRunning}
 use Rattle.network_players.specs.declared.deadline.Halt.{Halt}
@@ -11,23 +11,37 @@ abbrev pub shortage_in : List (ℕ × Shortage) → ℕ → Option Shortage
 shortage_in [] number = None
 shortage_in (row ∷ rows) number = if number == row.0 then Some row.1 else shortage_in rows number
 
--- the errors of the system that have no kind of their own: ENFILE, EMFILE, EAFNOSUPPORT and ENOBUFS of Linux
+-- The errors of Linux that only this computer causes, and whose kind says too little: EPERM (a rule of its firewall), ENFILE, EMFILE,
+-- EAFNOSUPPORT and ENOBUFS.
 abbrev pub error_shortages : List (ℕ × Shortage)
-error_shortages = (23, Descriptors) ∷ (24, Descriptors) ∷ (97, Network) ∷ (105, Memory) ∷ []
+error_shortages = (1, Network) ∷ (23, Descriptors) ∷ (24, Descriptors) ∷ (97, Network) ∷ (105, Memory) ∷ []
 
 -- numbers of errors are above 0
 abbrev pub number_shortage : Option ℤ → Option Shortage
 number_shortage (Some number) = shortage_in error_shortages (unsigned_abs number)
 number_shortage None = None
 
--- the shortage that an error of the system reports, by its kind and its number; every other error is the player's
+abbrev pub is_among : List ℕ → ℕ → Bool
+is_among [] number = false
+is_among (row ∷ rows) number = if number == row then true else is_among rows number
+
+-- The errors of Linux that may come from this computer's routes or from an ICMP message, which the player or a router sends: EACCES, EINVAL,
+-- ENETUNREACH and EHOSTUNREACH. A probe that only this computer answers decides.
+abbrev pub errors_of_either : List ℕ
+errors_of_either = 13 ∷ 22 ∷ 101 ∷ 113 ∷ []
+
+abbrev pub is_of_either : Option ℤ → Bool
+is_of_either (Some number) = is_among errors_of_either (unsigned_abs number)
+is_of_either None = false
+
+-- The shortage that an error of the system reports, by its kind and its number. Only this computer causes these errors. A peer, a router or a
+-- firewall on the way can cause each other one: by ICMP ECONNREFUSED, EHOSTUNREACH, ENETUNREACH, EACCES, EPROTO, ENOPROTOOPT, EOPNOTSUPP,
+-- EHOSTDOWN, ENONET and EMSGSIZE, by TCP ECONNREFUSED, ECONNRESET, EPIPE and ETIMEDOUT.
 abbrev pub system_shortage : ErrorKind → Option ℤ → Option Shortage
 system_shortage OutOfMemory number = Some Memory
 system_shortage AddrNotAvailable number = Some Ports
 system_shortage WouldBlock number = Some Ports
 system_shortage NetworkDown number = Some Network
-system_shortage NetworkUnreachable number = Some Network
-system_shortage PermissionDenied number = Some Network
 system_shortage kind number = number_shortage number
 
 -- What the referee was short of as the lookup of a host failed. It is the resolver's answer, and no shortage, only if it says that there is no

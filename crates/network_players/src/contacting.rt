@@ -3,11 +3,11 @@ ghost use Rattle.std.specs.Prelude.{◌≡◌};
 ghost use Rattle.std.specs.IoError.{error_kind, raw_os_error};
 ghost use Rattle.std.specs.Net.Addr.{is_ipv4};
 ghost use Rattle.std.specs.Net.Socket.{socket_ip};
-ghost use Rattle.network_players.specs.Contacts.{address_fault, after_try, fault_at_end, fault_so_far, fault_after, halt_fault, lookup_fault, outcome_of};
+ghost use Rattle.network_players.specs.Contacts.{address_fault, after_try, connect_fault, fault_at_end, fault_at_refusal, fault_so_far, fault_after, halt_fault, is_of_network, lookup_fault, outcome_of};
 
 use crate::deadline::{Deadline, Halt, TimedStream};
 use crate::lookup::Lookup;
-use crate::shortage::shortage_of;
+use crate::shortage::{is_of_either, shortage_of};
 use desk_calls::MAX_CLOCK;
 use game_core::{Counted, Text};
 use http_exchange::{Received, WireFault, exchange_shared};
@@ -144,20 +144,109 @@ fn any_address(address: &SocketAddr) -> SocketAddr
     }
 }
 
-/// Whether this computer has a route to the address. Without one the system refuses even a socket that sends nothing.
-fn has_route<N: Net>(net: &N, address: &SocketAddr) -> bool {
-    match UdpSocket::bind(net, any_address(address)) {
-        Ok(socket) => socket.connect(*address).is_ok(),
-        Err(_) => false,
+/// Whether the address may be that of one host. The system refuses a connection to any other: that is an error of the address.
+fn is_of_a_host(address: &SocketAddr) -> bool {
+    let is_zoned = match address {
+        SocketAddr::V4(_) => true,
+        SocketAddr::V6(address) => {
+            !address.ip().is_unicast_link_local() || address.scope_id() != 0
+        }
+    };
+    match address.ip().to_canonical() {
+        IpAddr::V4(ip) => !ip.is_multicast() && !ip.is_broadcast(),
+        IpAddr::V6(ip) => !ip.is_multicast() && is_zoned,
     }
 }
 
-/// The fault of an address to which no connection was made. If this computer has a route there and the network is said to be unreachable, a
-/// router on the way says so: that is no lack of the referee's.
+/// Tries to send an empty datagram to the address. Only this computer's interfaces, routes and firewall can make that fail: the socket is
+/// new, so no answer can have come.
+fn send_nothing(socket: &UdpSocket, address: &SocketAddr) -> io::Result<()> {
+    if socket.connect(*address).is_err() {
+        // The system refuses a broadcast address only to a socket that has not asked for it, and a route for any socket.
+        socket.set_broadcast(true)?;
+        return socket.connect(*address);
+    }
+    match socket.send(&[]) {
+        Err(error) if shortage_of(&error).is_some() => Err(error),
+        _ => Ok(()),
+    }
+}
+
+/// What this computer is short of, so that it sends nothing to the address. `None` if it would send, or if nobody could.
+fn refusal<N: Net>(net: &N, address: &SocketAddr) -> Option<Shortage> {
+    if !is_of_a_host(address) {
+        return None;
+    }
+    let sent = match UdpSocket::bind(net, any_address(address)) {
+        Ok(socket) => send_nothing(&socket, address),
+        Err(error) => Err(error),
+    };
+    match sent {
+        Ok(()) => None,
+        Err(error) => Some(shortage_of(&error).unwrap_or(Shortage::Network)),
+    }
+}
+
+/// What this computer is short of, so that it sends nothing to any of the addresses. `None` if it would send to one, or if there is none.
+fn refusal_of_all<N: Net>(net: &N, addresses: &[SocketAddr]) -> Option<Shortage> {
+    let mut last = None;
+    for address in addresses {
+        last = Some(refusal(net, address)?);
+    }
+    last
+}
+
+/// The fault of an address to which no connection was made. If the error `may_be_own`, a probe said what this computer is short of.
+fn connect_fault(error: &io::Error, may_be_own: bool, refusal: Option<Shortage>) -> ContactFault
+    ensures { result ≡ connect_fault (error_kind error.now) (raw_os_error error.now) may_be_own refusal }
+{
+    match (may_be_own, refusal) {
+        (false, _) => address_fault(error),
+        (true, Some(shortage)) => ContactFault::Shortage(shortage),
+        (true, None) => ContactFault::NoConnection,
+    }
+}
+
+/// The fault of an address to which no connection was made. Where the player or a router on the way can cause the error too, this computer is
+/// asked.
 fn fault_of<N: Net>(net: &N, address: &SocketAddr, error: &io::Error) -> ContactFault {
-    match error.kind() {
-        ErrorKind::NetworkUnreachable if has_route(net, address) => ContactFault::NoConnection,
-        _ => address_fault(error),
+    let may_be_own = is_of_either(error.raw_os_error());
+    let refusal = if may_be_own {
+        refusal(net, address)
+    } else {
+        None
+    };
+    connect_fault(error, may_be_own, refusal)
+}
+
+/// Whether a message failed on the network, and not by what the player sent.
+fn is_of_network(fault: ContactFault) -> bool
+    ensures { result ≡ is_of_network fault }
+{
+    matches!(
+        fault,
+        ContactFault::Late(_)
+            | ContactFault::NoConnection
+            | ContactFault::Exchange(WireFault::ReadFault(_) | WireFault::WriteFault, _)
+    )
+}
+
+/// The fault of a message that failed on the network. It is the player's only if this computer would send to the player.
+fn fault_at_refusal(fault: ContactFault, refusal: Option<Shortage>) -> ContactFault
+    ensures { result ≡ fault_at_refusal refusal fault }
+{
+    match refusal {
+        Some(shortage) => ContactFault::Shortage(shortage),
+        None => fault,
+    }
+}
+
+/// The fault of a message that failed so. One that failed on the network is a shortage if this computer sends nothing to the player now.
+fn blamed<N: Net>(net: &N, addresses: &[SocketAddr], fault: ContactFault) -> ContactFault {
+    if is_of_network(fault) {
+        fault_at_refusal(fault, refusal_of_all(net, addresses))
+    } else {
+        fault
     }
 }
 
@@ -368,7 +457,7 @@ pub fn contact_found<N: Net + Clock>(
     };
     match reached {
         Ok(text) => Ok(text),
-        Err(fault) => Err(fault_after(waited, fault)),
+        Err(fault) => Err(blamed(net, lookup.addresses(), fault_after(waited, fault))),
     }
 }
 

@@ -1,17 +1,19 @@
 //! The errors of the system that are shortages of the referee.
 ghost use Rattle.std.specs.Prelude.{◌≡◌, Some};
 ghost use Rattle.std.specs.IoError.{error_kind, raw_os_error};
-ghost use Rattle.network_players.specs.Shortages.{coded_shortage, error_shortages, lookup_shortage, shortage_in, system_shortage};
+ghost use Rattle.network_players.specs.Shortages.{coded_shortage, error_shortages, errors_of_either, is_among, is_of_either, lookup_shortage, shortage_in, system_shortage};
 
 use match_plans::Shortage;
 use std::io;
 use std::io::ErrorKind;
 
-/// The shortage of the error with this number, for the errors of Linux that have no kind of their own.
+/// The shortage of the error with this number, for the errors of Linux whose kind says too little.
 fn error_shortage(number: u32) -> Option<Shortage>
     ensures { result ≡ shortage_in error_shortages number }
 {
     match number {
+        // EPERM, by a rule of this computer's own firewall.
+        1 => Some(Shortage::Network),
         // ENFILE and EMFILE.
         23 | 24 => Some(Shortage::Descriptors),
         // EAFNOSUPPORT.
@@ -22,6 +24,24 @@ fn error_shortage(number: u32) -> Option<Shortage>
     }
 }
 
+/// Whether the error with this number may come from this computer, or from the player or a router on the way to it.
+fn is_error_of_either(number: u32) -> bool
+    ensures { result ≡ is_among errors_of_either number }
+{
+    // EACCES, EINVAL, ENETUNREACH and EHOSTUNREACH.
+    matches!(number, 13 | 22 | 101 | 113)
+}
+
+/// Whether an error with this number may come from this computer, or from the player or a router on the way to it. A probe decides.
+pub(crate) fn is_of_either(number: Option<i32>) -> bool
+    ensures { result ≡ is_of_either number }
+{
+    match number {
+        Some(number) => is_error_of_either(number.unsigned_abs()),
+        None => false,
+    }
+}
+
 /// The shortage of an error with this kind, and with this number if it has one.
 pub(crate) fn system_shortage(kind: ErrorKind, number: Option<i32>) -> Option<Shortage>
     ensures { result ≡ system_shortage kind number }
@@ -29,9 +49,7 @@ pub(crate) fn system_shortage(kind: ErrorKind, number: Option<i32>) -> Option<Sh
     match kind {
         ErrorKind::OutOfMemory => Some(Shortage::Memory),
         ErrorKind::AddrNotAvailable | ErrorKind::WouldBlock => Some(Shortage::Ports),
-        ErrorKind::NetworkDown | ErrorKind::NetworkUnreachable | ErrorKind::PermissionDenied => {
-            Some(Shortage::Network)
-        }
+        ErrorKind::NetworkDown => Some(Shortage::Network),
         _ => match number {
             Some(number) => error_shortage(number.unsigned_abs()),
             None => None,
@@ -39,7 +57,8 @@ pub(crate) fn system_shortage(kind: ErrorKind, number: Option<i32>) -> Option<Sh
     }
 }
 
-/// The shortage of the referee that an error of the system on the way to a player reports. `None` if the player caused the error.
+/// The shortage of the referee that an error of the system on the way to a player reports. `None` if the player or its network can cause the
+/// error.
 pub fn shortage_of(error: &io::Error) -> Option<Shortage>
     ensures { result ≡ system_shortage (error_kind error.now) (raw_os_error error.now) }
 {
