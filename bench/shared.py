@@ -1,49 +1,79 @@
-"""What several of the measuring scripts use."""
+"""What the measuring scripts share."""
 import argparse
 import contextlib
 import importlib.machinery
 import importlib.util
 import os
 import pathlib
+import re
 import resource
 import shutil
+import socket
 import subprocess
 import sys
+import tempfile
+import types
+from collections.abc import Iterator
 
 TOP = pathlib.Path(__file__).resolve().parent.parent
-PROGRAM = str(TOP / "bin" / "ggp_manager")
 
 
-def script(path):
-    """The module of a script of bench/, whose file has no ending."""
-    loader = importlib.machinery.SourceFileLoader(path.replace("/", "_"), str(TOP / "bench" / path))
-    module = importlib.util.module_from_spec(importlib.util.spec_from_loader(loader.name, loader))
+def script(name: str) -> types.ModuleType:
+    """Returns another measuring script as a module."""
+    loader = importlib.machinery.SourceFileLoader(name, str(TOP / "bench" / name))
+    module = importlib.util.module_from_spec(importlib.util.spec_from_loader(name, loader))
     loader.exec_module(module)
     return module
 
 
-def reader(text):
-    """A reader of the words of a command line, whose help has the three parts of this text: what a script does, its usage, its words."""
-    about, usage, words = text.split("\n\n", 2)
-    return argparse.ArgumentParser(usage=usage.strip(), description=about, epilog=words)
-
-
-def program_there(path):
-    """The path of a program that is there, as a word of the command line names it."""
+def program_there(path: str) -> str:
     if not shutil.which(path):
-        raise argparse.ArgumentTypeError(f"{path} is not there: run make build first")
-    return path
+        raise argparse.ArgumentTypeError(f"{path} does not exist: run `make build` first")
+    return os.path.abspath(path)
 
 
-def spent():
-    """The processor seconds of the processes that this one has started and that have ended."""
+def reader(text: str) -> argparse.ArgumentParser:
+    """Returns a parser of arguments whose first is the program that is measured."""
+    arguments = argparse.ArgumentParser(description=text, formatter_class=argparse.RawDescriptionHelpFormatter)
+    arguments.add_argument("program", nargs="?", type=program_there, default=str(TOP / "bin/ggp_manager"), help="bin/ggp_manager if not given")
+    return arguments
+
+
+def head(*columns: str) -> None:
+    """Prints the head of a Markdown table."""
+    print(f"| {' | '.join(columns)} |\n{'|---' * len(columns)}|", flush=True)
+
+
+def row(*cells: object) -> None:
+    print(f"| {' | '.join(map(str, cells))} |", flush=True)
+
+
+def spent() -> float:
+    """Returns the processor seconds of the processes that this one has started and that have ended."""
     used = resource.getrusage(resource.RUSAGE_CHILDREN)
     return used.ru_utime + used.ru_stime
 
 
+def cost(words: list[str], file: str) -> tuple[float, float]:
+    """Returns the milliseconds of a processor that a command takes on a file, and the most MB that it has. GNU time, which starts the
+    command, adds about a millisecond: a process that Python starts counts Python's memory as its own."""
+    with open(file, "rb") as given, tempfile.NamedTemporaryFile("r") as most:
+        before = spent()
+        subprocess.run(["/usr/bin/time", "-f", "%M", "-o", most.name, *words], stdin=given, stdout=subprocess.DEVNULL, stderr=subprocess.DEVNULL)
+        return 1e3 * (spent() - before), int(most.read().split()[-1]) * 1024 / 1e6
+
+
+def instructions(words: list[str], file: str) -> float:
+    """Returns how many millions of instructions valgrind counts of a command on a file."""
+    with open(file, "rb") as given:
+        counting = ["valgrind", "--tool=callgrind", "--callgrind-out-file=/dev/null", *words]
+        said = subprocess.run(counting, stdin=given, stdout=subprocess.DEVNULL, stderr=subprocess.PIPE, text=True).stderr
+    return int(re.search(r"Collected : (\d+)", said)[1]) / 1e6
+
+
 @contextlib.contextmanager
-def load(is_busy):
-    """Where it is to be busy, two processes for each processor compute while the block runs."""
+def load(is_busy: bool) -> Iterator[None]:
+    """If `is_busy`, two processes for each processor compute while the block runs."""
     count = 2 * os.cpu_count() if is_busy else 0
     workers = [subprocess.Popen([sys.executable, "-c", "while True: pass"]) for _ in range(count)]
     try:
@@ -51,11 +81,29 @@ def load(is_busy):
     finally:
         for worker in workers:
             worker.kill()
-        for worker in workers:
             worker.wait()
 
 
-def middle(values):
-    """The median of an odd number of values."""
-    ordered = sorted(values)
-    return ordered[len(ordered) // 2]
+def counted(turns: int, roles: int = 2) -> str:
+    """Returns the rules of a game of this many turns in which each role has one move."""
+    lines = [f"(role r{k}) (legal r{k} go) (goal r{k} 50)" for k in range(roles)]
+    lines += [f"(<= (next {k + 1}) (true {k}))" for k in range(turns)]
+    return "\n".join(["(init 0)", *lines, f"(<= terminal (true {turns}))"])
+
+
+def reply(text: str) -> bytes:
+    return f"HTTP/1.0 200 OK\r\nContent-Length: {len(text)}\r\n\r\n{text}".encode()
+
+
+def request_from(stream: socket.socket) -> bytes:
+    """Returns the bytes of the request that comes over a connection, or what came before its end."""
+    heard = b""
+    while True:
+        top, end, body = heard.partition(b"\r\n\r\n")
+        lengths = [line for line in top.lower().split(b"\r\n") if line.startswith(b"content-length:")]
+        if end and lengths and len(body) >= int(lengths[0].split(b":")[1]):
+            return heard
+        more = stream.recv(65536)
+        if not more:
+            return heard
+        heard += more

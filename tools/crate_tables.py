@@ -6,7 +6,7 @@ from crates import TOP, below, crate_rows, crates
 from unit_crates import UNIT, unit_crates
 
 CRATES = "| Crate | Stands on | What it is for |"
-TESTS = "| Crate of tests | What it tries |"
+TESTS = "| Crate of tests | What it tests |"
 # The layers stand in a block of code behind this line.
 LAYERS = "The program's crates, each over some of the lines below its own:\n"
 LAYER_ROWS = r"\n(?:    .*\n)*"
@@ -50,7 +50,7 @@ def read(file: str) -> str:
 
 
 def crate_table(known: dict[str, list[str]]) -> list[Row]:
-    """Returns a row for each crate: its name, the crates and those of the kit that it stands on, without what it reaches through another
+    """Returns a row for each crate: its name, the crates and those of the toolchain that it stands on, without what it reaches through another
     one, and what it is for."""
     found = []
     for name, (_, deps) in crate_rows().items():

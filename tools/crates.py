@@ -3,7 +3,7 @@ import hashlib
 import os
 import re
 
-from needs import kit_said
+from needs import toolchain_version
 
 TOP = os.path.dirname(os.path.dirname(os.path.realpath(__file__)))
 PROGRAM = "ggp_manager"
@@ -81,8 +81,8 @@ def text_sum(names, parts=PARTS):
 
 
 def made_from(parts=PARTS):
-    """Returns what the program is made from, in lines: the kit, and a sum of the text."""
-    return f"kit: {kit_said()}\ntext: {text_sum(with_below([PROGRAM], crates()), parts)}\n"
+    """Returns what the program is made from, in lines: the toolchain, and a checksum of the text."""
+    return f"kit: {toolchain_version()}\ntext: {text_sum(with_below([PROGRAM], crates()), parts)}\n"
 
 
 def said_of(program, made):
@@ -115,3 +115,32 @@ def spell(seconds):
 def said_words(line):
     """Returns the words NAME=VALUE of one of the prover's lines."""
     return dict(re.findall(r"(\S+?)=(\S+)", line))
+
+
+# ---- what crates import from one another
+
+COMMENT = re.compile(r"(?<!\S)--(?!\S).*|(?<!\S)//.*")
+# A module of a crate, and the names that are taken from it.
+NAMED = re.compile(r"\bRattle\.(\w+)((?:\.\w+)*?\.(?:proofs|Internal)\b(?:\.\w+)*)(?:\.(\{[^}]*\}))?")
+
+
+def is_within(path, crate):
+    """Returns whether a file of a crate is among those that may see its internal definitions: its code, its proofs and these themselves."""
+    return not path.startswith(f"crates/{crate}/specs/") or path.startswith(f"crates/{crate}/specs/Internal")
+
+
+def reaching(path, text, known):
+    """Gives what a file of the repository imports past a public definition of the crates: the module, and each name or `*`."""
+    own = path.split("/")[1]
+    for found in NAMED.finditer(COMMENT.sub("", text)):
+        crate, module, names = found[1], f"{found[1]}{found[2]}", found[3] or ""
+        if crate not in known or crate == own and is_within(path, own):
+            continue
+        for name in [word.split()[0] for word in names.strip("{}").split(",") if word.strip()] or ["*"]:
+            yield module, name
+
+
+def unmentioned(deps, texts):
+    """Returns those of the crates that a crate names in crates.txt which no text of it mentions."""
+    words = {word for text in texts for word in re.findall(r"\w+", COMMENT.sub("", text))}
+    return [dep for dep in deps if dep not in words]

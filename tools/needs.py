@@ -1,56 +1,67 @@
-"""What the tools need beside the repository: a Python that is new enough, and the Rattle kit in a version with which the gate passes.
-A missing thing is reported in a sentence, before anything else is done. This file is read by any Python 3, so that an old one can say it."""
+"""What the tools need beside the repository: a Python that is new enough, and the Rattle toolchain in a version with which the gate passes.
+What is missing is reported in one line before anything else is done. Any Python 3 can read this file, so that an old one can report itself."""
+import importlib.machinery
+import importlib.util
+import os
 import shutil
 import subprocess
 import sys
 
 PYTHON = (3, 11)
-# The kits with which the gate has passed as the text stands.
-KITS = ("rattle-kit-13b", "rattle-kit-13f")
-PLACE = (
-    "it is not released yet, so ask whoever gave you this repository for it, "
-    "and put its folder bin into PATH, as in: export PATH=/opt/rattle/bin:$PATH"
+# The versions of the toolchain with which the gate has passed.
+TOOLCHAINS = ("rattle-kit-13b", "rattle-kit-13f")
+WHAT_TO_DO = (
+    "ask the person who gave you this repository for it (it is not public yet), unpack it, "
+    "and put its directory bin into PATH, for example: export PATH=/opt/rattle/bin:$PATH"
 )
-OF_PYTHON = "Python %d.%d runs the tools, and they need %d.%d or later: take it from https://www.python.org/downloads, or from the packages of your system"
+PYTHON_ERROR = "Python %d.%d runs the tools, and they need %d.%d or later: install a later one, from your system's packages or https://www.python.org/downloads"
 
 
-def spell_kits():
-    return " or ".join(KITS)
+def spell_toolchains():
+    return " or ".join(TOOLCHAINS)
 
 
-def python_lack(version):
-    """Returns what to say of this version of Python, none where it is new enough."""
+def python_error(version):
+    """Returns what is wrong with this version of Python, or None."""
     if version[:2] >= PYTHON:
         return None
-    return OF_PYTHON % (*version[:2], *PYTHON)
+    return PYTHON_ERROR % (*version[:2], *PYTHON)
 
 
-def kit_lack(said):
-    """Returns what to say where `rt version` says this (none: there is no `rt`), none where it is one of the kits."""
-    if said is None:
-        return "there is no command rt, which comes with the Rattle kit, " + spell_kits() + ": " + PLACE
-    words = said.split()
-    if words and words[0] in KITS:
+def toolchain_error(version):
+    """Returns what is wrong if `rt version` prints this (None: there is no `rt`), or None."""
+    if version is None:
+        return "the command rt is missing, which is part of the Rattle toolchain, " + spell_toolchains() + ": " + WHAT_TO_DO
+    words = version.split()
+    if words and words[0] in TOOLCHAINS:
         return None
-    found = words[0] if words else "a kit that does not say its version"
-    return "the Rattle kit here is " + found + ", and this repository is proved by " + spell_kits() + ": " + PLACE
+    found = words[0] if words else "a version that does not say its name"
+    return "the Rattle toolchain here is " + found + ", and this repository is proved by " + spell_toolchains() + ": " + WHAT_TO_DO
 
 
-def kit_said():
-    """Returns what `rt version` says, none where there is no `rt`."""
+def toolchain_version():
+    """Returns what `rt version` prints, or None if there is no `rt`."""
     if not shutil.which("rt"):
         return None
     return subprocess.run(["rt", "version"], stdout=subprocess.PIPE, universal_newlines=True).stdout.strip()
 
 
-def stop_without_kit():
-    """Ends the tool with a sentence where the kit is not there in one of its versions. Returns what it says of itself."""
-    said = kit_said()
-    lack = kit_lack(said)
-    if lack:
-        sys.exit("ggp_manager: " + lack)
-    return said
+def require_toolchain():
+    """Ends the tool with one line if the toolchain is missing, or is another version. Returns what it prints of itself."""
+    version = toolchain_version()
+    error = toolchain_error(version)
+    if error:
+        sys.exit("ggp_manager: " + error)
+    return version
 
 
-if python_lack(sys.version_info):
-    sys.exit("ggp_manager: " + python_lack(sys.version_info))
+def load_rt():
+    """Returns the command `rt` as a module, for what it has no call for."""
+    loader = importlib.machinery.SourceFileLoader("rt_command", os.path.realpath(shutil.which("rt")))
+    rt = importlib.util.module_from_spec(importlib.util.spec_from_loader("rt_command", loader))
+    loader.exec_module(rt)
+    return rt
+
+
+if python_error(sys.version_info):
+    sys.exit("ggp_manager: " + python_error(sys.version_info))

@@ -1,76 +1,84 @@
-"""What the gate needs of the system beside Python and the kit, as tools/needs.txt lists it, and how what is missing is installed."""
+"""The Debian packages that the tests need beside Python and the Rattle toolchain, and how missing ones are installed."""
 import contextlib
 import os
-import re
 import shutil
 import subprocess
-import typing
+from collections.abc import Iterator, Sequence
+from dataclasses import dataclass
 
-from crates import TOP
-
-LIST = f"{TOP}/tools/needs.txt"
-ROW = re.compile(r"(optional )?(\S+): ([^:]+): (.+)")
-# A package that has a service would start it. This file, where it stands and says so, keeps that from happening.
+# Installing a package with a service starts the service, unless this file says no.
 POLICY = "/usr/sbin/policy-rc.d"
 NO_SERVICES = "#!/bin/sh\nexit 101\n"
 SYSTEM = ("/usr/sbin", "/sbin")
+MODULES = "/usr/lib/python3/dist-packages"
 
 
 def searched() -> str:
-    """Returns PATH with the folders of the system's commands, which it may lack."""
-    folders = os.environ.get("PATH", os.defpath).split(os.pathsep)
-    return os.pathsep.join([*folders, *(folder for folder in SYSTEM if folder not in folders)])
+    """Returns PATH with the directories of the system's commands, which it may lack."""
+    directories = os.environ.get("PATH", os.defpath).split(os.pathsep)
+    return os.pathsep.join([*directories, *(directory for directory in SYSTEM if directory not in directories)])
 
 
-class Need(typing.NamedTuple):
-    """A package of Debian with the commands that are used of it."""
+@dataclass(frozen=True)
+class Need:
+    """A package of Debian, the commands and the Python modules that are used of it, and what for."""
 
     package: str
-    commands: list[str]
+    commands: tuple[str, ...]
     purpose: str
-    is_optional: bool
+    is_optional: bool = False
 
     def lacks(self) -> list[str]:
-        """Returns the commands, and the directories of modules, that are not there."""
+        """Returns the commands and modules that are not there."""
         return [command for command in self.commands if not (os.path.exists(command) or shutil.which(command, path=searched()))]
 
 
-def read_needs(file: str = LIST) -> list[Need]:
-    with open(file, encoding="utf-8") as lines:
-        rows = [line.strip() for line in lines if not line.startswith("#") and line.strip()]
-    return [need_of(row) for row in rows]
+NEEDS = (
+    Need("gringo", ("gringo",), "grounds games with variables"),
+    Need("openssh-server", ("sshd",), "the hosts of the competition that tests play on several machines"),
+    Need("openssh-client", ("ssh", "ssh-keygen"), "reaches these hosts"),
+    Need("iproute2", ("ip",), "gives these hosts networks"),
+    Need("nftables", ("nft",), "gives a player and the referee firewalls"),
+    Need("util-linux", ("unshare", "nsenter", "setpriv"), "namespaces, and tests as another user"),
+    Need("mount", ("mount", "umount"), "a full disk"),
+    Need("python3", ("/usr/bin/python3",), "runs the Python tests"),
+    Need("python3-pytest", (f"{MODULES}/pytest",), "runs the Python tests"),
+    Need("python3-pytest-xdist", (f"{MODULES}/xdist",), "runs the Python tests in parallel"),
+    Need("python3-pytest-timeout", (f"{MODULES}/pytest_timeout.py",), "ends a Python test that hangs"),
+    Need("python3-hypothesis", (f"{MODULES}/hypothesis",), "makes random input for Python tests"),
+    Need("dpkg", ("dpkg-query",), "lists the packages of the system in which the archive is tested"),
+    Need("git", ("git",), "lists the files of the archive"),
+    Need("chromium", ("chromium",), "shows pages as people see them"),
+    Need("groff-base", ("groff",), "formats the pages of the manual"),
+    Need("zsh", ("zsh",), "reads the completions for zsh"),
+    Need("python3-pytest-cov", (f"{MODULES}/pytest_cov",), "measures the coverage of the Python tests", is_optional=True),
+    Need("parallel", ("parallel",), "measurements (bench)", is_optional=True),
+    Need("g++", ("g++",), "measurements (bench)", is_optional=True),
+    Need("time", ("/usr/bin/time",), "measurements (bench)", is_optional=True),
+)
 
 
-def need_of(row: str) -> Need:
-    """Returns what a row of the list says."""
-    found = ROW.fullmatch(row)
-    if not found:
-        raise ValueError(f"tools/needs.txt: not `PACKAGE: COMMAND ..: what it is for`: {row}")
-    return Need(found[2], found[3].split(), found[4], bool(found[1]))
-
-
-def missing(needs: list[Need]) -> list[Need]:
-    """Returns what the gate needs and does not find."""
+def missing(needs: Sequence[Need]) -> list[Need]:
+    """Returns what is needed and not there."""
     return [need for need in needs if not need.is_optional and need.lacks()]
 
 
-def spell_missing(needs: list[Need]) -> str:
+def spell_missing(needs: Sequence[Need]) -> str:
     return "; ".join(f"{', '.join(need.lacks())} ({need.purpose})" for need in needs)
 
 
-def installing(packages: list[str]) -> list[str]:
+def installing(packages: Sequence[str]) -> list[str]:
     """Returns the command that installs packages."""
     return ["apt-get", "install", "--yes", "--no-install-recommends", *packages]
 
 
 def can_install() -> bool:
-    """Returns whether packages can be installed here without being asked for a password."""
     return os.geteuid() == 0 and bool(shutil.which("apt-get"))
 
 
 @contextlib.contextmanager
-def no_services(policy: str = POLICY) -> typing.Iterator[None]:
-    """Keeps the services of the packages that are installed meanwhile from being started. A policy that stands there already is kept."""
+def no_services(policy: str = POLICY) -> Iterator[None]:
+    """Keeps the services of packages from being started while these are installed. A policy that is there stays."""
     if os.path.exists(policy):
         yield
         return
@@ -83,40 +91,39 @@ def no_services(policy: str = POLICY) -> typing.Iterator[None]:
         os.unlink(policy)
 
 
-def install(packages: list[str]) -> bool:
-    """Installs packages; where that fails, once more with new lists of what there is. Returns whether it went well; else shows what was
-    said."""
-    with no_services():
-        said = said_wrong(installing(packages)) and (said_wrong(["apt-get", "update"]) or said_wrong(installing(packages)))
-    print(said, end="")
-    return not said
-
-
-def said_wrong(command: list[str]) -> str:
-    """Runs a command of apt-get. Returns what it said where it did not go well."""
+def error_of(command: Sequence[str]) -> str:
+    """Runs a command of apt-get. Returns what it printed if it failed, else nothing."""
     how = {"stdin": subprocess.DEVNULL, "stdout": subprocess.PIPE, "stderr": subprocess.STDOUT, "text": True, "errors": "replace"}
     done = subprocess.run(command, env={**os.environ, "DEBIAN_FRONTEND": "noninteractive"}, **how)
     return f"{done.stdout}needs: {' '.join(command)}: status {done.returncode}\n" if done.returncode else ""
 
 
-def fault_of_rights() -> str | None:
-    """Returns why this process may not do what tests of the gate do, or none: they make networks, mount a disk and end as another user."""
+def install(packages: Sequence[str]) -> bool:
+    """Installs packages, after a failure once more with new lists of packages. Returns whether it went well; else prints what apt-get printed."""
+    with no_services():
+        error = error_of(installing(packages)) and (error_of(["apt-get", "update"]) or error_of(installing(packages)))
+    print(error, end="")
+    return not error
+
+
+def lack_of_rights() -> str | None:
+    """Returns why this process may not do what the gate's tests do, or None: they make networks, mount a disk and run as another user."""
     if os.geteuid():
-        return 'only root may do what tests of the gate do, as making networks: sudo env "PATH=$PATH" make test'
+        return 'the gate needs root, since its tests make networks and mount disks: type: sudo env "PATH=$PATH" make gate'
     made = subprocess.run(["unshare", "--net", "--mount", "true"], stdin=subprocess.DEVNULL, stderr=subprocess.PIPE, text=True)
-    return f"networks and mounts can't be made here, which tests of the gate do: {made.stderr.strip()}" if made.returncode else None
+    return f"the gate's tests make networks and mount disks, which this machine refuses: {made.stderr.strip()}" if made.returncode else None
 
 
-def bring(needs: list[Need]) -> str | None:
-    """Installs what is missing of these, and says so. Returns why something is missing still, or none."""
+def install_missing(needs: Sequence[Need] = NEEDS) -> str | None:
+    """Installs what is missing. Returns why something is still missing, and what to type, or None."""
     lacking = missing(needs)
     if not lacking:
         return None
     packages = [need.package for need in lacking]
     if not can_install():
-        return f"missing: {spell_missing(lacking)}. In Debian, as root: {' '.join(installing(packages))}"
-    print(f"needs: missing: {spell_missing(lacking)}: installing {' '.join(packages)}", flush=True)
+        return f"missing: {spell_missing(lacking)}. In Debian, type: sudo {' '.join(installing(packages))}"
+    print(f"needs: installing {' '.join(packages)}, since these are missing: {spell_missing(lacking)}", flush=True)
     if not install(packages):
-        return f"{' '.join(packages)} can't be installed"
+        return f"apt-get cannot install {' '.join(packages)}; its messages are above"
     lacking = missing(needs)
-    return f"missing although installed: {spell_missing(lacking)}" if lacking else None
+    return f"missing although their packages are installed: {spell_missing(lacking)}" if lacking else None

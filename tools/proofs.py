@@ -9,8 +9,7 @@ from dataclasses import dataclass, field
 
 from budget import keep_measured, read_budget, read_measured, size_of
 from crates import crate_rows, said_words
-from progress import Progress, by_megabytes
-from room import processors
+from progress import Progress, by_megabytes, processors
 
 # What `rt ci` prints once a crate has ended: it is proved now or was before, or it is not proved.
 ENDS = re.compile(r"rt: (\w+) (proved|is kept|NOT PROVED)\b")

@@ -1,63 +1,57 @@
-"""The crates of tests/unit/, which are compiled and not proved, in a room of their own: there they stand as crates beside copies of the others."""
+"""The crates of tests/unit. They are compiled and not proved, in a directory that has them beside copies of the repository's crates."""
 import os
 import re
 import shutil
+from collections.abc import Iterator
 
 from crates import TOP
 
 UNIT = f"{TOP}/tests/unit"
 ENDING = ".test"
-# A test as a whole, with its documentation and its name.
+# A whole test, with its documentation and its name.
 TEST = re.compile(r"^(?:///.*\n)*#\[test\]\nfn (\w+)(?s:.*?)^\}\n", re.M)
 
 
-def lines_of(file):
+def lines_of(file: str) -> list[str]:
+    """Returns the lines of a file that are neither empty nor comments of crates.txt."""
     with open(file, encoding="utf-8") as lines:
         return [line for line in lines.read().splitlines() if line.partition("#")[0].strip()]
 
 
-def unit_crates():
-    """Returns the names of the crates of tests/unit/, in the order of tests.txt."""
+def unit_crates() -> list[str]:
+    """Returns the names of the crates of tests/unit, in the order of tests.txt."""
     return [line.partition(":")[0].split()[0] for line in lines_of(f"{UNIT}/tests.txt")]
 
 
-def files_of(folder):
-    """Yields the paths of a crate's sources and definitions, from its folder."""
+def files_of(crate: str) -> Iterator[str]:
+    """Yields the paths of a crate's sources and definitions, from its directory."""
     for part in ("src", "specs"):
-        for at, _, files in os.walk(f"{folder}/{part}"):
-            yield from (os.path.relpath(f"{at}/{file}", folder) for file in sorted(files))
+        for at, _, files in os.walk(f"{crate}/{part}"):
+            yield from (os.path.relpath(f"{at}/{file}", crate) for file in sorted(files))
 
 
-def lines_in(name):
-    """Returns how many lines the tests of a crate have."""
+def lines_in(name: str) -> int:
+    """Returns how many lines a crate of tests has."""
     return sum(len(lines_of(f"{UNIT}/{name}/{file}")) for file in files_of(f"{UNIT}/{name}"))
 
 
-def module_of(file):
-    """Returns what the names of the tests in a file of src/ begin with: its module, or nothing for those of lib.rt."""
+def module_of(file: str) -> str:
+    """Returns the first part of the names of the tests in a file of src/: its module, or nothing for lib.rt."""
     module = file.removeprefix("src/").removesuffix(ENDING).removesuffix(".rt").replace("/", "::")
     return "" if module == "lib" else f"{module}::"
 
 
-def without_other_tests(text, module, part):
-    """Returns the text of a file without the tests whose names don't contain this part, and the names of those that do."""
+def without_other_tests(text: str, module: str, part: str) -> tuple[str, list[str]]:
+    """Returns the text of a file without the tests whose names lack this part, and the names of the others."""
+    names = [name for name in (module + found[1] for found in TEST.finditer(text)) if part in name]
+    return TEST.sub(lambda found: found[0] if module + found[1] in names else "", text), names
+
+
+def leave_tests(top: str, name: str, part: str) -> list[str]:
+    """Removes the tests whose names lack this part from the copy of a crate. Returns the names of the others."""
     kept = []
-
-    def leave(found):
-        name = f"{module}{found[1]}"
-        if part not in name:
-            return ""
-        kept.append(name)
-        return found[0]
-
-    return TEST.sub(leave, text), kept
-
-
-def leave_tests(room, name, part):
-    """Leaves in a crate that was laid out the tests alone whose names contain this part. Returns these names."""
-    kept = []
-    for file in files_of(f"{room}/crates/{name}"):
-        path = f"{room}/crates/{name}/{file}"
+    for file in files_of(f"{top}/crates/{name}"):
+        path = f"{top}/crates/{name}/{file}"
         with open(path, encoding="utf-8") as stream:
             text, names = without_other_tests(stream.read(), module_of(file), part)
         kept += names
@@ -66,15 +60,15 @@ def leave_tests(room, name, part):
     return kept
 
 
-def lay_out(room):
-    """Lays copies of the repository's crates out in a folder, and beside them those of tests/unit/, each file of which loses its last ending."""
-    os.makedirs(f"{room}/.git")
-    shutil.copy(f"{TOP}/HANDLES", room)
-    with open(f"{room}/crates.txt", "w", encoding="utf-8") as stream:
+def lay_out(top: str) -> None:
+    """Fills a directory with copies of the repository's crates and of those of tests/unit, whose files lose their last ending."""
+    os.makedirs(f"{top}/.git")
+    shutil.copy(f"{TOP}/HANDLES", top)
+    with open(f"{top}/crates.txt", "w", encoding="utf-8") as stream:
         stream.write("\n".join([*lines_of(f"{TOP}/crates.txt"), *lines_of(f"{UNIT}/tests.txt"), ""]))
-    for top in (f"{TOP}/crates", UNIT):
-        for name in sorted(os.listdir(top)):
-            for file in files_of(f"{top}/{name}"):
-                copy = f"{room}/crates/{name}/{file.removesuffix(ENDING)}"
+    for crates in (f"{TOP}/crates", UNIT):
+        for name in sorted(os.listdir(crates)):
+            for file in files_of(f"{crates}/{name}"):
+                copy = f"{top}/crates/{name}/{file.removesuffix(ENDING)}"
                 os.makedirs(os.path.dirname(copy), exist_ok=True)
-                shutil.copy(f"{top}/{name}/{file}", copy)
+                shutil.copy(f"{crates}/{name}/{file}", copy)

@@ -13,16 +13,17 @@ from collections.abc import Iterator, Sequence
 from typing import TYPE_CHECKING
 
 from ggp_tools.kif import expressions, spelled
+from ggp_tools.printable import message_lines
 
 if TYPE_CHECKING:
     from ggp_tools.competition.schedule import Match
 
 PROGRAM = "ggp_manager"
+LAWFUL = "lawful"
 # The last line on standard error where status 1 is a verdict, and no fault of the program's own.
 NOT_LAWFUL = "ggp_manager: records not lawful {}"
-NOT_LAWFUL_ITSELF = re.compile(r"ggp_manager: not lawful: .*")
 NOT_REPLAYED = re.compile(r"ggp_manager: not replayed: .*")
-NO_ANSWER = "ggp_manager: no answer"
+NO_ANSWER, NO_NAME = "ggp_manager: no answer", "ggp_manager: not sent: no answer from the resolver"
 VERSION_LINE = re.compile(rb"ggp_manager [0-9]+\.[0-9]+\.[0-9]+\n")
 BAD_RULES = "ggp_manager: bad description"
 
@@ -57,8 +58,8 @@ def find_program(given: str | None) -> str:
 
 
 def said_lines(said: subprocess.CompletedProcess) -> list[str]:
-    """Returns the lines that a run has said on standard error."""
-    return said.stderr.decode("ascii", "replace").splitlines()
+    """Returns the last lines that a run has said on standard error."""
+    return message_lines(said.stderr)
 
 
 def last_line(said: subprocess.CompletedProcess) -> str:
@@ -66,13 +67,13 @@ def last_line(said: subprocess.CompletedProcess) -> str:
 
 
 def is_no_answer(status: int | None, line: str) -> bool:
-    """Returns whether `info` ended since the player did not answer, by its status and the last line that it said."""
-    return status == 1 and line == NO_ANSWER
+    """Returns whether `info` ended since the player did not answer, or its name has no address, by its status and the last line that it said."""
+    return status == 1 and line in (NO_ANSWER, NO_NAME)
 
 
 def is_not_lawful(status: int | None, line: str) -> bool:
-    """Returns whether `verify` ended since a record is not lawful, by its status and the last line that it said."""
-    return status == 1 and bool(NOT_LAWFUL_ITSELF.fullmatch(line))
+    """Returns whether `verify --lines` ended since its one record is not lawful, by its status and the last line that it said."""
+    return status == 1 and line == NOT_LAWFUL.format(1)
 
 
 def is_not_replayed(status: int | None, line: str) -> bool:
@@ -164,7 +165,7 @@ class Referee:
         return [self.path, "desk", *self.rules_words(rules_path)]
 
     def verify_words(self, rules_path: pathlib.Path | str) -> list[str]:
-        return [self.path, "verify", *self.rules_words(rules_path)]
+        return [self.path, "verify", "--lines", *self.rules_words(rules_path)]
 
     def replay_words(self, rules_path: pathlib.Path | str) -> list[str]:
         return [self.path, "replay", *self.rules_words(rules_path)]
@@ -182,7 +183,7 @@ class Referee:
         """Returns for each record what `verify` says of it. Each is one line, and begins with `{`."""
         said = self.call("verify", "--lines", *self.rules_words(rules_path), data=b"".join(records))
         found = said.stdout.decode("ascii", "replace").splitlines()
-        wrong = len(found) - found.count("lawful")
+        wrong = len(found) - found.count(LAWFUL)
         is_told = last_line(said) == NOT_LAWFUL.format(wrong) if wrong else True
         if len(found) != len(records) or said.returncode != (1 if wrong else 0) or not is_told:
             raise unchecked(said, rules_path)

@@ -3,7 +3,6 @@
 import errno
 import os
 import pathlib
-import re
 import sys
 import time
 from collections.abc import Callable
@@ -12,9 +11,9 @@ from typing import TextIO
 from ggp_tools.competition.results import Result, forfeit_words
 from ggp_tools.competition.schedule import Match
 from ggp_tools.moments import moment
+from ggp_tools.printable import printable
 
 REDRAWN = 0.5
-NOT_PLAIN = re.compile(r"[^\x20-\x7e]")
 
 
 def lead_nowhere(output: TextIO | None) -> None:
@@ -72,7 +71,7 @@ class Journal:
         """Adds a line. The first fault is kept, and ends the file; who is at play looks at it."""
         if self.fault:
             return
-        line = f"{moment()} {NOT_PLAIN.sub('?', text)}\n".encode("ascii")
+        line = f"{moment()} {printable(text)}\n".encode("ascii")
         try:
             if not self.is_open():
                 self.open()
@@ -124,7 +123,8 @@ class Reporter:
     def say(self, text: str) -> None:
         self.clear()
         try:
-            say(text)
+            # It may cite a host, or another program.
+            say(printable(text))
         except OSError as why:
             self.fault = why
 

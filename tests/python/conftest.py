@@ -6,10 +6,14 @@ import sys
 from collections.abc import Iterator
 
 import pytest
+from hypothesis import HealthCheck, settings
 from support import program
 
 sys.dont_write_bytecode = True
 os.environ["PYTHONDONTWRITEBYTECODE"] = "1"
+# The same examples in each run, however long one takes on a busy computer.
+settings.register_profile("fixed", derandomize=True, deadline=None, database=None, suppress_health_check=[HealthCheck.too_slow])
+settings.load_profile("fixed")
 # These modules play matches and take longest. They begin first, so that no worker is left with one of them at the end.
 LONG = ("demonstration", "hosts", "archive", "play", "whole", "many_hosts", "grown", "told", "why")
 
@@ -41,3 +45,11 @@ def pytest_runtest_makereport(item: pytest.Item) -> Iterator[None]:
     report = (yield).get_result()
     if report.skipped and item.config.option.no_skips:
         report.outcome, report.longrepr = "failed", f"skipped: {report.longrepr[2] if isinstance(report.longrepr, tuple) else report.longrepr}"
+
+
+@pytest.fixture(autouse=True)
+def keep_recursion_limit() -> Iterator[None]:
+    """Commands raise the limit for their process. Here the next test shares that."""
+    before = sys.getrecursionlimit()
+    yield
+    sys.setrecursionlimit(before)

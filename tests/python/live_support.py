@@ -29,14 +29,14 @@ SILENT = "TO (no answer in time: nothing received)"
 BEGAN, ENDED = b"began 2026-01-02T03:04:05.000Z\n", b"ended 2026-01-02T03:04:07.500Z\n"
 
 
-def plan_in(room: str, names: list[str], rounds: int = 1, head: str = "") -> Plan:
+def plan_in(room: str, names: list[str], rounds: int = 1, head: str = "", rules: bytes = RULES, roles: tuple[str, ...] = ("red", "blue")) -> Plan:
     """Returns the plan of a round robin of these players in a folder, without its files."""
     folder = Folder(pathlib.Path(room))
     folder.make(folder.records, folder.logs, folder.open)
     players = [(name, f"h:{count + 1}") for count, name in enumerate(names)]
     competition = read_competition(toml(players, [("heap", "f")], f'kind = "round_robin"\nrounds = {rounds}', head).encode())
-    plan = Plan(folder, competition, {"heap": Rules(RULES, "0" * 64, ("red", "blue"), None)}, [])
-    plan.matches = planned(competition, {"heap": 2})
+    plan = Plan(folder, competition, {"heap": Rules(rules, "0" * 64, roles, None)}, [])
+    plan.matches = planned(competition, {"heap": len(roles)})
     return plan
 
 

@@ -1,19 +1,11 @@
 """Random small descriptions with variables: each is instantiated in four forms, which have to be one game, that of the description.
 
-    PYTHONPATH=python python3 tests/python/random_descriptions.py [--seconds N] [--seed S]
-
 Each description has facts, relations that depend on themselves, states with terms in terms, moves, denials and `or`s in one another.
 Three matches of each are played by one form. The same answers have to make the same records by the other forms, and each record is held
-against the description. With --seconds the descriptions of the seeds from S on are tried, and the first that differs ends it.
+against the description.
 """
 
-import argparse
-import itertools
 import random
-import sys
-import time
-from collections import Counter
-from collections.abc import Iterator
 
 from ggp_tools.holding.game import Game
 from ggp_tools.instantiating import making
@@ -212,7 +204,7 @@ class Tried:
     """One description, tried: its forms, the turns that were played, and what is wrong."""
 
     def __init__(self, seed: int) -> None:
-        self.text, self.turns, self.ends, self.is_late = described(seed), 0, Counter(), False
+        self.text, self.turns = described(seed), 0
         self.fault = self.look(seed)
 
     def look(self, seed: int) -> str | None:
@@ -221,45 +213,14 @@ class Tried:
             first, *others = [instantiated(self.text, *form) for form in FORMS]
         except Refused as why:
             # Some joins take the grounder long, most of all on a busy computer.
-            self.is_late = str(why).startswith("stopped after ")
-            return None if self.is_late else f"refused: {why}"
+            return None if str(why).startswith("stopped after ") else f"refused: {why}"
         game = Game(self.text)
         for number in range(MATCHES):
             record = played(first, seed * MATCHES + number, MOST_TURNS)
             self.turns += len(record["moves"])
-            self.ends[f"{record['phase']} {(record['cause'] or '').split(' ')[0]}".strip()] += 1
             for form, other in zip(FORMS[1:], others):
                 if played_again(other, record) != record:
                     return f"match {number}: {form} is another game than {FORMS[0]}"
             if words := differs(game, record):
                 return f"match {number}: {words}"
         return None
-
-
-def tried(seed: int, until: float) -> Iterator[tuple[int, Tried]]:
-    """Gives the descriptions from a seed on, until a time."""
-    for number in itertools.count(seed):
-        if time.monotonic() > until:
-            return
-        yield number, Tried(number)
-
-
-def main() -> int:
-    words = argparse.ArgumentParser(description=__doc__, formatter_class=argparse.RawDescriptionHelpFormatter)
-    words.add_argument("--seconds", type=float, default=60)
-    words.add_argument("--seed", type=int, default=0)
-    asked = words.parse_args()
-    sys.setrecursionlimit(20_000)
-    count = turns = late = 0
-    ends: Counter = Counter()
-    for seed, made in tried(asked.seed, time.monotonic() + asked.seconds):
-        count, turns, late, ends = count + 1 - made.is_late, turns + made.turns, late + made.is_late, ends + made.ends
-        if made.fault:
-            print(f"{made.text}\nseed {seed}: {made.fault}, after {count:,} descriptions")
-            return 1
-    print(f"{count:,} descriptions, {ends.total():,} matches, {turns:,} turns, {dict(ends)}: no difference; {late} not instantiated in time")
-    return 0
-
-
-if __name__ == "__main__":
-    sys.exit(main())

@@ -117,9 +117,7 @@ class InFolder(unittest.TestCase):
     """A test in a folder of its own."""
 
     def setUp(self):
-        room = tempfile.TemporaryDirectory()
-        self.addCleanup(room.cleanup)
-        self.folder = pathlib.Path(room.name)
+        self.folder = pathlib.Path(self.enterContext(tempfile.TemporaryDirectory()))
 
     def plan(self, *words, **more):
         """Writes competition.toml and plans it."""

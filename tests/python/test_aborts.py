@@ -122,7 +122,3 @@ class Processes(unittest.TestCase):
         self.addCleanup(process.wait)
         self.addCleanup(process.kill)
         self.assertEqual(os.getsid(process.pid), process.pid)
-
-
-if __name__ == "__main__":
-    unittest.main()

@@ -14,7 +14,7 @@ from ggp_tools.competition.growth import Again, History
 from ggp_tools.competition.plan import Plan, schedule_of
 from support import toml
 
-RULES = {"nim": types.SimpleNamespace(roles=("first", "second"), is_large=False)}
+RULES = {"nim": types.SimpleNamespace(text=b"(role first) (role second)", roles=("first", "second"), is_large=False)}
 ACCOUNT = b"0\topen cup-001 0 10 10 ann bob\topened\n"
 RECORD = (
     b'{"matchId":"cup-001","players":["ann","bob"],"startClock":10,"playClock":5,"strikes":0,"phase":"finished","cause":null,'
@@ -105,9 +105,10 @@ class OrderedAgain(unittest.TestCase):
         self.folder.account("cup-001").write_bytes(ACCOUNT)
         self.folder.record("cup-001").write_bytes(RECORD.replace(b'"playClock":5', b'"playClock":6'))
         self.assert_refused("cup-001 does not count, so `ggp_competition play` plays it again: its playClock is 6, and the schedule has 5", "cup-001")
+        self.folder.record("cup-001").write_bytes(RECORD)
+        self.plan.matches[0], self.plan.rounds = dataclasses.replace(self.plan.matches[0], round=1), [object(), object()]
+        self.assert_refused("cup-001 is of round 1, by which the next one was paired, so it can't be played again", "cup-001")
+        self.plan.rounds.pop()
+        self.assertEqual(refuse_match(self.plan, Lawful(), "cup-001").id, "cup-001")
         self.plan.matches[0] = dataclasses.replace(self.plan.matches[0], again="cup-003", reason="late")
         self.assert_refused("cup-001 was ordered again already, as cup-003: late", "cup-001")
-
-
-if __name__ == "__main__":
-    unittest.main()

@@ -459,7 +459,3 @@ class Archive(unittest.TestCase):
         self.assertEqual({f"cup/{name}" for name in sums} | {"cup/SHA256SUMS"}, set(files))
         self.assertTrue(re.fullmatch(rb"ggp_manager \d+\.\d+\.\d+\n", files["cup/VERSION"]))
         self.assertIn(b"sha256sum --check SHA256SUMS", files["cup/CHECK.txt"])
-
-
-if __name__ == "__main__":
-    unittest.main()

@@ -20,8 +20,8 @@ from ggp_tools.competition.known import Known
 from ggp_tools.competition.plan import make_plan
 from ggp_tools.competition.table_text import in_order
 from ggp_tools.referee import Unchecked
-from live_support import BEGAN, ENDED, RULES, line, record_of, started
-from support import toml
+from live_support import BEGAN, ENDED, RULES, record_of, started
+from support import InFolder, toml
 from test_archive import changed, files_of, packed, without
 
 HEAD = "start = 5\nplay = 5\n"
@@ -75,7 +75,7 @@ class Made(unittest.TestCase):
         """Writes the files of a match: its account has the calls that its log tells of."""
         folder = self.plan.folder
         folder.record(match.id).write_text(json.dumps(record_of(match, [["(take 2)", "noop"], ["noop", "(take 1)"]], [["", ""], ["", ""]], goals)) + "\n")
-        calls = "".join(f"{at}\tnext {match.id} {at}\towe {at} start\n{at}\tsubmit {match.id} {at} 1 ready\ttaken\n" for at in (0, 1))
+        calls = "".join(f"{at + 1}\tnext {match.id} {at}\towe 0 start\n{at + 1}\tsubmit {match.id} {at} 0 ready\ttaken\n" for at in (0, 1))
         folder.account(match.id).write_text(f"0\topen {match.id} 0 5 5\topened\n{calls}")
         folder.log(match.id).write_bytes(BEGAN + started(match).encode() + ENDED)
 
@@ -127,7 +127,7 @@ class Checked(Made):
             (without("cup/logs/cup-002.txt"), "cup-002: its log is missing"),
             (without("cup/records/cup-002.json"), "cup-002: it has no record"),
             (without("cup/accounts/cup-002.txt"), "cup-002: its account is missing"),
-            (changed("cup/accounts/cup-001.txt", lambda data: data.replace(b"1 ready", b"1 go")), "cup-001: line 2 of its log is not what its account says"),
+            (changed("cup/accounts/cup-001.txt", lambda data: data.replace(b"0 ready", b"0 go")), "cup-001: line 2 of its log is not what its account says"),
             (changed("cup/games/heap.kif", more), "games/heap.kif is not the description that the rules of heap were made from"),
             (changed("cup/VERSION", lambda _: b"ggp_manager 9.9.9\n"), None),
         ):
@@ -315,10 +315,7 @@ class Held(Made):
             self.assertIn("the pages are right; 3 matches are those of descriptions with variables; published with", self.check()[1])
 
 
-class Parts(unittest.TestCase):
-    def setUp(self):
-        self.folder = pathlib.Path(self.enterContext(tempfile.TemporaryDirectory()))
-
+class Parts(InFolder):
     def write(self, **files):
         for name, data in files.items():
             file = self.folder / name.replace("__", "/").replace("_", ".")
@@ -414,7 +411,3 @@ class Parts(unittest.TestCase):
         with mock.patch.object(archive, "PROCESSORS", 3), mock.patch.object(archive, "held_records", held):
             self.assertEqual(archive.held_side_by_side("f", list(range(7))), list("0123456"))
         self.assertEqual(sorted(parts), [[0, 1, 2], [3, 4, 5], [6]])
-
-
-if __name__ == "__main__":
-    unittest.main()

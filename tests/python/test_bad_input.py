@@ -335,7 +335,3 @@ class BadInput(InFolder):
         words = [*before, sys.executable, COMMAND, "plan", "--program", program()]
         said = subprocess.run(words, cwd=self.folder, capture_output=True, text=True)
         self.assertEqual((said.returncode, said.stderr), (2, "ggp_competition: . can't be written: rules: Permission denied\n"))
-
-
-if __name__ == "__main__":
-    unittest.main()

@@ -17,7 +17,7 @@ from ggp_tools.kif import Refused
 from ggp_tools.records.collection import LONGEST_RECORD, Pile, candidates, game_of, judged_batch, judged_lines, known_games, line_of, numbered_lines
 from ggp_tools.records.shapes import ACCOUNT_LINE
 from ggp_tools.referee import BadRules
-from support import GAMES, TOP, program
+from support import GAMES, TOP, InFolder, program
 
 RECORDS = TOP / "examples/records"
 # What `verify` says of each record of these names, for the game with a heap of 3.
@@ -68,10 +68,7 @@ class Says:
         return ["lawful" if json.loads(line).get("by") == name else f"not lawful: {name}" for line in records]
 
 
-class Piles(unittest.TestCase):
-    def setUp(self):
-        self.folder = pathlib.Path(self.enterContext(tempfile.TemporaryDirectory()))
-
+class Piles(InFolder):
     def write(self, name, text):
         (self.folder / name).write_bytes(text)
         return str(self.folder / name)

@@ -178,7 +178,3 @@ class ByDice(unittest.TestCase):
     def test_conditions_that_are_met_in_functions_of_their_own(self):
         with mock.patch.object(compiling, "MOST_DEPTH", 1):
             self.look_at(range(3))
-
-
-if __name__ == "__main__":
-    unittest.main()

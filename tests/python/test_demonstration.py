@@ -8,7 +8,6 @@ import signal
 import subprocess
 import threading
 import time
-import unittest
 
 from browser import PHONE, WIDE, Browser, Page
 from players import TestPlayer, example
@@ -255,7 +254,3 @@ class Demonstration(InFolder):
         page.go(f"{address}index.html")
         self.assertEqual(page.value("document.getElementById('standings').innerText"), standings)
         self.assertIn(f"{FIRST} does not count: cup-019 was ordered in its place", page.text())
-
-
-if __name__ == "__main__":
-    unittest.main()

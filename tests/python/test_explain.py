@@ -6,7 +6,7 @@ import json
 import os
 import pathlib
 import subprocess
-import sys
+import tempfile
 import unittest
 from unittest import mock
 
@@ -15,11 +15,49 @@ from ggp_tools.kif import expressions
 from ggp_tools.records import explain
 from ggp_tools.records.countdown import countdown
 from ggp_tools.records.explain import Lines, NoVerdict, explain_lines, explanation, judged, judged_lines, read, shown
-from support import TOP
-from test_examples import FAULTS, RECORD, changed
+from support import TOP, outside, program
 from test_referee import WithStandIn
 
+EXPLAIN = TOP / "python/ggp-explain-record"
+RECORD = TOP / "examples/records/countdown-3-second_version.record"
 REPORT = "One of the two is wrong: please report this, with the record and the rules."
+ERRORS = 'for each turn of moves a list with one text for each role: "", "TO", "CE", "RT", "IL ?", or "IL " and an expression in folded canonical text of at most 8,192 bytes'
+# Changes of a lawful record of Countdown from 3, each with the words that explain its fault. A place is the keys and numbers that lead there.
+FAULTS = [
+    ({("moves", 0, 0): "(take 3)"}, "illegal 0 0", "Turn 1, role red: the move is not legal.", "expected one of 2: (take 1), (take 2)", "found: (take 3)"),
+    ({("moves", 0, 1): "(Take\n1)"}, "illegal 0 1", "Turn 1, role blue: the move is not legal.", "expected: noop", "found: (Take\\u{a}1)"),
+    ({("moves", 0, 0): "(take 2)", ("errors", 0, 0): "TO"}, "notfirst 0 0", "Turn 1, role red: beside the error TO the first legal move must stand.", "expected: (take 1)", "found: (take 2)"),
+    ({("errors", 0, 1): "IL noop"}, "notfirst 0 1", "Turn 1, role blue: the error says that noop is not legal, but it is.", "expected: no error", "found: the error IL noop"),
+    ({("states", 0): []}, "state 0", "The state before turn 1 is not what the rules make it.", "missing: (heap 3), (turn red)"),
+    ({("states", 1): ["(heap 1)", "(turn blue)", "x"]}, "state 1", "The state after turn 1 is not what the rules and the moves make it.", "missing: (heap 2)", "too many: (heap 1), x"),
+    ({("states", 1): ["(turn blue)", "(heap 2)"]}, "state 1", "The state after turn 1 is not what the rules and the moves make it.", "Its terms are right, but do not stand in byte order, each once."),
+    ({("errors", 0, 1): "RT"}, "retired 0 1", "Turn 1, role blue: the role is not retired: it had errors in up to 0 turns in a row, and the strikes are 0.", "expected: another error, or none", "found: RT"),
+    ({("errors", 0, 1): "CE", ("strikes",): 1}, "retired 1 1", "Turn 2, role blue: the role is retired: it had errors in up to 1 turn in a row, and the strikes are 1.", "expected: the error RT", "found: no error"),
+    ({("goalValues",): [100, 0]}, "goals", "A record of the phase finished has the goals of the last state.", "expected: red 0, blue 100", "found: red 100, blue 0"),
+    ({("phase",): "playing"}, "goals", "A record of the phase playing has no goals.", "expected: none", "found: red 0, blue 100"),
+    ({("phase",): "stopping"}, "end", "At the end the state is terminal, and 2 of 2 roles have an end mark.", "expected: phase finished, cause null", "found: phase stopping, cause null"),
+    ({("cause",): "nolegal 1"}, "end", "At the end the state is terminal, and 2 of 2 roles have an end mark.", "expected: phase finished, cause null", "found: phase finished, cause nolegal 1 (the role blue)"),
+    ({("endMarks", 1): None}, "end", "At the end the state is terminal, and 1 of 2 roles has an end mark.", "expected: phase stopping, cause null", "found: phase finished, cause null"),
+    ({("startMarks", 1): None}, "end", "At the end a START mark is missing after 2 turns, and 2 of 2 roles have an end mark.", "expected: other marks or turns: no phase has these", "found: phase finished, cause null"),
+    ({("strikes",): 256}, "shape strikes", "expected in strikes: a whole number of 0 to 255, since the record is of version 2", "found: 256"),
+    ({("playClock",): "x" * 99}, "shape playClock", "expected in playClock: a whole number of seconds, 1 to 86,400", f'found: "{"x" * 79}..'),
+    ({("endMarks",): "gone"}, "shape endMarks", 'expected in endMarks: for each role a mark: null, "", "TO" or "CE"', "the roles are: red, blue", "found: no such key"),
+    ({("moves", 1): ["noop"]}, "shape moves", "expected in moves: for each turn, of which there are at most 10,000, a list with one text for each role", "the roles are: red, blue", 'found as member 2 of 2: ["noop"]'),
+    ({("errors", 1): ["", 0], ("moves",): "gone"}, "shape errors", f"expected in errors: {ERRORS}", "the roles are: red, blue", 'found as member 2 of 2: ["", 0]'),
+    ({("errors", 0): [""], ("moves",): 0}, "shape errors", f"expected in errors: {ERRORS}", "the roles are: red, blue", 'found as member 1 of 2: [""]'),
+    ({("errors", 0, 1): f"IL {'(' * 65}{')' * 65}"}, "shape errors", f"expected in errors: {ERRORS}", "the roles are: red, blue", f'found as member 1 of 2: ["", "IL {"(" * 65}{")" * 6}..'),
+    ({("states",): [[]]}, "shape states", "expected in states: a list of states, one more than turns in moves, each a list of texts", "found 1 member, with 2 turns in moves: [[]]"),
+]
+
+
+def changed(record, places):
+    record = json.loads(json.dumps(record))
+    for (*keys, last), value in places.items():
+        part = record
+        for key in keys:
+            part = part[key]
+        part[last] = value
+    return {key: held for key, held in record.items() if held != "gone"}
 
 
 def said_of(word: str, places: dict, rules: Game | None = None) -> list[str]:
@@ -271,10 +309,10 @@ class Commands(WithStandIn):
 
     def test_standard_input_and_output(self):
         for words in ([], ["--lines"]):
-            ran = subprocess.run([sys.executable, TOP / "python/ggp-explain-record", "/none", *words, "--countdown=3"], preexec_fn=lambda: os.close(0), capture_output=True, text=True)
+            ran = subprocess.run([EXPLAIN, "/none", *words, "--countdown=3"], preexec_fn=lambda: os.close(0), capture_output=True, text=True)
             self.assertEqual((ran.returncode, ran.stdout, ran.stderr), (3, "", "ggp-explain-record: standard input can't be read: Bad file descriptor\n"))
         self.answers(b"lawful\n")
-        words = sys.executable, TOP / "python/ggp-explain-record", self.referee.path, RECORD, "--countdown=3"
+        words = EXPLAIN, self.referee.path, RECORD, "--countdown=3"
         self.assertEqual(subprocess.run(words, capture_output=True).stdout, b"lawful\n")
         with mock.patch.object(explain.sys, "stderr", None):
             explain.say("x")
@@ -312,5 +350,85 @@ class Commands(WithStandIn):
                 self.assertEqual(self.run_main(str(RECORD), "--countdown=3"), (3, "", f"ggp-explain-record: {words}\n"))
 
 
-if __name__ == "__main__":
-    unittest.main()
+class Whole(unittest.TestCase):
+    """The command with the program itself."""
+
+    def explained(self, text, *words, referee=None):
+        done = subprocess.run([EXPLAIN, referee or program(), *(words or ("--countdown", "3"))], input=text, capture_output=True)
+        self.assertNotIn(b"Traceback", done.stderr)
+        return done.returncode, done.stdout.decode().splitlines(), done.stderr.decode()
+
+    def test_turns_after_the_end(self):
+        record = json.loads(RECORD.read_text())
+        more = {("moves",): [*record["moves"], ["noop", "noop"]], ("errors",): [["", ""]] * 3, ("states",): [*record["states"], []]}
+        retired = (RECORD.parent / "countdown-10-turn_after_all_retired.record").read_bytes()
+        for heap, text, *words in ((3, json.dumps(changed(record, more)).encode(), "3 the state is terminal", 2, 3), (10, retired, "2 all roles are retired", 1, 5)):
+            why, wanted, found = words
+            lines = [f"The record goes on after the end: before turn {why}.", f"expected: {wanted} turn{'s' * (wanted > 1)}", f"found: {found} turns"]
+            self.assertEqual(self.explained(text, f"--countdown={heap}"), (1, ["not lawful: end", *lines], ""))
+
+    def test_random_records(self):
+        for heap, text in outside("records").random_records(3, 8, 7):
+            word = explain.judged(program(), [f"--countdown={heap}"], text.encode())
+            if word:
+                self.assertNotIn("One of the two is wrong", explain.explanation(word, Game(countdown(heap)), text.encode())[-1], text)
+
+    def test_a_record_that_was_cut(self):
+        whole = RECORD.read_text().strip()
+        end, begin = "The text ends within the record: its end was cut off.", "The text begins within a record: its beginning was cut off."
+        for length in range(1, len(whole)):
+            with self.subTest(length):
+                self.assertEqual(explain.json_lines(whole[:length].encode())[1:], [end])
+        for at in range(1, len(whole) - 1):
+            said = explain.json_lines(whole[at:].encode())
+            with self.subTest(at):
+                self.assertTrue(said[1:] == [begin] or whole[at:].startswith("[") or '"' not in whole[at:] or "Extra data" in said[0], said)
+        again = explain.json_lines(f"{whole[:50]}{whole}".encode())
+        self.assertIn("Another record begins at byte 51: what stands before it was cut off", again[1])
+        for text in (b'{"a":\n x}', b"", b"no record", b'{"a" 1, "b": {'):
+            self.assertEqual(explain.json_lines(text)[1:], [], text)
+
+    def test_records_one_a_line_by_one_run_of_the_program(self):
+        record = json.loads(RECORD.read_text())
+        faulty = [(json.dumps(changed(record, places)), word, lines) for places, word, *lines in FAULTS]
+        whole = json.dumps(record)
+        text = "\n".join([*(line for line, _, _ in faulty), whole, "0\tnext m1 0\tover", f"7\t{whole}", "", whole[:40], "12"])
+        with tempfile.TemporaryDirectory() as room:
+            counting = pathlib.Path(room, "counting")
+            counting.write_text(f'#!/bin/sh\necho >> {room}/runs\nexec {program()} "$@"\n')
+            counting.chmod(0o755)
+            status, out, said = self.explained(text.encode(), "--lines", "--countdown=3", referee=counting)
+            self.assertEqual(pathlib.Path(room, "runs").read_text(), "\n")
+        wanted = []
+        for number, (line, word, lines) in enumerate(faulty, 1):
+            wanted += [f"line {number}, match m1: not lawful: {word}", *(f"\t{line}" for line in lines)]
+        self.assertEqual((status, out[: len(wanted)]), (1, wanted))
+        rest = [line for line in out[len(wanted) :] if not line.startswith("\t")]
+        at = len(faulty) + 3
+        self.assertEqual(rest, [f"line {at}: not lawful: json", f"line {at + 1}: not lawful: json", f"line {at + 2}: not lawful: json", f"line {at + 3}: not lawful: shape cause"])
+        self.assertEqual(said, f"ggp-explain-record: 1 lawful, {len(faulty) + 4} not lawful, 1 line of accounts skipped\n")
+
+    def test_without_a_verdict(self):
+        for words, status, said in (
+            (("--countdown", "101"), 2, "ggp_manager: wrong use"),
+            (("--countdown", "x"), 2, "ggp_manager: wrong use"),
+            (("--rules-file", "none"), 3, "ggp-explain-record: none can't be read: No such file or directory"),
+            (("--rules-file", str(RECORD)), 3, "ggp_manager: bad description"),
+            (("--countdown", "3", "none"), 3, "ggp-explain-record: none can't be read: No such file or directory"),
+            (("--lines", "--countdown", "3", "none"), 3, "ggp-explain-record: none can't be read: No such file or directory"),
+            (("--lines", "--countdown", "x"), 2, "ggp_manager: wrong use"),
+            (("--lines", "--rules-file", str(RECORD)), 3, "ggp_manager: bad description"),
+        ):
+            found, out, told = self.explained(b"", *words)
+            self.assertEqual((found, out, told.splitlines()[-1]), (status, [], said), words)
+        for words in (("--countdown",), ("--cont", "3"), ("a", "b", "--countdown", "3"), ("--countdown", "3", "--rules-file", "x"), ("a",)):
+            found, out, told = self.explained(b"", *words)
+            self.assertEqual((found, out, told.partition(" [")[0]), (2, [], "usage: ggp-explain-record"), words)
+
+    def test_outputs_that_are_full_or_closed(self):
+        words = [EXPLAIN, program(), "--countdown=3", RECORD]
+        with open("/dev/full", "w") as full:
+            ran = subprocess.run(words, stdout=full, stderr=subprocess.PIPE)
+        self.assertEqual((ran.returncode, ran.stderr), (3, b"ggp-explain-record: standard output can't be written: No space left on device\n"))
+        ran = subprocess.run(words, preexec_fn=lambda: os.close(2), capture_output=True)
+        self.assertEqual((ran.returncode, ran.stdout, ran.stderr), (0, b"lawful\n", b""))

@@ -168,7 +168,3 @@ class CompetitionFile(unittest.TestCase):
                 self.assertTrue(all(mistake.line >= 1 and mistake.words for mistake in why.mistakes))
             else:
                 planned(found, {game.name: 2 for game in found.games})
-
-
-if __name__ == "__main__":
-    unittest.main()

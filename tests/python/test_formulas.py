@@ -2,11 +2,11 @@
 those of their text."""
 
 import itertools
-import random
 import unittest
 
 from ggp_tools.instantiating.formulas import FALSE, TRUE, Formulas
 from ggp_tools.kif import levels, spelled
+from hypothesis import assume, given, strategies as st
 
 STATE = [("true", term) for term in ("a", "b", ("c", "d"))]
 MOVES = {role: [("does", role, f"{role}{number}") for number in range(count)] for role, count in (("r", 4), ("s", 2), ("t", 1))}
@@ -15,6 +15,10 @@ WORLDS = [
     frozenset(itertools.compress(STATE, chosen)) | frozenset(joint)
     for chosen in itertools.product((0, 1), repeat=len(STATE)) for joint in itertools.product(*MOVES.values())
 ]
+
+# A formula as a tree: the number of an atom, or what is made of others.
+TREES = st.recursive(st.integers(0, 9), lambda inner: st.tuples(st.sampled_from(("any", "all", "no")), st.lists(inner, min_size=1, max_size=4)), max_leaves=12)
+SOME = st.lists(TREES, min_size=1, max_size=3)
 
 
 def holds(expression, world):
@@ -43,25 +47,20 @@ class OfFormulas(unittest.TestCase):
         expression = self.formulas.expression(number)
         return frozenset(at for at, world in enumerate(WORLDS) if holds(expression, world))
 
-    def made(self, dice, depth=3):
-        """Returns a formula made by dice."""
-        if not depth or dice.random() < 0.3:
-            return dice.choice(self.atoms)
-        numbers = [self.made(dice, depth - 1) for _ in range(dice.randrange(1, 5))]
-        return dice.choice((self.formulas.any, self.formulas.all, lambda found: self.formulas.no(found[0])))(numbers)
+    def made(self, tree):
+        """Returns the formula of a tree."""
+        if isinstance(tree, int):
+            return self.atoms[tree]
+        numbers = [self.made(inner) for inner in tree[1]]
+        return self.formulas.no(numbers[0]) if tree[0] == "no" else getattr(self.formulas, tree[0])(numbers)
 
-    def some(self, count=300):
-        dice = random.Random(7)
-        return [self.made(dice) for _ in range(count)], dice
-
-    def test_any_all_and_none(self):
-        found, dice = self.some()
-        for _ in range(500):
-            numbers = dice.sample(found, dice.randrange(1, 4))
-            ways = [self.worlds(number) for number in numbers]
-            self.assertEqual(self.worlds(self.formulas.any(numbers)), frozenset().union(*ways))
-            self.assertEqual(self.worlds(self.formulas.all(numbers)), ways[0].intersection(*ways))
-            self.assertEqual(self.worlds(self.formulas.no(numbers[0])), frozenset(range(len(WORLDS))) - ways[0])
+    @given(SOME)
+    def test_any_all_and_none(self, trees):
+        numbers = [self.made(tree) for tree in trees]
+        ways = [self.worlds(number) for number in numbers]
+        self.assertEqual(self.worlds(self.formulas.any(numbers)), frozenset().union(*ways))
+        self.assertEqual(self.worlds(self.formulas.all(numbers)), ways[0].intersection(*ways))
+        self.assertEqual(self.worlds(self.formulas.no(numbers[0])), frozenset(range(len(WORLDS))) - ways[0])
 
     def test_of_nothing(self):
         self.assertEqual((self.formulas.any([]), self.formulas.all([])), (FALSE, TRUE))
@@ -70,15 +69,15 @@ class OfFormulas(unittest.TestCase):
         self.assertEqual((self.formulas.any([one, TRUE]), self.formulas.any([FALSE, one]), self.formulas.any([one, self.formulas.no(one)])), (TRUE, one, TRUE))
         self.assertEqual((self.formulas.all([one, FALSE]), self.formulas.all([TRUE, one]), self.formulas.all([one, self.formulas.no(one)])), (FALSE, one, FALSE))
 
-    def test_each_formula_is_there_once_and_its_size_is_that_of_its_text(self):
-        found, _ = self.some()
+    @given(SOME)
+    def test_each_formula_is_there_once_and_its_size_is_that_of_its_text(self, trees):
+        self.formulas.any([self.made(tree) for tree in trees])
         texts = {}
         for number in range(2, len(self.formulas.nodes)):
             expression = self.formulas.expression(number)
             self.assertEqual((self.formulas.sizes[number], self.formulas.depths[number]), (len(spelled(expression)), levels(expression)), expression)
             self.assertNotIn(expression, texts)
             texts[expression] = number
-        self.assertGreater(len(set(found)), 100)
 
     def test_formulas_that_stand_in_one_another(self):
         a, b, c = self.atoms[:3]
@@ -117,22 +116,18 @@ class OfFormulas(unittest.TestCase):
         self.assertEqual(allowed(no(any_of([first, third]))), ("r", {second, fourth}))
         self.assertEqual([allowed(number) for number in (self.atoms[0], no(self.atoms[0]), any_of([first, other]), any_of([first, self.atoms[0]]))], [None] * 4)
 
-    def test_a_body_says_the_same_as_its_parts_together(self):
-        found, dice = self.some()
-        impossible = 0
-        for _ in range(500):
-            numbers = dice.sample(found, dice.randrange(1, 4))
-            ways = [self.worlds(number) for number in numbers]
-            body = self.formulas.body(numbers)
-            if body is None:
-                impossible += 1
-                self.assertEqual(ways[0].intersection(*ways), frozenset())
-                continue
-            self.assertNotIn(TRUE, body)
-            self.assertEqual(frozenset(range(len(WORLDS))).intersection(*map(self.worlds, body)), ways[0].intersection(*ways))
-            roles = [allowed[0] for allowed in map(self.formulas.allowed, body) if allowed]
-            self.assertEqual(len(roles), len(set(roles)), "of one role's moves there is one")
-        self.assertGreater(impossible, 10)
+    @given(SOME)
+    def test_a_body_says_the_same_as_its_parts_together(self, trees):
+        numbers = [self.made(tree) for tree in trees]
+        ways = [self.worlds(number) for number in numbers]
+        body = self.formulas.body(numbers)
+        if body is None:
+            self.assertEqual(ways[0].intersection(*ways), frozenset())
+            return
+        self.assertNotIn(TRUE, body)
+        self.assertEqual(frozenset(range(len(WORLDS))).intersection(*map(self.worlds, body)), ways[0].intersection(*ways))
+        roles = [allowed[0] for allowed in map(self.formulas.allowed, body) if allowed]
+        self.assertEqual(len(roles), len(set(roles)), "of one role's moves there is one")
 
     def test_what_two_parts_leave_of_a_role_s_moves(self):
         first, second, third, fourth = (self.formulas.atom(move) for move in MOVES["r"])
@@ -143,13 +138,11 @@ class OfFormulas(unittest.TestCase):
         self.assertIsNone(self.formulas.body([self.atoms[0], self.formulas.no(self.atoms[0])]))
         self.assertIsNone(self.formulas.body([FALSE, first]))
 
-    def test_the_shortest_says_the_same_and_is_no_longer(self):
-        found, _ = self.some()
-        for number in found:
-            if number in (TRUE, FALSE):
-                continue
-            short = self.formulas.shortest(number)
-            self.assertEqual(self.worlds(short), self.worlds(number))
+    @given(TREES)
+    def test_the_shortest_says_the_same(self, tree):
+        number = self.made(tree)
+        assume(number not in (TRUE, FALSE))
+        self.assertEqual(self.worlds(self.formulas.shortest(number)), self.worlds(number))
 
     def test_most_of_a_role_s_moves_are_told_by_the_few_others(self):
         first, second, third, _ = (self.formulas.atom(move) for move in MOVES["r"])
@@ -163,8 +156,10 @@ class OfFormulas(unittest.TestCase):
         self.assertEqual(self.formulas.expression(self.formulas.shortest(beside)), ("or", STATE[0], ("not", MOVES["r"][3])))
         self.assertEqual(self.formulas.shortest(self.atoms[0]), self.atoms[0])
 
-    def test_others_in_the_place_of_atoms(self):
-        found, _ = self.some()
+    @given(TREES)
+    def test_others_in_the_place_of_atoms(self, tree):
+        number = self.made(tree)
+        assume(number not in (TRUE, FALSE))
         by = {self.atoms[0]: self.formulas.all(self.atoms[1:3]), self.atoms[1]: FALSE, self.formulas.atom(MOVES["r"][0]): TRUE}
 
         def with_others(expression, world):
@@ -177,11 +172,9 @@ class OfFormulas(unittest.TestCase):
             return places.get(expression, expression in world)
 
         known = {}
-        for number in found:
-            if number not in (TRUE, FALSE):
-                wanted = {at for at, world in enumerate(WORLDS) if with_others(self.formulas.expression(number), world)}
-                self.assertEqual(self.worlds(self.formulas.replaced(number, by, known)), wanted)
-                self.assertEqual(known[number], self.formulas.replaced(number, {}, known))
+        wanted = {at for at, world in enumerate(WORLDS) if with_others(self.formulas.expression(number), world)}
+        self.assertEqual(self.worlds(self.formulas.replaced(number, by, known)), wanted)
+        self.assertEqual(known[number], self.formulas.replaced(number, {}, known))
 
     def test_a_renamed_formula_stands_as_it_does(self):
         one, other, third = self.atoms[:3]
@@ -192,7 +185,3 @@ class OfFormulas(unittest.TestCase):
         self.assertEqual(self.formulas.renamed(third, known), third)
         # Where two become one, it stands alone.
         self.assertEqual(self.formulas.renamed(self.formulas.any([one, other]), {one: third, other: third}), third)
-
-
-if __name__ == "__main__":
-    unittest.main()

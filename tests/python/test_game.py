@@ -6,12 +6,8 @@ import subprocess
 import sys
 import time
 import unittest
-from unittest import mock
 
-from ggp_tools.descriptions import random_matches
-from ggp_tools.referee import Referee
 from ggp_tools.descriptions.suspicious import suspicions
-from ggp_tools.reporting import Reporter
 from support import COMMAND, GAMES, InFolder, program, program_but, run, run_into_full
 
 # A game of two turns, in which nothing is suspicious.
@@ -238,15 +234,6 @@ class Game(InFolder):
         self.assertEqual(status, 1)
         self.assertRegex(lines[2], r"^the time was over: in 1 s there were \d+ of 10,000 matches and [\d,]+ turns of the next one$")
 
-    def test_a_match_is_that_of_its_seed(self):
-        tictactoe = (GAMES / "tictactoe.kif").read_text()
-        alone = [self.look(tictactoe, "--matches", "1", "--seed", str(seed_of_match))[1][2:] for seed_of_match in (4, 5, 5)]
-        self.assertEqual(alone[1], alone[2])
-        self.assertEqual(alone[0][0], "random matches, seed 4: 1 finished, 0 aborted")
-        turns = [int(lines_of_match[1].removeprefix("turns of a match: always ")) for lines_of_match in alone[:2]]
-        said = self.look(tictactoe, "--matches", "2", "--seed", "4")[1][3]
-        self.assertTrue(said.endswith(f"on average {sum(turns) / 2:.1f}") or said == f"turns of a match: always {turns[0]}", said)
-
     def test_a_move_that_no_player_can_make(self):
         status, lines = self.look(SOUND.replace("bob wait", f"bob (wait {'x' * 5_000})"), "--matches", "2")
         self.assertEqual((status, lines[2]), (0, "random matches, seeds 1 to 2: 2 finished, 0 aborted"))
@@ -274,17 +261,16 @@ class Game(InFolder):
                 1, "seed 1: the program's record is not that of the interpreter of ggp_competition, by states: please report it\n", "",
             ),
             program() + ''' "$@" <<< "$input" | sed 's/"states":/"states":1,"is":/'; exit 0''': (1, "by states: please report it\n", ""),
-            "exec sleep 30": (0, "the program had not played 1 of them after 1 s: their records are not compared\n", ""),
+            "exec sleep 600": (0, "the program had not played 1 of them after 5 s: their records are not compared\n", ""),
             "echo 'ggp_manager: want of memory' >&2; exit 3": (
                 3, "",
                 "ggp_competition: `ggp_manager desk` came to no verdict with game.kif: want of memory, status 3\n",
             ),
-            "echo '{garbage'; exit 0": (3, "", "ggp_competition: `ggp_manager desk` came to no verdict with game.kif: it said nothing, status 0\n"),
         }
         for done, (wanted, printed, told) in cases.items():
             path = program_but(self.folder / "other", '"$1" = desk', other.format(done))
             # Only a program that never answers has to be cut off soon.
-            seconds = "1" if "sleep" in done else "60"
+            seconds = "5" if "sleep" in done else "600"
             status, out, said = run(self.folder, "game", "game.kif", "--matches", "1", "--seconds", seconds, "--program", path)
             self.assertEqual((status, said), (wanted, told), out)
             self.assertIn(printed, out)
@@ -311,12 +297,6 @@ class Game(InFolder):
         self.assertEqual(run(self.folder, "game", "game.kif", env={**os.environ, "PATH": "/nowhere"}), (
             3, "", "ggp_competition: game.kif can't be instantiated: the grounder gringo is not installed\n",
         ))
-
-    def test_a_match_that_one_script_does_not_hold(self):
-        with mock.patch("ggp_tools.descriptions.random_matches.MOST_BYTES", 30_000):
-            played = random_matches.RandomMatches(ENDLESS.encode(), Referee(program()), "game.kif", Reporter(), 60)
-            played.run(1, 1)
-        self.assertEqual((played.differing, played.notes, played.ended[0].turns), ([], [], 10_000))
 
     @unittest.skipUnless(shutil.which("gringo"), "gringo is not installed")
     def test_games_with_variables(self):
@@ -359,7 +339,3 @@ class Game(InFolder):
     def test_a_full_output(self):
         said = run_into_full(self.folder, "game", str(GAMES / "buttons.kif"))
         self.assertEqual(said, (1, "ggp_competition: standard output: No space left on device\n"))
-
-
-if __name__ == "__main__":
-    unittest.main()

@@ -3,11 +3,9 @@ installed, beside a plain way to find all instances."""
 
 import itertools
 import os
-import pathlib
 import random
 import resource
 import shutil
-import tempfile
 import unittest
 from unittest import mock
 
@@ -16,6 +14,7 @@ from ggp_tools.instantiating.gringo import Grounder, LogicProgram, TooMany, leve
 from ggp_tools.instantiating.relations import Relations
 from ggp_tools.instantiating.sentences import all_rules
 from ggp_tools.kif import Refused, expressions, levels, put, relation, spelled, variables
+from support import InFolder
 
 
 def program_of(text):
@@ -119,10 +118,7 @@ class Read(unittest.TestCase):
         self.assertEqual(self.grounder.largest(), (1, 4))
 
 
-class Runs(unittest.TestCase):
-    def setUp(self):
-        self.folder = pathlib.Path(self.enterContext(tempfile.TemporaryDirectory()))
-
+class Runs(InFolder):
     def instances(self, script):
         """Returns what is read of a grounder that does so, with the path of a shell behind it."""
         file = self.folder / "gringo"
@@ -191,7 +187,3 @@ class Runs(unittest.TestCase):
         self.assertEqual(({(number, tuple(listed)) for number, listed in found}, len(found)), (wanted, len(set(wanted))))
         self.assertGreater(len(wanted), 8)
         self.assertEqual(spelled(program.kept[0][0].head), "(role r)")
-
-
-if __name__ == "__main__":
-    unittest.main()

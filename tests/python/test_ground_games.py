@@ -123,7 +123,3 @@ class Matches(unittest.TestCase):
             "phase": "finished", "playClock": 5, "players": ["ann", "bob"], "roles": ["red", "blue"], "startClock": 10, "startMarks": ["", "TO"],
             "states": [["(side none)", "1"], ["(side head)", "3"]], "strikes": 0, "version": 2,
         })
-
-
-if __name__ == "__main__":
-    unittest.main()

@@ -291,7 +291,3 @@ class Splitting(unittest.TestCase):
             splits += after != before
             self.assertEqual({head for head in self.heads(after) if head[0] in "pe"}, self.heads(before), before)
         self.assertGreater(splits, 5)
-
-
-if __name__ == "__main__":
-    unittest.main()

@@ -59,9 +59,7 @@ SWISS = {
 class Spoilt(unittest.TestCase):
     def folder_of(self, players, **more):
         """Returns the folder of a competition among these players."""
-        room = tempfile.TemporaryDirectory()
-        self.addCleanup(room.cleanup)
-        self.folder = pathlib.Path(room.name)
+        self.folder = pathlib.Path(self.enterContext(tempfile.TemporaryDirectory()))
         self.write(players, **more)
 
     def write(self, players, **more):
@@ -145,7 +143,3 @@ class Spoilt(unittest.TestCase):
         lines = json.loads((self.folder / "table.json").read_text())["tables"][0]["lines"]
         self.assertEqual([line["rounds_won"] for line in lines], [2, 1, 0])
         self.assertEqual(sorted(line["player"] for line in lines), ["ann", "bob", "cid"])
-
-
-if __name__ == "__main__":
-    unittest.main()

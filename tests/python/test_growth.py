@@ -312,7 +312,3 @@ class Histories(InFolder):
         said = "ggp_competition: cup-001 does not count, so `ggp_competition play` plays it again: its account is missing\n"
         self.assertEqual(run(self.folder, "again", "cup-001", "--reason", "x"), (2, "", said))
         self.assertFalse((self.folder / "again.tsv").exists())
-
-
-if __name__ == "__main__":
-    unittest.main()

@@ -6,7 +6,8 @@ import unittest
 
 from ggp_tools.competition.files import Folder, Refused
 from ggp_tools.competition.growth import Again
-from ggp_tools.competition.history import again_text, earlier_files, history_files, read_again, read_history
+from ggp_tools.competition.competition_file import read_competition
+from ggp_tools.competition.history import again_text, earlier_files, history_files, read_again, read_history, read_key
 from support import toml
 
 TOML = toml([("ann", "h:1"), ("bob", "h:2")], [("nim", "f")])
@@ -24,6 +25,17 @@ class Histories(unittest.TestCase):
     def test_a_competition_that_has_not_grown_has_none(self):
         found = read_history(self.folder)
         self.assertEqual((found.earlier, found.again, history_files(self.folder)), ((), (), []))
+
+    def test_the_key_of_ids_that_are_not_guessed(self):
+        counted, random = (read_competition(toml([("ann", "h:1")], [("nim", "f")], head=f'ids = "{ids}"').encode()) for ids in ("counted", "random"))
+        self.assertEqual((read_key(self.folder, counted), read_key(self.folder, random)), (b"", None))
+        self.folder.key.write_bytes(b"0123456789abcdef" * 2 + b"\n")
+        self.assertEqual((read_key(self.folder, counted), read_key(self.folder, random)), (b"", b"0123456789abcdef" * 2 + b"\n"))
+        for wrong in (b"", b"0" * 31 + b"\n", b"0" * 32, b"0" * 33 + b"\n", b"G" * 32 + b"\n"):
+            self.folder.key.write_bytes(wrong)
+            with self.assertRaises(Refused) as why:
+                read_key(self.folder, random)
+            self.assertEqual(str(why.exception), f"{self.folder.key} is not what `ggp_competition plan` writes")
 
     def test_files_by_which_it_was_planned_stand_in_the_order_of_their_numbers(self):
         self.add_earlier("10.toml", "9.toml", "100000.toml", "999999.toml")
@@ -68,7 +80,3 @@ class Histories(unittest.TestCase):
             with self.assertRaises(Refused) as why:
                 read_again(self.folder)
             self.assertEqual(str(why.exception), f"{self.folder.again} is not what `ggp_competition again` writes")
-
-
-if __name__ == "__main__":
-    unittest.main()

@@ -176,7 +176,3 @@ class Streams(unittest.TestCase):
         for fault, words in ((OSError(5, "bad", "f"), "f: bad"), (OSError(5, "bad"), "a file: bad")):
             with mock.patch.object(command, "hold", side_effect=fault):
                 self.assertEqual(self.main(RECORD), (2, [], f"ggp-hold-against: {words}\n"))
-
-
-if __name__ == "__main__":
-    unittest.main()

@@ -453,7 +453,3 @@ class Command(unittest.TestCase):
         for shell, said in ((f"echo 5 | {words} > /dev/full", "standard output: No space left on device"), (f"{words} <&-", "error: standard input is closed")):
             done = subprocess.run(["sh", "-c", shell], capture_output=True, text=True)
             self.assertEqual((done.returncode, done.stderr.splitlines()[-1]), (2, f"ggp-hold-against: {said}"))
-
-
-if __name__ == "__main__":
-    unittest.main()

@@ -4,11 +4,10 @@ import os
 import shutil
 import subprocess
 import sys
-import unittest
 
+import pytest
 from support import TOP, program
 
-SECONDS = 900
 TOOLS = ("sshd", "ssh", "ssh-keygen", "ip", "unshare", "nsenter")
 
 
@@ -23,17 +22,11 @@ def why_not():
     return f"network namespaces can't be made here: {made.stderr.strip()}" if made.returncode else None
 
 
-class Hosts(unittest.TestCase):
-    def test_two_hosts(self):
-        if why := why_not():
-            self.skipTest(why)
-        words = ["unshare", "--net", sys.executable, TOP / "tests/python/hosts_inside.py"]
-        done = subprocess.run(words, env={**os.environ, "GGP_MANAGER": program(), "PYTHONPATH": str(TOP / "python")}, capture_output=True, text=True, timeout=SECONDS)
-        self.assertEqual(done.returncode, 0, done.stderr)
-        print(done.stdout, end="", flush=True)
-        if "skipped=" in done.stderr:
-            self.skipTest(f"a part of it: {done.stderr.splitlines()[-1]}")
-
-
-if __name__ == "__main__":
-    unittest.main()
+def test_two_hosts(request):
+    if why := why_not():
+        pytest.skip(why)
+    skips = ["--no-skips"] if request.config.option.no_skips else []
+    words = ["unshare", "--net", sys.executable, "-m", "pytest", "-q", "-rs", *skips, TOP / "tests/python/hosts_inside.py"]
+    done = subprocess.run(words, env={**os.environ, "GGP_MANAGER": program()}, capture_output=True, text=True)
+    assert done.returncode == 0, done.stdout + done.stderr
+    print(done.stdout)

@@ -168,25 +168,50 @@ class Seats(unittest.TestCase):
         self.assertIn("a 100, b 50", self.seat.view["note"])
 
 
+    def test_nothing_is_answered_for_a_person_that_is_not_there(self):
+        self.seat.waits_for_page = True
+        self.assertEqual(self.seat.answer("(INFO)"), "busy")
+        self.seat.page_opens(1)
+        self.assertEqual(self.seat.answer("(INFO)"), "available")
+        self.begin("oplayer")
+        self.assertEqual(self.seat.answer("(PLAY M NIL)"), "noop")
+        self.seat.page_opens(-1)
+        self.seat.play_clock = 0
+        self.assertIsNone(self.seat.answer("(PLAY M NIL)"))
+        # It is made once the page is open again.
+        self.seat.play_clock = 60
+        asked = self.ask("(PLAY M NIL)")
+        self.await_phase("moving")
+        self.seat.page_opens(1)
+        asked.join(SECONDS)
+        self.assertEqual(self.answers, ["noop"])
+
+
 class Pages(unittest.TestCase):
     def setUp(self):
+        self.serve()
+
+    def serve(self, *referees):
         self.seat = Seat()
-        self.server = Server(("127.0.0.1", 0), self.seat)
-        threading.Thread(target=self.server.serve_forever, daemon=True).start()
+        self.server = Server(("127.0.0.1", 0), self.seat, referees)
+        threading.Thread(target=self.server.serve_forever, args=(0.01,), daemon=True).start()
         self.addCleanup(self.server.server_close)
         self.addCleanup(self.server.shutdown)
 
-    def request(self, method, path, body=None, headers=None):
-        line = http.client.HTTPConnection(*self.server.server_address[:2], timeout=SECONDS)
+    def request(self, method, path, body=None, headers=None, source="127.0.0.1"):
+        line = http.client.HTTPConnection(*self.server.server_address[:2], timeout=SECONDS, source_address=(source, 0))
         self.addCleanup(line.close)
         line.request(method, path, body, headers or {})
         return line.getresponse()
 
+    def of_page(self, name=""):
+        return f"{self.server.page}{name}"
+
     def test_only_the_page_is_served_and_it_loads_nothing(self):
-        page = self.request("GET", "/")
+        page = self.request("GET", self.of_page())
         self.assertEqual(page.status, 200)
         self.assertIn("default-src 'none'", page.getheader("Content-Security-Policy"))
-        for path in ("/x", "/../etc/passwd", "/index.html"):
+        for path in ("/x", "/../etc/passwd", "/index.html", self.of_page("x"), self.server.page.rstrip("/")):
             self.assertEqual(self.request("GET", path).status, 404)
 
     def test_start_waits_for_a_page_and_the_page_is_told_of_each_change(self):
@@ -194,7 +219,7 @@ class Pages(unittest.TestCase):
         body = f"(START M xplayer ({RULES}) 60 60)"
         asked = threading.Thread(target=lambda: answered.append(self.request("POST", "/", body).read()))
         asked.start()
-        events = self.request("GET", "/events")
+        events = self.request("GET", self.of_page("events"))
         asked.join(SECONDS)
         self.assertEqual(answered, [b"ready"])
         told = []
@@ -205,24 +230,49 @@ class Pages(unittest.TestCase):
         self.assertEqual(told[-1]["role"], "xplayer")
         events.close()
 
-    def test_another_sites_page_can_not_move(self):
-        self.assertEqual(self.request("POST", "/move", '{"move": "noop"}').status, 403)
-        self.assertEqual(self.request("POST", "/move", '{"move": "noop"}', {"X-Player": "human"}).status, 409)
-        self.assertEqual(self.request("POST", "/move", "[", {"X-Player": "human"}).status, 409)
-        self.assertEqual(self.request("POST", "/", "(", {}).status, 400)
-
-    def test_another_sites_page_can_not_speak_for_the_referee_or_be_the_persons(self):
+    def test_nothing_is_answered_without_the_token(self):
         here = f"127.0.0.1:{self.server.server_address[1]}"
-        for other in ({"Origin": "http://example.org"}, {"Origin": "null"}, {"Sec-Fetch-Site": "cross-site"}):
+        browser = {"Origin": f"http://{here}", "Sec-Fetch-Site": "same-origin"}
+        other = self.of_page()[:-2] + ("x/" if self.of_page()[-2] != "x" else "y/")
+        for headers in ({}, browser, {"X-Player": "human"}, {"Host": "localhost"}):
+            for path in ("/", "/events", f"{other}events", "//events", f"/events?{self.of_page()}"):
+                self.assertEqual(self.request("GET", path, headers=headers).status, 404, (path, headers))
+            self.assertEqual(self.request("POST", "/move", '{"move": "noop"}', headers).status, 404)
+        self.assertEqual(self.request("POST", self.of_page("move"), '{"move": "noop"}').status, 409)
+        self.assertEqual(self.request("POST", self.of_page("move"), "[").status, 409)
+        self.assertEqual(self.request("POST", "/", "(").status, 400)
+
+    def test_a_name_that_another_site_has_given_to_this_address(self):
+        # A browser sends no more than this with a page's request to where the page is from.
+        named = {"Host": "example.org:1"}
+        for path in (self.of_page(), self.of_page("events")):
+            self.assertEqual(self.request("GET", path, headers=named).status, 403)
+        self.assertEqual(self.request("POST", self.of_page("move"), "{}", named).status, 403)
+        self.assertEqual(self.request("POST", "/", "(INFO)", named).status, 403)
+
+    def test_a_page_can_not_speak_for_the_referee(self):
+        for other in ({"Origin": "http://example.org"}, {"Origin": "null"}, {"Sec-Fetch-Site": "cross-site"}, {"Sec-Fetch-Site": "same-origin"}):
             self.assertEqual(self.request("POST", "/", "(INFO)", other).status, 403)
-            self.assertEqual(self.request("GET", "/events", headers=other).status, 403)
-        # A name that another site has given to this address.
-        named = {"Origin": "http://example.org:1", "Host": "example.org:1", "X-Player": "human"}
-        self.assertEqual(self.request("POST", "/move", "{}", named).status, 403)
-        own = {"Origin": f"http://{here}", "Sec-Fetch-Site": "same-origin", "X-Player": "human"}
-        self.assertEqual(self.request("POST", "/move", "{}", own).status, 409)
+
+    def test_only_the_referee_takes_the_seat(self):
+        self.seat.page_opens(1)
+        start = f"(START N xplayer ({RULES}) 60 86400)"
+        for referees, theirs in (((), "127.0.0.1"), (("127.0.0.3", "127.0.0.1"), "127.0.0.1")):
+            self.serve(*referees)
+            self.seat.page_opens(1)
+            if referees:
+                self.assertEqual(self.request("POST", "/", start, source="127.0.0.2").read(), b"busy")
+            self.assertEqual(self.request("POST", "/", "(INFO)", source=theirs).read(), b"available")
+            for message in (start, "(INFO)", "(ABORT M)"):
+                self.assertEqual(self.request("POST", "/", message, source="127.0.0.2").read(), b"busy")
+            self.assertEqual(self.request("POST", "/", f"(START M oplayer ({RULES}) 60 60)", source=theirs).read(), b"ready")
+            for message in (start, "(PLAY M NIL)", "(STOP M NIL)", "(ABORT M)"):
+                self.assertEqual(self.request("POST", "/", message, source="127.0.0.2").read(), b"busy")
+            self.assertEqual(self.request("POST", "/", start, source=theirs).read(), b"busy")
+            self.assertEqual(self.request("POST", "/", "(PLAY M NIL)", source=theirs).read(), b"noop")
 
     def test_a_message_may_have_16_mib(self):
+        self.seat.page_opens(1)
         self.assertEqual(self.request("POST", "/", "(INFO)".ljust(16_777_216)).read(), b"available")
         self.assertEqual(self.request("POST", "/", headers={"Content-Length": "16777217"}).status, 400)
 

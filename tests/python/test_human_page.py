@@ -22,7 +22,7 @@ class InBrowser(unittest.TestCase):
         self.addCleanup(server.server_close)
         self.addCleanup(server.shutdown)
         self.browser = self.enterContext(Browser())
-        self.page = self.browser.page(f"http://127.0.0.1:{server.server_address[1]}/")
+        self.page = self.browser.page(f"http://127.0.0.1:{server.server_address[1]}{server.page}")
 
     def ask(self, text: str) -> threading.Thread:
         """Has the seat answer a message beside the test, as the referee's thread does."""
@@ -96,7 +96,3 @@ class InBrowser(unittest.TestCase):
         page.click("document.querySelectorAll('#moves button')[0]")
         self.assertEqual(self.answered(asked), EVIL)
         self.assertEqual((self.browser.said, {address.split("/")[2] for address in self.browser.asked}), ([], {page.value("location.host")}))
-
-
-if __name__ == "__main__":
-    unittest.main()

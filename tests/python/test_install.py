@@ -122,7 +122,3 @@ class Install(unittest.TestCase):
         self.assertIn("found: (take 3)", said)
         described = self.run_there("ggp-explain-record", "ggp_manager", "--rules-file", GAMES / "countdown.kif", RECORD)
         self.assertEqual((described.returncode, described.stdout, described.stderr), (0, b"lawful\n", b""))
-
-
-if __name__ == "__main__":
-    unittest.main()

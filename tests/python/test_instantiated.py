@@ -108,7 +108,3 @@ class Described(InFolder):
         self.assertEqual(said[0], 2)
         self.assertIn("it has variables, and so needs no description beside it", said[2])
         self.assertTrue(has_variables(NIM.read_bytes()))
-
-
-if __name__ == "__main__":
-    unittest.main()

@@ -468,7 +468,3 @@ class Splitting(unittest.TestCase):
     def test_parts_that_say_the_same_are_one(self):
         text = "(<= (h ?a) (p ?a ?b) (q ?b ?c)) (<= (g ?x) (p ?x ?y) (q ?y ?z))"
         self.assertEqual(len(split(all_rules(expressions(text)))), 3)
-
-
-if __name__ == "__main__":
-    unittest.main()

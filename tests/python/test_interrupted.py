@@ -7,7 +7,7 @@ import unittest
 from unittest import mock
 
 from ggp_tools.competition import children
-from ggp_tools.competition.children import TimedChild
+from ggp_tools.competition.children import Limits, TimedChild
 from ggp_tools.competition.competition_file import read_competition
 from ggp_tools.competition.files import Folder
 from ggp_tools.competition.playing import Playing
@@ -51,16 +51,12 @@ class NotBegun(unittest.TestCase):
         (folder / "played.said").mkdir()
         begin, begun = children.started, []
 
-        def started(words, **streams):
-            begun.append(begin(words, **streams))
+        def started(words, limits, **streams):
+            begun.append(begin(words, limits, **streams))
             for end in (begun[-1].stderr.close, begun[-1].stdin.close, begun[-1].wait, begun[-1].kill):
                 self.addCleanup(end)
             return begun[-1]
 
         with mock.patch.object(children, "started", started), self.assertRaises(IsADirectoryError):
-            TimedChild(["sleep", "600"], folder, "played", LineReader(), is_beaten=True)
+            TimedChild(["sleep", "600"], folder, "played", LineReader(), Limits(1, 1, 600))
         self.assertEqual([process.poll() is not None for process in begun], [True])
-
-
-if __name__ == "__main__":
-    unittest.main()

@@ -12,14 +12,19 @@ from dataclasses import replace
 from unittest import mock
 
 from ggp_tools.competition import kept
-from ggp_tools.competition.files import UNFINISHED, Folder, Refused, held, write_whole
+from ggp_tools.competition.files import UNFINISHED, Folder, Refused, file_bytes, held, write_whole
 from ggp_tools.competition.kept import (
-    batches, fault_of_files, free_ending, has_shape, is_of_one_match, judged, keep, look_at_records, looked_at, read_at_most, read_or_none, result_in_file,
+    batches, fault_of_files, free_ending, has_shape, judged, keep, look_at_records, looked_at, read_or_none, result_in_file,
     set_aside, strangers,
 )
-from ggp_tools.competition.known import Known
+from ggp_tools.competition.known import Known, sum_of_file
 from ggp_tools.competition.schedule import Match
+from ggp_tools.descriptions.loading import Rules
+from ggp_tools.records.lengths import longest_record
 from ggp_tools.referee import Unchecked
+from support import InFolder
+
+RULES = Rules(b"(role a) (role b)", "", ("a", "b"))
 
 
 class Counting:
@@ -55,12 +60,10 @@ def broken_off(function, count, fault):
 
 class Kept(unittest.TestCase):
     def setUp(self):
-        room = tempfile.TemporaryDirectory()
-        self.addCleanup(room.cleanup)
-        self.folder = Folder(pathlib.Path(room.name))
+        self.folder = Folder(pathlib.Path(self.enterContext(tempfile.TemporaryDirectory())))
         self.folder.make(self.folder.records, self.folder.accounts)
         competition = types.SimpleNamespace(strikes=0)
-        self.plan = types.SimpleNamespace(folder=self.folder, competition=competition, matches=[], judge=lambda referee, _: referee)
+        self.plan = types.SimpleNamespace(folder=self.folder, competition=competition, rules={"one": RULES}, matches=[], judge=lambda referee, _: referee)
 
     def matches(self, *sizes):
         """Writes the files of matches of one game, each record and each account of such a size."""
@@ -68,7 +71,7 @@ class Kept(unittest.TestCase):
             match = types.SimpleNamespace(id=f"cup-{len(self.plan.matches)}", game="one")
             self.plan.matches.append(match)
             self.folder.record(match.id).write_bytes(b"{" + b" " * (size - 2) + b"\n")
-            self.folder.account(match.id).write_bytes(f"0\tq {match.id}\t".encode().ljust(size - 1) + b"\n")
+            self.folder.account(match.id).write_bytes(f"0\topen {match.id} 0 ".encode().ljust(size - 8, b"x") + b"\topened\n")
 
     def counts(self):
         referee = Counting()
@@ -97,16 +100,8 @@ class Kept(unittest.TestCase):
         with open(self.folder.record("cup-0"), "r+b") as file:
             file.truncate(1 << 36)
         referee = Counting()
-        self.assertEqual(look_at_records(self.plan, referee)[1], {"cup-0": "its record has more than 16,777,216 bytes"})
+        self.assertEqual(look_at_records(self.plan, referee)[1], {"cup-0": f"its record has more than {longest_record(RULES.text):,} bytes, and no match of its game has so many"})
         self.assertEqual(referee.counts, [])
-
-    def test_an_account_is_of_one_match_alone(self):
-        right, record = b"0\tstrict cup-1 g 1 1 1 a b\topened\n1\tnext cup-1 0\towe 0 start\n1\tquery cup-1\tstatus\n", b"{}\n"
-        self.assertIsNone(fault_of_files(record, right))
-        for more in (b"1\tnext cup-2 0\towe 0 start\n", b"1\tnext cup-10 0\tover\n", b"{cup-1}\n", b"\n", b"cup-1\n", b" 1\tnext cup-1 0\tover\n", b"1\tquery cup-2\tquery cup-1\t\n"):
-            for account in (more + right, right + more):
-                self.assertEqual(fault_of_files(record, account), "its account is not of one match alone")
-        self.assertEqual(fault_of_files(record, right.replace(b"cup-1", b"c.p-1", 1)), "its account is not of one match alone")
 
     def names(self):
         """Returns the files of the matches and what is in them."""
@@ -209,7 +204,7 @@ class Looked(unittest.TestCase):
         self.program.write_text("program")
         self.referee = Said(str(self.program))
         matches = [Match(f"cup-{at}", "two" if at == 3 else "one", 5, 6, ("ann", "bob")) for at in range(4)]
-        self.plan = types.SimpleNamespace(folder=self.folder, competition=types.SimpleNamespace(strikes=2, forfeit=True), matches=matches, judge=lambda referee, game: referee)
+        self.plan = types.SimpleNamespace(folder=self.folder, competition=types.SimpleNamespace(strikes=2, forfeit=True), rules={"one": RULES, "two": RULES}, matches=matches, judge=lambda referee, game: referee)
         for match in matches:
             self.write(match)
 
@@ -219,7 +214,7 @@ class Looked(unittest.TestCase):
             "goalValues": [40, 60], "moves": [["a", "b"]] * 2, "errors": [["TO", ""], ["", ""]], **more,
         }
         self.folder.record(match.id).write_text(json.dumps(record) + "\n")
-        self.folder.account(match.id).write_text(f"0\topen {match.id}\t{account}\n")
+        self.folder.account(match.id).write_text(f"0\topen {match.id} {account}\topened\n")
 
     def look(self, known=None):
         self.referee.counts.clear()
@@ -320,7 +315,7 @@ class Looked(unittest.TestCase):
     def test_a_file_that_has_become_wrong_is_not_right_by_what_is_known(self):
         self.known()
         account = self.folder.account("cup-0")
-        account.write_text(account.read_text() * 2)
+        account.write_text(f"{account.read_text()}1\tnext cup-0 0\tover\n")
         self.assertEqual(self.known()[1], 1)
         account.unlink()
         known = Known(self.folder.path)
@@ -341,15 +336,15 @@ class Looked(unittest.TestCase):
 
     def test_the_result_in_a_file_is_not_verified(self):
         match, competition = self.plan.matches[0], self.plan.competition
-        self.assertEqual(repr(result_in_file(self.folder, competition, match)), repr(self.look()[0]["cup-0"]))
+        self.assertEqual(repr(result_in_file(self.folder, competition, self.plan.rules, match)), repr(self.look()[0]["cup-0"]))
         for more in ({"startClock": 7}, {"goalValues": [1]}, {"strikes": 1}):
             self.write(match, **more)
-            self.assertIsNone(result_in_file(self.folder, competition, match), more)
+            self.assertIsNone(result_in_file(self.folder, competition, self.plan.rules, match), more)
         self.write(match)
-        with mock.patch.object(kept, "MOST_OF_RECORD", self.folder.record(match.id).stat().st_size - 1):
-            self.assertIsNotNone(result_in_file(self.folder, competition, match))
+        with mock.patch.object(kept, "most_of_record", lambda rules, size: size - 3):
+            self.assertIsNotNone(result_in_file(self.folder, competition, self.plan.rules, match))
         self.folder.record(match.id).unlink()
-        self.assertIsNone(result_in_file(self.folder, competition, match))
+        self.assertIsNone(result_in_file(self.folder, competition, self.plan.rules, match))
 
     def test_records_of_no_match(self):
         self.assertEqual(strangers(self.plan), [])
@@ -359,42 +354,31 @@ class Looked(unittest.TestCase):
         self.assertEqual(strangers(types.SimpleNamespace(folder=Folder(self.folder.path / "none"), matches=[])), [])
 
 
-class Files(unittest.TestCase):
+class Files(InFolder):
     """What is said of files by their bytes alone."""
 
-    def setUp(self):
-        self.folder = pathlib.Path(self.enterContext(tempfile.TemporaryDirectory()))
-
-    def test_the_most_of_files_are_those_that_the_referee_reads(self):
-        self.assertEqual((kept.MOST_OF_RECORD, kept.MOST_OF_ACCOUNT), (16 << 20, 256 << 20))
-        account, record = b"0\tq cup-1\t\n", b"{}\n"
-        with mock.patch.object(kept, "MOST_OF_ACCOUNT", len(account)), mock.patch.object(kept, "MOST_OF_RECORD", 2):
-            self.assertIsNone(fault_of_files(record, account))
-            self.assertEqual(fault_of_files(record, account + b"\n"), "its account has more than 11 bytes")
-            self.assertEqual(fault_of_files(b"{ }\n", account), "its record has more than 2 bytes")
-
     def test_what_is_not_handed_to_the_referee(self):
-        account = b"0\tq cup-1\t\n"
+        account = b"0\topen cup-1 0 1 1 a\topened\n"
         for record, its, fault in (
-            (b"{}\n", None, "its account is missing"), (b"{}\n", b"0\tq cup-1\t", "its account is cut off"), (b"{}\n", b"", "its account is cut off"),
-            (b"{}\n", b"\n", "its account is not of one match alone"), (b"{}", account, "its record is not one line"), (b"", account, "its record is not one line"),
+            (b"{}\n", None, "its account is missing"), (b"{}\n", account[:-1], "its account is cut off"), (b"{}\n", b"", "its account is cut off"),
+            (b"{}\n", b"\n", "line 1 of its account does not open a match: "), (b"{}", account, "its record is not one line"), (b"", account, "its record is not one line"),
             (b"{}\n{}\n", account, "its record is not one line"), (b"{\n}", account, "its record is not one line"), (b"[]\n", account, "its record does not begin with `{`"),
             (b" {}\n", account, "its record does not begin with `{`"), (b"{}\n", account, None),
         ):
-            self.assertEqual(fault_of_files(record, its), fault, (record, its))
-
-    def test_calls_on_one_match(self):
-        for account, is_so in (
-            (b"", False), (b"0\tq cup-1\t\n", True), (b"0\tq cup-1 \n", True), (b"0\tq cup-1\n", False), (b"x\tq cup-1\t\n", False), (b"0\tQ cup-1\t\n", False),
-            (b"0\tq cup-1\t\n17\topen cup-1 a\n", True), (b"0\tq cup-1\t\n17\topen cup-2 a\n", False), (b"0\tq cup-1\t\nx\n", False),
-        ):
-            self.assertEqual(is_of_one_match(account), is_so, account)
+            self.assertEqual(fault_of_files(record, its, b""), fault, (record, its))
 
     def test_a_file_is_read_up_to_one_byte_more(self):
         file = self.folder / "file"
         file.write_bytes(b"12345")
-        self.assertEqual([read_at_most(file, most) for most in (3, 4, 5)], [b"1234", b"12345", b"12345"])
-        self.assertEqual((read_or_none(file, 3), read_or_none(self.folder / "none", 3)), (b"1234", None))
+        self.assertEqual([read_or_none(file, most) for most in (3, 4, 5)], [b"1234", b"12345", b"12345"])
+        self.assertIsNone(read_or_none(self.folder / "none", 3))
+
+    def test_a_pipe_in_the_place_of_a_file_is_named(self):
+        os.mkfifo(self.folder / "pipe")
+        for read in (lambda path: read_or_none(path, 3), file_bytes, sum_of_file):
+            with self.assertRaises(OSError) as why:
+                read(self.folder / "pipe")
+            self.assertEqual((why.exception.strerror, why.exception.filename), ("it is not a regular file", str(self.folder / "pipe")))
 
     def test_the_shape_that_a_result_needs(self):
         good = {"goalValues": [1, 2], "errors": [["", "x"]], "moves": []}
@@ -458,7 +442,3 @@ class Files(unittest.TestCase):
             with mock.patch("ggp_tools.competition.kept.write_whole", full), self.assertRaises(OSError):
                 keep(folder, "m", b"record", b"account", b"log")
             self.assertEqual([file.read_bytes() for file in (folder.record("m"), folder.account("m"), folder.log("m"))], [b"record", b"account", b"log"])
-
-
-if __name__ == "__main__":
-    unittest.main()

@@ -81,7 +81,3 @@ class Expressions(unittest.TestCase):
         taken = ["w1", "w-x", "w--7", "v2"]
         self.assertEqual((fresh_before_digits("w", taken), fresh_before_digits("v", ["v", "v2x", "xv2"])), ("w-", "v"))
         self.assertEqual(fresh_before_digits("w.", ["wx1"]), "w.")
-
-
-if __name__ == "__main__":
-    unittest.main()

@@ -4,7 +4,6 @@ import os
 import pathlib
 import shutil
 import tempfile
-import unittest
 from dataclasses import replace
 from unittest import mock
 
@@ -257,7 +256,3 @@ class Files(InCache):
         status, out, said = run(self.folder, "table")
         self.assertEqual((status, out.splitlines()[0]), (1, "cup: 2 of 3 matches"))
         self.assertIn("does not count: not lawful", said)
-
-
-if __name__ == "__main__":
-    unittest.main()

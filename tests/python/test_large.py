@@ -1,6 +1,5 @@
 """A game that is past the usual limits: looked at, planned, played, published and checked by those for large games."""
 
-import unittest
 
 from ggp_tools.kif import expressions
 from players import TestPlayer
@@ -41,7 +40,3 @@ class Large(InFolder):
         status, out, said = run(self.folder, "check", "cup.tar.gz")
         self.assertEqual((status, said), (0, ""), out)
         self.assertIn(f"{len(schedule)} records and accounts", out)
-
-
-if __name__ == "__main__":
-    unittest.main()

@@ -153,7 +153,3 @@ class Endless(unittest.TestCase):
             with mock.patch.object(forms, "MOST_INSTANCES", 12), self.assertRaises(Refused) as why:
                 Making(text.format(rule), 60, NEVER, False).run()
             self.assertEqual(str(why.exception).startswith("the instances do not end: "), is_endless, why.exception)
-
-
-if __name__ == "__main__":
-    unittest.main()

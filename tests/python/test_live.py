@@ -33,9 +33,7 @@ def setUpModule():
 
 class InRoom(unittest.TestCase):
     def setUp(self):
-        room = tempfile.TemporaryDirectory()
-        self.addCleanup(room.cleanup)
-        self.plan = plan_in(room.name, ["ann", "bob", "cid"])
+        self.plan = plan_in(self.enterContext(tempfile.TemporaryDirectory()), ["ann", "bob", "cid"])
         self.match = self.plan.matches[0]
 
     def say(self, file, text):
@@ -112,7 +110,7 @@ class Lines(InRoom):
         end(self.plan, other, record_of(other, [["(take 1)", "noop"]], [["", ""]], [0, 100]))
         reader.look()
         self.assertEqual((list(reader.open), list(reader.results)), ([self.match.id], [other.id]))
-        self.assertEqual(reader.faults, {pipe.id: "it can't be read: it is no file", long.id: "it is longer than 16 MiB"})
+        self.assertEqual(reader.faults, {pipe.id: "it can't be read: it is not a regular file", long.id: "it is longer than 16 MiB"})
 
     def test_a_silent_player_that_is_retired_is_not_awaited(self):
         plan = plan_in(self.plan.folder.path, ["ann", "bob"], head="strikes = 2\n")
@@ -135,13 +133,13 @@ class Lines(InRoom):
         self.say(log, started(self.match))
         reader.look()
         self.assertEqual((seen.turn(), seen.awaited()), (1, ([0, 1], set())))
+        before = reader.version, seen.since
         self.say(log, self.play(2, "NIL", ["(take 1)"], [0]))
         os.utime(log, (1_000.0, 1_000.0))
         reader.look()
-        self.assertEqual((seen.turn(), seen.awaited(), seen.since), (1, ([1], set()), 999.995))
-        version = reader.version
-        reader.look()
-        self.assertEqual(reader.version, version)
+        # That one has answered is known here, and changes no page.
+        self.assertEqual((seen.turn(), seen.awaited(), reader.version, seen.since), (1, ([1], set()), *before))
+        self.assertEqual(awaited_text(seen, ""), "the answers to turn 1")
         self.say(log, "1970-01-01T00:20:00.000Z " + line(self.match, 1, 2, f"(PLAY {self.match.id} NIL)", SILENT, 5_000))
         reader.look()
         self.assertEqual(seen.since, 1_200.0)
@@ -166,6 +164,8 @@ class Lines(InRoom):
         # What was played in turn 2 is not known yet. Then it is, and red's answers were none of these moves.
         seen = self.seen_after(one, two, strikes=2)
         self.assertEqual((seen.turn(), seen.awaited()), (3, ([0, 1], {0})))
+        self.assertEqual(awaited_text(seen, ""), "the answers to turn 3")
+        seen.is_late = True
         self.assertIn("ann</a> (if it is not retired), <a", awaited_text(seen, ""))
         three = self.play(4, "(noop (take 1))", ["", "noop"], [1])
         seen = self.seen_after(one, two, three, strikes=2)
@@ -191,7 +191,7 @@ class Lines(InRoom):
     def test_answers_that_end_with_a_line(self):
         # The log shows the end of a line as `?`, and other bytes, for which the same move may have been played in the answer's place.
         log = self.play(2, "NIL", ["(TAKE 1)?", "noop"]) + self.play(3, "((take 1) noop)", ["noop??", "(take 1)"], [1])
-        self.assertEqual(self.seen_after(log, strikes=1).awaited(), ([0, 1], {0, 1}))
+        self.assertEqual(self.seen_after(log, strikes=1).awaited(), ([0], {0}))
         self.assertEqual(self.seen_after(log, strikes=2).awaited(), ([0], set()))
         # Comments end with a line, too.
         log = self.play(2, "NIL", ["; one?(take 1)", "noop"]) + self.play(3, "((take 1) noop)", ["; mine?noop ; ??", "(take 1)"])
@@ -203,6 +203,7 @@ class Lines(InRoom):
         # The second player may have answered before the match began again, or since then.
         seen = self.seen_after(start=first + second + first)
         self.assertEqual((seen.turn(), seen.awaited()), (0, ([1], {1})))
+        seen.is_late = True
         self.assertIn("bob</a> (if it has not answered): START", awaited_text(seen, ""))
         self.assertEqual(self.seen_after(start=first + second + first + second).turn(), 1)
         self.assertEqual(self.seen_after(self.play(2, "NIL", ["noop"], [0]), start=first + second + first).awaited(), ([1], set()))
@@ -314,7 +315,7 @@ class Lines(InRoom):
         self.assertEqual((reader.last_replaced(), reader.open[self.match.id].missed), ([], {}))
         self.assertIn("known to be", replaced_part([]).text)
         self.say(log, self.play(3, "((take 1) noop)", ["a b", "(take 1)"]) + self.play(4, "(noop (take 1))", ["", "noop"], [1]))
-        self.say(log, line(self.match, 1, 5, f"(STOP {self.match.id} ((take 1) noop))", "done"))
+        self.say(log, "".join(line(self.match, role, 5, f"(STOP {self.match.id} ((take 1) noop))", "done") for role in (0, 1)))
         reader.look()
         found = [(move.player, move.turn, move.error, move.move, before) for move, before in reader.last_replaced()]
         wanted = [("ann", 3, "RT", "(take 1)", 0), ("ann", 2, "IL ?", "", 0), ("bob", 1, "IL lost (no memory)", "noop", 1)]
@@ -339,8 +340,9 @@ class Lines(InRoom):
         reader = Reader(self.plan)
         reader.look()
         self.assertEqual(reader.open[self.match.id].awaited(), ([0, 1], set()))
-        self.assertIn("passed over, which has no time that can be: 0001-01-01", now_part(reader, 0).text)
-        self.say(self.plan.folder.open / self.match.id / "played.said", one)
+        self.assertIn("passed over, which has no time that can be: 0001-01-01", now_part(reader, 0, 0).text)
+        log = self.plan.folder.open / self.match.id / "played.said"
+        self.say(log, one + line(self.match, 0, 3, f"(PLAY {self.match.id} ((take 1) noop))", "noop", 10**17))
         reader.look()
         self.assertEqual(reader.open[self.match.id].since, 0.0)
 
@@ -356,7 +358,7 @@ class Lines(InRoom):
         with patch.object(live.Seen, "take", faulty), patch.object(live, "result_of", side_effect=KeyError("goal")):
             reader.look()
         self.assertEqual(reader.open[self.plan.matches[1].id].turn(), 1)
-        said = now_part(reader, 0).text
+        said = now_part(reader, 0, 0).text
         self.assertEqual((said.count("these pages have a fault"), "ZeroDivisionError" in said, "KeyError" in said), (2, True, True))
 
     def test_what_is_no_record_of_the_match_does_not_count(self):
@@ -517,7 +519,3 @@ class States(InRoom):
         text = board_html(self.board(self.play(2, "NIL", ["(take 2)", "noop"])))
         self.assertEqual(re.findall(r'title="([^"]*)"', html.unescape(text)), ["1 1: white man", "1 2: black king"])
         self.assertIn("(heap 1)  (turn blue)", text)
-
-
-if __name__ == "__main__":
-    unittest.main()

@@ -6,7 +6,6 @@ import random
 import socket
 import subprocess
 import threading
-import unittest
 
 from ggp_tools.competition.live import Seen
 from ggp_tools.competition.live_board import LiveBoard
@@ -95,7 +94,7 @@ class Matches(InFolder):
         lines, log = list(map(log_line, texts)), self.folder / "log"
         log.write_text("")
         board = LiveBoard(Game(expressions(RULES)), self.match, Tail(str(log)), strikes)
-        seen = Seen(self.match, str(self.folder), Tail(str(log)), 2, strikes)
+        seen = Seen(self.match, Tail(str(log)), 2, strikes)
         for count, (text, line) in enumerate(zip(texts, lines), 1):
             with open(log, "a") as file:
                 file.write(f"{text}\n")
@@ -107,7 +106,7 @@ class Matches(InFolder):
             if count < len(lines):
                 awaited, turn = asked_after(lines, count)
                 found, unsure = seen.awaited()
-                if turn == END:
+                if turn == END or set(found) <= unsure:
                     # That all roles may be retired, or the game be over, follows from the rules.
                     continue
                 self.assertTrue(awaited <= set(found) and set(found) - unsure <= awaited, (texts[:count], found, unsure))
@@ -123,7 +122,3 @@ class Matches(InFolder):
             self.assertTrue(move.turn > known or record["errors"][move.turn - 1][self.match.players.index(move.player)], (move, texts))
         count = sum(bool(error) for errors in record["errors"] for error in errors)
         self.assertLessEqual(seen.replaced_count, count + 2 * (record["phase"] == "aborted"), texts)
-
-
-if __name__ == "__main__":
-    unittest.main()

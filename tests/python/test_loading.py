@@ -144,7 +144,3 @@ class Loading(unittest.TestCase):
             self.described(GROUND, OPEN, True)
         with mock.patch.object(loading, "MOST_BYTES", size - 1):
             self.assert_refused(f"the text for players has more than {size - 1} bytes", self.described, GROUND, OPEN, True)
-
-
-if __name__ == "__main__":
-    unittest.main()

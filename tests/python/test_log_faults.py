@@ -8,6 +8,7 @@ import unittest
 
 from ggp_tools.competition.files import Folder
 from ggp_tools.competition.log_faults import fault_of_log, faults_of_logs
+from ggp_tools.competition.log_lines import published
 from ggp_tools.competition.schedule import Match
 
 MATCH = Match("cup-001", "game", 5, 5, ("ann", "bob"))
@@ -58,8 +59,15 @@ class LogFaults(unittest.TestCase):
 
     def test_a_match_that_began_again(self):
         before = LOG.replace("ready", "wrong").replace("ended", "lost")
-        self.assertIsNone(self.fault(before + LOG))
-        self.assertEqual(self.fault(LOG + before), "line 11 of its log is not what its account says")
+        self.assertEqual(self.fault(before + LOG), "line 2 of its log is not what its account says")
+        self.assertEqual(self.fault(LOG + LOG), "line 10 of its log is not a line that is published: began 2026-01-01T00:00:00.000Z")
+        self.assertEqual(published(f"Welcome\x1b[1m\n{before}lost 2026-01-01T00:00:09.000Z x\n{LOG}".encode()), LOG.encode())
+
+    def test_a_line_that_no_account_says_is_not_published(self):
+        for line in ("ggp_manager: bob was seen cheating", "host a b", "ended yesterday", "", "held against the description: the same"):
+            self.assertEqual(self.fault(f"{LOG}{line}\n"), f"line 10 of its log is not a line that is published: {line}")
+            self.assertEqual(published(f"{LOG}{line}\n".encode()), LOG.encode())
+        self.assertIsNone(self.fault(LOG.replace("Z\n", "Z\nhost me@referee1:22\n", 1)))
 
     def test_a_competition_may_be_named_like_the_word_for_that(self):
         match = dataclasses.replace(MATCH, id="began-001")
@@ -111,9 +119,5 @@ class OfCompetition(unittest.TestCase):
             folder.log(name).write_bytes(log.replace("cup-001", name).encode())
             folder.account(name).write_bytes(ACCOUNT.replace(b"cup-001", name.encode()))
             results.append(types.SimpleNamespace(match=match))
-        found = list(faults_of_logs(types.SimpleNamespace(folder=folder), results))
+        found = list(faults_of_logs(types.SimpleNamespace(folder=folder), results, folder.whole_log))
         self.assertEqual(found, ["cup-002: line 2 of its log is not what its account says"])
-
-
-if __name__ == "__main__":
-    unittest.main()

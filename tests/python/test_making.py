@@ -120,7 +120,3 @@ class Made(unittest.TestCase):
         with mock.patch("sys.stderr", None), contextlib.redirect_stdout(io.StringIO()) as out:
             making.say("x")
         self.assertEqual(out.getvalue(), "")
-
-
-if __name__ == "__main__":
-    unittest.main()

@@ -22,9 +22,9 @@ from fake_ssh import calls, deafen, lose, write_ssh
 from players import TestPlayer
 from support import GAMES, TOP, InFolder, command_of, program, program_but, run, start
 
-HEAD = "start = 5\nplay = 5\nstrikes = 1\nwait = 0\ninfo = 5\ntries = 3\n"
-# The command with another silence after which a match on a lost host has ended, since the tests need not wait for it.
-QUICK = f"import sys; sys.path.insert(0, {str(TOP / 'python')!r})\nfrom ggp_tools.competition import command, open_match\nopen_match.SILENCE = 0.5\nsys.exit(command.main())"
+HEAD = "start = 60\nplay = 60\nstrikes = 1\nwait = 0\ninfo = 10\ntries = 3\n"
+# The command with another silence: `play` takes it from `open_match`, and the script on a host from `hosts`.
+SILENT = f"import sys; sys.path.insert(0, {str(TOP / 'python')!r})\nfrom ggp_tools.competition import command, hosts, open_match\n%s = %s\nsys.exit(command.main())"
 
 
 def lines(out, word):
@@ -88,25 +88,25 @@ class OnHost(unittest.TestCase):
         for status in (0, 1, 3):
             begun = self.start(["sh", "-c", f"echo \"it's\"; echo why >&2; exit {status}"], 60)
             # Its standard input is open until it has ended.
-            begun.wait(60)
+            begun.wait()
             out, said = begun.communicate()
             self.assertEqual((begun.returncode, out, said), (status, "it's\n", f"{hosts.CONNECTED}\nwhy\n"))
 
     def test_a_program_that_is_not_there(self):
         begun = self.start(["/none/of/these"], 60)
-        self.assertIn(begun.wait(60), hosts.LOST)
+        self.assertIn(begun.wait(), hosts.LOST)
         self.assertIn("No such file", begun.communicate()[1])
 
     def test_it_ends_where_it_hears_nothing(self):
         begun = self.start(["sleep", "600"], 1)
-        self.assertEqual(begun.wait(60), 254)
+        self.assertEqual(begun.wait(), 254)
         begun.communicate()
 
     def test_it_ends_with_its_connection(self):
         begun = self.start(["sleep", "600"], 600)
         self.assertEqual(begun.stderr.readline(), f"{hosts.CONNECTED}\n")
         begun.stdin.close()
-        self.assertEqual(begun.wait(60), 254)
+        self.assertEqual(begun.wait(), 254)
         for stream in (begun.stdout, begun.stderr):
             stream.close()
 
@@ -135,6 +135,10 @@ class ManyHosts(InFolder):
         status, out, said = run(self.folder, "play", *words, env=self.environment)
         self.assertEqual(said, "")
         return status, out
+
+    def started_with(self, silence, seconds, path):
+        words = [sys.executable, "-c", SILENT % (silence, seconds), "play", "--program", path]
+        return subprocess.Popen(words, cwd=self.folder, env=self.environment, text=True, stdout=subprocess.PIPE, stderr=subprocess.PIPE)
 
     def hosts_of_logs(self):
         return [re.search(r"(?m)^host (.*)$", file.read_text())[1] for file in sorted((self.folder / "logs").iterdir())]
@@ -186,10 +190,7 @@ class ManyHosts(InFolder):
         self.planned('["a", "b"]', kind="slow")
         for player in self.players:
             player.thinks = 1
-        playing = subprocess.Popen(
-            [sys.executable, "-c", QUICK, "play", "--program", program()],
-            cwd=self.folder, env=self.environment, text=True, stdout=subprocess.PIPE, stderr=subprocess.PIPE,
-        )
+        playing = self.started_with("open_match.SILENCE", 0.5, program())
         while not all(player.matches for player in self.players):
             time.sleep(0.01)
         lose(self.folder, "a")
@@ -212,6 +213,18 @@ class ManyHosts(InFolder):
         self.assertNotIn("abort cup-001 p0", told)
         self.assert_sound(self.schedule)
 
+    def test_a_host_that_says_that_it_is_connected_and_nothing_more(self):
+        self.planned('["a", "b"]')
+        hung = f'[[ ${{@: -2:1}} = a ]] && {{ echo "{hosts.CONNECTED}" >&2; printf "\\033]0;title\\007" >&2; exec sleep 6000; }}'
+        ssh = self.folder / "ssh"
+        ssh.write_text(ssh.read_text().replace("exec 3<&0\n", f"{hung}\nexec 3<&0\n"))
+        playing = self.started_with("open_match.SILENCE = 0.5\nopen_match.MOST_SILENCE", -30, program())
+        out, said = playing.communicate(timeout=800)
+        self.assertEqual((playing.returncode, said, len(lines(out, "end"))), (0, "", 1), out)
+        self.assertIn("lost cup-001 on a: nothing was heard of it for 30 s; no match goes there for 0 s", out)
+        self.assertNotIn("\x1b", out + (self.folder / "play.log").read_text())
+        self.assert_sound(self.schedule)
+
     def test_a_referee_that_is_killed_on_a_host_costs_its_match_alone(self):
         self.planned('["a"]', 6)
         once = program_but(self.folder / "killed", f'"$1" = run && ! -e {self.folder}/once', f"touch {self.folder}/once; kill -9 $$")
@@ -220,20 +233,19 @@ class ManyHosts(InFolder):
         self.assertEqual(self.play()[0], 0)
 
     def test_a_killed_play_leaves_no_match_on_a_host(self):
-        self.planned('["a"]', head=HEAD.replace("start = 5\nplay = 5", "start = 600\nplay = 600"))
+        self.planned('["a"]', head=HEAD.replace("60", "600"))
         for player in self.players:
             player.thinks = 600
         words = f"echo $$ > {self.folder}/process"
-        playing = start(self.folder, "play", "--program", program_but(self.folder / "told", '"$1" = run', words), env=self.environment)
+        # The silence itself does not end it.
+        playing = self.started_with("hosts.SILENCE", 36_000, program_but(self.folder / "told", '"$1" = run', words))
         while not self.players[0].matches:
             time.sleep(0.01)
         playing.send_signal(signal.SIGKILL)
         playing.communicate()
         process = (self.folder / "process").read_text().strip()
-        until = time.monotonic() + hosts.SILENCE
-        while command_of(process) and time.monotonic() < until:
+        while command_of(process):
             time.sleep(0.05)
-        self.assertEqual(command_of(process), b"")
 
     def test_nothing_of_a_match_that_is_ended_comes_to_a_player_after_its_abort(self):
         self.planned('["a"]')
@@ -246,14 +258,13 @@ class ManyHosts(InFolder):
         playing.send_signal(signal.SIGTERM)
         out, said = playing.communicate(timeout=600)
         self.assertEqual((playing.returncode, said), (1, ""), out)
-        until = time.monotonic() + 60
-        while not all(player.aborted for player in self.players) and time.monotonic() < until:
+        while not all(player.aborted for player in self.players):
             time.sleep(0.01)
         self.assertEqual([player.last_heard() for player in self.players], [{"cup-001": "abort"}] * 2, [player.heard for player in self.players])
 
     def seconds_to_end(self):
         """Returns how many seconds it takes to end four matches that a host plays at once, and of how many ABORT is due again."""
-        waiting = program_but(self.folder / "waiting", '"$1" = run', "exec sleep 60")
+        waiting = program_but(self.folder / "waiting", '"$1" = run', "exec sleep 3600")
         playing = start(self.folder, "play", "--at-once", "4", "--program", waiting, env=self.environment)
         self.assertEqual(sorted(playing.stdout.readline() for _ in range(4)), [f"begin cup-00{at} countdown p0 p1 on a\n" for at in range(1, 5)])
         began = time.monotonic()
@@ -268,9 +279,4 @@ class ManyHosts(InFolder):
         self.addCleanup(os.close, deafen(self.folder, "a"))
         seconds, due = self.seconds_to_end()
         self.assertEqual(due, 4)
-        # It is deaf for as long as the test runs.
-        self.assertTrue(HANG_UP_SECONDS < seconds < 40 * HANG_UP_SECONDS, seconds)
-
-
-if __name__ == "__main__":
-    unittest.main()
+        self.assertGreater(seconds, HANG_UP_SECONDS)

@@ -110,7 +110,3 @@ class Boards(unittest.TestCase):
         found = self.cells("(cell 1 1 <img)", '(cell 2 2 "><script>alert)')
         self.assertEqual([text for _, _, _, text in found], ["<img", '"><\u2026rt'])
         self.assertEqual(found[1][1], '2 2: "><script>alert')
-
-
-if __name__ == "__main__":
-    unittest.main()

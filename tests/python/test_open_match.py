@@ -32,14 +32,17 @@ class Process:
     begun: list = []
     now = 100.0
 
-    def __init__(self, words, room, name, *more, is_beaten=False):
-        self.words, self.name, self.room, self.more, self.is_beaten = words, name, room, more, is_beaten
+    def __init__(self, words, room, name, *more):
+        self.words, self.name, self.room, self.more = words, name, room, more
+        self.is_beaten = name == "played" and more[-1] is not None
         answers = Process.laid_down[name]
         self.answer = answers.pop(0) if len(answers) > 1 else answers[0]
         self.looks = self.answer[3] if len(self.answer) > 3 else 0
         self.began, self.began_at, self.is_ended, self.is_hung_up = Process.now, "2026-01-02T03:04:05.000Z", False, False
         self.said = room / f"{name}.said"
         self.said.write_text(self.answer[2])
+        self.out, self.passed = room / name, self.answer[4] if len(self.answer) > 4 else ""
+        self.out.write_bytes(self.answer[1])
         # What it reads is there when it begins.
         self.given = b"".join(pathlib.Path(file).read_bytes() for file in (words[-1:] if name == "held" else more[-1:]) if isinstance(file, (str, pathlib.Path)))
         self.lines = types.SimpleNamespace(count=0)
@@ -52,14 +55,14 @@ class Process:
     def status(self):
         return self.answer[0] if self.looks < 0 else None
 
-    def output(self):
-        return self.answer[1]
+    def printed(self):
+        return (self.answer[1].decode().splitlines() or [""])[-1]
 
     def timed_bytes(self):
         return self.said.read_bytes()
 
     def last_words(self, is_word=lambda line: True):
-        return ([line for line in self.answer[2].splitlines() if is_word(line)] or [f"status {self.answer[0]}"])[-1]
+        return self.passed or ([line for line in self.answer[2].splitlines() if is_word(line)] or [f"status {self.answer[0]}"])[-1]
 
     def hang_up(self):
         self.is_hung_up = True
@@ -111,7 +114,7 @@ class WithMatch(unittest.TestCase):
         self.seats.sit(self.match)
         self.open = OpenMatch(shared, self.match, self.hosts and self.hosts.take(Process.now))
         self.record = json.dumps(record_of(self.match, [["(take 2)", "noop"], ["noop", "(take 1)"]], [["", ""], ["", ""]], [0, 100])).encode() + b"\n"
-        self.account = f"0\topen {self.match.id}\topened\n".encode()
+        self.account = f"0\topen {self.match.id} 0 10 10 ann bob\topened\n".encode()
         Process.laid_down |= {"played": [(0, self.record + self.account, "a line\n")], "verified": [LAWFUL], "replayed": [(0, b"replayed 1 calls\n" + self.record, "")]}
 
     def go(self, most=50, meanwhile=None):
@@ -151,7 +154,7 @@ class Whole(WithMatch):
         self.assertEqual(self.words_of("played"), [
             "program", "run", f"--rules-file={rules.absolute()}", f"--id={self.match.id}", "--start=10", "--play=10", "--strikes=0", "--history", "--log", "--", "ann@h:1", "bob@h:2",
         ])
-        self.assertEqual((self.words_of("verified"), self.words_of("replayed")), (["program", "verify", f"--rules-file={rules}"], ["program", "replay", f"--rules-file={rules}"]))
+        self.assertEqual((self.words_of("verified"), self.words_of("replayed")), (["program", "verify", "--lines", f"--rules-file={rules}"], ["program", "replay", f"--rules-file={rules}"]))
         given = {process.name: process.more[-1] for process in Process.begun if process.more}
         self.assertEqual({name: given[name] for name in ("verified", "replayed")}, {"verified": self.open.room / "record", "replayed": self.open.room / "account"})
         self.assertEqual([process.given for process in Process.begun[3:]], [self.record, self.account])
@@ -337,7 +340,7 @@ class Checking(WithMatch):
         return [f"accounts/cup-001.txt{ending}", f"logs/cup-001.txt{ending}", f"records/cup-001.json{ending}"]
 
     def test_what_is_not_lawful(self):
-        self.assertEqual(self.checked(verified=(1, b"", "ggp_manager: not lawful: goals")), ("ggp_manager: not lawful: goals", []))
+        self.assertEqual(self.checked(verified=(1, b"not lawful: goals\n", "ggp_manager: records not lawful 1")), ("not lawful: goals", []))
 
     def test_an_account_that_does_not_give_its_record_again(self):
         wrong = "its account does not give its record again"
@@ -375,7 +378,8 @@ class Checking(WithMatch):
         why, files = self.checked(played=(0, other + self.account, ""), replayed=(0, b"replayed 1 calls\n" + other, ""))
         self.assertEqual((why, files), ("its matchId is 'cup-009', and the schedule has 'cup-001'", []))
         self.begin(self.HEAD)
-        self.assertEqual(self.checked(played=(0, self.record + self.account * 2 + b"x\n", "")), ("its account is not of one match alone", []))
+        other = self.account.replace(b"cup-001", b"cup-002")
+        self.assertEqual(self.checked(played=(0, self.record + self.account + other, "")), ("line 2 of its account is of another match: 0 open cup-002 0 10 10 ann bob opened", []))
 
     def log(self):
         return self.plan.folder.log("cup-001").read_bytes().splitlines()[-1]
@@ -651,7 +655,3 @@ class OnHosts(WithMatch):
                         child.lines.count += 1
             except StopIteration as end:
                 self.assertEqual((count, end.value), (steps, found), text)
-
-
-if __name__ == "__main__":
-    unittest.main()

@@ -22,7 +22,3 @@ class Package(unittest.TestCase):
         files = [*(PYTHON / "ggp_tools").rglob("*.py"), *(path for path in PYTHON.glob("ggp*") if path.is_file())]
         self.assertGreater(len(files), 40)
         self.assertEqual([path for path in files if BY_PATH.search(path.read_text())], [])
-
-
-if __name__ == "__main__":
-    unittest.main()

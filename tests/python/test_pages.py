@@ -77,9 +77,7 @@ class SideBySide(unittest.TestCase):
 
 class PagesOfMany(unittest.TestCase):
     def setUp(self):
-        room = tempfile.TemporaryDirectory()
-        self.addCleanup(room.cleanup)
-        folder = Folder(pathlib.Path(room.name))
+        folder = Folder(pathlib.Path(self.enterContext(tempfile.TemporaryDirectory())))
         folder.make(folder.records, folder.logs)
         players = [(f"p{count}", f"h:{count + 1}") for count in range(25)]
         competition = read_competition(toml(players, [("one", "f")], 'kind = "gauntlet"\none = "p0"\nrounds = 7').encode())
@@ -277,7 +275,3 @@ class PagesOfMany(unittest.TestCase):
         matches = {f"{result.match.id}.html" for result in self.results[:3]}
         self.assertEqual({file.name for file in (one.folder / "matches").iterdir()}, {*matches, "mine"})
         self.assertEqual(sorted(file.name for file in one.folder.iterdir() if file.is_file()), ["index.html", "matches.html"])
-
-
-if __name__ == "__main__":
-    unittest.main()

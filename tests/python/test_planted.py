@@ -192,7 +192,3 @@ class Planted(unittest.TestCase):
         record, right = wound(wrong), wound(right_rules(WITH_A_CYCLE))
         self.assertEqual((record["phase"], right["phase"], right["goalValues"]), ("playing", "finished", [100, 0]))
         self.assert_found(WITH_A_CYCLE, wrong, record, right)
-
-
-if __name__ == "__main__":
-    unittest.main()

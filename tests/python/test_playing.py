@@ -570,6 +570,9 @@ class Words(unittest.TestCase):
         self.assertEqual(list(said_of_missing({f"m{at}": "it was not begun" for at in range(1_200)})), ["missing 1,200 matches, m0 to m1199: it was not begun"])
 
     def test_signals_are_counted_and_put_back(self):
+        self.addCleanup(signal.signal, signal.SIGHUP, signal.getsignal(signal.SIGHUP))
+        # A hang-up is ignored under nohup.
+        signal.signal(signal.SIGHUP, signal.SIG_DFL)
         found = types.SimpleNamespace(interrupts=0)
         before = {number: signal.getsignal(number) for number in (signal.SIGINT, signal.SIGTERM, signal.SIGHUP)}
         counts = []
@@ -593,7 +596,3 @@ class Words(unittest.TestCase):
             with mock.patch("resource.getrlimit", lambda _, limits=limits: limits), mock.patch("resource.setrlimit") as changed:
                 allow_descriptors()
             self.assertEqual([call.args for call in changed.call_args_list], [(resource.RLIMIT_NOFILE, wanted)] if wanted else [], limits)
-
-
-if __name__ == "__main__":
-    unittest.main()

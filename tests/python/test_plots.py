@@ -47,7 +47,3 @@ class Plots(unittest.TestCase):
         heights = [float(high) for high in re.findall(r'height="([0-9.]+)"/>', plot)]
         self.assertEqual(heights, [80.0, 26.7])
         self.assertEqual(times_plot([0] * BARS), "")
-
-
-if __name__ == "__main__":
-    unittest.main()

@@ -15,14 +15,10 @@ WITH_A_CYCLE = range(12, 18)
 @unittest.skipUnless(shutil.which("gringo"), "gringo is not installed")
 class RandomDescriptions(unittest.TestCase):
     def test_four_forms_are_one_game(self):
-        tried = [Tried(seed) for seed in FEW]
-        self.assertEqual([match.fault for match in tried], [None] * len(FEW))
-        self.assertGreater(sum(match.turns for match in tried), 100)
+        tried = {seed: Tried(seed) for seed in FEW}
+        self.assertEqual({seed: made.fault for seed, made in tried.items() if made.fault}, {})
+        self.assertGreater(sum(made.turns for made in tried.values()), 100)
 
     def test_a_fault_shows(self):
         with mock.patch.object(rounds, "last_round", lambda circle, rules_for: 0):
             self.assertTrue(any(Tried(seed).fault for seed in WITH_A_CYCLE))
-
-
-if __name__ == "__main__":
-    unittest.main()

@@ -208,7 +208,3 @@ class Scripts(WithDesk):
             self.assertLessEqual(len(script), 10_500)
             self.assertEqual((script.count("DONE"), script.count("submit") > 20), (0, True))
             self.assertEqual(self.play(ENDLESS, 3, changes={"seed-3": {"phase": "x"}}).differing, [(3, ["phase"])])
-
-
-if __name__ == "__main__":
-    unittest.main()

@@ -191,7 +191,3 @@ class Outside(unittest.TestCase):
         found = rated(["a", "b", "c"], {("a", "b"): 1, ("b", "c"): 2, ("c", "b"): 2})
         self.assertEqual((found["a"].rating, found["a"].half, found["a"].group, found["a"].is_close), (None, None, None, True))
         self.assertEqual((found["b"].group, list(found)), (1, ["a", "b", "c"]))
-
-
-if __name__ == "__main__":
-    unittest.main()

@@ -478,7 +478,3 @@ class Compiled(unittest.TestCase):
             game.moves(position, "r")
         kept = [whole for one, whole in zip(first.tables, second.tables) if one is whole and any(isinstance(value, compiling.positions.Whole) for value in one.values())]
         self.assertEqual(len(kept), 1)
-
-
-if __name__ == "__main__":
-    unittest.main()

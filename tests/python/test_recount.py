@@ -214,7 +214,3 @@ class Plain(unittest.TestCase):
     def test_the_plain_computation_shares_nothing_with_the_package(self):
         lines = pathlib.Path(plain.__file__).read_text(encoding="utf-8").splitlines()
         self.assertEqual([line for line in lines if "import" in line.split()], ["from fractions import Fraction"])
-
-
-if __name__ == "__main__":
-    unittest.main()

@@ -175,7 +175,7 @@ class Rules(WithStandIn):
 
 class Lines(unittest.TestCase):
     def test_the_last_line_tells_what_ended_a_run_with_status_1(self):
-        for asked, line in ((is_no_answer, "ggp_manager: no answer"), (is_not_lawful, "ggp_manager: not lawful: goals"), (is_not_replayed, "ggp_manager: not replayed: line 1 differs")):
+        for asked, line in ((is_no_answer, "ggp_manager: no answer"), (is_no_answer, "ggp_manager: not sent: no answer from the resolver"), (is_not_lawful, "ggp_manager: records not lawful 1"), (is_not_replayed, "ggp_manager: not replayed: line 1 differs")):
             self.assertTrue(asked(1, line))
             for status, other in ((0, line), (2, line), (1, f"{line[:-1]}\n"), (1, "ggp_manager: want of memory"), (1, f"x{line}"), (1, "")):
                 self.assertFalse(asked(status, other), (status, other))
@@ -184,7 +184,7 @@ class Lines(unittest.TestCase):
         def said(err: bytes) -> subprocess.CompletedProcess:
             return subprocess.CompletedProcess(["x"], 0, b"", err)
 
-        self.assertEqual([last_line(said(err)) for err in (b"", b"a", b"a\nb\n", b"a\xff\n")], ["", "a", "b", "a\ufffd"])
+        self.assertEqual([last_line(said(err)) for err in (b"", b"a", b"a\nb\n", b"a\xff\n")], ["", "a", "b", "a?"])
 
     def test_records_among_lines_of_the_desk(self):
         def said(out: bytes) -> subprocess.CompletedProcess:
@@ -207,7 +207,7 @@ class Words(WithStandIn):
         path = self.referee.path
         self.assertEqual(self.referee.abort_words("cup-1", "ann@h:1"), [path, "abort", "--", "cup-1", "ann@h:1"])
         self.assertEqual(self.referee.info_words("ann@h:1"), [path, "info", "--", "ann@h:1"])
-        self.assertEqual(self.referee.verify_words("r"), [path, "verify", "--rules-file=r"])
+        self.assertEqual(self.referee.verify_words("r"), [path, "verify", "--lines", "--rules-file=r"])
         self.assertEqual(self.referee.replay_words("r"), [path, "replay", "--rules-file=r"])
         options = ["--id=cup-1", "--start=10", "--play=5", "--strikes=2", "--history", "--log", "--", "ann@h:1", "bob@h:2"]
         places = ["ann@h:1", "bob@h:2"]
@@ -217,8 +217,8 @@ class Words(WithStandIn):
     def test_a_large_game_is_said_to_be_one(self):
         path, large = self.referee.path, self.referee.taking(True)
         for words in ("desk_words", "verify_words", "replay_words"):
-            self.assertEqual(getattr(large, words)("r"), [path, words.removesuffix("_words"), "--rules-file=r", "--large"])
-            self.assertEqual(getattr(large.taking(False), words)("r"), [path, words.removesuffix("_words"), "--rules-file=r"])
+            usual = getattr(large.taking(False), words)("r")
+            self.assertEqual((usual, getattr(large, words)("r")), (getattr(self.referee, words)("r"), [*usual, "--large"]))
         self.assertEqual(large.run_words("r", "t", self.MATCH, 2, ["ann@h:1"])[:5], [path, "run", "--rules-file=r", "--large", "--player-rules=t"])
 
     def test_a_program_is_known_by_its_version(self):
@@ -270,7 +270,3 @@ class Finding(unittest.TestCase):
             find_program(None)
         places = f"{self.folder}/python, {self.folder}/bin, {pathlib.Path(__file__).resolve().parents[2]}/bin"
         self.assertEqual(str(why.exception), f"ggp_manager is not in {places}, nor on the path of the shell (PATH); `--program FILE` names it")
-
-
-if __name__ == "__main__":
-    unittest.main()

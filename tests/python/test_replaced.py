@@ -107,15 +107,8 @@ class Growing(unittest.TestCase):
         self.file.write_bytes(b"a\xff\n")
         self.assertEqual(self.tail.lines(), (["a\ufffd"], False))
 
-    def test_when_it_changed_first_is_known_though_it_was_not_read(self):
+    def test_when_it_changed_is_known_once_it_is_read(self):
         self.file.write_text("x\n")
         os.utime(self.file, (5, 7))
-        self.assertEqual((self.tail.has_changed(), self.tail.changed), (True, 7))
-        os.utime(self.file, (5, 9))
-        self.assertEqual((self.tail.has_changed(), self.tail.changed), (True, 7))
-        self.tail.lines()
-        self.assertEqual(self.tail.changed, 9)
-
-
-if __name__ == "__main__":
-    unittest.main()
+        self.assertEqual((self.tail.has_changed(), self.tail.changed), (True, 0))
+        self.assertEqual((self.tail.lines()[0], self.tail.has_changed(), self.tail.changed), (["x"], False, 7))

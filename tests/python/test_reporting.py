@@ -12,7 +12,3 @@ class Times(unittest.TestCase):
             (4_500, "1:15:00"), (7_325, "2:02:05"), (90_061, "25:01:01"),
         ):
             self.assertEqual(spell(seconds), words)
-
-
-if __name__ == "__main__":
-    unittest.main()

@@ -7,7 +7,7 @@ from dataclasses import replace
 from ggp_tools.competition.log_lines import reasons
 from ggp_tools.competition.results import (
     Result, Sums, fault_of_record, forfeit_words, is_set_back, kind_of, match_line, remarks, result_of, result_of_values, retirement_of, times_of,
-    values_of,
+    values_of, winner_words,
 )
 from ggp_tools.competition.schedule import Match
 
@@ -135,13 +135,22 @@ class Forfeits(unittest.TestCase):
 
 
 class Outcomes(unittest.TestCase):
-    def outcomes(self, goals, lost=(), has_forfeits=True):
-        """Returns what a match was for each role, where these roles were retired."""
+    def outcomes(self, *words):
+        """Returns what a match was for each role."""
+        found = self.result(*words)
+        return [found.outcome(role) for role in range(len(found.match.players))]
+
+    def result(self, goals, lost=(), has_forfeits=True):
+        """Returns the result of a match, where these roles were retired."""
         roles = len(goals) or 2
         errors = [["TO" if role in lost else "" for role in range(roles)]]
         match = Match("m", "game", 1, 1, tuple(f"p{role}" for role in range(roles)))
-        found = result_of(record(strikes=1, moves=[["x"] * roles], errors=errors, goalValues=goals), match, has_forfeits)
-        return [found.outcome(role) for role in range(roles)]
+        return result_of(record(strikes=1, moves=[["x"] * roles], errors=errors, goalValues=goals), match, has_forfeits)
+
+    def test_who_won_is_said(self):
+        for goals, said in (([100, 0], "p0 won."), ([70, 70, 0], "p0 and p1 drew."), ([50, 50], "p0 and p1 drew."), ([100], ""), ([], "")):
+            self.assertEqual(winner_words(self.result(goals)), said)
+        self.assertEqual(winner_words(self.result([100, 0], [0])), "p1 won.")
 
     def test_the_highest_goal_wins_alone_and_is_drawn_by_several(self):
         for goals, wanted in (
@@ -218,7 +227,3 @@ class Began(unittest.TestCase):
             ([f"began {second}", f"x {first}", "host one"], False),
         ):
             self.assertEqual(is_set_back("".join(f"{line}\n" for line in lines).encode()), wanted, lines)
-
-
-if __name__ == "__main__":
-    unittest.main()

@@ -164,38 +164,6 @@ class Gaps(SomeRoles):
         self.play(2, {0: "a"}, f"((x {'y' * 188}..")
         self.assertEqual(self.retiring.rows[1], (1, 1))
 
-
-class PerhapsNext(SomeRoles):
-    def assert_next(self, *roles: int) -> None:
-        self.assertEqual(self.retiring.perhaps_next(), set(roles))
-
-    def test_where_nobody_is_missing_it_is_known(self):
-        self.begin(2, 1)
-        self.assert_next()
-        self.play(1, {0: "a"})
-        self.assert_next()
-        self.play(1, {1: "a"})
-        self.assert_next()
-
-    def test_who_has_answered_where_the_others_may_be_retired(self):
-        self.begin(3, 1)
-        self.play(1, {0: "a", 1: "a", 2: "a"})
-        self.play(3, {0: "a", 1: SILENT}, "(a a a)")
-        self.assert_left([2], 2)
-        self.assert_next(0)
-
-    def test_nobody_where_another_one_is_awaited(self):
-        self.begin(3, 2)
-        self.play(1, {0: "a", 1: SILENT, 2: "a"})
-        for turn in (2, 3):
-            self.play(turn, {0: "a"}, "(a x a)")
-        self.assert_left([1, 2], 1)
-        self.assert_next()
-
     def test_who_is_asked_has_fewer_replaced_moves_in_a_row_than_the_strikes(self):
         for row, strikes, wanted in (((0, 5), 3, (0, 2)), ((4, 4), 2, (1, 1)), ((1, 2), 3, (1, 2)), ((1, 1), 1, (0, 0)), ((5, 6), 0, (5, 6))):
             self.assertEqual(row_of_asked(row, strikes), wanted)
-
-
-if __name__ == "__main__":
-    unittest.main()

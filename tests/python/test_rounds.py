@@ -24,7 +24,10 @@ from ggp_tools.competition.table import tables_of
 from ggp_tools.competition.table_text import notes, standings_rows, table_files
 from support import stand_in, toml
 
-REFEREE = stand_in(roles=lambda *_: ("a", "b"))
+REFEREE = stand_in(
+    path="none", roles=lambda *_: ("a", "b"), replays=lambda _, accounts, records: [True] * len(records),
+    verdicts=lambda _, records: ["not lawful: goals" if b'"wrong"' in record else "lawful" for record in records],
+)
 SWISS = 'kind = "swiss"\nrounds = {}'
 
 
@@ -41,11 +44,9 @@ def is_lawful(_, __, ___, matches):
 
 class ByRounds(unittest.TestCase):
     def setUp(self):
-        room = tempfile.TemporaryDirectory()
-        self.addCleanup(room.cleanup)
-        self.folder = Folder(pathlib.Path(room.name))
+        self.folder = Folder(pathlib.Path(self.enterContext(tempfile.TemporaryDirectory())))
         (self.folder.path / "game.kif").write_text("(role a)\n(role b)\n")
-        self.folder.make(self.folder.records)
+        self.folder.make(self.folder.records, self.folder.accounts)
 
     def write(self, count, form, head="", step=1):
         text = toml([(f"p{at}", f"h:{at + 1}") for at in range(count)[::step]], [("game", "game.kif", "aborts = true")], form, head)
@@ -62,7 +63,8 @@ class ByRounds(unittest.TestCase):
         for match in plan.matches:
             if not self.folder.record(match.id).exists() and not match.again:
                 self.folder.record(match.id).write_text(json.dumps(record(match, goals_of(match))) + "\n")
-        return {match.id: found for match in plan.matches if (found := result_in_file(self.folder, plan.competition, match))}
+                self.folder.account(match.id).write_text(f"0\topen {match.id} x\topened\n")
+        return {match.id: found for match in plan.matches if (found := result_in_file(self.folder, plan.competition, plan.rules, match))}
 
     def pairs(self, plan):
         return [(found.pairs, found.byes) for found in plan.rounds]
@@ -147,9 +149,15 @@ class ByRounds(unittest.TestCase):
         before = first.read_text()
         # p1 has won against p0 by now, so they stand otherwise.
         for number in (1, 3):
-            self.folder.record(f"cup-00{number}").write_text(json.dumps(record(plan.matches[number - 1], [0, 100] if number == 1 else [100, 0])))
+            self.folder.record(f"cup-00{number}").write_text(json.dumps(record(plan.matches[number - 1], [0, 100] if number == 1 else [100, 0])) + "\n")
         self.assert_refused("schedule.tsv is not what")
-        self.folder.record("cup-003").write_text(json.dumps(record(plan.matches[2], [0, 100])))
+        # A record that does not count is named as what it is.
+        right = first.read_text()
+        for text, why in ((right.replace('"matchId"', '"wrong": 1, "matchId"'), "not lawful: goals"), (right.replace('"strikes": 0', '"strikes": 1'), "its strikes is 1, and competition.toml has 0")):
+            first.write_text(text)
+            self.assert_refused(f"{first}: {why}")
+        first.write_text(right)
+        self.folder.record("cup-003").write_text(json.dumps(record(plan.matches[2], [0, 100])) + "\n")
         first.unlink()
         lost = "schedule.tsv has round 2, which was paired by cup-001, and that has no record of this match"
         self.assert_refused(lost)
@@ -276,7 +284,7 @@ class ByRounds(unittest.TestCase):
             new = order_again(self.folder.path, REFEREE, "cup-001", "the power was out")
             self.assertEqual((new.id, new.players, new.round, new.instead_of), ("cup-005", ("p0", "p1"), 1, "cup-001"))
             plan = self.read()
-            results = {match.id: found for match in plan.matches if (found := result_in_file(self.folder, plan.competition, match))}
+            results = {match.id: found for match in plan.matches if (found := result_in_file(self.folder, plan.competition, plan.rules, match))}
             self.assertEqual((sorted(results), plan_next_round(plan, results)), (["cup-001", "cup-002", "cup-003", "cup-004"], []))
             results = self.play(plan, lambda match: [0, 100])
             # What was ordered again does not count, so nothing waits for it.
@@ -285,6 +293,47 @@ class ByRounds(unittest.TestCase):
             refuse_lost_results(plan, results)
             self.assertEqual(self.read().matches, plan.matches)
             self.assert_refused("cup-002 is of round 1, by which the next one was paired, so it can't be played again", lambda: order_again(self.folder.path, REFEREE, "cup-002", "x"))
+
+    def test_ids_that_nobody_guesses(self):
+        self.write(4, SWISS.format(2), 'ids = "random"')
+        plan = self.make()
+        ids, key = [match.id for match in plan.matches], self.folder.key.read_bytes()
+        self.assertEqual((len(set(ids)), [found[:8] for found in ids]), (4, [f"cup-00{at}-" for at in range(1, 5)]))
+        for found in ids:
+            self.assertRegex(found, r"\Acup-00\d-[a-z2-7]{12}\Z")
+        # The same key gives the same ids, when the schedule was lost, grows, or a match is ordered again.
+        self.folder.schedule.unlink()
+        self.assertEqual([match.id for match in self.make().matches], ids)
+        self.play(plan)
+        with mock.patch("ggp_tools.competition.again.looked_at", is_lawful):
+            self.assertRegex(order_again(self.folder.path, REFEREE, ids[0], "x").id, r"\Acup-005-[a-z2-7]{12}\Z")
+        plan = self.read()
+        results = self.play(plan)
+        del results[ids[0]]
+        self.assertEqual(len(plan_next_round(plan, results)), 4)
+        self.assertEqual((self.read().matches, self.folder.key.read_bytes()), (plan.matches, key))
+        self.write(4, SWISS.format(3), 'ids = "random"')
+        self.assertEqual(self.make().matches, plan.matches)
+        # With another key, or without it, they would be others.
+        self.folder.key.unlink()
+        for call in (self.read, self.make):
+            self.assert_refused("ids.key is not there: put it back: the ids of the matches follow from it", call)
+        self.assertFalse(self.folder.key.exists())
+        self.folder.key.write_bytes(key)
+        self.write(4, SWISS.format(3))
+        self.assert_refused("ids was 'random' and is 'counted'", self.make)
+        # So is the other way round.
+        self.folder.planned.write_bytes(self.folder.competition.read_bytes())
+        self.folder.key.unlink()
+        self.write(4, SWISS.format(3), 'ids = "random"')
+        self.assert_refused("ids was 'counted' and is 'random'", self.make)
+
+    def test_the_ids_of_another_competition_of_this_name_are_others(self):
+        self.write(4, SWISS.format(2), 'ids = "random"')
+        ids = {match.id for match in self.make().matches}
+        for file in (self.folder.key, self.folder.schedule):
+            file.unlink()
+        self.assertFalse(ids & {match.id for match in self.make().matches})
 
     def test_what_stands_in_a_file_may_be_anything(self):
         self.write(2, SWISS.format(2))
@@ -295,13 +344,13 @@ class ByRounds(unittest.TestCase):
             {**good, "errors": None}, {**good, "moves": 1}, {**good, "goalValues": [True, False]}, {**good, "matchId": "cup-002"}, {key: good[key] for key in good if key != "phase"},
         ):
             self.folder.record(match.id).write_text(json.dumps(wrong))
-            self.assertIsNone(result_in_file(self.folder, plan.competition, match), wrong)
+            self.assertIsNone(result_in_file(self.folder, plan.competition, plan.rules, match), wrong)
             self.assertEqual(len(self.read().matches), 2)
         for wrong in ("", "{", "[" * 100_000):
             self.folder.record(match.id).write_text(wrong)
-            self.assertIsNone(result_in_file(self.folder, plan.competition, match))
+            self.assertIsNone(result_in_file(self.folder, plan.competition, plan.rules, match))
         self.folder.record(match.id).write_text(json.dumps({key: good[key] for key in good if key != "cause"}))
-        self.assertEqual(result_in_file(self.folder, plan.competition, match).goals, (100, 0))
+        self.assertEqual(result_in_file(self.folder, plan.competition, plan.rules, match).goals, (100, 0))
 
 
 class Refusals(unittest.TestCase):
@@ -355,7 +404,3 @@ class Refusals(unittest.TestCase):
 
     def test_a_line_has_no_round(self):
         self.assertEqual(Match("cup-1", "game", 1, 2, ("a", "b"), 3).line(), "cup-1\tgame\t1\t2\ta b\n")
-
-
-if __name__ == "__main__":
-    unittest.main()

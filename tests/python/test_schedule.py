@@ -173,7 +173,3 @@ class Schedule(unittest.TestCase):
                     matches(4, roles, f'kind = "{kind}')
                 words = f"the kind {kind.partition(chr(34))[0]} is for games of two roles, and g0 has {roles}"
                 self.assertEqual([(mistake.key, mistake.words) for mistake in why.exception.mistakes], [("games.file", words)])
-
-
-if __name__ == "__main__":
-    unittest.main()

@@ -144,7 +144,3 @@ class Moments(unittest.TestCase):
         self.assertEqual((self.seats.next_match(waiting, 1.0), self.seats.idle_until), (None, math.inf))
         self.seats.leave(match)
         self.assertEqual((self.seats.next_match(waiting, 1.0).id, waiting), ("m2", []))
-
-
-if __name__ == "__main__":
-    unittest.main()

@@ -134,7 +134,3 @@ class Refusals(unittest.TestCase):
         self.assert_refused("(<= p (not (distinct ?x a)))", f"?x {unsafe}")
         self.assert_refused("(<= (p ?y) (or (q ?y) (r ?x)))", f"?y {unsafe}")
         rules("(<= (p ?x) (q ?x) (not (r ?x)) (distinct ?x a))")
-
-
-if __name__ == "__main__":
-    unittest.main()

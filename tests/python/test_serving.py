@@ -20,6 +20,7 @@ from ggp_tools.competition import files, live, pages, serving
 from ggp_tools.competition.live_site import LiveSite
 from ggp_tools.competition.page_changes import changes
 from ggp_tools.competition.page_parts import Items, Part
+from ggp_tools.moments import moment_at
 from ggp_tools.referee import NoReferee
 from live_support import SILENT, begin, end, line, plan_in, record_of, started
 from support import GAMES, InFolder, run, start
@@ -40,9 +41,7 @@ class Served(unittest.TestCase):
     STRIKES = ""
 
     def setUp(self):
-        room = tempfile.TemporaryDirectory()
-        self.addCleanup(room.cleanup)
-        self.plan = plan_in(room.name, ["ann", "bob", "cid"], head=self.STRIKES)
+        self.plan = plan_in(self.enterContext(tempfile.TemporaryDirectory()), ["ann", "bob", "cid"], head=self.STRIKES)
         self.site = LiveSite(self.plan, lambda: self.plan)
         self.site.look()
         self.server = serving.Server(("127.0.0.1", 0), self.site, self.MOST)
@@ -75,7 +74,7 @@ class Served(unittest.TestCase):
         """Opens the events of a page, and returns the answer."""
         asking = http.client.HTTPConnection("127.0.0.1", self.server.server_port, timeout=60)
         self.addCleanup(asking.close)
-        asking.request("GET", re.search('data-events="([^"]*)"', page)[1])
+        asking.request("GET", f"""/{re.search('data-events="([^"]*)"', page)[1].replace('../', '')}""")
         return asking.getresponse()
 
     def next_event(self, answer):
@@ -109,14 +108,22 @@ class Pages(Served):
         self.assertIn("State 1, after turn 1", own)
         self.assertIn("<code>(take 2)</code>", own)
         self.say(log, self.play(match, 3, "((take 2) noop)", [SILENT]))
-        self.assertIn("no answer came in time", self.page("/"))
+        self.assertNotIn("no answer came in time", self.page("/"))
+        # Once half of the clock is over the page names who is awaited.
+        self.site.reader.open[match.id].since -= 1_000
+        self.site.look()
         self.assertIn("player-bob.html\">bob</a>: turn 2 (", self.page(f"/matches/{match.id}.html"))
+        self.say(log, self.play(match, 3, "((take 2) noop)", [SILENT, "(take 1)"]).splitlines(keepends=True)[1])
+        self.assertIn("no answer came in time", self.page("/"))
         moves, errors = [["(take 2)", "noop"], ["noop", "(take 1)"]], [["", ""], ["TO", ""]]
         text = started(match) + self.play(match, 2, "NIL", ["(take 2)", "noop"]) + self.play(match, 3, "((take 2) noop)", [SILENT, "(take 1)"])
         end(self.plan, match, record_of(match, moves, errors, [0, 100]), text)
         self.site.look()
         self.assertIn("1 of 6 matches are over.", self.page("/"))
-        self.assertIn('id="state-2"', self.page(f"/matches/{match.id}.html"))
+        over = self.page(f"/matches/{match.id}.html")
+        self.assertIn('id="state-2"', over)
+        self.assertIn(f"<p>{match.players[1]} won.</p>", over)
+        self.assertIn(f"{match.players[1]}</a> 100</strong>", self.page("/"))
         player = self.page("/players/player-ann.html")
         for text in ("no answer came in time", f"(PLAY {match.id} ((take 2) noop))", "<code>TO</code>", f"<code>{SILENT}</code>", "5 ms", "<svg"):
             self.assertIn(text, player)
@@ -166,6 +173,43 @@ class Pages(Served):
         self.assertIn("1 of 6 matches are over.", first)
         self.assertIn(f"{long.id} does not count: it is longer than 16 MiB", first)
 
+    def test_a_record_that_can_not_be_one_is_named_and_stops_nothing(self):
+        match, other = self.plan.matches[:2]
+        turns = [["(take 2)", "noop"]], [["", ""]]
+        good = record_of(match, *turns, [0, 100])
+        end(self.plan, other, record_of(other, *turns, [0, 100]))
+        bad = (
+            ({"goalValues": [0, 10**400]}, "one of its goals is not from 0 to 100"),
+            ({"goalValues": [101, 0]}, "one of its goals is not from 0 to 100"),
+            ({"matchId": "x" * 10**6}, "..,"), ({"startClock": 10**400}, "..,"), ({"errors": [["", 1]]}, "no list of lists of texts"),
+        )
+        for wrong, said in bad:
+            with self.subTest(said=said):
+                end(self.plan, match, good | wrong)
+                # `serve` begins with it, too.
+                self.site = self.server.site = LiveSite(self.plan, lambda: self.plan)
+                self.site.look()
+                first = self.page("/")
+                self.assertIn("1 of 6 matches are over.", first)
+                self.assertRegex(first, f"{match.id} does not count: .*{re.escape(said)}")
+                self.assertLess(len(first), 100_000)
+                self.assertIn("does not count", self.page(f"/matches/{match.id}.html"))
+        end(self.plan, match, good)
+        self.site = self.server.site = LiveSite(self.plan, lambda: self.plan)
+        self.site.look()
+        self.assertIn("2 of 6 matches are over.", self.page("/"))
+
+    def test_records_are_read_bit_by_bit(self):
+        for match in self.plan.matches:
+            end(self.plan, match, record_of(match, [], [], [50, 50]))
+        with patch.object(live, "READING", -1):
+            self.site.look()
+            self.assertIn("6 records are still to be read, so the standings lack them", self.page("/"))
+            self.assertIn("0 of 6 matches are over.", self.page("/"))
+        self.site.look()
+        self.assertNotIn("still to be read", self.page("/"))
+        self.assertIn("6 of 6 matches are over.", self.page("/"))
+
     def test_a_plan_that_changes(self):
         events = self.events(self.page("/"))
         self.plan.folder.schedule.write_text("another")
@@ -208,6 +252,77 @@ class Pages(Served):
         self.site.look()
         self.site.look()
         self.assertEqual(len(read), 2)
+
+
+    def test_a_match_that_was_given_up_says_why(self):
+        lost, other, again = self.plan.matches[:3]
+        lines = [f"info {match.id} ann: refused, 0.0 s" for match in (lost, again)]
+        lines += [f"no record {lost.id}: ann is silent", f"no record {again.id}: its files: {self.plan.folder.path}/x"]
+        lines += [f"info {again.id} ann: available, 0.1 s"]
+        lines += [f"missing {other.id}: it was not begun", "no record none: x", f"no record {other.id}"]
+        self.plan.folder.journal.write_text("".join(f"2026-01-02T03:04:05.000Z {text}\n" for text in lines))
+        self.site.look()
+        first = self.page("/")
+        self.assertIn("5 wait, 1 was given up", first)
+        self.assertRegex(first, f"(?s)<h2>Matches that were given up</h2>.*?<td class=\"left\">{lost.id}<.*?ann is silent</span></tr>\n</table>")
+        self.assertIn("It was given up: ann is silent.", self.page(f"/matches/{lost.id}.html"))
+        self.assertIn("It has not begun.", self.page(f"/matches/{again.id}.html"))
+        # The next run plays it.
+        with files.held(self.plan.folder.path):
+            self.site.look()
+            self.assertIn("0 matches are open, 6 wait.", self.page("/"))
+
+
+class Delayed(Served):
+    """What is shown so many seconds late. The tests move the time of day."""
+
+    def setUp(self):
+        super().setUp()
+        self.moment = time.time()
+        self.enterContext(patch.object(time, "time", lambda: self.moment))
+        self.enterContext(patch.object(live, "LOOK_AGAIN", 0))
+        self.site = self.server.site = LiveSite(self.plan, lambda: self.plan, delay=60)
+        self.site.look()
+
+    def look_at(self, seconds):
+        """Looks at the folder so many seconds later. Returns what the first page says of how many matches are open and over."""
+        self.moment += seconds
+        self.site.look()
+        first = self.page("/")
+        return re.search("[0-9]+ match(es are| is) open", first)[0], re.search("[0-9]+ of 6", first)[0]
+
+    def now(self):
+        return moment_at(self.moment) + " "
+
+    def test_everything_is_shown_late(self):
+        match = self.plan.matches[0]
+        lines = started(match) + self.play(match, 2, "NIL", ["(take 2)", "noop"])
+        log = begin(self.plan, match, "".join(f"{self.now()}{text}\n" for text in lines.splitlines()))
+        self.assertEqual(self.look_at(1), ("0 matches are open", "0 of 6"))
+        self.assertEqual(self.look_at(58), ("0 matches are open", "0 of 6"))
+        # It is over before anything of it is shown.
+        lines = "".join(f"{self.now()}{text}\n" for text in self.play(match, 3, "((take 2) noop)", ["noop", "(take 1)"]).splitlines())
+        end(self.plan, match, record_of(match, [["(take 2)", "noop"], ["noop", "(take 1)"]], [["", ""]] * 2, [0, 100]), log.read_text() + lines)
+        os.utime(self.plan.folder.record(match.id), (self.moment, self.moment))
+        self.assertEqual(self.look_at(3), ("1 match is open", "0 of 6"))
+        page = self.page(f"/matches/{match.id}.html")
+        self.site.look()
+        page = self.page(f"/matches/{match.id}.html")
+        self.assertIn("after turn 1", page)
+        self.assertNotIn("(take 1)", page)
+        self.assertIn(f'data-now="{self.moment - 60:.1f}"', page)
+        self.assertEqual(self.look_at(50), ("1 match is open", "0 of 6"))
+        self.assertEqual(self.look_at(10), ("0 matches are open", "1 of 6"))
+        self.assertIn('id="state-2"', self.page(f"/matches/{match.id}.html"))
+
+    def test_a_plan_is_shown_late(self):
+        self.plan.folder.schedule.write_text("another")
+        os.utime(self.plan.folder.schedule, (self.moment, self.moment))
+        token = self.site.token
+        self.look_at(59)
+        self.assertEqual(self.site.token, token)
+        self.look_at(2)
+        self.assertNotEqual(self.site.token, token)
 
 
 class Refused(Served):
@@ -261,11 +376,13 @@ class Limits(Served):
         held = [socket.create_connection(("127.0.0.1", self.server.server_port), timeout=60) for _ in range(self.MOST)]
         while len(self.server.connections) < self.MOST:
             time.sleep(0.01)
+        for request, (address, _) in self.server.connections.items():
+            self.server.connections[request] = address, None
         with socket.create_connection(("127.0.0.1", self.server.server_port), timeout=60) as one_more:
             self.assertTrue(one_more.recv(100).startswith(b"HTTP/1.0 503 "))
         # Those that ask for nothing are ended.
-        for request in list(self.server.connections):
-            self.server.connections[request] -= 2 * serving.PATIENCE
+        for request, (address, _) in self.server.connections.items():
+            self.server.connections[request] = address, time.monotonic() - 2 * serving.HEAD
         self.server.end_idle()
         self.assertEqual([connection.recv(100) for connection in held], [b""] * self.MOST)
         for connection in held:
@@ -278,6 +395,37 @@ class Limits(Served):
         while len(self.server.connections) > 7:
             time.sleep(0.01)
         self.assertEqual(self.ask("/")[0], 200)
+
+
+    def connect(self, *said):
+        """Opens a connection and sends the beginning of a request."""
+        connection = self.enterContext(socket.create_connection(("127.0.0.1", self.server.server_port), timeout=60))
+        for text in said:
+            connection.sendall(text)
+        return connection
+
+    def test_half_requests_of_an_address_give_way(self):
+        half = [self.connect(b"GET / HTTP/1.1\r\nHost: ") for _ in range(self.MOST)]
+        while len(self.server.connections) < self.MOST:
+            time.sleep(0.01)
+        # Others are served, whoever comes, at the price of the oldest of them.
+        for at in range(3):
+            self.assertEqual(self.ask("/")[0], 200)
+            self.assertEqual(half[at].recv(100), b"")
+
+    def test_one_address_does_not_take_all_connections(self):
+        for address, has_room in (("192.0.2.1", [True] * 4 + [False]), ("127.0.0.1", [True] * 8 + [False])):
+            self.server.connections = {}
+            found = []
+            for at in range(len(has_room)):
+                found.append(self.server.has_room_for(address))
+                self.server.connections[at] = address, None
+            self.assertEqual(found, has_room)
+        self.server.connections = {}
+        with contextlib.ExitStack() as viewers:
+            found = [viewers.enter_context(self.server.viewing("/index.html", "192.0.2.1")) is not None for _ in range(5)]
+            found += [viewers.enter_context(self.server.viewing("/index.html", "192.0.2.2")) is not None for _ in range(4)]
+        self.assertEqual(found, [True] * 4 + [False] + [True] * 3 + [False])
 
 
 class Events(Served):
@@ -392,7 +540,7 @@ class Command(InFolder):
             self.assertEqual((serving_it.communicate(timeout=60), serving_it.returncode), (("", ""), 0))
 
     def test_what_is_asked_wrong(self):
-        for words in (("--port", "65536"), ("--port", "x"), ("--bind", "localhost"), ("--connections", "0")):
+        for words in (("--port", "65536"), ("--port", "x"), ("--bind", "localhost"), ("--connections", "0"), ("--delay", "3601")):
             self.assertEqual(run(self.folder, "serve", *words)[0], 2, words)
         self.assertEqual(run(self.folder, "serve")[0], 2)
 
@@ -418,7 +566,3 @@ class Changes(unittest.TestCase):
         self.assertIsNone(changes([one], [one]))
         self.assertEqual(changes([one], [other])["set"], [["a", '<section id="a">y</section>']])
         self.assertEqual(changes([one], [one, Part("b", "")]), {"reload": True})
-
-
-if __name__ == "__main__":
-    unittest.main()

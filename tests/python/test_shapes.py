@@ -38,7 +38,3 @@ class Shapes(unittest.TestCase):
         self.assertTrue(is_list([], is_text) and is_list(["a"], is_text) and is_list(["a", "b"], is_text, [0, 2]) and is_list([], is_text, [0, 2]))
         for value, lengths in ((("a",), None), ("a", None), ([1], None), (["a", None], None), (["a"], [0, 2]), (["a"], []), (None, None)):
             self.assertFalse(is_list(value, is_text, lengths), value)
-
-
-if __name__ == "__main__":
-    unittest.main()

@@ -90,7 +90,3 @@ class Sittings(unittest.TestCase):
     def test_values_of_json_say_all_of_it(self):
         for sitting in self.sittings():
             self.assertEqual(sitting_of_values(values_of(sitting), sitting.result), sitting)
-
-
-if __name__ == "__main__":
-    unittest.main()

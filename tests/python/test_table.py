@@ -267,7 +267,3 @@ class Tables(unittest.TestCase):
         for line in ("began <plaintext>", "began 2026-01-02T03:04:05.678Z<b>", "began 2026-01-02", "ended now", "began 2026-01-02T03:04:05Z"):
             found = times_of(line.encode(), 1)
             self.assertEqual((found["begin"], found["end"]), (None, None), line)
-
-
-if __name__ == "__main__":
-    unittest.main()

@@ -191,7 +191,3 @@ class Limits(unittest.TestCase):
 
     def test_the_slash_behind_a_folder_is_no_part_of_its_name(self):
         self.assertEqual(read(block("cup/", tarfile.DIRTYPE) + block("cup/pages", tarfile.DIRTYPE) + END), {"cup": b"", "cup/pages": b""})
-
-
-if __name__ == "__main__":
-    unittest.main()

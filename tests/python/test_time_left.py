@@ -66,7 +66,3 @@ class Left(unittest.TestCase):
         left, matches = TimeLeft(competition), planned(competition, {"one": 2})
         left.ended(matches[0], 8.0)
         self.assertEqual(left.left([(matches[1], 20.0)], 1), 0.0)
-
-
-if __name__ == "__main__":
-    unittest.main()

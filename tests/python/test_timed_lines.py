@@ -19,9 +19,7 @@ SECONDS = 600
 
 class Lines(unittest.TestCase):
     def setUp(self):
-        room = tempfile.TemporaryDirectory()
-        self.addCleanup(room.cleanup)
-        self.file = pathlib.Path(room.name) / "lines"
+        self.file = pathlib.Path(self.enterContext(tempfile.TemporaryDirectory())) / "lines"
 
     def read(self, reader, *beaten):
         """Has a pipe read, and returns its other end, and what is read of it."""
@@ -116,18 +114,16 @@ class Lines(unittest.TestCase):
         self.assertTrue(reader.is_alive())
 
     def test_who_is_hung_up_hears_it_soon(self):
-        reader, seconds = LineReader(), []
-        for _ in range(5):
-            ours, beaten = os.pipe()
+        ours, beaten = os.pipe()
+        with mock.patch.object(timed_lines, "BEAT", 100 * SECONDS):
+            reader = LineReader()
             theirs, lines = self.read(reader, open(beaten, "wb", buffering=0))
-            began = time.monotonic()
             reader.hang_up(lines)
+            # Neither a beat nor a byte wakes the thread meanwhile.
             self.wait_for(lambda: lines.beaten.closed)
-            seconds.append(time.monotonic() - began)
-            # Until then nothing comes that would have the thread look.
-            for end in (ours, theirs):
-                self.addCleanup(os.close, end)
-        self.assertLess(min(seconds), 0.4)
+        self.assertLess(timed_lines.LOOK, 0.4)
+        for end in (ours, theirs):
+            os.close(end)
 
     def test_only_the_time_at_the_head_of_a_line_is_no_part_of_it(self):
         time_of_day = b"2026-01-02T03:04:05.678Z "
@@ -193,7 +189,3 @@ class SomeJournal(unittest.TestCase):
         for word in ("one", "two"):
             journal.write(word)
         self.assertEqual((journal.fault.filename, journal.fault.strerror), ("/dev/full", "No space left on device"))
-
-
-if __name__ == "__main__":
-    unittest.main()

@@ -140,7 +140,3 @@ class Told(InFolder):
                 status, out, said = run(self.folder, "check", "spoilt.tar.gz")
                 self.assertEqual((status, out), (1, ""))
                 self.assertIn(words, said)
-
-
-if __name__ == "__main__":
-    unittest.main()

@@ -112,7 +112,3 @@ class TomlLines(unittest.TestCase):
     def test_a_long_array_takes_no_longer_than_its_length(self):
         text = "lines = [\n" + '"a b c",\n' * 20_000 + "]\n"
         self.assertEqual(read_toml(text)[1]["lines", 19_999], 20_001)
-
-
-if __name__ == "__main__":
-    unittest.main()

@@ -18,9 +18,8 @@ from ggp_tools.records import verify_many
 from ggp_tools.records.verify_many import Fault, arguments, check, check_all, copy_out, in_memory, pieces
 from support import TOP
 
-STAND_IN = """#!/bin/sh
-echo "$@" >> "$(dirname "$0")/words"
-exec awk '
+WRITE_WORDS = 'echo "$@" >> "$(dirname "$0")/words"\n'
+CHECK = """exec awk '
 /^[0-9]/ { skipped++; next }
 /short/ { print "ggp_manager: want of memory" > "/dev/stderr"; exit 3 }
 /ok/ { print "lawful"; next }
@@ -86,7 +85,7 @@ class Pieces(unittest.TestCase):
 class WithProgram(unittest.TestCase):
     def setUp(self):
         self.folder = pathlib.Path(self.enterContext(tempfile.TemporaryDirectory()))
-        self.program = self.stand_in("program", STAND_IN)
+        self.program = self.stand_in("program", f"#!/bin/sh\n{WRITE_WORDS}{CHECK}")
 
     def stand_in(self, name, text):
         path = self.folder / name
@@ -180,8 +179,10 @@ class All(WithProgram):
 
     def test_behind_a_fault_nothing_is_written(self):
         text = b"ok\nno\n7\n" * 3 + b"ok\nshort\n" + b"ok\n" * 20
+        # Other pieces are still being checked after the error, so their processes write no file.
+        program = self.stand_in("silent", f"#!/bin/sh\n{CHECK}")
         for size in (1, 4):
-            written, said, fault = self.all(text, 3, size)
+            written, said, fault = self.all(text, 3, size, program)
             self.assertEqual((written, said, fault), (b"lawful\nnot lawful: goals\n" * 3 + b"lawful\n", b"", (b"ggp_manager: want of memory\n", 3)))
 
     def test_a_thread_that_can_not_be_made_is_want_of_memory(self):
@@ -269,7 +270,3 @@ class Commands(WithProgram):
         for closed, status, said in (("<&-", 1, "ggp_manager: read fault\n"), (">&- < /dev/null", 0, ""), ("2>&- < /dev/null", 0, "")):
             ran = subprocess.run(["sh", "-c", f"{words} {closed}"], capture_output=True, text=True, stdin=subprocess.DEVNULL)
             self.assertEqual((ran.returncode, ran.stderr, ran.stdout), (status, said, ""), closed)
-
-
-if __name__ == "__main__":
-    unittest.main()

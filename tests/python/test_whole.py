@@ -5,8 +5,8 @@ table is what a plain recount of the records gives."""
 import json
 import signal
 import time
-import unittest
 
+import pytest
 from players import TestPlayer
 from support import GAMES, ODD, InFolder, run, slowness, start
 
@@ -20,10 +20,6 @@ info = 5
 forfeit = true
 """
 STARVED = "the referee was not running"
-# So many seconds it may take where the processors are free: three times what it takes there, since other work may come in between.
-SECONDS = 300
-# A run that takes longer hangs.
-MOST_SECONDS = 3_600
 
 
 def recount(records):
@@ -56,14 +52,14 @@ def told(table):
     return {line["player"]: (line["goals"], *(line[key] for key in keys)) for line in table["lines"]}
 
 
+@pytest.mark.gate
 class Whole(InFolder):
     def setUp(self):
         super().setUp()
         self.players = [TestPlayer(f"p{number}", BAD.get(number, "good"), number) for number in range(12)]
         (self.folder / "odd.kif").write_text(ODD)
         games = [("countdown", GAMES / "countdown.kif"), ("odd", "odd.kif"), ("buttons", GAMES / "buttons.kif")]
-        self.slowness = slowness()
-        head = HEAD.format(start=2 * self.slowness, play=min(2, self.slowness))
+        head = HEAD.format(start=2 * slowness(), play=min(2, slowness()))
         self.schedule = self.plan([(player.name, player.place()) for player in self.players], games, head=head)
 
     def until(self, count, playing):
@@ -80,7 +76,7 @@ class Whole(InFolder):
             if count:
                 self.until(count, playing)
                 playing.send_signal(number)
-            out, said = playing.communicate(timeout=MOST_SECONDS)
+            out, said = playing.communicate()
             status = playing.returncode
             while number is None and status == 1 and STARVED in out:
                 # On a busy computer the referee may get no processor as an answer's seconds end. The match is played at the next run.
@@ -94,11 +90,10 @@ class Whole(InFolder):
         seconds = time.monotonic() - began
         self.assertEqual(clashed, [])
         self.assertIn("192 of 192 matches have a lawful record", out)
-        # Other work may have begun since then.
-        self.assertLess(seconds, SECONDS * max(self.slowness, slowness()))
-        self.look(seconds)
+        self.look()
+        print(f"192 matches, killed twice and interrupted once, in {seconds:.0f} s", flush=True)
 
-    def look(self, seconds):
+    def look(self):
         self.assert_sound(self.schedule)
         records = self.records()
         errors = [error for record in records.values() for turn in record["errors"] for error in turn]
@@ -118,8 +113,3 @@ class Whole(InFolder):
             counted = recount([record for match, record in records.items() if table["game"] in ("all games", games[match])])
             plain = {who: (round(goals / of, 2), n, *rest) for who, (n, goals, of, *rest) in counted.items()}
             self.assertEqual(told(table), plain, table["game"])
-        print(f"192 matches, killed twice and interrupted once, in {seconds:.0f} s", flush=True)
-
-
-if __name__ == "__main__":
-    unittest.main()

@@ -48,7 +48,10 @@ class Why(InFolder):
         self.assertEqual(said.splitlines()[-1], f"goal {record['goalValues'][1]}; {len(record['moves'])} of {len(record['moves'])} moves replaced")
         both = self.why("cup-001")
         self.assertIn("it is legal, and was played: ", both)
-        self.assertIn(said.partition("\n\n")[2].strip(), both)
+        of_player = said.partition("\n\np1, blue:\n")[2]
+        self.assertEqual((len(of_player) > 200, both.count("\n\np0, red:\n"), both.count("\n\np1, blue:\n")), (True, 1, 1), both)
+        self.assertIn(of_player.strip(), both)
+        self.assertNotIn("?", both.replace("IL ?", ""))
 
     def answers_after_its_lines(self, player):
         """Has a player answer each message of the match some milliseconds after the line of the one before was written."""

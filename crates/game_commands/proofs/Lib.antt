@@ -1,3 +1,4 @@
 mod CheckedLines
 mod OpenMatches
 mod ReadAccounts
+mod Records

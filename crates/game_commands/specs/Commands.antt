@@ -14,7 +14,7 @@ use Rattle.packed_rules.specs.declared.packed_game.PackedGame.{PackedGame}
 use Rattle.described_games.specs.CountdownText.{countdown_text}
 use Rattle.described_games.specs.Games.{IsDescribed, DescribesNone}
 use Rattle.record_reading.specs.LawfulRecord.{IsLawfulRecord}
-use Rattle.desk_scripts.specs.Script.{bad_lines, script_output}
+use Rattle.game_commands.specs.Script.{bad_lines, script_output}
 use Rattle.match_plans.specs.declared.game_source.GameCommand.{GameCommand}
 use Rattle.match_plans.specs.declared.game_source.GameTask.{GameTask}
 use Rattle.match_plans.specs.declared.game_source.GameCommand.TheVariants.{Desk, Verify, VerifyLines, Replay}

@@ -1,3 +1,4 @@
+pub mod Script
 pub mod ScriptFaults
 pub mod Verdicts
 pub mod Checks

@@ -14,7 +14,7 @@ use Rattle.desk_text.specs.Account.{IsAccount, no_matches}
 use Rattle.desk_text.specs.Replaying.{IsFirstFault}
 use Rattle.desk_text.specs.declared.replaying.ReplayFault.{ReplayFault}
 use Rattle.desk_text.specs.declared.replaying.ReplayFault.TheVariants.{Memory as ReplayMemory, NoEntry as ReplayNoEntry, Differs as ReplayDiffers}
-use Rattle.desk_scripts.specs.Script.{records}
+use Rattle.game_commands.specs.Script.{records}
 use Rattle.whole_streams.specs.Streams.{StopsReading}
 use Rattle.command_faults.specs.declared.fault.Fault.{Fault}
 use Rattle.command_faults.specs.declared.fault.Fault.TheVariants.{Memory, NoEntry, Differs, ReadFault, InputTooLong, WriteFault}

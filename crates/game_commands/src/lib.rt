@@ -6,6 +6,7 @@
 //! Free functions take the allocator first, behind a handle for files.
 #![tactic(auto)]
 
+mod answers;
 mod checking;
 mod commands;
 mod evidence;
@@ -14,6 +15,7 @@ mod rules;
 mod script;
 mod verdicts;
 
+pub use answers::{Answers, answer_script, push_records};
 pub use commands::for_game;
 pub use evidence::Evidence;
 pub use rules::{game_of, limits_of, player_rules_fault, rules_text, source_text};

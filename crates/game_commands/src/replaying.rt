@@ -6,9 +6,9 @@ ghost use Rattle.game_core.specs.Counting.{last_count};
 ghost use Rattle.game_commands.specs.Replays.{accounts, begins_as_record, is_skipped, line_text, max_account, open_matches, refused_output, replay_fault, replayed_line, replayed_text, AccountFails, AreReplayed, IsEnded, IsNumbered, IsRefusedAccount, IsReplayed, ReplayFails, StopsLongAccount};
 ghost use Rattle.game_commands.specs.Whole.{ReadsAndWrites};
 
+use crate::answers::push_records;
 use crate::evidence::Evidence;
 use command_faults::{Fault, MAX_LINE};
-use desk_scripts::push_records;
 use desk_text::{ReplayFault, Replayed, replay};
 use game_core::{Counted, Game, Lent};
 use match_desk::Manager;

@@ -2,12 +2,12 @@
 ghost use Rattle.std.specs.Prelude.{◌≡◌, ℕ, List, length, IfOk, OnOk, IfErr};
 ghost use Rattle.std.specs.Io.KnownBytes.{Consumes, Appends, IsAtEnd};
 ghost use Rattle.std.specs.Str.Lines.{lines};
-ghost use Rattle.desk_scripts.specs.Script.{bad_lines, script_output};
+ghost use Rattle.game_commands.specs.Script.{bad_lines, script_output};
 ghost use Rattle.game_commands.specs.ScriptFaults.{ScriptFails};
 
+use crate::answers::answer_script;
 use crate::evidence::Evidence;
 use command_faults::Fault;
-use desk_scripts::answer_script;
 use game_core::{Counted, Game};
 use std::alloc::Global;
 use std::io::{Read, Write};

@@ -8,7 +8,7 @@ use Rattle.network_players.specs.declared.deadline.Step.TheVariants.{Waits, Slee
 -- the program was not running meanwhile, and the step costs what it was asked to take.
 abbrev pub IsCharged : ℕ → ℕ → ℕ → Type 0
 IsCharged asked passed charged = ((passed - asked ≤ min (asked / 8 + 100000000) max_nanos) × (charged ≡ passed))
-  ⊎ ((min (asked / 8 + 100000000) max_nanos < passed - asked) × (charged ≡ asked))
+    ⊎ ((min (asked / 8 + 100000000) max_nanos < passed - asked) × (charged ≡ asked))
 
 -- What a read does, by the time left and by how many looks are left: it waits for half the time, sleeps through the last 20 milliseconds, and
 -- then takes what is there.

@@ -188,11 +188,7 @@ fn refusal_of_all<N: Net>(net: &N, addresses: &[SocketAddr]) -> Option<Shortage>
 }
 
 /// The fault of an address to which no connection was made. If the error `may_be_own`, a probe said what this computer is short of.
-fn connect_fault(
-    error: &io::Error,
-    may_be_own: bool,
-    refusal: Option<Shortage>,
-) -> ContactFault
+fn connect_fault(error: &io::Error, may_be_own: bool, refusal: Option<Shortage>) -> ContactFault
     ensures { result ≡ connect_fault (error_kind error.now) (raw_os_error error.now) may_be_own refusal }
 {
     match (may_be_own, refusal) {
@@ -516,11 +512,7 @@ pub fn contact_found<N: Net + Clock>(
     };
     match reached {
         Ok(text) => Ok(text),
-        Err(fault) => Err(blamed(
-            net,
-            lookup.addresses(),
-            fault_after(waited, fault),
-        )),
+        Err(fault) => Err(blamed(net, lookup.addresses(), fault_after(waited, fault))),
     }
 }
 

@@ -34,7 +34,11 @@ fn charged(asked: Duration, passed: Duration) -> Duration
 {
     let over = passed.saturating_sub(asked);
     let allowed = (asked / 8).saturating_add(Duration::from_millis(STALL_MILLIS));
-    if over > allowed { asked } else { passed }
+    if over.saturating_sub(allowed).is_zero() {
+        passed
+    } else {
+        asked
+    }
 }
 
 /// The limit of the first try to connect or to write, by the time left: a quarter, and at most a second. Such a step mostly ends at once, so a
@@ -100,7 +104,7 @@ impl Deadline {
         ensures looks { self.new.looks ≡ self.old.looks }
     {
         self.left = self.left.saturating_sub(charged);
-        if charged < passed {
+        if !passed.saturating_sub(charged).is_zero() {
             self.has_stalled = true;
         }
     }

@@ -1,5 +1,5 @@
 //! Scripts in which an arrow and the reply follow each call.
-use desk_scripts::answer_script;
+use game_commands::answer_script;
 use game_core::{Countdown, Game};
 use ground_rules::load;
 use kif_text::read_all;

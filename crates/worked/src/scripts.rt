@@ -1,7 +1,7 @@
 //! Scripts of Countdown, with their records.
 use crate::holding::holds;
 use crate::script::is_counted_down;
-use desk_scripts::answer_script;
+use game_commands::answer_script;
 use game_core::Countdown;
 use std::test::Fail;
 

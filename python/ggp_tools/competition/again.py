@@ -1,7 +1,9 @@
 """Orders a match to be played again: another match takes its place, and it is kept with its record and the reason."""
 
+from dataclasses import replace
+
 from ggp_tools.competition.files import Refused, held, write_whole
-from ggp_tools.competition.growth import Again, History
+from ggp_tools.competition.growth import Again
 from ggp_tools.competition.history import REASON, again_text
 from ggp_tools.competition.kept import looked_at
 from ggp_tools.competition.plan import Plan, read_plan, schedule_of
@@ -16,6 +18,8 @@ def refuse_match(plan: Plan, referee: Referee, match: str) -> Match:
         raise Refused(f"{plan.folder.schedule} has no match {match}")
     if found.again:
         raise Refused(f"{match} was ordered again already, as {found.again}: {found.reason}")
+    if found.round < len(plan.rounds):
+        raise Refused(f"{match} is of round {found.round}, by which the next one was paired, so it can't be played again")
     if not plan.folder.record(match).exists():
         raise Refused(f"{match} has no record, so `ggp_competition play` plays it")
     _, fault, misfit, _ = next(looked_at(plan, referee, found.game, [found]))
@@ -32,7 +36,7 @@ def order_again(path: str, referee: Referee, match: str, reason: str) -> Match:
         plan = read_plan(path, referee)
         old = refuse_match(plan, referee, match)
         new = plan.next_id()
-        history = History(plan.history.earlier, (*plan.history.again, Again(new, old.id, reason)))
+        history = replace(plan.history, again=(*plan.history.again, Again(new, old.id, reason)))
         schedule = schedule_of(plan.folder, plan.competition, plan.rules, history, len(plan.matches) + 1)
         # The schedule is last: where this is broken off before it, `plan` writes it.
         write_whole(plan.folder.again, again_text(history.again))

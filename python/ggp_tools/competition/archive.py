@@ -1,6 +1,7 @@
 """One archive of a competition, from which anyone can check it: what is in it, how it is written, and how it is checked."""
 
 import concurrent.futures
+import contextlib
 import errno
 import gzip
 import hashlib
@@ -11,25 +12,28 @@ import re
 import tarfile
 import tempfile
 import zlib
-from collections.abc import Iterable, Iterator, Sequence
+from collections.abc import Callable, Iterable, Iterator, Sequence
+from contextlib import AbstractContextManager
 from typing import BinaryIO
 
+from ggp_tools.competition.competition_file import Mistaken, read_competition
 from ggp_tools.competition.described import DIFFERS, IS_SAME, held_records
 from ggp_tools.competition.files import UNFINISHED, Refused, written_whole
 from ggp_tools.competition.history import history_files
-from ggp_tools.competition.kept import MOST_OF_RECORD, PROCESSORS, look_at_records, strangers
+from ggp_tools.competition.kept import PROCESSORS, look_at_records, strangers
 from ggp_tools.competition.known import Known, sum_of_file, sum_or_none
 from ggp_tools.competition.log_faults import faults_of_logs
 from ggp_tools.competition.log_lines import reasons
-from ggp_tools.competition.pages import made_anew
-from ggp_tools.competition.plan import Plan, faults_of_descriptions, read_plan, read_sums, rounds_left, sums_of, sums_text
+from ggp_tools.competition.pages import MOST_LISTED, made_anew
+from ggp_tools.competition.plan import Plan, faults_of_descriptions, key_files, read_plan, read_sums, rounds_left, sums_of, sums_text
 from ggp_tools.descriptions.loading import has_variables
+from ggp_tools.printable import printable
 from ggp_tools.referee import VERSION_LINE, Referee, Unchecked
 from ggp_tools.competition.results import Result, Sums, match_line, read_record
-from ggp_tools.competition.schedule import schedule_text
+from ggp_tools.competition.schedule import MOST_MATCHES, schedule_text
 from ggp_tools.competition.table import tables_of
 from ggp_tools.competition.table_text import TABLE_FILES, in_order, table_files, without_record
-from ggp_tools.competition.tar_members import NoTar, copied, members
+from ggp_tools.competition.tar_members import Member, NoTar, copied, members
 from ggp_tools.records.facts import Exchanges, broken_answers, record_sum
 
 SUMS, VERSION, HOW, GAPS = "SHA256SUMS", "VERSION", "CHECK.txt", "GAPS.tsv"
@@ -38,8 +42,13 @@ FOLDER_NAME = re.compile(r"[A-Za-z0-9_.-]+(/[A-Za-z0-9_.-]+){0,2}")
 # Where the files of an archive stand. Elsewhere none is looked for, and a folder in the place of a file could not be read.
 FLAT = "rules|games|records|accounts|logs|earlier"
 PLACE = re.compile(rf"({FLAT})/[^/]+|pages/((matches|games|players)/)?[^/]+|(?!({FLAT}|pages)$)[^/]+")
-NOT_PLAIN = re.compile(r"[^\x20-\x7e]")
 MOST_BYTES = 8 << 30
+# A match has a record, an account, a log, a page, and perhaps the file that was replaced before it; a game its description, the rules of the
+# referee and of players, and a page; a player has a page. Of the others there are fewer.
+FILES_OF_MATCH, FILES_OF_GAME, OTHER_FILES = 5, 4, 100
+MOST_FILES = 6 * MOST_MATCHES
+# The files by which they are counted, and the most bytes of each.
+COUNTING, MOST_TO_COUNT = ("schedule.tsv", "competition.toml"), 64 << 20
 # How hard an archive is packed: a harder one takes much longer, and makes it little smaller.
 LEVEL = 6
 # These are faults of this computer, and tell nothing of an archive.
@@ -99,7 +108,7 @@ def matches_text(plan: Plan, results: Iterable[Result], known: Known | None = No
     descriptions = sums_of(path) if path.is_file() else {}
     for result in results:
         match, game = result.match.id, result.match.game
-        record, log = plan.folder.read_record(match, MOST_OF_RECORD + 2), plan.folder.read_log(match)
+        record, log = plan.read_record(result.match), plan.folder.read_log(match)
         sums = Sums(record_sum(record), plan.rules[game].sum, descriptions.get(f"{game}.kif"))
         key = known.key(repr((result, sums)).encode(), log) if known else ""
         line = known.get("lines", key) if known else None
@@ -123,7 +132,7 @@ def contents(plan: Plan, referee: Referee, results: list[Result], known: Known |
     folder = plan.folder
     yield "competition.toml", plan.text
     yield "schedule.tsv", folder.schedule
-    for file in history_files(folder):
+    for file in (*history_files(folder), *key_files(plan)):
         yield str(file.relative_to(folder.path)), file
     for file in (folder.rule_sums(), folder.description_sums()):
         yield f"rules/{file.name}", file
@@ -201,10 +210,10 @@ def add(archive: tarfile.TarFile, name: str, data: bytes | pathlib.Path) -> None
     archive.addfile(member, io.BytesIO(data))
 
 
-def unpacked(path: pathlib.Path, room: pathlib.Path) -> pathlib.Path:
-    """Unpacks an archive into an empty folder, and returns the folder of the competition. It takes plain files alone, below one folder,
-    each once, and entries for their folders, as `tar` writes them."""
-    top, size, known = None, 0, set()
+def read_members(path: pathlib.Path, file_of: Callable[[Member], AbstractContextManager[BinaryIO]]) -> str:
+    """Reads an archive to its end, writes each file into the one that is given for it, and returns the folder of the competition. It takes
+    plain files alone, below one folder, each once, and entries for their folders, as `tar` writes them."""
+    top, size, known = "", 0, set()
     try:
         with gzip.open(path) as stream:
             for member in members(stream):
@@ -220,15 +229,65 @@ def unpacked(path: pathlib.Path, room: pathlib.Path) -> pathlib.Path:
                 if parts[0] != top:
                     raise Spoilt(f"{member.name!r} is not below {top}")
                 known.add(member.name)
-                if member.is_folder():
-                    continue  # Each folder is made with its first file.
-                with new_file(room, member.name) as file:
-                    copied(stream, member, file)
+                # Each folder is made with its first file.
+                if not member.is_folder():
+                    with file_of(member) as file:
+                        copied(stream, member, file)
     except (NoTar, EOFError, zlib.error, gzip.BadGzipFile) as why:
         raise Spoilt(f"it can't be unpacked: {why}") from None
     if not top:
         raise Spoilt("it is empty")
-    return room / top
+    return top
+
+
+class Counted:
+    """The files of an archive, as they are counted before any of them is written: its schedule says how many there may be."""
+
+    def __init__(self) -> None:
+        self.count, self.most, self.found = 0, MOST_FILES, {}
+
+    @contextlib.contextmanager
+    def file_of(self, member: Member) -> Iterator[BinaryIO]:
+        """Gives the file for the bytes of a member: of most members they are lost."""
+        name, self.count = member.name.partition("/")[2], self.count + 1
+        self.refuse_many()
+        if name not in COUNTING:
+            yield Nowhere()
+            return
+        if member.size > MOST_TO_COUNT:
+            raise Spoilt(f"{member.name!r} has more than {MOST_TO_COUNT:,} bytes")
+        self.found[name] = io.BytesIO()
+        yield self.found[name]
+        if len(self.found) == len(COUNTING):
+            self.most = self.most_files(*(self.found[name].getvalue() for name in COUNTING))
+            self.refuse_many()
+
+    def refuse_many(self) -> None:
+        if self.count > self.most:
+            raise Spoilt(f"it has more than {self.most:,} files, and the matches of its schedule, its games and its players have no more")
+
+    def most_files(self, schedule: bytes, competition: bytes) -> int:
+        """Returns how many files the matches, the games and the players have at most."""
+        try:
+            asked = read_competition(competition)
+        except Mistaken:
+            # The file is refused by its line, once it is unpacked.
+            return self.most
+        rows = schedule.count(b"\n")
+        return FILES_OF_MATCH * rows + rows // MOST_LISTED + FILES_OF_GAME * len(asked.games) + len(asked.players) + OTHER_FILES
+
+
+class Nowhere(io.RawIOBase):
+    """A file that keeps nothing."""
+
+    def write(self, data: bytes) -> int:
+        return len(data)
+
+
+def unpacked(path: pathlib.Path, room: pathlib.Path) -> pathlib.Path:
+    """Unpacks an archive into an empty folder, and returns the folder of the competition."""
+    read_members(path, Counted().file_of)
+    return room / read_members(path, lambda member: new_file(room, member.name))
 
 
 def new_file(room: pathlib.Path, name: str) -> BinaryIO:
@@ -277,7 +336,7 @@ def faults_of_files(folder: pathlib.Path, plan: Plan, results: list[Result], wan
             yield f"pages/{name} does not follow from the records"
     # Archives that were published without a journal have none.
     known = {SUMS, VERSION, HOW, "competition.toml", "schedule.tsv", plan.folder.journal.name, *wanted}
-    known |= {str(file.relative_to(plan.folder.path)) for file in history_files(plan.folder)}
+    known |= {str(file.relative_to(plan.folder.path)) for file in (*history_files(plan.folder), *key_files(plan))}
     known |= {f"rules/{sums.name}" for sums in (plan.folder.rule_sums(), plan.folder.description_sums())}
     for game in plan.competition.games:
         known |= {f"games/{game.name}.kif", *(f"rules/{file.name}" for file in plan.folder.rule_files(game))}
@@ -298,7 +357,7 @@ def faults_of_matches(plan: Plan, referee: Referee) -> tuple[list[Result], list[
     found += [f"{match.id}: it has no record" for match in wanted if match.id not in results and match.id not in faults]
     found += [f"{match.id}: its log is missing" for match in wanted if not plan.folder.has_log(match.id)]
     found += [f"records/{name}: it is of no match of the schedule" for name in strangers(plan)]
-    found += faults_of_logs(plan, in_order(plan, results))
+    found += faults_of_logs(plan, in_order(plan, results), plan.folder.whole_log)
     return in_order(plan, results), found
 
 
@@ -307,11 +366,6 @@ def faults_of_places(folder: pathlib.Path) -> Iterator[str]:
     for name in files_below(folder):
         if not PLACE.fullmatch(name):
             yield f"{name} is nothing of this competition"
-
-
-def plain(words: str) -> str:
-    """Returns words of an archive as they may reach a terminal: what is no printable ASCII becomes a question mark."""
-    return NOT_PLAIN.sub("?", words)
 
 
 def faults_of_words(folder: pathlib.Path) -> Iterator[str]:
@@ -332,7 +386,7 @@ def check_archive(path: pathlib.Path, referee: Referee) -> tuple[list[str], str]
         if why.errno not in SHORTAGES:
             raise
         raise Unchecked(f"the archive can't be checked in {tempfile.gettempdir()}: {why.strerror}") from None
-    return list(map(plain, faults)), said
+    return list(map(printable, faults)), said
 
 
 def held_side_by_side(file: pathlib.Path, records: Sequence[bytes]) -> list[str]:

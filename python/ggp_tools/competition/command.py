@@ -9,7 +9,7 @@ from collections.abc import Callable, Iterable
 
 from ggp_tools import VERSION
 from ggp_tools.competition.again import order_again
-from ggp_tools.competition.archive import TooLarge, check_archive, matches_text, own_files, plain, publish
+from ggp_tools.competition.archive import TooLarge, check_archive, matches_text, own_files, publish
 from ggp_tools.competition.files import Refused, held, write_whole
 from ggp_tools.competition.game import add_game, run_game
 from ggp_tools.competition.kept import look_at_records
@@ -26,6 +26,7 @@ from ggp_tools.competition.serving import add_serve, run_serve
 from ggp_tools.competition.table import tables_of
 from ggp_tools.competition.table_text import in_order, table_files, table_text
 from ggp_tools.competition.why import said_of_match
+from ggp_tools.printable import printable
 from ggp_tools.reporting import Journal, Reporter, ready_streams, say
 
 MOST_AT_ONCE = 1_024
@@ -93,9 +94,11 @@ def arguments(words: list[str]) -> argparse.Namespace:
 
 def write_matches(plan: Plan, results: list[Result], known: Known | None = None) -> None:
     """Writes matches.jsonl. Says which matches have no log, and so no times."""
-    for result in results:
-        if not plan.folder.has_log(result.match.id):
-            print(f"ggp_competition: {result.match.id} counts without its times: its log is missing", file=sys.stderr)
+    lacking = [result.match.id for result in results if not plan.folder.has_log(result.match.id)]
+    if lacking[1:]:
+        print(f"ggp_competition: {len(lacking):,} matches count without their times, {lacking[0]} to {lacking[-1]}: their logs are missing", file=sys.stderr)
+    elif lacking:
+        print(f"ggp_competition: {lacking[0]} counts without its times: its log is missing", file=sys.stderr)
     write_whole(plan.folder.matches, matches_text(plan, results, known))
 
 
@@ -254,7 +257,7 @@ def run_held_publish(asked: argparse.Namespace, referee: Referee) -> int:
     elif left and not asked.gaps:
         faults = [f"{left} of {left + len(plan.rounds)} rounds are not planned yet; with `--gaps` the others are"]
     faults = faults or list(faults_of_descriptions(plan, plan.folder.description, f", and {WRITES}"))
-    faults = faults or [f"{fault}: without the log the match counts too" for fault in faults_of_logs(plan, results)]
+    faults = faults or [f"{fault}: without the log the match counts too" for fault in faults_of_logs(plan, results, plan.folder.read_log)]
     if not faults:
         write_matches(plan, results, known)
         try:
@@ -270,7 +273,7 @@ def run_held_publish(asked: argparse.Namespace, referee: Referee) -> int:
 def run_why(asked: argparse.Namespace, referee: Referee) -> int:
     for line in said_of_match(read_plan(asked.folder, referee), asked.match, asked.player):
         # The folder may come from an archive, whose journal and logs have any bytes.
-        say(plain(line))
+        say(printable(line))
     return 0
 
 

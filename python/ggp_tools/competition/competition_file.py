@@ -27,13 +27,15 @@ INSTANTIATING, MOST_INSTANTIATING = 60, 1_000_000
 ROUND_KINDS = SWISS, KNOCKOUT = "swiss", "knockout"
 KINDS = ("round_robin", "gauntlet", "schedule", *ROUND_KINDS)
 ABSENT = ("leave", "play")
+# How the ids of the matches are made.
+IDS = COUNTED_IDS, RANDOM_IDS = "counted", "random"
 # What the standings are ordered by.
 ORDERS = BY_GOALS, BY_POINTS = "goals", "points"
 # What START carries: the rules that the referee plays, or the description that they were made from.
 PLAYER_RULES = ("ground", "variables")
 # Keys that had another name before version 0.2.0, by that name.
 RENAMED = {"told": "player_rules"}
-ROOT_KEYS = ("name", "start", "play", "strikes", "tries", "wait", "info", "absent", "forfeit", "order", "hosts", "form", "games", "players")
+ROOT_KEYS = ("name", "start", "play", "strikes", "tries", "wait", "info", "absent", "forfeit", "order", "ids", "hosts", "form", "games", "players")
 
 
 @dataclass(frozen=True)
@@ -133,6 +135,7 @@ class Competition:
     absent: str
     forfeit: bool
     order: str
+    ids: str
     hosts: tuple[Host, ...]
     form: Form
     games: tuple[Game, ...]
@@ -395,6 +398,7 @@ def read_competition(data: bytes) -> Competition:
         root.word("absent", ABSENT, "leave"),
         root.flag("forfeit"),
         root.word("order", ORDERS, BY_GOALS),
+        root.word("ids", IDS, COUNTED_IDS),
         hosts_of(root),
         form_of(root, games, players),
         tuple(games),

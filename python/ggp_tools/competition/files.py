@@ -9,6 +9,8 @@ import stat
 from collections.abc import Iterator
 from typing import TYPE_CHECKING, BinaryIO
 
+from ggp_tools.competition.log_lines import published
+
 if TYPE_CHECKING:
     from ggp_tools.competition.competition_file import Game
 
@@ -116,13 +118,26 @@ def drop_unfinished(folder: pathlib.Path) -> None:
             file.unlink(missing_ok=True)
 
 
+def new_file(path: str | pathlib.Path) -> BinaryIO:
+    """Opens a file of an open match to be written. Others on this computer, who may play it, can't read it: it has what players answer."""
+    return open(path, "wb", buffering=0, opener=lambda name, flags: os.open(name, flags, 0o600))
+
+
 def opened_file(path: str | pathlib.Path) -> BinaryIO:
-    """Opens a file to be read, and nothing else: a pipe would hold up the reader until somebody writes into it."""
+    """Opens a regular file to be read, and nothing else: a pipe would hold up the reader until somebody writes into it."""
     found = os.open(path, os.O_RDONLY | os.O_NONBLOCK | os.O_CLOEXEC)
-    if not stat.S_ISREG(os.fstat(found).st_mode):
+    kind = os.fstat(found).st_mode
+    if not stat.S_ISREG(kind):
         os.close(found)
-        raise OSError(errno.EINVAL, "it is no file", str(path))
+        code = errno.EISDIR if stat.S_ISDIR(kind) else errno.EINVAL
+        raise OSError(code, os.strerror(code) if stat.S_ISDIR(kind) else "it is not a regular file", str(path))
     return open(found, "rb")
+
+
+def file_bytes(path: str | pathlib.Path, most: int = -1) -> bytes:
+    """Returns the bytes of a regular file, or so many of them."""
+    with opened_file(path) as file:
+        return file.read(most)
 
 
 class Folder:
@@ -134,6 +149,8 @@ class Folder:
         self.schedule = self.path / "schedule.tsv"
         # competition.toml as it was when `plan` read it last, the files that were planned by before, and the matches ordered again.
         self.planned, self.earlier, self.again = self.path / "planned.toml", self.path / "earlier", self.path / "again.tsv"
+        # What the ids of the matches follow from, if they are not to be guessed.
+        self.key = self.path / "ids.key"
         self.rules, self.open = self.path / "rules", self.path / "open"
         self.records, self.accounts, self.logs = (self.path / name for name in ("records", "accounts", "logs"))
         self.matches, self.pages = self.path / "matches.jsonl", self.path / "pages"
@@ -169,11 +186,6 @@ class Folder:
     def record(self, match: str) -> pathlib.Path:
         return self.records / f"{match}.json"
 
-    def read_record(self, match: str, most: int) -> bytes:
-        """Returns at most so many bytes of a match's record."""
-        with opened_file(self.record(match)) as file:
-            return file.read(most)
-
     def account(self, match: str) -> pathlib.Path:
         return self.accounts / f"{match}.txt"
 
@@ -183,21 +195,21 @@ class Folder:
     def has_log(self, match: str) -> bool:
         return self.log(match).is_file()
 
+    def whole_log(self, match: str) -> bytes:
+        """Returns the log of a match. If it is missing it is empty: the match counts all the same, and its times are unknown."""
+        return file_bytes(self.log(match)) if self.has_log(match) else b""
+
     def read_log(self, match: str) -> bytes:
-        """Returns the log of a match. Where it is missing it is empty: the match counts all the same, and its times are unknown."""
-        return self.log(match).read_bytes() if self.has_log(match) else b""
+        """Returns the log of a match as it is published."""
+        return published(self.whole_log(match))
 
     def read_lines_of_log(self, match: str, most: int) -> tuple[bytes, bool]:
         """Returns so many bytes of a match's log at most, as whole lines, and whether there is more. When it ended is told all the same:
         that stands at the end."""
-        if not self.has_log(match):
-            return b"", False
-        with opened_file(self.log(match)) as file:
-            data = file.read(most + 1)
-            if len(data) <= most:
-                return data, False
-            file.seek(-min(most, END_OF_LOG), os.SEEK_END)
-            last = [line for line in file.read(END_OF_LOG).splitlines(keepends=True)[1:] if line.startswith(b"ended ")]
+        data = self.read_log(match)
+        if len(data) <= most:
+            return data, False
+        last = [line for line in data[-END_OF_LOG:].splitlines(keepends=True)[1:] if line.startswith(b"ended ")]
         return data[: data.rfind(b"\n", 0, most) + 1] + b"".join(last), True
 
     def must_be_text(self) -> None:
@@ -208,11 +220,14 @@ class Folder:
             raise Refused(f"{self.path.absolute()}: the path of a competition has to be UTF-8, since the referee takes no other") from None
 
     def make(self, *folders: pathlib.Path) -> None:
-        """Makes folders that are not there, so that they last as long as what is written into them."""
+        """Makes folders that are not there, so that they last as long as what is written into them. Only their owner reads that of open
+        matches."""
         for place in (self.path, *folders):
             if not place.is_dir():
                 place.mkdir(parents=True, exist_ok=True)
                 sync(place.parent)
+            if place == self.open:
+                place.chmod(0o700)
 
     def drop_unfinished(self) -> None:
         """Takes away what a write that was broken off has left. Below the folder nobody writes but who holds it."""

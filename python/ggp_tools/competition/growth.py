@@ -39,17 +39,18 @@ class Again:
 @dataclass(frozen=True)
 class History:
     """The files by which a competition was planned before, each with the number of matches that were planned when the next one replaced
-    it, and the matches that were ordered again."""
+    it, the matches that were ordered again, and the key that the ids of the matches follow from, if they are not to be guessed."""
 
     earlier: tuple[tuple[int, Competition], ...] = ()
     again: tuple[Again, ...] = ()
+    key: bytes = b""
 
 
 def shape(competition: Competition) -> tuple[object, ...]:
     """Returns all of a competition that its schedule follows from."""
     form, games = competition.form, [(game.name, game.start, game.play) for game in competition.games]
     names = [player.name for player in competition.players]
-    return competition.name, form.kind, form.rounds, form.one, [line.text.split() for line in form.lines], games, names
+    return competition.name, competition.ids, form.kind, form.rounds, form.one, [line.text.split() for line in form.lines], games, names
 
 
 def refuse_unchanged(history: History, competition: Competition) -> None:
@@ -61,7 +62,7 @@ def refuse_unchanged(history: History, competition: Competition) -> None:
 
 def refuse_changes(before: Competition, after: Competition) -> None:
     """Refuses what can't change any more once matches were played, by its name."""
-    said = [("name", before.name, after.name), ("form.kind", before.form.kind, after.form.kind), ("strikes", before.strikes, after.strikes)]
+    said = [("name", before.name, after.name), ("ids", before.ids, after.ids), ("form.kind", before.form.kind, after.form.kind), ("strikes", before.strikes, after.strikes)]
     if is_by_rounds(before):
         # Who meets whom in later rounds follows from these too.
         said += [("forfeit", before.forfeit, after.forfeit), ("the number of games", len(before.games), len(after.games))]
@@ -112,7 +113,7 @@ class Growing:
     """A schedule as it grows, where results are looked up by their matches."""
 
     def __init__(self, history: History, roles: Mapping[str, int], result_of: ResultOf) -> None:
-        self.roles, self.result_of, self.width = roles, result_of, 0
+        self.roles, self.result_of, self.width, self.key = roles, result_of, 0, history.key
         self.matches: list[Match] = []
         self.places: dict[str, int] = {}
         self.again = {order.match: order for order in history.again}
@@ -158,7 +159,7 @@ class Growing:
         self.matches.append(match)
 
     def next_id(self, competition: Competition) -> str:
-        return id_of(competition, len(self.matches) + 1, self.width)
+        return id_of(competition, len(self.matches) + 1, self.width, self.key)
 
     def add_again(self, competition: Competition, until: Until) -> None:
         """Adds the matches that were ordered again at this point."""

@@ -4,13 +4,14 @@ matches that were planned when the next one replaced it, and `again.tsv` the mat
 import re
 from pathlib import Path
 
-from ggp_tools.competition.competition_file import Competition, Mistaken, read_competition, mistake_lines
-from ggp_tools.competition.files import UNFINISHED, Folder, Refused
+from ggp_tools.competition.competition_file import RANDOM_IDS, Competition, Mistaken, read_competition, mistake_lines
+from ggp_tools.competition.files import UNFINISHED, Folder, Refused, file_bytes
 from ggp_tools.competition.growth import Again, History
 
 HEAD = b"match\tinstead of\treason\n"
 LINE = re.compile(rb"([A-Za-z0-9_.-]{1,60})\t([A-Za-z0-9_.-]{1,60})\t([\x20-\x7e]{1,200})\n")
 REASON = re.compile(r"(?! )[\x20-\x7e]{1,200}(?<! )")
+KEY = re.compile(rb"[0-9a-f]{32}\n")
 EARLIER = re.compile(r"([1-9][0-9]{0,5})\.toml")
 
 
@@ -23,7 +24,7 @@ def again_text(orders: tuple[Again, ...]) -> bytes:
 def read_again(folder: Folder) -> tuple[Again, ...]:
     if not folder.again.exists():
         return ()
-    text = folder.again.read_bytes()
+    text = file_bytes(folder.again)
     lines = [LINE.fullmatch(line) for line in text.removeprefix(HEAD).splitlines(keepends=True)]
     found = tuple(Again(*(word.decode("ascii") for word in line.groups())) for line in lines if line)
     if not lines or again_text(found) != text or len({order.match for order in found}) != len(found):
@@ -50,8 +51,20 @@ def earlier_files(folder: Folder) -> list[Path]:
 
 def read_history(folder: Folder) -> History:
     """Returns how a competition came to its schedule."""
-    earlier = tuple((int(file.stem), competition_of_file(file, file.read_bytes())) for file in earlier_files(folder))
+    earlier = tuple((int(file.stem), competition_of_file(file, file_bytes(file))) for file in earlier_files(folder))
     return History(earlier, read_again(folder))
+
+
+def read_key(folder: Folder, competition: Competition) -> bytes | None:
+    """Returns the key that the ids of the matches follow from: an empty one if they are counted, none if its file is not there."""
+    if competition.ids != RANDOM_IDS:
+        return b""
+    if not folder.key.exists():
+        return None
+    key = file_bytes(folder.key)
+    if not KEY.fullmatch(key):
+        raise Refused(f"{folder.key} is not what `ggp_competition plan` writes")
+    return key
 
 
 def history_files(folder: Folder) -> list[Path]:

@@ -6,39 +6,35 @@ import itertools
 import json
 import os
 import pathlib
-import re
-from collections.abc import Iterable, Iterator, Sequence
+import threading
+from collections.abc import Iterable, Iterator, Mapping, Sequence
 from typing import TYPE_CHECKING
 
+from ggp_tools.competition.account_faults import fault_of_account
 from ggp_tools.competition.competition_file import Competition
-from ggp_tools.competition.files import Folder, write_whole
+from ggp_tools.competition.files import Folder, file_bytes, write_whole
 from ggp_tools.competition.known import Known, sum_or_none
 from ggp_tools.competition.results import Result, fault_of_record, read_record, result_of, result_of_values, values_of
 from ggp_tools.competition.schedule import Match
+from ggp_tools.records.lengths import LONGEST_ACCOUNT, USUAL_RECORD, longest_record, without_states
 from ggp_tools.referee import Referee, Unchecked, is_text_list
 
 if TYPE_CHECKING:
     from ggp_tools.competition.plan import Plan
+    from ggp_tools.descriptions.loading import Rules
 
 # So many matches are checked together, and so many bytes of their files unless one match has more, since all of these are in memory.
 TOGETHER, BYTES_TOGETHER = 250, 1 << 25
 # So many batches are checked side by side: all of these are in memory.
 PROCESSORS = min(8, len(os.sched_getaffinity(0)))
-# What the referee reads of a record, before its line's end, and of an account.
-MOST_OF_RECORD, MOST_OF_ACCOUNT = 16_777_216, 268_435_456
-# A line of an account: its line of the desk, the word of its call, and the match.
-CALL = re.compile(rb"^[0-9]+\t[a-z]+ ([^ \t\n]+)[ \t]", re.MULTILINE)
-
-
-def read_at_most(path: pathlib.Path, most: int) -> bytes:
-    """Returns the bytes of a file; of one that has more than these, no more than show it."""
-    with open(path, "rb") as file:
-        return file.read(most + 1)
+# Of batches with more bytes one is checked at a time.
+LARGE = threading.Lock()
 
 
 def read_or_none(path: pathlib.Path, most: int) -> bytes | None:
+    """Returns the bytes of a file; of one that has more than these, no more than show it."""
     try:
-        return read_at_most(path, most)
+        return file_bytes(path, most + 1)
     except FileNotFoundError:
         return None
 
@@ -51,7 +47,7 @@ def batches(folder: Folder, matches: Iterable[Match]) -> Iterator[list[Match]]:
     """Gives the matches in order, so many at a time as are checked together."""
     batch, size = [], 0
     for match in matches:
-        more = min(size_of(folder.record(match.id)), MOST_OF_RECORD) + min(size_of(folder.account(match.id)), MOST_OF_ACCOUNT)
+        more = size_of(folder.record(match.id)) + size_of(folder.account(match.id))
         if batch and (len(batch) == TOGETHER or size + more > BYTES_TOGETHER):
             yield batch
             batch, size = [], 0
@@ -61,30 +57,26 @@ def batches(folder: Folder, matches: Iterable[Match]) -> Iterator[list[Match]]:
         yield batch
 
 
-def is_of_one_match(account: bytes) -> bool:
-    """Returns whether each line of an account is a call on the match of its first line. A call on another one would leave no trace in the
-    record."""
-    called = CALL.findall(account)
-    return len(called) == account.count(b"\n") > 0 and len(set(called)) == 1
+def most_of_record(rules: bytes, size: int) -> int:
+    """Returns how many bytes a record may have of a game with these rules. Of one that has so many bytes or fewer that is not counted."""
+    return USUAL_RECORD if size <= USUAL_RECORD else longest_record(rules)
 
 
-def fault_of_files(record: bytes, account: bytes | None) -> str | None:
-    """Returns why files are not even handed to the referee, or none. What it would skip, or end at, is here."""
+def fault_of_files(record: bytes, account: bytes | None, rules: bytes) -> str | None:
+    """Returns why files are not even passed to the referee, or none. This finds all that the referee would skip, or end at."""
     if account is None:
         return "its account is missing"
-    if len(account) > MOST_OF_ACCOUNT:
-        return f"its account has more than {MOST_OF_ACCOUNT:,} bytes"
+    if len(account) > LONGEST_ACCOUNT:
+        return f"its account has more than {LONGEST_ACCOUNT:,} bytes"
     if not account.endswith(b"\n"):
         return "its account is cut off"
-    if not is_of_one_match(account):
-        return "its account is not of one match alone"
-    if len(record) - 1 > MOST_OF_RECORD:
-        return f"its record has more than {MOST_OF_RECORD:,} bytes"
+    if len(record) - 1 > (most := most_of_record(rules, len(record) - 1)):
+        return f"its record has more than {most:,} bytes, and no match of its game has so many"
     if record.count(b"\n") != 1 or not record.endswith(b"\n"):
         return "its record is not one line"
     if not record.startswith(b"{"):
         return "its record does not begin with `{`"
-    return None
+    return fault_of_account(account)
 
 
 def has_shape(record: object, roles: int) -> bool:
@@ -99,10 +91,11 @@ def has_shape(record: object, roles: int) -> bool:
     return all(is_text_list(turn) and len(turn) == roles for turn in errors)
 
 
-def result_in_file(folder: Folder, competition: Competition, match: Match) -> Result | None:
+def result_in_file(folder: Folder, competition: Competition, rules: Mapping[str, "Rules"], match: Match) -> Result | None:
     """Returns what the record of a match says, where it has one. Whether it counts is looked at later: then it is verified."""
+    file = folder.record(match.id)
     try:
-        record = json.loads(read_at_most(folder.record(match.id), MOST_OF_RECORD + 1))
+        record = json.loads(without_states(file_bytes(file, most_of_record(rules[match.game].text, size_of(file)) + 2)))
     except (FileNotFoundError, ValueError, RecursionError):
         return None
     if not has_shape(record, len(match.players)) or "phase" not in record or fault_of_record(record, match, competition.strikes):
@@ -144,12 +137,15 @@ def looked_at(plan: "Plan", referee: Referee, game: str, matches: list[Match], k
     """Gives for each of these matches of a game, which have records, its result, or why it does not count: because its files are wrong,
     or though they are right, since they are of another match. Where the referee can't tell, this ends with `Unchecked`. A result that is
     known, of the same files by the same rules and program, is not looked for again."""
-    records = [read_at_most(plan.folder.record(match.id), MOST_OF_RECORD + 1) for match in matches]
-    accounts = [read_or_none(plan.folder.account(match.id), MOST_OF_ACCOUNT) for match in matches]
+    rules = plan.rules[game].text
+    most = most_of_record(rules, max(size_of(plan.folder.record(match.id)) for match in matches))
+    records = [file_bytes(plan.folder.record(match.id), most + 2) for match in matches]
+    accounts = [read_or_none(plan.folder.account(match.id), LONGEST_ACCOUNT) for match in matches]
     judge = judge_of(plan, referee, game) if known else None
     keys = [known.key(*judge, match_bytes(match), record, account or b"") for match, record, account in zip(matches, records, accounts)] if judge else []
     values = [known.get("results", key) for key in keys] or [None] * len(matches)
-    faults = list(map(fault_of_files, records, accounts))
+    # What is known was of files without a fault.
+    faults = [value is None and fault_of_files(*files, rules) or None for value, *files in zip(values, records, accounts)]
     whole = [at for at, fault in enumerate(faults) if not fault and values[at] is None]
     if whole:
         for at, fault in zip(whole, judged(plan, referee, game, [records[at] for at in whole], [accounts[at] for at in whole])):
@@ -157,7 +153,7 @@ def looked_at(plan: "Plan", referee: Referee, game: str, matches: list[Match], k
     # Where the rules or the program are others by now, nobody knows by which it was judged.
     is_same = bool(judge) and judge == judge_of(plan, referee, game)
     for at, match in enumerate(matches):
-        if values[at] is not None and not faults[at]:
+        if values[at] is not None:
             yield match, None, None, result_of_values(values[at], match, plan.competition.forfeit)
             continue
         found = found_of(plan, match, records[at], faults[at])
@@ -175,6 +171,13 @@ def look_at_records(plan: "Plan", referee: Referee, known: Known | None = None) 
         raise Unchecked("records and accounts can't be checked: out of memory") from None
 
 
+def looked_at_batch(plan: "Plan", referee: Referee, game: str, batch: list[Match], known: Known | None) -> list[tuple]:
+    """Returns what `looked_at` gives, of one large match at a time."""
+    sizes = (size_of(file(match.id)) for match in batch for file in (plan.folder.record, plan.folder.account))
+    with LARGE if sum(sizes) > BYTES_TOGETHER else contextlib.nullcontext():
+        return list(looked_at(plan, referee, game, batch, known))
+
+
 def all_looked_at(plan: "Plan", referee: Referee, known: Known | None) -> tuple[dict, dict, dict]:
     results, faults, misfits, by_game = {}, {}, {}, {}
     for match in plan.matches:
@@ -183,7 +186,7 @@ def all_looked_at(plan: "Plan", referee: Referee, known: Known | None) -> tuple[
     parts = [(game, batch) for game, matches in by_game.items() for batch in batches(plan.folder, matches)]
     # The referee takes most of the time, in a process for each.
     with concurrent.futures.ThreadPoolExecutor(PROCESSORS) as at_once:
-        for found in at_once.map(lambda part: list(looked_at(plan, referee, *part, known)), parts):
+        for found in at_once.map(lambda part: looked_at_batch(plan, referee, *part, known), parts):
             for match, fault, misfit, result in found:
                 if fault:
                     faults[match.id] = fault

@@ -9,7 +9,7 @@ import os
 import pathlib
 import sys
 
-from ggp_tools.competition.files import write_whole
+from ggp_tools.competition.files import opened_file, write_whole
 from ggp_tools.descriptions.kept import cache
 
 PACKAGE = pathlib.Path(__file__).resolve().parents[1]
@@ -28,7 +28,7 @@ def sum_of_parts(*parts: bytes) -> str:
 
 
 def sum_of_file(path: str | pathlib.Path) -> str:
-    with open(path, "rb") as file:
+    with opened_file(path) as file:
         return hashlib.file_digest(file, "sha256").hexdigest()
 
 

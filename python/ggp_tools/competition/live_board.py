@@ -111,7 +111,7 @@ class LiveBoard:
 
     def follow(self, until: float) -> bool:
         """Goes on until all lines are followed, or until a moment. Returns whether all are."""
-        texts, is_other = self.tail.lines() if self.tail.has_changed() else ([], False)
+        texts, is_other = self.tail.lines()
         if is_other:
             self.begin()
         self.lines.extend(line for line in map(log_line, texts) if line and line.is_of(self.match) and line.role < len(self.game.roles))
@@ -156,8 +156,9 @@ class LiveBoard:
         return 0 < self.strikes <= count
 
     def have_all_answered(self) -> bool:
-        """Returns whether each role has answered that is not known to be retired."""
-        return all(role in self.answers or self.is_enough(least) for role, (least, _) in enumerate(self.rows))
+        """Returns whether each role has answered that is not known to be retired. By a state that may be another one it is not known: a
+        turn that is open must not be shown."""
+        return all(role in self.answers or self.is_enough(least) and not self.doubt() for role, (least, _) in enumerate(self.rows))
 
     def compare(self, moves: list[Expression] | None) -> None:
         """Looks that the moves that a message carries are those of the last turn. Where the log left open what an answer was, they tell."""

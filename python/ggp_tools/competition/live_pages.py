@@ -36,16 +36,18 @@ def since_text(moment: float) -> str:
 
 
 def awaited_text(seen: Seen, up: str) -> str:
-    """Returns whom an open match waits for, and for what."""
+    """Returns what an open match waits for, and once half of the clock is over for whom: how fast a player answers may tell what."""
     if seen.stage in STAGES:
         return STAGES[seen.stage]
     found, unsure = seen.awaited()
+    what = "the end" if seen.is_ending() else f"turn {seen.turn()}" if seen.turn() else "START"
+    if not found:
+        return ALL_ANSWERED
+    if not seen.is_late:
+        return f"the answers to {what}"
     doubts = {role: " (if it is not retired)" if seen.turn() else " (if it has not answered)" for role in unsure}
-    doubts |= {role: " (for the next turn, if the others are retired)" for role in unsure if seen.retiring.missing() and role in seen.retiring.answers}
     players = ", ".join(f"{player_link(seen.match.players[role], up)}{doubts.get(role, '')}" for role in found)
-    if seen.is_ending():
-        return f"{players}: the end" if found else ALL_ANSWERED
-    return f"{players}: {f'turn {seen.turn()}' if seen.turn() else 'START'}"
+    return f"{players}: {what}"
 
 
 def status_text(seen: Seen, up: str) -> str:
@@ -107,11 +109,12 @@ def trouble_part(trouble: str) -> Part:
     return Part("trouble", f'<p class="odd">{html.escape(trouble)}</p>' if trouble else "")
 
 
-def now_part(reader: Reader, waiting: int) -> Part:
+def now_part(reader: Reader, waiting: int, given_up: int) -> Part:
     """Returns how many matches are open, and whether they are played at all."""
     run = "" if reader.is_held else " No run is at work in the folder, so what is open goes on with the next <code>play</code>."
-    count = len(reader.open)
-    said = f"<p>{count} {'match is' if count == 1 else 'matches are'} open, {waiting} {'waits' if waiting == 1 else 'wait'}.{run}</p>"
+    run += f" {len(reader.unread):,} records are still to be read, so the standings lack them." if reader.unread else ""
+    count, lost = len(reader.open), f", {given_up:,} {'was' if given_up == 1 else 'were'} given up" if given_up else ""
+    said = f"<p>{count} {'match is' if count == 1 else 'matches are'} open, {waiting:,} {'waits' if waiting == 1 else 'wait'}{lost}.{run}</p>"
     faults = [f"{name} does not count: {why}" for name, why in list(reader.faults.items())[:QUEUE]]
     lines = [f'<p class="odd">{html.escape(line)}</p>' for line in [*faults, *reader.troubles_of_matches()[:QUEUE]]]
     return Part("now", f"<h2>Now</h2>{said}{''.join(lines)}")
@@ -135,21 +138,36 @@ def replaced_part(replaced: list[tuple[Replaced, int]]) -> Part:
 
 def queue_part(waiting: list[Match]) -> Part:
     """Returns the matches that wait, in the schedule's order, the first ones by name."""
-    if not waiting:
-        return Part("queue", "")
-    rows = [["match", "game", "players"]]
-    rows += [[match.id, link(f"games/{match.game}.html", match.game), html.escape(", ".join(match.players))] for match in waiting[:QUEUE]]
-    more = f'<p class="dim">and {len(waiting) - QUEUE:,} more</p>' if len(waiting) > QUEUE else ""
-    return Part("queue", f"<h2>Waiting matches</h2><p>Each begins once its players are free.</p>{table(rows, {0, 1, 2})}{more}")
+    return matches_part("queue", "Waiting matches", "Each begins once its players are free.", [(match, "") for match in waiting])
+
+
+def given_up_part(given_up: list[tuple[Match, str]]) -> Part:
+    """Returns the matches that `play` has given up, with the reasons, the first ones by name."""
+    return matches_part("given-up", "Matches that were given up", "The next <code>play</code> plays them.", given_up)
+
+
+def matches_part(name: str, title: str, said: str, found: list[tuple[Match, str]]) -> Part:
+    """Returns a list of matches that are neither open nor over, each with what there is to say of it."""
+    if not found:
+        return Part(name, "")
+    rows = [["match", "game", "players", *["why"] * bool(found[0][1])]]
+    for match, why in found[:QUEUE]:
+        texts = [match.id, link(f"games/{match.game}.html", match.game), html.escape(", ".join(match.players))]
+        rows.append([*texts, *([f'<span class="odd">{html.escape(why)}</span>'] if why else [])])
+    more = f'<p class="dim">and {len(found) - QUEUE:,} more</p>' if len(found) > QUEUE else ""
+    return Part(name, f"<h2>{title}</h2><p>{said}</p>{table(rows, {0, 1, 2, 3}, {3})}{more}")
 
 
 def live_parts(reader: Reader, boards: list[tuple[str, str]], rows: list[tuple[str, str]]) -> PageParts:
     """Returns what the first page says of the matches that are not over."""
-    waiting = reader.waiting()
+    left = reader.waiting()
+    waiting = [match for match in left if match.id not in reader.given_up]
+    given_up = [(match, reader.given_up[match.id]) for match in left if match.id in reader.given_up]
     return [
-        now_part(reader, len(waiting)),
+        now_part(reader, len(waiting), len(given_up)),
         Items("boards", '<div class="boards" id="boards">', tuple(boards), "</div>"),
         rows_part("open", "<h2>Open matches</h2>", OPEN_HEADS, OPEN_LEFT, rows, "No match is open."),
+        given_up_part(given_up),
         replaced_part(reader.last_replaced()),
         queue_part(waiting),
     ]
@@ -174,7 +192,7 @@ def turn_row(turn: Turn) -> tuple[str, str]:
 
 
 def answers_part(seen: Seen) -> Part:
-    """Returns the last answer of each role."""
+    """Returns the last answer of each role in a round that is over."""
     rows = [["player", "message", "what came back", "ms"]]
     for role, line in sorted(seen.last.items()):
         texts = [f"<code>{shown(text)}</code>" for text in (line.message, line.answer)]
@@ -196,7 +214,7 @@ def open_match_parts(seen: Seen, state: str, turn: int, turns: tuple[Turn, ...],
     ]
 
 
-def waiting_match_parts(why: str, head: Part) -> PageParts:
+def waiting_match_parts(fault: str, given_up: str, head: Part) -> PageParts:
     """Returns the page of a match that is neither open nor over."""
-    said = f"Its record does not count: {why}" if why else "It has not begun."
+    said = f"Its record does not count: {fault}" if fault else f"It was given up: {given_up}." if given_up else "It has not begun."
     return [head, Part("now", f"<p>{html.escape(said)}</p>")]

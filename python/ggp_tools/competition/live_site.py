@@ -11,7 +11,7 @@ from dataclasses import dataclass, field
 
 from ggp_tools.competition import live_pages
 from ggp_tools.competition.files import Folder, Refused
-from ggp_tools.competition.live import Reader, Seen
+from ggp_tools.competition.live import Reader, Seen, for_visitors
 from ggp_tools.competition.live_board import LiveBoard, Turn
 from ggp_tools.competition.page_changes import changes, event_text
 from ggp_tools.competition.page_parts import PageParts
@@ -21,10 +21,8 @@ from ggp_tools.competition.player_pages import page_name, standing_of, standing_
 from ggp_tools.competition.results import Result
 from ggp_tools.competition.table import Table, tables_of
 from ggp_tools.competition.table_text import in_order
-from ggp_tools.competition.tail import Tail
 from ggp_tools.ground_games import Game
 from ggp_tools.kif import expressions
-from ggp_tools.records.show import NoRecord
 from ggp_tools.referee import NoReferee, Unchecked
 
 # The tables are computed anew for at most so small a part of the time, and boards are followed for at most so many seconds in a look.
@@ -32,8 +30,6 @@ SHARE, FOLLOW = 10, 0.25
 # A page that nobody looks at any more is kept for a while, and of all pages so many at most; of a page so many changes.
 IDLE, MOST_PAGES, MOST_EVENTS = 30.0, 200, 60
 NAME = "[A-Za-z0-9_.-]+"
-# What stands before the name of a file that is named by its whole path.
-WHOLE_PATH = re.compile(r"(?<![\w./-])/(?:[^\s/]+/)*(?=[^\s/])")
 PATH = re.compile(rf"/(?:(index|matches(?:-[1-9][0-9]{{0,5}})?)|(matches|games)/({NAME})|players/player-({NAME}))\.html")
 
 
@@ -55,9 +51,7 @@ def reason_for_visitors(folder: Folder, why: Exception) -> str:
         words = f"{why.filename or 'a file'}: {why.strerror}"
     else:
         words = str(why.words) if isinstance(why, Refused) else "the program can't be asked for its rules"
-    for place in (folder.path, folder.path.absolute()):
-        words = re.sub(rf"(?<![\w./-]){re.escape(str(place))}/", "", words)
-    return WHOLE_PATH.sub("", words)
+    return for_visitors(folder, words)
 
 
 @dataclass(frozen=True)
@@ -93,8 +87,8 @@ class OpenPage:
 class LiveSite:
     """The pages, and the matches behind them. One thread looks at the folder; others ask for pages, one at a time."""
 
-    def __init__(self, plan: Plan, read_plan: Callable[[], Plan], stamp: tuple | None = None) -> None:
-        self.read_plan, self.changed = read_plan, threading.Condition()
+    def __init__(self, plan: Plan, read_plan: Callable[[], Plan], stamp: tuple | None = None, delay: float = 0.0) -> None:
+        self.read_plan, self.changed, self.delay, self.reader = read_plan, threading.Condition(), delay, None
         # Versions of pages of another run, or of another plan, are none of this one's.
         self.token = f"{time.time_ns():x}"
         self.pages: OrderedDict[str, OpenPage] = OrderedDict()
@@ -102,8 +96,9 @@ class LiveSite:
 
     def begin(self, plan: Plan, stamp: tuple) -> None:
         """Begins with a plan, and with the stamp that its files had before they were read: what was written since then is read again."""
-        self.plan, self.reader, self.site, self.trouble, self.fault = plan, Reader(plan), Site(plan), "", ""
-        self.plan_stamp = stamp
+        self.plan, self.trouble, self.fault, self.plan_stamp = plan, "", "", stamp
+        self.reader = Reader(plan, self.delay, self.reader and self.reader.sights)
+        self.site = Site(plan, written=lambda result: self.reader.identities[result.match.id][2])
         self.names = {player.name for player in plan.competition.players}
         self.games: dict[str, Game] = {}
         self.boards: dict[str, LiveBoard] = {}
@@ -111,7 +106,6 @@ class LiveSite:
         self.rows: dict[str, tuple[int, tuple[str, str]]] = {}
         self.tables: list[Table] = []
         self.results: list[Result] = []
-        self.counted: dict[str, Result] = {}
         self.standing: dict[str, str] = {}
         self.own: dict[str, list[Result]] = {}
         self.tables_version, self.next_tables = -1, 0.0
@@ -158,7 +152,7 @@ class LiveSite:
     def look_at_plan(self) -> None:
         """Begins anew where the competition was planned anew."""
         stamp = plan_stamp(self.plan.folder)
-        if stamp == self.plan_stamp:
+        if stamp == self.plan_stamp or self.delay and any(found and found[1] > self.reader.now() * 1e9 for found in stamp):
             return
         try:
             plan = self.read_plan()
@@ -180,10 +174,6 @@ class LiveSite:
         began = time.monotonic()
         if self.tables_version == self.reader.results_version or began < self.next_tables:
             return
-        for result in list(self.reader.results.values()):
-            # A match that was played again has another result.
-            if self.counted.get(result.match.id) is not result:
-                self.add(result)
         self.results = in_order(self.plan, self.reader.results)
         self.tables = tables_of(self.plan.competition, self.results, self.plan.rounds)
         self.standing = standing_texts(self.tables[0])
@@ -192,14 +182,6 @@ class LiveSite:
         self.tables_version = self.reader.results_version
         ended = time.monotonic()
         self.next_tables = ended + SHARE * (ended - began)
-
-    def add(self, result: Result) -> None:
-        """Has the pages tell of a match. Its record may be another one by now, or be gone."""
-        try:
-            self.site.add(result)
-            self.counted[result.match.id] = result
-        except (OSError, NoRecord) as why:
-            self.reader.refuse(result.match.id, why)
 
     def wanted_boards(self) -> list[Seen]:
         """Returns the open matches whose boards somebody looks at; the others are followed no more."""
@@ -223,7 +205,8 @@ class LiveSite:
             name, left = seen.match.id, max(0.0, ends - time.monotonic())
             board = self.boards.get(name) or self.begin_board(seen)
             board.follow(time.monotonic() + left / (len(wanted) - at))
-            if name not in self.followed or self.followed[name].version != board.version:
+            # What a message of an open turn tells of the turn before it is shown with that turn.
+            if name not in self.followed or not board.answers and self.followed[name].version != board.version:
                 found[name] = Followed(board.version, live_pages.board_html(board), board.turn, tuple(board.turns))
         return found
 
@@ -232,7 +215,7 @@ class LiveSite:
         if not game:
             text = self.plan.rules[seen.match.game].text.decode("latin-1")
             game = self.games[seen.match.game] = Game(expressions(text))
-        board = self.boards[seen.match.id] = LiveBoard(game, seen.match, Tail(seen.tail.path), self.plan.competition.strikes)
+        board = self.boards[seen.match.id] = LiveBoard(game, seen.match, seen.tail.anew(), self.plan.competition.strikes)
         return board
 
     # ---- pages
@@ -263,7 +246,7 @@ class LiveSite:
             return None
         seen = self.reader.open.get(name)
         followed = self.followed.get(name)
-        return (seen.version, followed and followed.version) if seen else ("waits", self.reader.faults.get(name))
+        return (seen.version, followed and followed.version) if seen else ("waits", self.reader.faults.get(name), self.reader.given_up.get(name))
 
     def make(self, path: str) -> tuple[str, PageParts]:
         """Returns the title and the parts of a page that is there."""
@@ -275,8 +258,8 @@ class LiveSite:
         found = PATH.fullmatch(path)
         if found[1] == "index":
             head, rounds, standings, *rest = self.site.first_parts(self.tables, self.results)
-            now, boards, *more = live_pages.live_parts(self.reader, self.board_items(), self.open_rows())
-            return titled(self.plan, ""), [head, now, boards, rounds, standings, more[0], *rest, *more[1:]]
+            now, boards, opened, given_up, *more = live_pages.live_parts(self.reader, self.board_items(), self.open_rows())
+            return titled(self.plan, ""), [head, now, boards, rounds, standings, opened, given_up, *rest, *more]
         if found[1]:
             return titled(self.plan, "all matches"), self.site.all_matches(self.results, found[1])
         if found[4]:
@@ -289,7 +272,8 @@ class LiveSite:
         roles = self.plan.roles(match.game)
         head = live_pages.match_head(match, self.plan.competition, roles)
         if not seen:
-            return titled(self.plan, match.id), live_pages.waiting_match_parts(self.reader.faults.get(match.id, ""), head)
+            why = self.reader.faults.get(match.id, ""), self.reader.given_up.get(match.id, "")
+            return titled(self.plan, match.id), live_pages.waiting_match_parts(*why, head)
         followed = self.followed.get(match.id, Followed(0, "", 0, ()))
         return titled(self.plan, match.id), live_pages.open_match_parts(seen, followed.state, followed.turn, followed.turns, head, roles)
 
@@ -320,7 +304,7 @@ class LiveSite:
             told, found.parts = changes(found.parts, parts), parts
         if told:
             found.version += 1
-            found.events.append((found.version, event_text(f"{self.token}-{found.version}", told, time.time())))
+            found.events.append((found.version, event_text(f"{self.token}-{found.version}", told, self.reader.now())))
         return bool(told)
 
     def opened(self, path: str) -> OpenPage | None:

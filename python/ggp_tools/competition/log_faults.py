@@ -1,14 +1,16 @@
 """Holds the log of a match against its account: who was asked what, and what came back. Only the log has the times."""
 
 import re
-from collections.abc import Iterator, Sequence
+from collections.abc import Callable, Iterator, Sequence
 from typing import NamedTuple
 
-from ggp_tools.competition.kept import MOST_OF_ACCOUNT, read_at_most
-from ggp_tools.competition.log_lines import MORE, SHOWN
+from ggp_tools.competition.files import file_bytes
+from ggp_tools.competition.log_lines import MORE, SHOWN, STAGE
 from ggp_tools.competition.plan import Plan
 from ggp_tools.competition.results import Result
 from ggp_tools.competition.schedule import Match
+from ggp_tools.printable import message_of
+from ggp_tools.records.lengths import LONGEST_ACCOUNT
 
 LINE = re.compile(r"(?:\S+ )?(\S+) role (\d{1,9}) (\S+) message (\d{1,9}) (.*), \d{1,18} ms")
 # A role is handed a message, and what came back.
@@ -68,15 +70,15 @@ def exchanges(match: Match, account: bytes) -> list[list[Exchange]]:
 
 
 def fault_of_log(match: Match, log: bytes, account: bytes) -> str | None:
-    """Returns which line of a log its account does not say, or none. A line may be missing; what was before a match began again is left."""
-    asked, last, fault = exchanges(match, account), [0] * len(match.players), None
+    """Returns which line of a log its account does not say, or which no log has that is published, or none. A line may be missing."""
+    asked, last = exchanges(match, account), [0] * len(match.players)
     for number, line in enumerate(log.decode("ascii", "replace").splitlines(), 1):
-        if line.startswith("began "):
-            last, fault = [0] * len(match.players), None
         said = LINE.fullmatch(line)
-        if said and not fault and not follows(match, said, asked, last):
-            fault = f"line {number} of its log is not what its account says"
-    return fault
+        if said and not follows(match, said, asked, last):
+            return f"line {number} of its log is not what its account says"
+        if not said and not (STAGE.fullmatch(line) and (number == 1 or not line.startswith("began "))):
+            return f"line {number} of its log is not a line that is published: {message_of(line)}"
+    return None
 
 
 def follows(match: Match, line: re.Match[str], asked: Sequence[Sequence[Exchange]], last: list[int]) -> bool:
@@ -88,9 +90,9 @@ def follows(match: Match, line: re.Match[str], asked: Sequence[Sequence[Exchange
     return asked[role][number - 1].is_said(line[5])
 
 
-def faults_of_logs(plan: Plan, results: Sequence[Result]) -> Iterator[str]:
+def faults_of_logs(plan: Plan, results: Sequence[Result], read_log: Callable[[str], bytes]) -> Iterator[str]:
     """Gives each match that counts whose log is not what its account says."""
     for result in results:
         match = result.match
-        if fault := fault_of_log(match, plan.folder.read_log(match.id), read_at_most(plan.folder.account(match.id), MOST_OF_ACCOUNT)):
+        if fault := fault_of_log(match, read_log(match.id), file_bytes(plan.folder.account(match.id), LONGEST_ACCOUNT)):
             yield f"{match.id}: {fault}"

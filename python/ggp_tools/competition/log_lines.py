@@ -6,8 +6,10 @@ import re
 from dataclasses import dataclass
 
 from ggp_tools.competition.schedule import Match
+from ggp_tools.moments import MOMENT
 
 LINE = re.compile(r"(?:(\d{4}-\d\d-\d\dT\d\d:\d\d:\d\d\.\d{3}Z) )?(\S+) role (\d{1,9}) (\S+) message (\d{1,9}) (\((\w+) .*), (\d{1,18}) ms")
+STAGE = re.compile(rf"(?:began|ended) {MOMENT}|host \S+")
 PARENTHESIS = re.compile(r"[()]")
 SHOWN = 200
 MORE = ".."
@@ -85,6 +87,14 @@ def log_line(text: str) -> LogLine | None:
     if said[end : end + 2] != ": ":
         return None
     return LogLine(found[2], int(found[3]), found[4], int(found[5]), found[7], said[:end], said[end + 2 :], int(found[8]), found[1])
+
+
+def published(log: bytes) -> bytes:
+    """Returns what an archive has of a log: when and where the match began last, its messages since then, and when it ended. No file confirms
+    any other line, neither what a host has said nor what was before its match began again."""
+    begin = log.rfind(b"\nbegan ") + 1
+    lines = log[begin:].decode("ascii", "replace").splitlines()
+    return "".join(f"{line}\n" for line in lines if STAGE.fullmatch(line) or LINE.fullmatch(line)).encode("ascii")
 
 
 def reasons(log: bytes, match: Match) -> dict[tuple[int, int], str]:

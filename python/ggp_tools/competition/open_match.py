@@ -8,15 +8,16 @@ import time
 from collections.abc import Generator
 
 from ggp_tools.competition import described
-from ggp_tools.competition.children import Child, TimedChild
-from ggp_tools.competition.files import PLAYERS, write_whole
+from ggp_tools.competition.children import Child, Limits, TimedChild
+from ggp_tools.competition.files import PLAYERS, file_bytes, write_whole
 from ggp_tools.competition.hosts import CONNECTED, LOST, SILENCE, Hosts, remote_words
-from ggp_tools.competition.kept import fault_of_files, keep
+from ggp_tools.competition.kept import fault_of_files, keep, most_of_record, size_of
 from ggp_tools.competition.plan import Plan
 from ggp_tools.competition.schedule import Match
 from ggp_tools.competition.seats import Seats
 from ggp_tools.competition.timed_lines import LineReader
-from ggp_tools.referee import PROGRAM, Referee, is_no_answer, is_not_lawful, is_not_replayed
+from ggp_tools.records.lengths import LONGEST_ACCOUNT, MOST_TURNS, longest_record
+from ggp_tools.referee import LAWFUL, NO_NAME, PROGRAM, Referee, is_no_answer, is_not_lawful, is_not_replayed
 from ggp_tools.competition.results import fault_of_record, read_record, result_of
 from ggp_tools.moments import moment
 from ggp_tools.reporting import Reporter
@@ -24,6 +25,10 @@ from ggp_tools.reporting import Reporter
 # The referee ends INFO by itself after so many seconds, and soon after that it has said whether it was short of something itself.
 WHOLE, SOON = 10, 1
 THERE = ("available", "ready", "unknown")
+# So many bytes show whether a host was reached, and of a message the log has no more.
+MOST_BEFORE, MOST_OF_MESSAGE = 1 << 20, 1 << 10
+# A match on a host is taken to be lost if nothing was heard of it for so many seconds beyond its longest clock.
+MOST_SILENCE = 120
 # The players of a match that was lost with its host are given so many seconds for ABORT.
 ABORT_SECONDS = 5
 
@@ -75,7 +80,7 @@ class OpenMatch:
 
     def go(self) -> Steps:
         """The steps of the match."""
-        self.room.mkdir(parents=True, exist_ok=True)
+        self.room.mkdir(0o700, parents=True, exist_ok=True)
         if not (yield from self.ask()) or not self.may_begin:
             self.close()
             return
@@ -139,7 +144,7 @@ class OpenMatch:
         said, faults = [], []
         for player, child in zip(self.match.players, asked):
             is_silent = not child.is_over() or is_no_answer(child.status(), child.last_words())
-            said.append("silent" if is_silent else child.output().decode().strip())
+            said.append("silent" if is_silent else child.printed())
             if not is_silent and child.status():
                 faults.append(f"{player} could not be asked: {child.last_words()}")
             child.end()
@@ -173,12 +178,13 @@ class OpenMatch:
         if not child.is_over():
             return f"silent for {seconds:.1f} s"
         if is_no_answer(child.status(), child.last_words()):
-            return f"{'refused' if seconds < WHOLE else 'silent'}, {seconds:.1f} s"
-        return f"{child.last_words() if child.status() else child.output().decode().strip()}, {seconds:.1f} s"
+            what = "its name is not known" if child.last_words() == NO_NAME else "refused" if seconds < WHOLE else "silent"
+            return f"{what}, {seconds:.1f} s"
+        return f"{child.last_words() if child.status() else child.printed()}, {seconds:.1f} s"
 
-    def play(self) -> Generator[None, None, tuple[bytes, bytes] | None]:
-        """Plays the match; where its host is lost, again on another one. Returns what the referee wrote, and the log of what it said and
-        when; none where it gives no record."""
+    def play(self) -> Generator[None, None, tuple[pathlib.Path, bytes] | None]:
+        """Plays the match; where its host is lost, again on another one. Returns the file that the referee wrote, and the log of what it said
+        and when; none where it gives no record."""
         competition = self.plan.competition
         write_whole(self.room / PLAYERS, "".join(f"{place}\n" for place in self.places).encode())
         self.stage, log = "playing", b""
@@ -188,8 +194,8 @@ class OpenMatch:
             self.seconds = time.monotonic() - child.began
             log += self.log_of(child, host)
             if not child.status():
-                return child.output(), log + f"ended {moment()}\n".encode()
-            if not host or self.was_reached(child) and child.status() not in LOST:
+                return child.out, log + f"ended {moment()}\n".encode()
+            if not host or not child.passed and self.was_reached(child) and child.status() not in LOST:
                 if host and child.status() < 0:
                     # The ssh was killed, and not the referee.
                     yield from self.outlast()
@@ -210,7 +216,7 @@ class OpenMatch:
                 yield
             self.begin_connecting()
             words = remote_words(self.host, words)
-        self.played = child = TimedChild(words, self.room, "played", self.shared.reader, is_beaten=bool(self.host))
+        self.played = child = TimedChild(words, self.room, "played", self.shared.reader, self.limits() if self.host else None)
         self.children.append(child)
         if self.host:
             yield from self.connect(child)
@@ -219,6 +225,12 @@ class OpenMatch:
         while not child.is_over():
             yield
         return child
+
+    def limits(self) -> Limits:
+        """Returns what a host may send of the match: no more than its referee can write, and not after too long a silence."""
+        said = MOST_BEFORE + MOST_OF_MESSAGE * len(self.places) * (MOST_TURNS + 2)
+        printed = longest_record(self.plan.rules[self.match.game].text) + LONGEST_ACCOUNT
+        return Limits(printed, said, max(self.match.start, self.match.play) + MOST_SILENCE)
 
     def connect(self, child: TimedChild) -> Generator[None, None, None]:
         """Waits until a process plays the match on its host, or is over."""
@@ -236,7 +248,7 @@ class OpenMatch:
             is_over = child.is_over()
             if child.lines.count != count:
                 count = child.lines.count
-                if text.encode() in child.said.read_bytes():
+                if text.encode() in file_bytes(child.said, MOST_BEFORE):
                     return True
             if is_over:
                 return False
@@ -253,7 +265,7 @@ class OpenMatch:
 
     def was_reached(self, child: TimedChild) -> bool:
         """Returns whether a process has reached its host. The shell there may say something before."""
-        return CONNECTED.encode() in child.said.read_bytes()
+        return CONNECTED.encode() in file_bytes(child.said, MOST_BEFORE)
 
     def log_of(self, child: TimedChild, host: str | None) -> bytes:
         """Returns what a process that played the match has said, with the times, and when the match began. On a host it begins when that
@@ -307,11 +319,15 @@ class OpenMatch:
             return not line.startswith((f"{self.match.id} role ", CONNECTED))
         return line.startswith(f"{PROGRAM}: ")
 
-    def check(self, played: bytes, log: bytes) -> Steps:
+    def check(self, played: pathlib.Path, log: bytes) -> Steps:
         """Has the record verified and the account replayed, and only then puts the files of the match where they count. Where the
         referee came to no verdict they are kept aside, since the match was played."""
-        record, _, account = played.partition(b"\n")
-        record += b"\n"
+        text = self.plan.rules[self.match.game].text
+        with open(played, "rb") as file:
+            record, account = file.readline(most_of_record(text, size_of(played)) + 2), file.read(LONGEST_ACCOUNT + 1)
+        if fault := fault_of_files(record, account, text):
+            self.why = fault
+            return
         for name, data in (("record", record), ("account", account)):
             (self.room / name).write_bytes(data)
         rules = self.plan.folder.rules_of(self.match.game)
@@ -320,19 +336,19 @@ class OpenMatch:
         held, why_not = self.hold()
         while not all(child.is_over() for child in (verified, replayed, *([held] if held else []))):
             yield
-        is_lawful = verified.status() == 0 and verified.output() == b"lawful\n"
+        is_lawful = verified.status() == 0 and file_bytes(verified.out, MOST_OF_MESSAGE) == f"{LAWFUL}\n".encode()
         if not is_lawful and is_not_lawful(verified.status(), verified.last_words()):
-            self.why = verified.last_words()
+            self.why = verified.printed()
         elif not is_lawful or replayed.status() and not is_not_replayed(replayed.status(), replayed.last_words()):
             kept = keep(self.plan.folder, self.match.id, record, account, log, "unchecked")
             self.why = f"it was played, but not checked, and is kept as {kept}: {(replayed if is_lawful else verified).last_words()}"
-        elif replayed.status() or replayed.output().partition(b"\n")[2] != record:
+        elif replayed.status() or file_bytes(replayed.out, MOST_OF_MESSAGE + len(record)).partition(b"\n")[2] != record:
             self.why = "its account does not give its record again"
         elif held and held.status() == described.DIFFERENT:
-            self.differ(held.output().decode("ascii", "replace").strip(), record, account, log)
+            self.differ(held.printed(), record, account, log)
         else:
             if held and held.status():
-                why_not = held.output().decode("ascii", "replace").strip().removeprefix(described.IS_NOT_FOLLOWED) or held.last_words()
+                why_not = held.printed().removeprefix(described.IS_NOT_FOLLOWED) or held.last_words()
             self.count(read_record(record), record, account, log + (described.log_line(why_not) if held or why_not else b""))
 
     def hold(self) -> tuple[Child | None, str | None]:
@@ -357,7 +373,7 @@ class OpenMatch:
 
     def count(self, read: dict, record: bytes, account: bytes, log: bytes) -> None:
         """Puts the files of a match that was found right where they count, if they are of this match."""
-        self.why = fault_of_files(record, account) or fault_of_record(read, self.match, self.plan.competition.strikes)
+        self.why = fault_of_record(read, self.match, self.plan.competition.strikes)
         if not self.why:
             keep(self.plan.folder, self.match.id, record, account, log)
             self.result = result_of(read, self.match, self.plan.competition.forfeit)

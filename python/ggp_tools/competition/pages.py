@@ -4,6 +4,7 @@ import concurrent.futures.process
 import contextlib
 import datetime
 import hashlib
+import heapq
 import html
 import itertools
 import multiprocessing
@@ -24,14 +25,14 @@ from ggp_tools.competition.page_parts import Items, PageParts, Part, link, page,
 from ggp_tools.competition.plan import Plan
 from ggp_tools.competition.player_pages import page_name, player_link, player_parts, standing_of, standing_texts
 from ggp_tools.competition.plots import rating_plot
-from ggp_tools.competition.results import Result, is_set_back, remarks, times_of
+from ggp_tools.competition.results import WON, Result, is_set_back, remarks, times_of, winner_words
 from ggp_tools.competition.round_pages import count_of_all, round_text, rounds_part, rounds_words
 from ggp_tools.competition.sittings import Sitting, sitting_of_values, sittings_of, values_of
 from ggp_tools.competition.table import Table, tables_of
 from ggp_tools.competition.table_text import FORFEIT, METHOD, crosstable_rows, notes, standings_rows, without_record
 from ggp_tools.descriptions.loading import Rules, sum_of
 from ggp_tools.referee import Unchecked
-from ggp_tools.records.show import LONGEST_RECORD, page_of, read_record
+from ggp_tools.records.show import NoRecord, page_of, read_record
 
 # While matches are played, the pages are written again after SECONDS seconds at the earliest, and for at most a tenth of the time.
 SECONDS, SHARE = 2, 10
@@ -89,7 +90,8 @@ def match_row(result: Result, times: dict, up: str) -> tuple[str, str]:
     """Returns what the list of matches says of one: its links go from a page that stands so far below the first."""
     match = result.match
     goals = result.goals or ["none"] * len(match.players)
-    who = ", ".join(f"{player_link(player, up)} {goal}" for player, goal in zip(match.players, goals))
+    told = [f"{player_link(player, up)} {goal}" for player, goal in zip(match.players, goals)]
+    who = ", ".join(f"<strong>{text}</strong>" if result.outcome(role) == WON else text for role, text in enumerate(told))
     replaced = ", ".join(f"{html.escape(name)} {result.replaced(role)}" for role, name in enumerate(match.players) if result.replaced(role))
     cause = f" ({html.escape(result.cause)})" if result.cause else ""
     more = "".join(f'<br><span class="odd">{html.escape(remark)}</span>' for remark in remarks(result))
@@ -134,6 +136,7 @@ class Told:
     """What is told of a match that is over: when it began and ended, its row, on the first page and on a page below it, and what its
     players did, unless its log is too long, by the first lines of that alone."""
 
+    result: Result
     begin: str | None
     end: str | None
     above: tuple[str, str]
@@ -144,28 +147,38 @@ class Told:
 
 class Site:
     """What the pages of a competition say of results. What is told of a match is made once. With gaps the first page names the matches
-    that have no record."""
+    that have no record. Where it is known when records were written no log is read to find the last ones."""
 
-    def __init__(self, plan: Plan, shows_gaps: bool = False) -> None:
-        self.plan, self.shows_gaps = plan, shows_gaps
+    def __init__(self, plan: Plan, shows_gaps: bool = False, written: Callable[[Result], float] | None = None) -> None:
+        self.plan, self.shows_gaps, self.written = plan, shows_gaps, written
         self.told: dict[str, Told] = {}
+
+    def told_of(self, result: Result) -> Told:
+        """Returns what is told of a match. Where its files are there no more, its times are unknown."""
+        if result.match.id not in self.told or self.told[result.match.id].result is not result:
+            try:
+                self.add(result)
+            except (OSError, NoRecord):
+                times = {"begin": None, "end": None}
+                self.told[result.match.id] = Told(result, None, None, match_row(result, times, ""), match_row(result, times, "../"), [], False)
+        return self.told[result.match.id]
 
     def add(self, result: Result, known: Known | None = None) -> bytes:
         """Reads what is to be told of a match that is over, and returns its record. Refuses one that is longer than a record may be. What
         is known to be told of the same files is not looked for again."""
         match, folder = result.match, self.plan.folder
-        data = folder.read_record(match.id, LONGEST_RECORD + 2)
+        data = self.plan.read_record(match)
         log, is_cut = folder.read_lines_of_log(match.id, MOST_OF_LOG)
         key = known.key(repr(result).encode(), data, log, b"%d" % is_cut) if known else ""
         values = known.get("told", key) if known else None
         if values:
             *told, sittings = values
-            self.told[match.id] = Told(*told[:2], *map(tuple, told[2:]), [sitting_of_values(said, result) for said in sittings], is_cut)
+            self.told[match.id] = Told(result, *told[:2], *map(tuple, told[2:]), [sitting_of_values(said, result) for said in sittings], is_cut)
             return data
         times = times_of(log, len(match.players)) | {"isSetBack": is_set_back(log)}
         rows = match_row(result, times, ""), match_row(result, times, "../")
         sittings = sittings_of(result, read_record(data), log, times["end"])
-        self.told[match.id] = Told(times["begin"], times["end"], *rows, sittings, is_cut)
+        self.told[match.id] = Told(result, times["begin"], times["end"], *rows, sittings, is_cut)
         if known:
             known.put("told", key, [times["begin"], times["end"], *rows, list(map(values_of, sittings))])
         return data
@@ -175,14 +188,14 @@ class Site:
         match = result.match
         players = ", ".join(player_link(player, "../") for player in match.players)
         way = f"<p>{link('../index.html', self.plan.competition.name)} / {link(f'../games/{match.game}.html', match.game)} / {players}</p>"
-        way += round_text(self.plan.competition, match) + "".join(f"<p>{html.escape(remark)}</p>" for remark in remarks(result))
+        said = [winner_words(result), *remarks(result)]
+        way += round_text(self.plan.competition, match) + "".join(f"<p>{html.escape(text)}</p>" for text in filter(None, said))
         return way.encode("ascii")
 
     def match_work(self, result: Result, data: bytes) -> tuple[bytes, bytes, bytes, dict[tuple[int, int], str]]:
         """Returns what the page of a match is made of: what stands at its head, its record, the rules where they tell more of a replaced
         move and are not too long, and those answers of the log that were no expressions, as far as they are told."""
-        told = self.told.get(result.match.id)
-        faults = [(sitting.role, fault) for sitting in told.sittings for fault in sitting.faults] if told else []
+        faults = [(sitting.role, fault) for sitting in self.told_of(result).sittings for fault in sitting.faults]
         answers = {(role, fault.turn - 1): fault.answer for role, fault in faults if fault.error == "IL ?" and fault.message}
         rules = self.plan.rules[result.match.game].text if any(errors["IL"] for errors in result.errors) else b""
         return self.way_of_match(result), data, rules if len(rules) <= MOST_RULES else b"", answers
@@ -195,12 +208,12 @@ class Site:
         shown = results[-MOST_LISTED:]
         said = f"These are {len(shown)} of {len(results):,}; the others are among {link('../matches.html', 'all matches')}."
         note = Part("more", f'<p class="dim">{said}</p>' if len(shown) < len(results) else "")
-        return [matches_part([self.told[result.match.id].below for result in shown]), note]
+        return [matches_part([self.told_of(result).below for result in shown]), note]
 
     def last_matches(self, results: list[Result]) -> Items:
         """Returns the matches that ended last, the newest first."""
-        told = sorted((self.told[result.match.id] for result in results), key=lambda told: told.end or "", reverse=True)[:LAST]
-        return matches_part([match.above for match in told], "Last matches")
+        found = heapq.nlargest(LAST, results, self.written or (lambda result: self.told_of(result).end or ""))
+        return matches_part([self.told_of(result).above for result in found], "Last matches")
 
     def gaps(self, results: list[Result]) -> Iterator[Part]:
         """Gives what the first page says of the matches that have no record, where it does."""
@@ -213,7 +226,9 @@ class Site:
 
     def span(self, results: list[Result]) -> str:
         """Returns when the first match began and the last one ended, as text."""
-        told = [self.told[result.match.id] for result in results]
+        if self.written and results:
+            results = [min(results, key=self.written), max(results, key=self.written)]
+        told = [self.told_of(result) for result in results]
         begins, ends = [match.begin for match in told if match.begin], [match.end for match in told if match.end]
         if not begins or not ends:
             return ""
@@ -246,7 +261,7 @@ class Site:
         way = f"<p>{link('index.html', self.plan.competition.name)}</p><h1>All matches that are over</h1>"
         spans = {page: f"{own[0].match.id} to {own[-1].match.id}" for page, own in pages.items()} if len(pages) > 1 else {}
         others = ", ".join(span if page == name else link(f"{page}.html", span) for page, span in spans.items())
-        list_of_own = matches_part([self.told[result.match.id].above for result in pages[name]])
+        list_of_own = matches_part([self.told_of(result).above for result in pages[name]])
         return [Part("head", way), Part("pages", f"<p>{others}</p>" if others else ""), list_of_own]
 
     def game_parts(self, found: Table, results: list[Result]) -> PageParts:
@@ -259,8 +274,8 @@ class Site:
 
     def player_parts(self, player: str, standing: str, results: list[Result]) -> PageParts:
         """Returns the page of a player, from its own results."""
-        own = [sitting for result in results for sitting in self.told[result.match.id].sittings if result.match.players[sitting.role] == player]
-        cut = [result.match.id for result in results if self.told[result.match.id].is_cut]
+        own = [sitting for result in results for sitting in self.told_of(result).sittings if result.match.players[sitting.role] == player]
+        cut = [result.match.id for result in results if self.told_of(result).is_cut]
         said = f"Of the logs of {', '.join(cut)} the first {LOG_WORDS} are read: later times, messages and answers are not shown."
         note = Part("cut", f'<p class="odd">{html.escape(said)}</p>' if cut else "")
         return [*player_parts(self.plan.competition.name, player, standing, own), note, *self.own_matches(results)]

@@ -3,18 +3,20 @@
 import functools
 import os
 import re
+import secrets
 from collections.abc import Callable, Iterator, Mapping
 from dataclasses import dataclass, field, replace
 from pathlib import Path
 
+from ggp_tools.competition.addresses import mistakes_of_addresses
 from ggp_tools.competition.competition_file import Competition, Game, Mistake, Mistaken, mistake_lines
-from ggp_tools.competition.files import UNFINISHED, Folder, Refused, held, write_whole
+from ggp_tools.competition.files import UNFINISHED, Folder, Refused, file_bytes, held, write_whole
 from ggp_tools.competition.growth import Growing, History, Misfit, grown, refuse_changes, refuse_unchanged, shape
-from ggp_tools.competition.history import competition_of_file, history_files, read_history
-from ggp_tools.competition.kept import result_in_file
+from ggp_tools.competition.history import competition_of_file, history_files, read_history, read_key
+from ggp_tools.competition.kept import look_at_records, most_of_record, result_in_file, size_of
 from ggp_tools.competition.results import Result
-from ggp_tools.competition.rounds import Round, rounds_of
-from ggp_tools.competition.schedule import Match, id_of, schedule_text
+from ggp_tools.competition.rounds import Round, is_by_rounds, rounds_of
+from ggp_tools.competition.schedule import Match, id_of, matches_in, schedule_text
 from ggp_tools.competition.trial import trial
 from ggp_tools.descriptions.loading import NoDescription, Rules, Stopped, has_variables, load_described, load_description, rules_of, sum_of
 from ggp_tools.referee import Referee, Unchecked
@@ -42,7 +44,8 @@ class Plan:
     def next_id(self) -> str:
         """Returns the id of the match that is planned next."""
         name = self.competition.name
-        return id_of(self.competition, len(self.matches) + 1, len(self.matches[0].id) - len(name) - 1)
+        width = len(self.matches[0].id.removeprefix(f"{name}-").partition("-")[0])
+        return id_of(self.competition, len(self.matches) + 1, width, self.history.key)
 
     def roles(self, game: str) -> tuple[str, ...]:
         return self.rules[game].roles
@@ -51,6 +54,11 @@ class Plan:
         """Returns the program as it takes the rules of a game: by the usual limits, or those for large games."""
         return referee.taking(self.rules[game].is_large)
 
+    def read_record(self, match: Match) -> bytes:
+        """Returns the record of a match, and of a file that no record of its game can be as much as shows it."""
+        file = self.folder.record(match.id)
+        return file_bytes(file, most_of_record(self.rules[match.game].text, size_of(file)) + 2)
+
     def player_rules_path(self, game: str) -> Path | None:
         """Returns the file of what the game's players are told of its rules, or none where they are told the rules themselves."""
         return None if self.rules[game].player_rules is None else self.folder.player_rules_of(game)
@@ -58,7 +66,7 @@ class Plan:
 
 def read_file(path: Path) -> bytes:
     try:
-        return path.read_bytes()
+        return file_bytes(path)
     except OSError as why:
         raise Refused(f"{path} can't be read: {why.strerror}") from None
 
@@ -92,7 +100,7 @@ def schedule_of(folder: Folder, competition: Competition, rules: Mapping[str, Ru
     many matches."""
     roles = {name: len(ground.roles) for name, ground in rules.items()}
     try:
-        return grown(history, competition, roles, functools.partial(result_in_file, folder, competition), most)
+        return grown(history, competition, roles, functools.partial(result_in_file, folder, competition, rules), most)
     except Mistaken as why:
         raise Refused(mistake_lines(folder.competition, why.mistakes)) from None
     except Misfit as why:
@@ -144,6 +152,7 @@ def make_plan(path: str, referee: Referee) -> Plan:
     the schedule of matches that were played does not grow but change, or while any are played."""
     folder = Folder(path)
     competition, text = competition_of(folder)
+    refuse_addresses(folder, competition)
     rules = loaded_games(folder, competition, referee)
     files = {folder.rules_of(name): ground.text for name, ground in rules.items()}
     files |= {folder.player_rules_of(name): ground.player_rules for name, ground in rules.items() if ground.player_rules is not None}
@@ -152,7 +161,12 @@ def make_plan(path: str, referee: Referee) -> Plan:
         # Where it grew, matches were played whose records are elsewhere.
         is_begun = is_played(folder) or bool(history_files(folder))
         known = count_of_matches(folder) if is_begun else None
-        history, wanted = history_of(folder, competition, rules) if is_begun else (History(), {})
+        key = read_key(folder, competition)
+        new_key = secrets.token_hex(16).encode("ascii") + b"\n" if key is None else key
+        history, wanted = history_of(folder, competition, rules, new_key) if is_begun else (History(key=new_key), {})
+        if is_begun and key is None:
+            raise lost_key(folder)
+        wanted |= {folder.key: new_key} if key is None else {}
         schedule = schedule_of(folder, competition, rules, history, known)
         wanted |= files
         wanted[folder.description_sums()] = sums_text({f"{name}.kif": ground.description_sum for name, ground in rules.items()})
@@ -164,15 +178,21 @@ def make_plan(path: str, referee: Referee) -> Plan:
     return Plan(folder, competition, rules, schedule.matches, text, history, schedule.rounds.found, known)
 
 
+def refuse_addresses(folder: Folder, competition: Competition) -> None:
+    """Refuses players that no match can reach, and two that are one."""
+    if mistakes := list(mistakes_of_addresses(competition)):
+        raise Refused(mistake_lines(folder.competition, mistakes))
+
+
 def count_of_matches(folder: Folder) -> int | None:
     """Returns how many matches the schedule has that is there, or none where none is."""
     return read_file(folder.schedule).count(b"\n") - 1 if folder.schedule.exists() else None
 
 
-def history_of(folder: Folder, competition: Competition, rules: Mapping[str, Rules]) -> tuple[History, dict[Path, bytes]]:
+def history_of(folder: Folder, competition: Competition, rules: Mapping[str, Rules], key: bytes) -> tuple[History, dict[Path, bytes]]:
     """Returns how a competition that was played came to its schedule, where its file may have grown now; and the file that it grew from,
     where that is to be kept."""
-    history = read_history(folder)
+    history = replace(read_history(folder), key=key)
     if not folder.planned.exists():
         return history, {}
     text = read_file(folder.planned)
@@ -186,7 +206,7 @@ def history_of(folder: Folder, competition: Competition, rules: Mapping[str, Rul
     until = len(schedule_of(folder, before, rules, history, count_of_matches(folder)).matches)
     if history.earlier and history.earlier[-1][0] == until:
         return history, {}
-    return History((*history.earlier, (until, before)), history.again), {folder.earlier / f"{until}.toml": text}
+    return replace(history, earlier=(*history.earlier, (until, before))), {folder.earlier / f"{until}.toml": text}
 
 
 def grows(folder: Folder, file: Path, old: bytes, new: bytes) -> bool:
@@ -217,6 +237,15 @@ def write_plan(folder: Folder, wanted: dict[Path, bytes], is_begun: bool) -> Non
             write_whole(file, wanted[file])
     except OSError as why:
         raise Refused(f"{folder.path} can't be written: {why.filename}: {os.strerror(why.errno)}") from None
+
+
+def lost_key(folder: Folder) -> Refused:
+    return Refused(f"{folder.key} is not there", "put it back: the ids of the matches follow from it")
+
+
+def key_files(plan: Plan) -> list[Path]:
+    """Returns the file of the key that the ids of the matches follow from, where there is one."""
+    return [plan.folder.key] if plan.history.key else []
 
 
 def read_sums(data: bytes) -> dict[str, str] | None:
@@ -281,15 +310,32 @@ def read_plan(path: str, referee: Referee) -> Plan:
     folder = Folder(path)
     competition, text = competition_of(folder)
     schedule, rules, history = read_planned(folder.schedule), read_rules(folder, competition, referee), read_history(folder)
-    found = schedule_of(folder, competition, rules, history, count_of_matches(folder))
-    if schedule != schedule_text(found.matches):
-        refuse_lost_record(folder, found, schedule)
-        raise refused_plan(folder, folder.schedule)
+    key = read_key(folder, competition)
+    if key is None:
+        raise lost_key(folder)
+    history = replace(history, key=key)
+    try:
+        found = schedule_of(folder, competition, rules, history, count_of_matches(folder))
+        if schedule != schedule_text(found.matches):
+            refuse_lost_record(folder, found, schedule)
+            raise refused_plan(folder, folder.schedule)
+    except Refused:
+        if is_by_rounds(competition):
+            refuse_wrong_records(Plan(folder, competition, rules, matches_in(schedule, competition)), referee)
+        raise
     try:
         refuse_unchanged(history, competition)
     except Misfit as why:
         raise Refused(f"{folder.path}: {why}") from None
     return Plan(folder, competition, rules, found.matches, text, history, found.rounds.found)
+
+
+def refuse_wrong_records(plan: Plan, referee: Referee) -> None:
+    """Refuses records that do not count, by the matches that the schedule has: rounds that were paired by them are not those of the plan."""
+    _, faults, misfits = look_at_records(plan, referee)
+    wrong = [f"{plan.folder.record(match)}: {why}" for match, why in {**faults, **misfits}.items()]
+    if wrong:
+        raise Refused("\n".join(wrong))
 
 
 def refuse_lost_record(folder: Folder, found: Growing, schedule: bytes) -> None:

@@ -14,11 +14,11 @@ from collections.abc import Container, Iterable, Iterator
 from ggp_tools.competition.aborts import send_aborts
 from ggp_tools.competition.children import UNSAID
 from ggp_tools.competition.competition_file import is_place
-from ggp_tools.competition.files import PLAYERS, Folder, Refused
+from ggp_tools.competition.files import PLAYERS, Folder, Refused, file_bytes
 from ggp_tools.competition.hosts import Hosts
 from ggp_tools.competition.kept import look_at_records, set_aside, strangers
 from ggp_tools.competition.open_match import OpenMatch, Shared, leave_players
-from ggp_tools.competition.plan import Plan, plan_next_round, refuse_lost_results, round_words
+from ggp_tools.competition.plan import Plan, plan_next_round, refuse_addresses, refuse_lost_results, round_words
 from ggp_tools.competition.schedule import Match
 from ggp_tools.competition.seats import Seats
 from ggp_tools.competition.time_left import TimeLeft
@@ -32,6 +32,8 @@ HANG_UP_SECONDS, ABORT_SECONDS = 3, 3
 # So many open files are enough for as many matches at once as may be.
 DESCRIPTORS = 4_096
 NOT_BEGUN = "it was not begun"
+# The names and addresses of a match's players have fewer bytes.
+MOST_OF_PLACES = 1 << 20
 # So many matches that are missing for one reason have a line each; of more the number is told.
 MOST_LINES = 10
 # What counts as how many interrupts: the first has no more matches begin, the second ends those that are open.
@@ -225,7 +227,7 @@ def abort_matches(
 def places_in(room: pathlib.Path) -> list[str]:
     """Returns the players of a match that was open; none where nothing in its room names them."""
     try:
-        found = (room / PLAYERS).read_text("ascii").split()
+        found = file_bytes(room / PLAYERS, MOST_OF_PLACES).decode("ascii").split()
     except (OSError, ValueError):
         return []
     return found if all(map(is_place, found)) else []
@@ -271,6 +273,7 @@ def prepared(playing: Playing) -> None:
     """Looks at what is there already, frees players of matches that were lost, and lets the others wait."""
     plan, folder, reporter = playing.plan, playing.plan.folder, playing.reporter
     folder.must_be_text()
+    refuse_addresses(folder, plan.competition)
     try:
         folder.make(folder.records, folder.accounts, folder.logs, folder.open)
         folder.drop_unfinished()

@@ -10,6 +10,7 @@ from typing import NamedTuple
 
 from ggp_tools.competition.schedule import Match
 from ggp_tools.moments import MOMENT
+from ggp_tools.records.lengths import without_states
 
 # No number is longer, so that a log of an archive can't be one that Python refuses to read.
 LOG_LINE = re.compile(rf"(?:{MOMENT} )?(\S+) role (\d{{1,9}}) (\S+) message (\d{{1,9}}) \((\w+) .*, (\d{{1,18}}) ms")
@@ -21,6 +22,8 @@ HOST_LINE = re.compile(r"(host) (\S+)")
 WON, DRAWN, LOST = "won", "drawn", "lost"
 # What a player that is left alone by a forfeit gets, and several that are left share.
 FULL_GOAL = 100
+# Of a value that is wrong so many signs are cited.
+MOST_CITED = 200
 
 
 @dataclass(frozen=True)
@@ -96,6 +99,15 @@ def forfeit_words(result: Result) -> str:
     return f"forfeit: {', '.join(f'{players[role]} ({why.words()})' for role, why in lost.items())}, counts as {counts}"
 
 
+def winner_words(result: Result) -> str:
+    """Returns who won a match, or who drew. Empty where no goals count, and for one role."""
+    outcomes = [result.outcome(role) for role in range(len(result.match.players))]
+    for outcome, said in ((WON, "won"), (DRAWN, "drew")):
+        if names := [player for player, own in zip(result.match.players, outcomes) if own == outcome]:
+            return f"{' and '.join(names)} {said}."
+    return ""
+
+
 def again_words(match: Match) -> str:
     """Returns why a match does not count any more."""
     return f"{match.id} does not count: {match.again} was ordered in its place: {match.reason}"
@@ -123,7 +135,10 @@ def fault_of_record(record: dict, match: Match, strikes: int) -> str | None:
     for key, value in wanted.items():
         if record.get(key) != value:
             said = "competition.toml" if key == "strikes" else "the schedule"
-            return f"its {key} is {record.get(key)!r}, and {said} has {value!r}"
+            found = repr(record.get(key))
+            return f"its {key} is {found[:MOST_CITED]}{'..' * (len(found) > MOST_CITED)}, and {said} has {value!r}"
+    if not all(0 <= goal <= FULL_GOAL for goal in record["goalValues"]):
+        return f"one of its goals is not from 0 to {FULL_GOAL}"
     return None if record["phase"] in ("finished", "aborted") else f"its match is not over: {record['phase']}"
 
 
@@ -168,8 +183,8 @@ def result_of_values(values: list, match: Match, has_forfeits: bool) -> Result:
 
 
 def read_record(data: bytes) -> dict:
-    """Returns the record that the bytes of a file spell, which `verify` has called lawful."""
-    return json.loads(data)
+    """Returns the record that the bytes of a file spell, which `verify` has called lawful, without its states."""
+    return json.loads(without_states(data))
 
 
 def times_of(log: bytes, roles: int) -> dict[str, object]:

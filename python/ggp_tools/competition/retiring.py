@@ -74,11 +74,3 @@ class Retiring:
         rows = self.rows if missing else [self.row_after(role) for role in range(self.roles)]
         found = missing or [role for role, (least, _) in enumerate(rows) if not self.is_enough(least)]
         return found, {role for role in found if self.is_enough(rows[role][1])}
-
-    def perhaps_next(self) -> set[int]:
-        """Returns the roles that have answered in the last turn and are asked for the next one if all that are missing are retired, as they
-        may be. None are, where one that is missing is not."""
-        missing = self.missing() if self.turn else []
-        if not missing or not all(self.is_enough(self.rows[role][1]) for role in missing):
-            return set()
-        return {role for role in self.answers if not self.is_enough(self.row_after(role)[0])}

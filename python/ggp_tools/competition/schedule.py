@@ -1,6 +1,9 @@
 """The matches of a competition: who meets whom in which game, and the file that says it. The same competition gives the same ones."""
 
+import base64
+import hmac
 import itertools
+import re
 from collections.abc import Iterable, Iterator, Mapping, Sequence
 from dataclasses import dataclass
 
@@ -8,6 +11,10 @@ from ggp_tools.competition.competition_file import ROUND_KINDS, Competition, Mis
 
 HEAD = "id\tgame\tstart\tplay\tplayers\n"
 MOST_MATCHES = 100_000
+# So many letters and digits of an id that can't be guessed follow from the key: 60 bits.
+SECRET_LETTERS = 12
+# The first fields of a line: the match, its game, and its clocks.
+ROW = re.compile(r"[A-Za-z0-9_.-]{1,60}\t[A-Za-z0-9_.-]{1,40}\t[0-9]{1,5}\t[0-9]{1,5}")
 
 
 @dataclass(frozen=True)
@@ -122,10 +129,20 @@ def refuse_too_many(competition: Competition, count: int) -> None:
         raise Mistaken([Mistake(competition.form.line, "form", f"there are more than {MOST_MATCHES:,} matches")])
 
 
-def id_of(competition: Competition, number: int, width: int) -> str:
+def id_of(competition: Competition, number: int, width: int, key: bytes = b"") -> str:
     """Returns the id of the match with a number, from 1 on. The numbers have as many digits as those of the matches that were planned
-    first need, or more."""
-    return f"{competition.name}-{number:0{max(3, width)}}"
+    first need, or more. With a key nobody guesses the id who does not know the key."""
+    counted = f"{competition.name}-{number:0{max(3, width)}}"
+    digest = base64.b32encode(hmac.digest(key, counted.encode("ascii"), "sha256")).decode("ascii").lower() if key else ""
+    return f"{counted}-{digest[:SECRET_LETTERS]}" if key else counted
+
+
+def matches_in(schedule: bytes, competition: Competition) -> list[Match]:
+    """Returns the matches of a file as `schedule_text` writes it, without lines that are of no match of the competition."""
+    games, names = {game.name for game in competition.games}, {player.name for player in competition.players}
+    rows = [line.split("\t") for line in schedule.decode("ascii", "replace").splitlines()[1:]]
+    found = [Match(row[0], row[1], int(row[2]), int(row[3]), tuple(row[4].split())) for row in rows if len(row) == 5 and ROW.fullmatch("\t".join(row[:4]))]
+    return [match for match in found if match.game in games and names.issuperset(match.players)]
 
 
 def schedule_text(matches: Iterable[Match]) -> bytes:

@@ -10,7 +10,7 @@ import socket
 import sys
 import threading
 import time
-from collections import OrderedDict
+from collections import Counter, OrderedDict
 from collections.abc import Iterator
 from http import HTTPStatus
 from http.server import BaseHTTPRequestHandler, ThreadingHTTPServer
@@ -23,16 +23,16 @@ from ggp_tools.competition.plan import read_plan
 from ggp_tools.competition.results import Result
 from ggp_tools.ground_games import MOST_CALLS
 from ggp_tools.human.server import is_own_name
-from ggp_tools.records.show import BOARD_STYLE, LONGEST_RECORD, NoRecord
+from ggp_tools.records.show import BOARD_STYLE, NoRecord
 from ggp_tools.referee import Referee
 from ggp_tools.reporting import say
 
 # The folder is looked at once in so many seconds, and a page that is told nothing for so many gets a line, by which a connection that is
 # gone is noticed. A browser without a script loads the page again after so many.
 INTERVAL, ALIVE, RELOAD = 1.0, 10.0, 10
-# A request has to be there after so many seconds, and what is sent has to be taken.
-PATIENCE = 20
-MOST_CONNECTIONS = 4_096
+# The head of a request has to be there after so many seconds, and what is sent has to be taken after so many.
+HEAD, PATIENCE = 5, 20
+MOST_CONNECTIONS, MOST_DELAY = 4_096, 3_600
 # Of the pages of matches that are over so many bytes are kept.
 MOST_KEPT = 64 << 20
 BUSY = b"HTTP/1.0 503 Service Unavailable\r\nRetry-After: 10\r\nContent-Length: 0\r\nConnection: close\r\n\r\n"
@@ -95,10 +95,10 @@ def script_policy() -> str:
     return f"default-src 'none'; style-src 'unsafe-inline'; script-src 'sha256-{digest}'; connect-src 'self'; base-uri 'none'; form-action 'none'"
 
 
-def live_page(found: OpenPage, path: str, token: str) -> bytes:
+def live_page(found: OpenPage, path: str, token: str, now: float) -> bytes:
     """Returns a page that is told of changes from its version on."""
-    events = f"/events{path}?after={token}-{found.version}"
-    body = f' data-now="{time.time():.1f}" data-events="{events}"'
+    events = f"{'../' * (path.count('/') - 1)}events{path}?after={token}-{found.version}"
+    body = f' data-now="{now:.1f}" data-events="{events}"'
     again = f'<noscript><meta http-equiv="refresh" content="{RELOAD}"></noscript>'
     return page(found.title, found.parts, LIVE_STYLE + BOARD_STYLE, script_policy(), body, f"{LOST}{again}<script>{SCRIPT}</script>")
 
@@ -106,6 +106,18 @@ def live_page(found: OpenPage, path: str, token: str) -> bytes:
 def with_head(data: bytes, said: str) -> bytes:
     """Returns a page with this HTML before all else."""
     return data.replace(b"<body>", b"<body>\n" + said.encode("ascii", "xmlcharrefreplace"), 1) if said else data
+
+
+def is_loopback(address: str) -> bool:
+    """Returns whether an address is one that this computer alone can reach. An IPv4 address may be written as one of IPv6."""
+    found = ipaddress.ip_address(address.partition("%")[0])
+    return (getattr(found, "ipv4_mapped", None) or found).is_loopback
+
+
+def end(connection: socket.socket) -> None:
+    """Ends a connection, whoever waits for it."""
+    with contextlib.suppress(OSError):
+        connection.shutdown(socket.SHUT_RDWR)
 
 
 class Handler(BaseHTTPRequestHandler):
@@ -154,7 +166,7 @@ class Handler(BaseHTTPRequestHandler):
 
     def send_events(self, path: str, known: str) -> None:
         """Sends what changes of a page, as long as the browser takes it."""
-        with self.server.viewing(path) as found:
+        with self.server.viewing(path, self.client_address[0]) as found:
             if found is None:
                 self.send_error(HTTPStatus.SERVICE_UNAVAILABLE)
                 return
@@ -187,9 +199,10 @@ class Server(ThreadingHTTPServer):
         if ":" in address[0]:
             self.address_family = socket.AF_INET6
         self.site, self.most, self.lock = site, most, threading.Lock()
-        # Of each connection since when it has not asked for anything yet; none once it has.
-        self.connections: dict[socket.socket, float | None] = {}
-        self.viewers, self.is_over = 0, threading.Event()
+        # Of each connection the address, and since when it has not asked for anything yet: none once it has. The oldest one is first.
+        self.connections: dict[socket.socket, tuple[str, float | None]] = {}
+        self.viewers: Counter[str] = Counter()
+        self.is_over = threading.Event()
         self.kept: OrderedDict[str, tuple[Result, bytes]] = OrderedDict()
         super().__init__(address, Handler)
 
@@ -202,12 +215,12 @@ class Server(ThreadingHTTPServer):
 
     # ---- connections
 
-    def process_request(self, request: socket.socket, client_address: object) -> None:
+    def process_request(self, request: socket.socket, client_address: tuple) -> None:
         """Has a thread answer, unless there are too many already."""
         with self.lock:
-            is_full = len(self.connections) >= self.most
+            is_full = not self.has_room_for(client_address[0])
             if not is_full:
-                self.connections[request] = time.monotonic()
+                self.connections[request] = client_address[0], time.monotonic()
         if is_full:
             with contextlib.suppress(OSError):
                 request.settimeout(0)
@@ -220,6 +233,28 @@ class Server(ThreadingHTTPServer):
             # There is no thread for it.
             self.shutdown_request(request)
 
+    def has_room_for(self, address: str) -> bool:
+        """Returns whether one more connection of an address is served. Where there are too many, the oldest one that has asked for nothing
+        gives way, of the address that has most of these."""
+        count = sum(own == address for own, _ in self.connections.values())
+        if count >= self.most_of(address) < self.most:
+            return False
+        if len(self.connections) < self.most:
+            return True
+        idle = Counter(own for own, since in self.connections.values() if since is not None)
+        worst = max(idle, key=idle.__getitem__, default=None)
+        oldest = next((request for request, found in self.connections.items() if found[0] == worst and found[1] is not None), None)
+        if oldest is None:
+            return False
+        # Its thread ends once it sees that.
+        del self.connections[oldest]
+        end(oldest)
+        return True
+
+    def most_of(self, address: str) -> int:
+        """Returns how many connections an address may have: a proxy on this computer all."""
+        return self.most if is_loopback(address) else max(1, self.most // 2)
+
     def shutdown_request(self, request: socket.socket) -> None:
         with self.lock:
             self.connections.pop(request, None)
@@ -228,26 +263,22 @@ class Server(ThreadingHTTPServer):
     def has_asked(self, request: socket.socket) -> None:
         with self.lock:
             if request in self.connections:
-                self.connections[request] = None
+                self.connections[request] = self.connections[request][0], None
 
     def end_idle(self) -> None:
         """Ends connections that ask for nothing."""
         now = time.monotonic()
         with self.lock:
-            idle = [request for request, since in self.connections.items() if since is not None and now - since > PATIENCE]
+            idle = [request for request, (_, since) in self.connections.items() if since is not None and now - since > HEAD]
         for request in idle:
-            with contextlib.suppress(OSError):
-                request.shutdown(socket.SHUT_RDWR)
+            end(request)
 
     def handle_error(self, request: object, client_address: object) -> None:
         print(f"ggp_competition: a page could not be made: {sys.exc_info()[1]!r}", file=sys.stderr)
 
     def is_open_to(self, host: str) -> bool:
         """Returns whether a browser may ask under this name: at a loopback address no other site may give it a name of its own."""
-        found = ipaddress.ip_address(self.server_name)
-        # An IPv4 address may be written as one of IPv6.
-        is_loopback = (getattr(found, "ipv4_mapped", None) or found).is_loopback
-        return not host or not is_loopback or is_own_name(host, "localhost")
+        return not host or not is_loopback(self.server_name) or is_own_name(host, "localhost")
 
     # ---- pages
 
@@ -256,7 +287,7 @@ class Server(ThreadingHTTPServer):
         with self.site.changed:
             found = self.site.opened(path)
             if found:
-                return live_page(found, path, self.site.token)
+                return live_page(found, path, self.site.token, self.site.reader.now())
             match = PATH.fullmatch(path)
             result = self.site.reader.results.get(match[3]) if match[2] == "matches" else None
             if not result:
@@ -271,7 +302,7 @@ class Server(ThreadingHTTPServer):
     def keep(self, path: str, result: Result) -> bytes | None:
         """Returns the page of a match that is over, and keeps it for a while; none where its record is there no more."""
         try:
-            record = self.site.plan.folder.read_record(result.match.id, LONGEST_RECORD + 2)
+            record = self.site.plan.read_record(result.match)
             data = self.site.site.match_page(result, record)
         except (OSError, NoRecord):
             return None
@@ -282,19 +313,24 @@ class Server(ThreadingHTTPServer):
         return data
 
     @contextlib.contextmanager
-    def viewing(self, path: str) -> Iterator[OpenPage | None]:
-        """Gives a page to somebody who is told of its changes: none where there is none, or too many look at pages."""
+    def viewing(self, path: str, address: str) -> Iterator[OpenPage | None]:
+        """Gives a page to somebody who is told of its changes: none where there is none, or too many look at pages. The last eighth of all
+        connections, and of those of an address, is for pages."""
         with self.site.changed:
-            found = self.site.opened(path) if self.viewers < self.most - self.most // 8 else None
+            counts = (self.viewers.total(), self.most), (self.viewers[address], self.most_of(address))
+            has_room = all(count < most - most // 8 for count, most in counts)
+            found = self.site.opened(path) if has_room else None
             if found:
-                found.viewers, self.viewers = found.viewers + 1, self.viewers + 1
+                found.viewers += 1
+                self.viewers[address] += 1
         try:
             yield found
         finally:
             if found:
                 with self.site.changed:
-                    found.viewers, self.viewers = found.viewers - 1, self.viewers - 1
-                    found.touched = time.monotonic()
+                    found.viewers, found.touched = found.viewers - 1, time.monotonic()
+                    self.viewers[address] -= 1
+                    self.viewers += Counter()
 
     def version_of(self, known: str) -> int:
         """Returns the version that a browser knows: one before all others where it is none of this run."""
@@ -340,6 +376,13 @@ def visitors(text: str) -> int:
     return found
 
 
+def seconds(text: str) -> int:
+    found = int(text)
+    if not 0 <= found <= MOST_DELAY:
+        raise argparse.ArgumentTypeError(f"{found} is not from 0 to {MOST_DELAY:,}")
+    return found
+
+
 def address(text: str) -> str:
     try:
         return str(ipaddress.ip_address(text))
@@ -353,11 +396,12 @@ def add_serve(command: argparse.ArgumentParser) -> None:
     text = "the address at which it listens (127.0.0.1, which this computer alone can reach; 0.0.0.0: all)"
     command.add_argument("--bind", type=address, default="127.0.0.1", metavar="ADDRESS", help=text)
     command.add_argument("--connections", type=visitors, default=256, metavar="N", help="at most N connections at once (256)")
+    command.add_argument("--delay", type=seconds, default=0, metavar="SECONDS", help="shows everything so many seconds late (0)")
 
 
 def run_serve(asked: argparse.Namespace, referee: Referee) -> int:
     stamp = plan_stamp(Folder(asked.folder))
-    site = LiveSite(read_plan(asked.folder, referee), lambda: read_plan(asked.folder, referee), stamp)
+    site = LiveSite(read_plan(asked.folder, referee), lambda: read_plan(asked.folder, referee), stamp, asked.delay)
     site.look()
     try:
         server = Server((asked.bind, asked.port), site, asked.connections)

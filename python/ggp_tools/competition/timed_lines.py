@@ -3,6 +3,7 @@ for all matches and does nothing else, so that a line does not wait until `play`
 
 import collections
 import contextlib
+import math
 import os
 import pathlib
 import re
@@ -11,6 +12,7 @@ import threading
 import time
 from typing import IO
 
+from ggp_tools.competition.files import new_file
 from ggp_tools.moments import MOMENT, moment
 
 TIMED = re.compile(rf"^{MOMENT} ".encode("ascii"))
@@ -30,9 +32,13 @@ def untimed(data: bytes) -> bytes:
 class TimedLines:
     """What comes out of a pipe, line by line, and goes into a file."""
 
-    def __init__(self, pipe: IO[bytes], path: pathlib.Path, beaten: IO[bytes] | None) -> None:
-        self.pipe, self.file, self.beaten = pipe, open(path, "wb", buffering=0), beaten
+    def __init__(self, pipe: IO[bytes], path: pathlib.Path, beaten: IO[bytes] | None, most: float) -> None:
+        self.pipe, self.file, self.beaten = pipe, new_file(path), beaten
         self.rest, self.is_over = b"", False
+        # How many more bytes are written. What comes after them is lost, and below 0 something was.
+        self.left = most
+        # When something came last.
+        self.heard = time.monotonic()
         # How often something was written, so that nobody has to read the file to see that.
         self.count = 0
         # The first fault of the file. What comes after it is lost, and the pipe is read to its end all the same.
@@ -41,10 +47,11 @@ class TimedLines:
     def take(self) -> bool:
         """Takes what is there. Returns whether more may come."""
         data = os.read(self.pipe.fileno(), MOST_OF_LINE)
+        self.heard, self.left = time.monotonic(), self.left - len(data)
         *lines, self.rest = (self.rest + data).split(b"\n")
         if self.rest and (not data or len(self.rest) > MOST_OF_LINE):
             lines, self.rest = [*lines, self.rest], b""
-        if lines and not self.fault:
+        if lines and not self.fault and self.left >= 0:
             now = moment().encode("ascii")
             try:
                 self.file.write(b"".join(b"%s %s\n" % (now, line) for line in lines))
@@ -80,9 +87,10 @@ class LineReader(threading.Thread):
         self.beaten: list[TimedLines] = []
         self.wishes: collections.deque[TimedLines] = collections.deque()
 
-    def read(self, pipe: IO[bytes], path: pathlib.Path, beaten: IO[bytes] | None = None) -> TimedLines:
-        """Has the lines of a pipe written to a file from now on, and bytes into another pipe now and then, where there is one."""
-        lines = TimedLines(pipe, path, beaten)
+    def read(self, pipe: IO[bytes], path: pathlib.Path, beaten: IO[bytes] | None = None, most: float = math.inf) -> TimedLines:
+        """Has the lines of a pipe, so many bytes at most, written to a file from now on, and bytes into another pipe now and then, where there
+        is one."""
+        lines = TimedLines(pipe, path, beaten, most)
         if beaten:
             os.set_blocking(beaten.fileno(), False)
             self.beaten.append(lines)

@@ -6,12 +6,12 @@ from collections.abc import Iterator
 from dataclasses import dataclass
 
 from ggp_tools.answers import Illegal, game_of, no_expression
-from ggp_tools.competition.files import Refused
+from ggp_tools.competition.files import Refused, file_bytes
 from ggp_tools.competition.log_lines import MORE, NO_ANSWER, SHOWN
 from ggp_tools.competition.plan import Plan
-from ggp_tools.competition.results import read_record
 from ggp_tools.competition.schedule import Match
 from ggp_tools.moments import MOMENT
+from ggp_tools.records.show import read_record
 
 TIMED = re.compile(rf"({MOMENT}) (.*)")
 MESSAGE = re.compile(r"\S+ role (\d{1,9}) \S+ message (\d{1,9}) (.*), (\d{1,18}) ms")
@@ -99,7 +99,7 @@ class Told:
     def __init__(self, plan: Plan, match: Match) -> None:
         self.plan, self.match, self.folder = plan, match, plan.folder
         file = self.folder.record(match.id)
-        self.record = read_record(file.read_bytes()) if file.is_file() else None
+        self.record = read_record(file_bytes(file)) if file.is_file() else None
         self.roles = plan.roles(match.game)
 
     def noted(self) -> Iterator[Event]:
@@ -123,12 +123,14 @@ class Told:
         """Returns the lines of the log; of a match that is open, those that came so far."""
         said = self.folder.open / self.match.id / "played.said"
         file = said if not self.record and said.is_file() else self.folder.log(self.match.id)
-        return file.read_bytes().decode("ascii", "replace").splitlines() if file.is_file() else []
+        return file_bytes(file).decode("ascii", "replace").splitlines() if file.is_file() else []
 
     def logged(self) -> Iterator[Event]:
         """Gives what the log says."""
-        time = ""
-        for line in self.log():
+        time, lines = "", self.log()
+        # What was before the match began again has left nothing in the record.
+        begin = max((at for at, line in enumerate(lines) if line.startswith("began ")), default=0)
+        for at, line in enumerate(lines):
             found = TIMED.fullmatch(line)
             time, line = (found[1], found[2]) if found else (time, line)
             if line.startswith(("began ", "host ", "lost ", "ended ")):
@@ -137,20 +139,21 @@ class Told:
                 yield Event(time, None, line, True)
             elif (said := MESSAGE.fullmatch(line)) and int(said[1]) < len(self.roles):
                 role = int(said[1])
-                yield Event(time if found else "", role, self.message_words(role, int(said[2]), said[3], said[4]))
+                yield Event(time if found else "", role, self.message_words(role, int(said[2]), said[3], said[4], at >= begin))
             elif found:
                 yield Event(time, None, f"said: {line}")
 
-    def message_words(self, role: int, number: int, said: str, ms: str) -> str:
-        """Returns what came of a message to a role; the first is START, and then comes one each turn."""
+    def message_words(self, role: int, number: int, said: str, ms: str, counts: bool) -> str:
+        """Returns what came of a message to a role; the first is START, and then comes one each turn. Of one that counts the record tells
+        more."""
         message, answer = parts_of(said)
         kind = message[1:].partition(" ")[0]
         head = f"turn {number - 1}: {kind}" if kind == "PLAY" else kind
-        mark = self.mark_of(role, number - 2, kind)
+        mark = self.mark_of(role, number - 2, kind) if counts else None
         # A player may answer with the words of an error: the record knows, where there is one.
         is_missed = NO_ANSWER.fullmatch(answer) and mark in (None, "TO", "CE")
         words = f"{head} brought {answer} after {ms} ms" if is_missed else f"{head} was answered `{answer}` after {ms} ms"
-        if self.record and kind == "PLAY":
+        if self.record and counts and kind == "PLAY":
             words += f"; {self.turn_words(role, number - 2, answer)}"
         elif mark:
             words += f"; {self.mark_words(mark, kind)}"
@@ -218,7 +221,7 @@ class Told:
         events = in_order(notes, list(self.logged()), match.id)
         for player in players:
             role = match.players.index(player)
-            yield f"\n{player}, {self.roles[role]}:"
+            yield from ("", f"{player}, {self.roles[role]}:")
             for event in events:
                 if event.role in (None, role):
                     yield f"{event.time or '(no time)'} {event.words}"

@@ -42,7 +42,7 @@ function fits(move) {
 }
 
 async function play(move) {
-  const answer = await fetch("move", { method: "POST", headers: { "Content-Type": "application/json", "X-Player": "human" }, body: JSON.stringify({ move, asked: view.asked }) });
+  const answer = await fetch("move", { method: "POST", headers: { "Content-Type": "application/json" }, body: JSON.stringify({ move, asked: view.asked }) });
   if (!answer.ok) $("note").textContent = await answer.text();
 }
 

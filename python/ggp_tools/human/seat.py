@@ -91,7 +91,7 @@ class Seat:
         is_own = match == self.match and receiver == self.receiver
         match keyword:
             case "info":
-                return "busy" if self.match else "available"
+                return "available" if not self.match and self.is_person_there() else "busy"
             case "start" if len(more) == 4 and (is_own or self.is_free()):
                 return self.start(match, receiver, *more)
             case "play" if is_own and len(more) == 1:
@@ -107,6 +107,10 @@ class Seat:
     def is_free(self) -> bool:
         """Returns whether another match may begin: there is none, or its referee is lost."""
         return not self.match or time.monotonic() > self.expected
+
+    def is_person_there(self) -> bool:
+        """Returns whether a page is open. Without one nothing is answered for the person."""
+        return bool(self.pages) or not self.waits_for_page
 
     def next_message(self, seconds: int = 0) -> int:
         """Notes that a message of a match has come whose clock has so many seconds. Returns its number. No move is awaited now."""
@@ -135,7 +139,7 @@ class Seat:
             self.match, self.receiver, self.role, self.play_clock, self.sent = match, receiver, role, play_clock, None
             self.shown, self.roles = Shown(game), roles
             self.show("ready", [], f"Match {match}: you are {own}.")
-            self.changed.wait_for(lambda: self.pages or not self.waits_for_page or self.asked != asked, max(0.0, deadline - time.monotonic()))
+            self.changed.wait_for(lambda: self.is_person_there() or self.asked != asked, max(0.0, deadline - time.monotonic()))
         return "ready"
 
     def refuse(self, asked: int, note: str) -> None:
@@ -146,7 +150,7 @@ class Seat:
                 self.say(phase="waiting", note=note)
 
     def play(self, moves: object) -> str | None:
-        """Shows the state and waits for the person's move. A single legal move is made without asking."""
+        """Shows the state and waits for the person's move. While a page is open a single legal move is made without asking."""
         deadline, made = time.monotonic() + self.play_clock - SPARE, joint_move(moves, len(self.roles))
         asked = self.next_message(self.play_clock)
         note = self.advance(made)
@@ -154,15 +158,22 @@ class Seat:
         with self.changed:
             if self.asked != asked:
                 return None
-            self.sent, self.legal, self.deadline = legal[0] if len(legal) == 1 else None, legal, deadline
-            self.show("sent" if self.sent else "moving", legal, note)
-            self.changed.wait_for(lambda: self.sent is not None or self.asked != asked, max(0.0, deadline - time.monotonic()))
+            self.sent, self.legal, self.deadline = None, legal, deadline
+            self.show("moving", legal, note)
+            self.changed.wait_for(lambda: self.has_move() or self.asked != asked, max(0.0, deadline - time.monotonic()))
             if self.asked != asked:
                 return None
+            if self.sent is None and self.has_move():
+                self.sent = legal[0]
+                self.show("sent", [], note)
             self.legal = []
             if self.sent is None:
                 self.show("late", [], "Your time is over: the referee plays your first legal move.")
             return self.sent
+
+    def has_move(self) -> bool:
+        """Returns whether the person has chosen a move, or has but one to make."""
+        return self.sent is not None or len(self.legal) == 1 and self.is_person_there()
 
     def stop(self, moves: object) -> str:
         made = joint_move(moves, len(self.roles))

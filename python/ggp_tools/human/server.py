@@ -1,14 +1,17 @@
-"""Serves the referee and the person's browser on one port: POST / is a message of the referee, GET / the page."""
+"""Serves the referee and the person's browser on one port: POST / is a message of the referee, GET /TOKEN/ the page. Only the person has
+the token, so nobody else sees the page or the chosen move: no other user of this computer, and no page of another site."""
 
 import ipaddress
 import json
 import re
+import secrets
 import socket
+from collections.abc import Iterable
 from http.server import BaseHTTPRequestHandler, ThreadingHTTPServer
 from http import HTTPStatus
 
 from ggp_tools.human.page import PAGE, POLICY
-from ggp_tools.human.seat import Seat, Unread
+from ggp_tools.human.seat import Seat, Unread, read_message
 
 # A START carries the whole rules.
 MOST_BYTES, MOST_MOVE = 16_777_216, 65_536
@@ -33,35 +36,31 @@ class Handler(BaseHTTPRequestHandler):
     server: "Server"
 
     def do_GET(self) -> None:
-        if self.is_from_elsewhere():
+        if not is_own_name(self.headers["Host"] or "", self.server.server_name):
             self.send_error(HTTPStatus.FORBIDDEN)
-            return
-        match self.path:
-            case "/":
-                self.reply(HTTPStatus.OK, "text/html; charset=utf-8", PAGE)
-            case "/events":
-                self.send_events()
-            case _:
-                self.send_error(HTTPStatus.NOT_FOUND)
+        elif self.path == self.server.page:
+            self.reply(HTTPStatus.OK, "text/html; charset=utf-8", PAGE)
+        elif self.path == f"{self.server.page}events":
+            self.send_events()
+        else:
+            self.send_error(HTTPStatus.NOT_FOUND)
 
     def do_POST(self) -> None:
-        body = self.body(MOST_MOVE if self.path == "/move" else MOST_BYTES)
-        if body is None:
+        is_move = self.path == f"{self.server.page}move"
+        body = self.body(MOST_MOVE if is_move else MOST_BYTES)
+        if not is_move and self.path != "/":
+            self.send_error(HTTPStatus.NOT_FOUND)
+        elif body is None:
             self.send_error(HTTPStatus.BAD_REQUEST)
-        elif self.is_from_elsewhere():
-            self.reply(HTTPStatus.FORBIDDEN, "text/plain", b"open the page at the address or the own name of the player's computer")
-        elif self.path == "/move":
+        elif not is_own_name(self.headers["Host"] or "localhost", self.server.server_name):
+            self.send_error(HTTPStatus.FORBIDDEN)
+        elif is_move:
             self.take_move(body)
+        elif self.headers["Origin"] is not None or self.headers["Sec-Fetch-Site"] is not None:
+            # A browser sends one of them with what a page posts; a referee sends neither.
+            self.send_error(HTTPStatus.FORBIDDEN)
         else:
             self.take_message(body)
-
-    def is_from_elsewhere(self) -> bool:
-        """Returns whether a browser sent this for the page of another site, or under a name that such a site gave to this address. What is
-        no browser sends neither field, and reaches the player under any name."""
-        origin, site, host = self.headers["Origin"], self.headers["Sec-Fetch-Site"], self.headers["Host"] or ""
-        is_browser = origin is not None or site is not None
-        is_own = origin in (None, f"http://{host}") and site in (None, "same-origin", "none")
-        return is_browser and not (is_own and is_own_name(host, self.server.server_name))
 
     def body(self, most: int) -> bytes | None:
         """Returns the body of a request, none where its length is not given, or too large."""
@@ -73,7 +72,9 @@ class Handler(BaseHTTPRequestHandler):
     def take_message(self, body: bytes) -> None:
         """Answers the referee. Without a move in time the connection is closed: that is no answer."""
         try:
-            answer = self.server.seat.answer(body.decode("latin-1"), self.headers["Receiver"] or "")
+            text = body.decode("latin-1")
+            is_referee = self.server.is_referee(self.client_address[0], read_message(text)[0])
+            answer = self.server.seat.answer(text, self.headers["Receiver"] or "") if is_referee else "busy"
         except (Unread, RecursionError) as why:
             self.send_error(HTTPStatus.BAD_REQUEST, ascii(str(why)[:200]))
             return
@@ -83,10 +84,7 @@ class Handler(BaseHTTPRequestHandler):
         self.reply(HTTPStatus.OK, "text/acl", answer.encode("latin-1"))
 
     def take_move(self, body: bytes) -> None:
-        """Takes the person's move. Another site's page can't send this header without being asked first, and it is never allowed."""
-        if self.headers["X-Player"] != "human":
-            self.send_error(HTTPStatus.FORBIDDEN)
-            return
+        """Takes the person's move."""
         try:
             given = json.loads(body)
             why = self.server.seat.move(given["move"], given["asked"])
@@ -119,6 +117,7 @@ class Handler(BaseHTTPRequestHandler):
         self.send_header("Content-Length", str(len(body)))
         self.send_header("Content-Security-Policy", POLICY)
         self.send_header("X-Content-Type-Options", "nosniff")
+        self.send_header("Referrer-Policy", "no-referrer")
         self.end_headers()
         self.wfile.write(body)
 
@@ -127,8 +126,16 @@ class Handler(BaseHTTPRequestHandler):
 
 
 class Server(ThreadingHTTPServer):
+    """The server of a person's seat: it takes messages from these referees, by their addresses, or from that of the first INFO or START."""
+
     daemon_threads = True
 
-    def __init__(self, address: tuple[str, int], seat: Seat) -> None:
+    def __init__(self, address: tuple[str, int], seat: Seat, referees: Iterable[str] = ()) -> None:
         super().__init__(address, Handler)
-        self.seat = seat
+        self.seat, self.referees, self.page = seat, set(referees), f"/{secrets.token_urlsafe(16)}/"
+
+    def is_referee(self, address: str, keyword: str) -> bool:
+        """Returns whether a message of this kind comes from a referee."""
+        if not self.referees and keyword in ("info", "start"):
+            self.referees.add(address)
+        return address in self.referees

@@ -14,6 +14,7 @@ from typing import BinaryIO
 
 from ggp_tools.answers import Whys
 from ggp_tools.ground_games import Game
+from ggp_tools.records.lengths import USUAL_RECORD, first_states, without_states
 from ggp_tools.records.marks import PIECES, Mark, marks_of
 from ggp_tools.records.shapes import ACCOUNT_LINE
 
@@ -24,7 +25,7 @@ ABOUT = (
     "with what is wrong with it. `ggp_manager verify` says whether a record is that of a lawful match; this command does not look at that."
 )
 STATUS = "status 0: the page is written. 1: the text is no record. 2: wrong use, or it can't be read, or the page can't be written."
-LONGEST_RECORD = 16 << 20
+LONGEST_RECORD = USUAL_RECORD
 RECORD_BEGINS = b'{"cause":'
 ONE_RECORD = "A page is of one record: `ggp-records pages` makes a page of each"
 VERSIONS = (1, 2)
@@ -217,8 +218,8 @@ def check_key(record: dict, key: str, kind: tuple[Kind, str]) -> None:
         raise NoRecord(f"the value of {key!r} is {said}")
 
 
-def check_lengths(record: dict) -> None:
-    """Looks that there is one of each for each role, and one state more than turns."""
+def check_lengths(record: dict, is_cut: bool) -> None:
+    """Looks that there is one of each for each role, and one state more than turns, or fewer in a record that is cut."""
     roles, turns = len(record["roles"]), len(record["moves"])
     if not roles:
         raise NoRecord("it has no role")
@@ -232,12 +233,12 @@ def check_lengths(record: dict) -> None:
             if len(texts) != roles:
                 raise NoRecord(f"turn {turn + 1} of {key!r} has {len(texts)} texts, and there are {roles} roles")
     for key, wanted in (("errors", turns), ("states", turns + 1)):
-        if len(record[key]) != wanted:
+        if len(record[key]) != wanted and not (is_cut and key == "states" and 0 < len(record[key]) < wanted):
             raise NoRecord(f"the length of {key!r} is {len(record[key])} and not {wanted}, for {turns} turns in 'moves'")
 
 
-def checked_record(record: object) -> dict:
-    """Returns a value that is a record by its shape, as far as a page needs it. Version 1 is filled in."""
+def checked_record(record: object, is_cut: bool = False) -> dict:
+    """Returns a value that is a record by its shape, as far as a page needs it, or one without its last states. Version 1 is filled in."""
     if not isinstance(record, dict):
         raise NoRecord("it is JSON, and no object")
     for key, kind in KEYS.items():
@@ -249,7 +250,7 @@ def checked_record(record: object) -> dict:
         check_key(record, "strikes", STRIKES)
     if record["phase"] not in PHASES:
         raise NoRecord("the value of 'phase' is no phase")
-    check_lengths(record)
+    check_lengths(record, is_cut)
     why = CAUSE.fullmatch(record["cause"] or "asked")
     if not why or int(why[3] or 0) >= len(record["roles"]):
         raise NoRecord("the value of 'cause' is no cause of a match with these roles")
@@ -257,11 +258,17 @@ def checked_record(record: object) -> dict:
 
 
 def read_record(data: bytes) -> dict:
-    """Returns the keys of the record that the bytes spell."""
+    """Returns the keys of the record that the bytes spell. If it is longer than 16 MiB, `states` has the first ones, as many as these hold."""
     # The end of its line is no part of the record.
-    if len(data) - data.endswith(b"\n") > LONGEST_RECORD:
+    if len(data) - data.endswith(b"\n") <= LONGEST_RECORD:
+        return checked_record(parsed(data))
+    rest = without_states(data)
+    if len(rest) > LONGEST_RECORD:
         raise NoRecord("it is longer than 16 MiB")
-    return checked_record(parsed(data))
+    record = parsed(rest)
+    if isinstance(record, dict):
+        record["states"] = first_states(data, LONGEST_RECORD)
+    return checked_record(record, is_cut=True)
 
 
 def lines_of(file: BinaryIO) -> Iterator[bytes]:
@@ -510,6 +517,8 @@ def states_page(record: dict) -> tuple[str, bool]:
         drawn = [board_page(*parts) for parts in zip(boards, places, before, ground, marks)]
         nothing = "" if state else '<p class="dim">A state without terms.</p>'
         lines.append(f'<section class="state" id="state-{at}"><h2>{title}</h2>{"".join(drawn)}{terms_page(terms, rest_before)}{nothing}</section>')
+    if (shown_states := len(record["states"])) <= len(record["moves"]):
+        lines.append(f'<p class="dim">The record has more than 16 MiB. These are the first {shown_states:,} of its states.</p>')
     return "\n".join(lines), bool(boards)
 
 

@@ -5,8 +5,10 @@ import resource
 import signal
 import socket
 import subprocess
+import sys
 import tempfile
 from collections.abc import Callable, Iterable
+from typing import NoReturn
 
 from driving import EXAMPLES
 
@@ -36,6 +38,11 @@ def tell(name: str, faults: Iterable[str], well: str) -> int:
     found = [f"{name}: {fault}" for fault in faults]
     print(*found or [well], sep="\n")
     return int(bool(found))
+
+
+def run_test(about: str, faults: Callable[[str], Iterable[str]], well: str) -> NoReturn:
+    """Runs a test whose only argument is the program, and ends with its exit status."""
+    sys.exit(tell(os.path.basename(sys.argv[0]), faults(program_of(about)), well))
 
 
 def little_room(size: int, reaction: Callable | signal.Handlers | int | None) -> Callable[[], None]:

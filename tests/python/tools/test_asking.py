@@ -57,7 +57,3 @@ class Waiting(unittest.TestCase):
         found = iter([False, False, True])
         self.assertTrue(asking.wait_until(lambda: next(found), 60, 0))
         self.assertFalse(asking.wait_until(lambda: False, 0.01))
-
-
-if __name__ == "__main__":
-    unittest.main()

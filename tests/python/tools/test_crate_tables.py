@@ -35,7 +35,3 @@ class CrateTables(unittest.TestCase):
 
     def test_a_text_without_the_table_stays(self) -> None:
         self.assertEqual(with_table("| Other |\n|---|\n", CRATES, [ROW]), "| Other |\n|---|\n")
-
-
-if __name__ == "__main__":
-    unittest.main()

@@ -90,7 +90,3 @@ def write(file, text):
 class Times(unittest.TestCase):
     def test_a_time_is_spelled(self):
         self.assertEqual([spell(seconds) for seconds in (0.4, 59.4, 59.6, 754)], ["0 s", "59 s", "1 min 00 s", "12 min 34 s"])
-
-
-if __name__ == "__main__":
-    unittest.main()

@@ -9,7 +9,7 @@ from crates import TOP
 
 FOLDERS = (".ci", "bench", "tests/program", "examples", "tests/oracle", "python", "tools")
 # What reads the words of a command line, and prints its help.
-READERS = ("ArgumentParser(", "arguments(__doc__", "program_of(__doc__)", "reader(__doc__)", "words_with_program(__doc__)")
+READERS = ("ArgumentParser(", "arguments(__doc__", "program_of(__doc__)", "reader(__doc__)", "run_test(__doc__", "words_with_program(__doc__)")
 # These hand their words on to modules of `ggp_tools`.
 COMMANDS = tuple(sorted(os.path.relpath(path, TOP) for path in glob.glob(f"{TOP}/python/ggp*") if os.path.isfile(path)))
 OLDER = "import runpy, sys; sys.version_info = (3, 10, 18); runpy.run_path(sys.argv[1], run_name='__main__')"
@@ -46,7 +46,3 @@ class Help(unittest.TestCase):
             said = subprocess.run(words, env=found, stdin=subprocess.DEVNULL, capture_output=True, text=True)
             name = os.path.basename(file)
             self.assertEqual((said.returncode, said.stderr), (1, f"{name}: Python 3.10 runs it, and it needs 3.11 or later\n"))
-
-
-if __name__ == "__main__":
-    unittest.main()

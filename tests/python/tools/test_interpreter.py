@@ -67,7 +67,3 @@ class Interpreter(unittest.TestCase):
         game = Game("(role r) " + " ".join(f"(<= p{number} p{number + 1})" for number in range(8_190)) + " (<= p8190 (true s))")
         self.assertEqual((game.roles, game.timeless, game.circles), (["r"], set(), {}))
         self.assertLess(time.process_time() - began, 10)
-
-
-if __name__ == "__main__":
-    unittest.main()

@@ -1,42 +1,28 @@
-"""Which words of the kit the crates' code must not have: each is planted here, and has to be found."""
-import unittest
+"""Which words of the toolchain the crates' code must not have."""
+import importlib.machinery
+import importlib.util
 
-from kit_words import REFUSED, uses_in
-
-# A desk that serves a line as far as it has seen, and never looks again.
-SERVING = """fn serve(port: &mut Port) -> bool {
-    if port.replies.cached_slots() == 0 {
-        return false;
-    }
-    // pop_known would be wrong here.
-    match port.calls.%s() {
-        Ok(_) => tell("peek_known"),
-        Err(_) => false,
-    }
-}
-"""
+import pytest
+from crates import TOP
 
 
-def found(source):
-    return [(use.line, use.word) for use in uses_in(source)]
+def load() -> object:
+    """Returns tools/kit-words as a module."""
+    loader = importlib.machinery.SourceFileLoader("kit_words", f"{TOP}/tools/kit-words")
+    module = importlib.util.module_from_spec(importlib.util.spec_from_loader("kit_words", loader))
+    loader.exec_module(module)
+    return module
 
 
-class Uses(unittest.TestCase):
-    def test_each_word_is_found_where_it_is_called(self):
-        for word in REFUSED:
-            self.assertEqual(found(f"let x = port.calls.{word}();\n"), [(1, word)])
-            self.assertEqual(found(f"let x = Consumer::{word}(\n    &mut port.calls);\n"), [(1, word)])
-            self.assertEqual(found(f"\nuse ends::{word} as seen;\n"), [(2, word)])
-
-    def test_words_in_comments_and_texts_are_none(self):
-        self.assertEqual(found(SERVING % "pop"), [(2, "cached_slots")])
-
-    def test_other_words_of_a_ring_are_none(self):
-        self.assertEqual(found("port.replies.is_full() || port.calls.pop().is_err() || my_cached_slots() == slots_cached_slots"), [])
-
-    def test_each_use_says_why(self):
-        self.assertTrue(all(use.why for use in uses_in("pop_known cached_slots peek_known")))
+KIT_WORDS = load()
 
 
-if __name__ == "__main__":
-    unittest.main()
+@pytest.mark.parametrize("word", KIT_WORDS.REFUSED)
+def test_each_word_is_found_where_it_is_called_or_imported(word: str) -> None:
+    for source, row in ((f"let x = port.calls.{word}();\n", 1), (f"\nuse ends::{word} as seen;\n", 2), (f"Consumer::{word}(\n    &mut port);\n", 1)):
+        assert KIT_WORDS.uses_in(source) == [(row, word)]
+
+
+@pytest.mark.parametrize("source", ["// pop_known would be wrong here.\n", "port.calls.pop(); // not peek_known\n", "my_cached_slots() == slots_cached_slots"])
+def test_a_comment_or_another_word_is_not_found(source: str) -> None:
+    assert KIT_WORDS.uses_in(source) == []

@@ -1,7 +1,7 @@
 """Which imports reach past the public definitions of another crate, and which crates are named and not used."""
 import unittest
 
-from layers import reaching, unmentioned
+from crates import reaching, unmentioned
 
 KNOWN = ("low", "high")
 
@@ -47,7 +47,3 @@ class Unmentioned(unittest.TestCase):
 
     def test_a_comment_is_no_mention(self):
         self.assertEqual(unmentioned(["low"], ["// low\n", "-- as low says\n"]), ["low"])
-
-
-if __name__ == "__main__":
-    unittest.main()

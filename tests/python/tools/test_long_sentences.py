@@ -1,7 +1,7 @@
 """Which sentences of a document are too long, and what counts as one sentence."""
 import unittest
 
-from sentences import MOST_WORDS, sentences, too_long, words
+from documents import MOST_WORDS, sentences, too_long, words
 
 
 def faults(text: str) -> list[int]:
@@ -38,7 +38,3 @@ class Sentences(unittest.TestCase):
 
     def test_no_full_stop_in_code_ends_a_sentence(self) -> None:
         self.assertEqual(sentences("It is `a. b`, or `c`. Then `d`!"), ["It is `a. b`, or `c`.", "Then `d`!"])
-
-
-if __name__ == "__main__":
-    unittest.main()

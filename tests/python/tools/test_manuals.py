@@ -77,7 +77,3 @@ class Manuals(unittest.TestCase):
     @unittest.skipUnless(shutil.which("zsh"), "zsh is not installed")
     def test_zsh_reads_what_is_written(self):
         self.assertEqual(subprocess.run(["zsh", "-n"], input=zsh(some()), capture_output=True, text=True).stderr, "")
-
-
-if __name__ == "__main__":
-    unittest.main()

@@ -89,9 +89,9 @@ def test_what_no_test_finds_is_left(tmp_path: Path, monkeypatch):
     assert (room / "python/ggp_tools/small.py").read_text(encoding="utf-8") == SMALL
 
 
-def test_a_module_has_one_row(tmp_path: Path):
+def test_a_module_has_one_row_while_it_exists(tmp_path: Path):
     results = tmp_path / "python.txt"
-    results.write_text("# old head\nkif 7 0 2026-01-01\nrounds 8 1 2026-01-01\n", encoding="utf-8")
+    results.write_text("# old head\nkif 7 0 2026-01-01\ngone 5 0 2026-01-01\nreferee 8 1 2026-01-01\n", encoding="utf-8")
     mutate.keep("kif", 9, 2, str(results))
-    head, kif, rounds = results.read_text(encoding="utf-8").splitlines()
-    assert (head.startswith("# Mutations"), kif.split()[:3], rounds) == (True, ["kif", "9", "2"], "rounds 8 1 2026-01-01")
+    head, kif, referee = results.read_text(encoding="utf-8").splitlines()
+    assert (head.startswith("# Mutations"), kif.split()[:3], referee) == (True, ["kif", "9", "2"], "referee 8 1 2026-01-01")

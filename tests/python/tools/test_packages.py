@@ -1,81 +1,70 @@
-"""What the gate needs of the system, and what is said where it is missing."""
+"""What the tests need of the system, and what is printed if it is missing."""
 import contextlib
-import io
 import os
-import tempfile
-import unittest
-import unittest.mock
+import pathlib
+from collections.abc import Iterator
+from unittest import mock
 
-from packages import Need, bring, fault_of_rights, install, missing, need_of, no_services, read_needs, searched
+import packages
+import pytest
+from packages import NEEDS, Need, install, install_missing, lack_of_rights, missing, no_services, searched
 
-GONE = Need("nothing", ["no-such-command", "sh"], "nothing is done", False)
-
-
-class Packages(unittest.TestCase):
-    def test_a_row_is_read(self):
-        self.assertEqual(need_of("openssh-client: ssh ssh-keygen: machines: reached"), Need("openssh-client", ["ssh", "ssh-keygen"], "machines: reached", False))
-        self.assertTrue(need_of("optional g++: g++: measurements").is_optional)
-        with self.assertRaises(ValueError):
-            need_of("g++ for measurements")
-
-    def test_the_list_is_read(self):
-        needed = {need.package for need in read_needs() if not need.is_optional}
-        self.assertLessEqual({"gringo", "openssh-client", "openssh-server", "iproute2", "util-linux"}, needed)
-
-    def test_what_is_there_or_optional_is_not_missing(self):
-        self.assertEqual(missing([Need("dash", ["sh"], "shells", False), GONE._replace(is_optional=True)]), [])
-        self.assertEqual(missing([GONE]), [GONE])
-
-    def test_what_stands_where_the_path_does_not_lead_is_found(self):
-        with unittest.mock.patch.dict("os.environ", {"PATH": "/usr/bin:/sbin"}):
-            self.assertEqual(searched(), "/usr/bin:/sbin:/usr/sbin")
-
-    def test_where_it_cannot_be_installed_the_command_is_said(self):
-        with unittest.mock.patch("packages.can_install", lambda: False):
-            said = bring([GONE])
-        for part in ("no-such-command (nothing is done)", "apt-get install --yes --no-install-recommends nothing"):
-            self.assertIn(part, said)
-        self.assertNotIn("sh,", said)
-
-    def test_where_it_can_be_it_is_installed_and_said(self):
-        installed, said = [], io.StringIO()
-        with unittest.mock.patch("packages.can_install", lambda: True), contextlib.redirect_stdout(said):
-            with unittest.mock.patch("packages.install", lambda packages: installed.append(packages) or True):
-                self.assertEqual(bring([GONE]), "missing although installed: no-such-command (nothing is done)")
-            with unittest.mock.patch("packages.install", lambda packages: False):
-                self.assertEqual(bring([GONE]), "nothing can't be installed")
-        self.assertEqual((installed, said.getvalue().count("installing nothing\n")), ([["nothing"]], 2))
-
-    def test_new_lists_are_fetched_where_the_first_try_fails(self):
-        for failing, wanted in (0, 1), (1, 3), (2, 3):
-            ran: list = []
-            answers = iter([*["no such package\n"] * (failing > 0), "", *["no such package\n"] * (failing > 1), ""])
-            with unittest.mock.patch("packages.said_wrong", lambda command: ran.append(command) or next(answers)):
-                with unittest.mock.patch("packages.no_services", contextlib.nullcontext), contextlib.redirect_stdout(io.StringIO()):
-                    self.assertEqual(install(["nothing"]), failing < 2)
-            self.assertEqual([command[1] for command in ran], ["install", "update", "install"][:wanted])
-
-    def test_nothing_is_installed_where_all_is_there(self):
-        with unittest.mock.patch("packages.install", side_effect=AssertionError):
-            self.assertIsNone(bring([Need("dash", ["sh"], "shells", False)]))
-
-    def test_no_service_is_started_by_what_is_installed(self):
-        with tempfile.TemporaryDirectory() as room:
-            policy = f"{room}/policy-rc.d"
-            with no_services(policy):
-                self.assertTrue(os.access(policy, os.X_OK))
-            self.assertFalse(os.path.exists(policy))
-            with open(policy, "w", encoding="utf-8") as file:
-                file.write("exit 0\n")
-            with no_services(policy):
-                pass
-            with open(policy, encoding="utf-8") as file:
-                self.assertEqual(file.read(), "exit 0\n")
-
-    def test_who_is_not_root_is_told_how_to_be(self):
-        with unittest.mock.patch("os.geteuid", lambda: 1000):
-            self.assertIn("sudo env", fault_of_rights())
+GONE = Need("nothing", ("no-such-command", "sh"), "nothing is done")
+SHELL = Need("dash", ("sh",), "shells")
 
 
-if __name__ == "__main__":
-    unittest.main()
+@pytest.fixture
+def can_install() -> Iterator[None]:
+    with mock.patch("packages.can_install", lambda: True):
+        yield
+
+
+def test_what_is_there_or_optional_is_not_missing() -> None:
+    assert missing([SHELL, Need("nothing", GONE.commands, "", is_optional=True)]) == []
+    assert missing([GONE]) == [GONE] and GONE.lacks() == ["no-such-command"]
+    assert {"gringo", "python3-pytest", "chromium"} <= {need.package for need in NEEDS if not need.is_optional}
+
+
+def test_the_directories_of_the_systems_commands_are_searched() -> None:
+    with mock.patch.dict("os.environ", {"PATH": "/usr/bin:/sbin"}):
+        assert searched() == "/usr/bin:/sbin:/usr/sbin"
+
+
+def test_without_root_the_command_to_type_is_printed() -> None:
+    with mock.patch("packages.can_install", lambda: False):
+        error = install_missing([GONE])
+    assert error == "missing: no-such-command (nothing is done). In Debian, type: sudo apt-get install --yes --no-install-recommends nothing"
+
+
+def test_as_root_what_is_missing_is_installed(can_install: None, capsys: pytest.CaptureFixture) -> None:
+    with mock.patch("packages.install", lambda names: names == ["nothing"]):
+        assert install_missing([GONE]) == "missing although their packages are installed: no-such-command (nothing is done)"
+    with mock.patch("packages.install", lambda names: False):
+        assert install_missing([GONE]) == "apt-get cannot install nothing; its messages are above"
+    assert capsys.readouterr().out.count("needs: installing nothing, ") == 2
+    with mock.patch("packages.install", side_effect=AssertionError):
+        assert install_missing([SHELL]) is None
+
+
+@pytest.mark.parametrize(("errors", "commands", "is_well"), [([""], 1, True), (["none", "", ""], 3, True), (["none", "", "none"], 3, False), (["none", "no net"], 2, False)])
+def test_after_a_failure_new_lists_are_downloaded(errors: list[str], commands: int, is_well: bool) -> None:
+    ran, answers = [], iter(errors)
+    with mock.patch.object(packages, "error_of", lambda command: ran.append(command[1]) or next(answers)), mock.patch.object(packages, "no_services", contextlib.nullcontext):
+        assert install(["nothing"]) == is_well
+    assert ran == ["install", "update", "install"][:commands]
+
+
+def test_no_service_is_started_and_a_policy_stays(tmp_path: pathlib.Path) -> None:
+    policy = tmp_path / "policy-rc.d"
+    with no_services(str(policy)):
+        assert os.access(policy, os.X_OK)
+    assert not policy.exists()
+    policy.write_text("exit 0\n")
+    with no_services(str(policy)):
+        pass
+    assert policy.read_text() == "exit 0\n"
+
+
+def test_a_user_other_than_root_reads_what_to_type() -> None:
+    with mock.patch("os.geteuid", lambda: 1000):
+        assert 'sudo env "PATH=$PATH" make gate' in lack_of_rights()

@@ -135,12 +135,10 @@ class Serving(unittest.TestCase):
                 self.assertEqual(silent.recv(1), b"")
 
     def test_connections_that_are_slow_hold_up_nobody(self):
-        with server() as (port, _), contextlib.ExitStack() as slow:
+        with unittest.mock.patch.object(player.Handler, "timeout", None), server() as (port, _), contextlib.ExitStack() as slow:
             for part in (b"", b"POST", b"POST / HTTP/1.0\r\nContent-Length: 9\r\n\r\n(PLAY") * 3:
                 slow.enter_context(socket.create_connection(("127.0.0.1", port), SECONDS)).sendall(part)
-            began = time.monotonic()
             self.assertEqual(asked(port, "(INFO)"), (200, "available"))
-            self.assertLess(time.monotonic() - began, player.Handler.timeout / 2)
 
     def test_messages_are_answered_in_their_order(self):
         came, may_go = threading.Semaphore(0), threading.Event()
@@ -212,7 +210,3 @@ class Serving(unittest.TestCase):
         with started("player", subprocess.DEVNULL) as port:
             self.assertEqual(asked(port, f"(START m red {rules} 1 1)"), (200, "ready"))
             self.assertEqual(asked(port, "(PLAY m NIL)"), (200, "go"))
-
-
-if __name__ == "__main__":
-    unittest.main()

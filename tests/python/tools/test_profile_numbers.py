@@ -26,7 +26,3 @@ class Limits(unittest.TestCase):
             self.assertEqual(len(said), 1, name)
             code = "".join(line for line in text_of(user).splitlines(True) if not line.startswith("use "))
             self.assertEqual(re.findall(rf"\b{name}\b *(?!: usize)(.*)", code), [behind], name)
-
-
-if __name__ == "__main__":
-    unittest.main()

@@ -1,7 +1,7 @@
 """Which lines of a document are taken from a file, and which crate a cell of the index of promises names."""
 import unittest
 
-from samples import indexed, sources, without_targets
+from documents import indexed, sources, without_targets
 
 
 def shown(text):
@@ -33,7 +33,3 @@ class Indexed(unittest.TestCase):
 
     def test_a_part_of_a_crate_names_none(self):
         self.assertIsNone(indexed("`read_one`: `fault`"))
-
-
-if __name__ == "__main__":
-    unittest.main()

@@ -81,7 +81,3 @@ class Records(unittest.TestCase):
         ann.port, bob.port = 1, 2
         lines = "m0 5 1 ann@127.0.0.1:1 bob@127.0.0.1:2\nm1 5 1 bob@127.0.0.1:2 ann@127.0.0.1:1\n"
         self.assertEqual(schedule([(ann, bob), (bob, ann)], "5 1"), (lines, ["m0", "m1"]))
-
-
-if __name__ == "__main__":
-    unittest.main()

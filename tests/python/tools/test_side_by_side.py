@@ -25,7 +25,3 @@ class SideBySide(unittest.TestCase):
 
     def test_no_reply_is_none(self):
         self.assertEqual(shown("one\ntwo\n", "exit 1"), (1, ["> one", "  ", "> two", "  "]))
-
-
-if __name__ == "__main__":
-    unittest.main()

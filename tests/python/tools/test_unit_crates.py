@@ -55,7 +55,3 @@ class Named(unittest.TestCase):
                     text = stream.read()
                 self.assertEqual(len(unit_crates.TEST.findall(text)), text.count("#[test]"), file)
                 self.assertNotIn("#[test]", unit_crates.without_other_tests(text, "", "no name has this")[0], file)
-
-
-if __name__ == "__main__":
-    unittest.main()

@@ -12,7 +12,6 @@ FILES = {
     "package/__init__.py": 'VERSION = "{}"\n',
     "README.md": "    ggp_manager {}\n",
     "docs/COMPETITION.md": "published with ggp_manager {}, checked by ggp_competition {}\n",
-    "tests/unit/some_tests/src/words.rt.test": 'b"ggp_manager {}\\n"\n',
 }
 
 
@@ -41,7 +40,3 @@ class Version(unittest.TestCase):
 
     def test_a_place_without_a_version_is_named(self):
         self.assertEqual(said({"README.md": "none"}), (0, "README.md: the version does not stand there\n"))
-
-
-if __name__ == "__main__":
-    unittest.main()

@@ -1,0 +1,68 @@
+"""The addresses of players: which the system refuses, and which are one."""
+
+import socket
+import threading
+from unittest import mock
+
+import pytest
+from ggp_tools.competition import addresses
+from ggp_tools.competition.addresses import looked_up, mistakes_of_addresses
+from ggp_tools.competition.competition_file import read_competition
+from support import toml
+
+BROADCAST = "the system refuses connections to it, as to a broadcast address"
+MULTICAST = "a multicast address takes no connection"
+
+
+def mistakes(*given):
+    """Returns the lines and the words of the mistakes of players with these addresses."""
+    players = [(f"p{at}", address) for at, address in enumerate(given)]
+    return [(mistake.line, mistake.words) for mistake in mistakes_of_addresses(read_competition(toml(players, [("nim", "f")]).encode()))]
+
+
+@pytest.mark.parametrize("other", ["127.1:9147", "0.0.0.0:9147", "[::ffff:127.0.0.1]:9147", "2130706433:9147", "localhost:9147", "127.0.0.1:09147"])
+def test_two_players_at_one_address(other):
+    own = "are one: 127.0.0.1, port"
+    found = mistakes("127.0.0.1:9147", "127.0.0.1:9148", other)
+    assert found == [(13, f"{other!r} and '127.0.0.1:9147', the address of p0, {own} {other.rpartition(':')[2]}")]
+    assert mistakes(other, "127.0.0.1:9147")[0][1] == f"'127.0.0.1:9147' and {other!r}, the address of p0, {own} 9147"
+
+
+def test_addresses_of_ipv6_with_interfaces():
+    assert mistakes("[::]:9147", "[0:0::1]:9147") == [(10, "'[0:0::1]:9147' and '[::]:9147', the address of p0, are one: ::1, port 9147")]
+    assert mistakes("127.0.0.1:9147", "127.0.0.2:9147", "[::1]:9148", "[fe80::1%lo]:9147", "[fe80::1]:9147") == []
+
+
+@pytest.mark.parametrize(("address", "why"), [
+    ("255.255.255.255:9147", BROADCAST), ("127.255.255.255:9147", BROADCAST), ("224.0.0.1:9147", MULTICAST), ("239.255.255.255:1", MULTICAST),
+    ("[ff02::1]:9147", MULTICAST), ("[::ffff:224.0.0.1]:9147", MULTICAST),
+])
+def test_an_address_that_takes_no_connection(address, why):
+    assert mistakes("127.0.0.1:1", address) == [(10, f"{address!r}: {why}")]
+
+
+def test_names():
+    known = {"ann.example": ["10.0.0.1", "10.0.0.2"], "bob.example": ["10.0.0.2"], "cid.example": ["10.0.0.3"]}
+
+    def lookup(host, port, type, flags):
+        if flags or host not in known:
+            raise socket.gaierror(socket.EAI_NONAME, "Name or service not known")
+        return [(socket.AF_INET, type, 6, "", (address, 0)) for address in known[host]]
+
+    with mock.patch.object(addresses.socket, "getaddrinfo", lookup):
+        words = "'bob.example:1' and 'ann.example:1', the address of p0, are one: 10.0.0.2, port 1"
+        assert mistakes("ann.example:1", "bob.example:1", "cid.example:1", "none.example:1", "other.example:1") == [(10, words)]
+
+
+def test_a_resolver_that_does_not_answer_holds_up_nothing():
+    waits = threading.Event()
+
+    def lookup(host, port, type, flags):
+        if flags:
+            raise socket.gaierror(socket.EAI_NONAME, "Name or service not known")
+        waits.wait()
+        return []
+
+    with mock.patch.object(addresses.socket, "getaddrinfo", lookup), mock.patch.object(addresses, "SECONDS", 0):
+        assert looked_up(["ann.example", "bob.example"]) == {"ann.example": [], "bob.example": []}
+    waits.set()

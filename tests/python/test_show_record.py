@@ -1,0 +1,221 @@
+"""The pages that ggp-show-record makes of records: each turn, state, move and mark of the record is there, all text as text, and nothing that
+a browser would load or run except the page's own script. What is not a record is refused with the reason."""
+
+import copy
+import html.parser
+import json
+import subprocess
+
+import pytest
+from ggp_tools.records import show
+from support import GAMES, TOP, program
+
+# A match with each kind of error, which ends since both roles are retired.
+SCRIPT = """strict m 0 10 5 2 ann bob
+submit m 0 0 READY
+submit m 1 0 READY
+submit m 0 1 (take 1)
+miss m 1 1 silent
+submit m 0 2 ?
+miss m 1 2 broken
+submit m 0 3 noop
+"""
+ERRORS = [["", "TO"], ["IL ?", "CE"], ["IL noop", "RT"]]
+HOSTILE = ["<script>alert(1)</script>", "\"'><img src=x onerror=alert(1)>", "</script></table><b>", "&lt;&#65;", "<!--", "\\", "\u202e\x00\x7f\ud800"]
+# States, with how many boards are drawn of them.
+FORMS = [
+    (["(cell 1 1 x)", "(cell 2 3 b)"], 1),
+    (["(cell a 1 white rook)", "(cell c 2 black king)"], 1),
+    (["(cell x1 y1 b)", "(cell x2 y2 b)", "(shade x1 y1 dark)", "(shade x2 y2 light)"], 2),
+    (["(piece white 1 1)", "(piece black 2 2)"], 1),
+    (["(at red 1 1)", "(at blue 2 2)", "(wall 1 1)", "(wall 1 2)", "(wall 2 2)"], 1),
+    (["(peg 1 1)", "(peg 1 2)", "(peg 2 2)"], 1),
+    # One number or letter for each: no places.
+    (["(heap 1 3)", "(heap 2 5)"], 0),
+    (["(on 1 a)", "(on 2 a)"], 0),
+    (["(step 0 1 1)"], 0),
+    # No numbers behind one letter, no letters, or too many.
+    (["(score ann 10)", "(score bob 20)"], 0),
+    (["(cell a1 1 x)", "(cell b2 2 x)"], 0),
+    (["(cell 1 1 x)", "(cell 99 2 x)"], 0),
+    (["(cell 1 1 (piece x))", "(cell 2 2 (piece o))"], 0),
+    (["(", ")", "()", "( )", "(cell  1 x)", "cell 1 1 x"], 0),
+]
+# What a board of tic-tac-toe shows.
+SHOWN = {"x": "\u2715", "o": "\u25ef", "b": "\u00b7"}
+TAGS = {"html", "head", "meta", "title", "style", "body", "h1", "p", "span", "table", "tr", "th", "td", "div", "main", "nav", "button"}
+TAGS |= {"section", "h2", "ul", "li", "b", "i", "br", "a", "code", "script"}
+ATTRIBUTES = {"lang", "charset", "name", "http-equiv", "content", "class", "id", "style", "title", "tabindex", "href", "data-key"}
+
+
+class Pieces(html.parser.HTMLParser):
+    """The tags of a page in their order, each with its attributes and the text up to the next tag."""
+
+    def __init__(self, page):
+        super().__init__()
+        self.all = []
+        self.feed(page)
+        self.close()
+
+    def handle_starttag(self, tag, attrs):
+        self.all.append([tag, dict(attrs), ""])
+
+    def handle_endtag(self, tag):
+        self.all.append([f"/{tag}", {}, ""])
+
+    def handle_data(self, data):
+        if self.all:
+            self.all[-1][2] += data
+
+    def of(self, tag, kind=None):
+        return [(attrs, text) for at, attrs, text in self.all if at == tag and (kind is None or kind in attrs.get("class", "").split())]
+
+
+def made(record):
+    """Returns the page of a record, or of these bytes; or what is wrong with them."""
+    data = record if isinstance(record, bytes) else json.dumps(record).encode()
+    try:
+        return show.page_of(show.read_record(data)), ""
+    except show.NoRecord as why:
+        return b"", str(why)
+
+
+def visible(text):
+    return "".join(character if " " <= character <= "~" else f"\\u{{{ord(character):x}}}" for character in text)
+
+
+def texts_of(record):
+    """Returns the texts that the page has to show, by where they stand."""
+    moves = [visible(text) for turn in record["moves"] for text in turn]
+    errors = [visible(text) for turn in record["errors"] for text in turn if text]
+    return moves, errors, [visible(role) for role in record["roles"]], [visible(player) for player in record["players"]]
+
+
+def parts_of(record: dict) -> tuple[dict, dict]:
+    """Returns what the page of the record has, and what it must have."""
+    page, error = made(record)
+    assert not error and page.isascii()
+    pieces = Pieces(page.decode())
+    moves, errors, roles, players = texts_of(record)
+    cells = pieces.of("td")
+    shown_players = [text for _, text in cells[: 7 * len(roles)]]
+    # A term is on a board or in the list, so none is in both, and none in neither.
+    terms = sum(bool(text) or "title" in attrs for attrs, text in pieces.of("i")) + len(pieces.of("br")) + sum(attrs.get("class") != "gone" for attrs, _ in pieces.of("li"))
+    found = {
+        "turns": len(pieces.of("tr", "turn")),
+        "moves": [text for _, text in cells[7 * len(roles) :] if text],
+        "errors": [text for _, text in pieces.of("span", "why")],
+        "substituted moves": len(pieces.of("td", "substituted")),
+        "roles": shown_players[1::7],
+        "players": shown_players[2::7],
+        "states": [attrs["id"] for attrs, _ in pieces.of("section", "state")],
+        "terms": terms,
+        "scripts": (len(pieces.of("script")), page.count(b"<script")),
+        "numbers of turns": [text for _, text in pieces.of("a")],
+    }
+    assert all(tag.removeprefix("/") in TAGS and attrs.keys() <= ATTRIBUTES for tag, attrs, _ in pieces.all)
+    assert all(attrs["href"].startswith("#state-") for attrs, _ in pieces.of("a"))
+    wanted = {
+        "turns": len(record["moves"]),
+        "moves": moves,
+        "errors": errors,
+        "substituted moves": len(errors),
+        "roles": roles,
+        "players": players,
+        "states": [f"state-{at}" for at in range(len(record["states"]))],
+        "terms": sum(map(len, record["states"])),
+        "scripts": (1, 1),
+        "numbers of turns": [str(turn + 1) for turn in range(len(record["moves"]))],
+    }
+    return found, wanted
+
+
+def hostile(record):
+    """Returns the record with texts in the places of its own that no page may take for anything but text."""
+    other = copy.deepcopy(record)
+    for at, text in enumerate(HOSTILE):
+        turn, role = at % len(other["moves"]), at % len(other["roles"])
+        other["moves"][turn][role] = other["errors"][turn][role] = text
+        other["states"][turn].append(text)
+    other["players"], other["roles"] = HOSTILE[: len(other["players"])], HOSTILE[1 : len(other["roles"]) + 1]
+    other["startMarks"][0], other["endMarks"][0], other["matchId"] = HOSTILE[0], HOSTILE[1], "".join(HOSTILE)
+    return other
+
+
+def refusals(record):
+    """Returns what is no record, each with words that have to be said of it."""
+    without = {key: {other: value for other, value in record.items() if other != key} for key in record}
+    return [
+        (b"", "not JSON"),
+        (b"\xff", "not JSON"),
+        (b"[" * 100_000, "not JSON"),
+        (b"{} {}", "not JSON"),
+        (b"[]", "no object"),
+        *((rest, f"the key {key!r} is missing") for key, rest in without.items()),
+        *(({**record, key: 1.5}, f"the value of {key!r} is n") for key in record),
+        ({**record, "players": ["ann"]}, "'players' is 1, and there are 2 roles"),
+        ({**record, "errors": record["errors"][1:]}, "'errors' is 1 and not 2"),
+        ({**record, "errors": [["", "", ""], *record["errors"][1:]]}, "turn 1 of 'errors' has 3 texts"),
+        ({**record, "states": record["states"][1:]}, "'states' is 2 and not 3"),
+        ({**record, "goalValues": [100]}, "'goalValues' is 1"),
+        ({**record, "phase": "paused"}, "no phase"),
+        ({**record, "cause": "nolegal 2"}, "no cause"),
+        ({**record, "version": 3}, "'version'"),
+        ({**record, "version": 2}, "the key 'strikes' is missing"),
+    ]
+
+
+def example(name: str) -> dict:
+    return json.loads((GAMES / f"{name}.out").read_text().splitlines()[-1])
+
+
+def refereed() -> dict:
+    """Returns the record that the program writes of a match whose roles are retired."""
+    said = subprocess.run([program(), "desk", "--countdown", "9"], input=SCRIPT, stdout=subprocess.PIPE, text=True, check=True).stdout
+    return json.loads(said.splitlines()[-1])
+
+
+OLDEST = {key: value for key, value in example("countdown").items() if key not in ("strikes", "version")}
+
+
+@pytest.mark.parametrize("name", sorted(path.stem for path in GAMES.glob("*.out")))
+def test_an_example_is_shown_as_it_is(name: str) -> None:
+    found, wanted = parts_of(example(name))
+    assert found == wanted
+
+
+def test_a_match_with_each_kind_of_error_is_shown() -> None:
+    record = refereed()
+    assert record["errors"] == ERRORS
+    found, wanted = parts_of(record)
+    assert found == wanted
+
+
+@pytest.mark.parametrize("record", [OLDEST, {**OLDEST, "strikes": 2, "version": 2}, hostile(example("tictactoe"))], ids=["version 1", "version 2", "hostile"])
+def test_older_and_hostile_records_are_shown(record: dict) -> None:
+    found, wanted = parts_of(record)
+    assert found == wanted
+
+
+def test_the_board_of_tictactoe_and_what_each_turn_changed() -> None:
+    record = example("tictactoe")
+    pieces = Pieces(made(record)[0].decode())
+    assert [text for _, text in pieces.of("i")] == [SHOWN[term[-2]] for state in record["states"] for term in state if term.startswith("(cell ")]
+    assert len(pieces.of("i", "new")) == len(pieces.of("li", "new")) == len(pieces.of("li", "gone")) == len(record["moves"])
+
+
+@pytest.mark.parametrize(("state", "count"), FORMS)
+def test_which_terms_are_drawn_as_boards(state: list[str], count: int) -> None:
+    assert len(show.boards_of([state])) == count
+
+
+@pytest.mark.parametrize(("record", "words"), refusals(OLDEST))
+def test_what_is_not_a_record_is_refused(record: dict | bytes, words: str) -> None:
+    page, error = made(record)
+    assert not page and words in error
+
+
+@pytest.mark.parametrize(("text", "result"), [(json.dumps(OLDEST).encode(), (0, True, 0)), (b"{}", (1, False, 1))])
+def test_the_command_prints_a_page_or_one_line(text: bytes, result: tuple[int, bool, int]) -> None:
+    ran = subprocess.run([TOP / "python/ggp-show-record"], input=text, capture_output=True)
+    assert (ran.returncode, bool(ran.stdout), ran.stderr.count(b"\n")) == result
