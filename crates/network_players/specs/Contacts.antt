@@ -45,11 +45,6 @@ fault_at_end (faults.Shortage shortage) halt = faults.Shortage shortage
 fault_at_end fault halts.Late = fault
 fault_at_end fault (halts.Short shortage) = faults.Shortage shortage
 
--- The program waited while the host was looked up. So that it did not run is no reason there, and the message is late.
-abbrev pub lookup_fault : Halt → ContactFault
-lookup_fault (halts.Short NotRunning) = faults.Late Unconnected
-lookup_fault halt = halt_fault halt Unconnected
-
 abbrev pub short_fault : Option Shortage → ContactFault
 short_fault (Some shortage) = faults.Shortage shortage
 short_fault None = faults.NoConnection
@@ -89,6 +84,14 @@ fault_so_far faults.NoAddress last = last
 fault_so_far before (faults.Shortage Ports) = before
 fault_so_far before (faults.Shortage Network) = before
 fault_so_far before last = last
+
+-- The fault of an exchange that failed so. If the program was not running for a part of it, a player that ended the connection may have waited
+-- long enough.
+abbrev pub fault_after_stall : Bool → ContactFault → ContactFault
+fault_after_stall true (faults.Exchange exchange_faults.CutShort received) = faults.Shortage NotRunning
+fault_after_stall true (faults.Exchange (exchange_faults.ReadFault kind) received) = faults.Shortage NotRunning
+fault_after_stall true (faults.Exchange exchange_faults.WriteFault received) = faults.Shortage NotRunning
+fault_after_stall has_stalled fault = fault
 
 -- What follows a try to connect: after a shortage another one, also if the player has taken no connection for some seconds; after a player
 -- that takes no connection another one, if there is patience left. A try without time is none, so the fault before it counts.

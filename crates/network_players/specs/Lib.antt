@@ -1,4 +1,5 @@
 pub mod Shortages
+pub mod Deadlines
 pub mod Contacts
 pub mod Budgets
 pub mod Players

@@ -60,28 +60,11 @@ short_halt None = None
 abbrev pub IsTimeOut : ErrorKind → Option ℤ → Type 0
 IsTimeOut kind number = (kind ≡ WouldBlock) ⊎ ((kind ≡ TimedOut) × (number ≡ None))
 
--- A read or a write that ran out of time has the halt of one that was late, and one that failed by a shortage is short of it. Otherwise the
--- player was the cause.
-abbrev pub failed_halt : Halt → ErrorKind → Option ℤ → Option Halt
-failed_halt over WouldBlock number = Some over
-failed_halt over TimedOut None = Some over
-failed_halt over kind number = short_halt (system_shortage kind number)
-
--- The limit of a read, by the time left. If the referee was not running as the time ended, the read has this long for what is there.
-abbrev pub read_limit : {D : Type 0} → D → Result D Halt → Result D Halt
-read_limit at_once (Err (Short NotRunning)) = Ok at_once
-read_limit at_once left = left
-
--- The halt of a read that gave bytes, by the time left after it. They count also if the referee was not running as the time ended.
-abbrev pub given_halt : {D : Type 0} → Result D Halt → Option Halt
-given_halt (Err (Short NotRunning)) = None
-given_halt (Err halt) = Some halt
-given_halt (Ok left) = None
-
--- the halt of a read that ran out of time, by the time left before it
-abbrev pub late_halt : {D : Type 0} → Result D Halt → Halt
-late_halt (Ok left) = Late
-late_halt (Err halt) = halt
+-- A read or a write that ran out of time is late, and one that failed by a shortage is short of it. Otherwise the player was the cause.
+abbrev pub failed_halt : ErrorKind → Option ℤ → Option Halt
+failed_halt WouldBlock number = Some Late
+failed_halt TimedOut None = Some Late
+failed_halt kind number = short_halt (system_shortage kind number)
 
 -- the codes of shortages, by which threads share one
 abbrev pub shortage_codes : List (ℕ × Shortage)

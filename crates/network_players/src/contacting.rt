@@ -1,11 +1,12 @@
 //! A message to a player, on a connection of its own.
-ghost use Rattle.std.specs.Prelude.{◌≡◌};
+ghost use Rattle.std.specs.Prelude.{◌≡◌, ◌-◌};
+ghost use Rattle.std.specs.Duration.{as_nanos};
 ghost use Rattle.std.specs.IoError.{error_kind, raw_os_error};
 ghost use Rattle.std.specs.Net.Addr.{is_ipv4};
 ghost use Rattle.std.specs.Net.Socket.{socket_ip};
-ghost use Rattle.network_players.specs.Contacts.{address_fault, after_try, connect_fault, fault_at_end, fault_at_refusal, fault_so_far, fault_after, halt_fault, is_of_network, lookup_fault, outcome_of};
+ghost use Rattle.network_players.specs.Contacts.{address_fault, after_try, connect_fault, fault_at_end, fault_at_refusal, fault_so_far, fault_after, fault_after_stall, halt_fault, is_of_network, outcome_of};
 
-use crate::deadline::{Deadline, Halt, TimedStream};
+use crate::deadline::{Deadline, Halt, TimedStream, first_limit, is_time_out};
 use crate::lookup::Lookup;
 use crate::shortage::{is_of_either, shortage_of};
 use desk_calls::MAX_CLOCK;
@@ -79,7 +80,7 @@ pub trait Explains {
 }
 
 /// For so many seconds connections that fail are tried again. A player that restarts meanwhile has lost nothing.
-const RETRY_SECONDS: u32 = 2;
+const RETRY_SECONDS: u64 = 2;
 
 /// The pause before another try to connect, in milliseconds.
 const PAUSE_MILLIS: u64 = 50;
@@ -107,16 +108,6 @@ fn fault_at_end(fault: ContactFault, halt: Halt) -> ContactFault
     match (fault, halt) {
         (ContactFault::Shortage(_), _) | (_, Halt::Late) => fault,
         (_, Halt::Short(shortage)) => ContactFault::Shortage(shortage),
-    }
-}
-
-/// The fault of a message whose host was looked up until its seconds were over. The program waited for this, so it is late.
-fn lookup_fault(halt: Halt) -> ContactFault
-    ensures { result ≡ lookup_fault halt }
-{
-    match halt {
-        Halt::Late | Halt::Short(Shortage::NotRunning) => ContactFault::Late(Received::Unconnected),
-        Halt::Short(shortage) => ContactFault::Shortage(shortage),
     }
 }
 
@@ -295,59 +286,95 @@ fn outcome_of(
     }
 }
 
+/// Tries to connect to an address for so long at most, which the message has as time left.
+fn try_address<N: Net + Clock>(
+    net: &N,
+    address: &SocketAddr,
+    limit: Duration,
+    deadline: &mut Deadline,
+) -> io::Result<N::Stream> {
+    let tried = TcpStream::connect_timeout(net, address, limit);
+    // The next step finds whether time is left.
+    let _ = deadline.after(net, limit);
+    tried
+}
+
+/// Connects to an address within the time left, at the second try if the first one is not answered.
+fn connect_to<N: Net + Clock>(
+    net: &N,
+    address: &SocketAddr,
+    deadline: &mut Deadline,
+) -> Result<N::Stream, ContactFault> {
+    let mut limit = match deadline.after(net, Duration::ZERO) {
+        Ok(left) => first_limit(left),
+        Err(halt) => return Err(halt_fault(halt, Received::Unconnected)),
+    };
+    for _ in 0..2 {
+        match try_address(net, address, limit, deadline) {
+            Ok(stream) => return Ok(stream),
+            Err(error) if is_time_out(&error) => {}
+            Err(error) => return Err(fault_of(net, address, &error)),
+        }
+        limit = match deadline.after(net, Duration::ZERO) {
+            Ok(left) => left,
+            Err(halt) => return Err(halt_fault(halt, Received::Unconnected)),
+        };
+    }
+    Err(ContactFault::Late(Received::Unconnected))
+}
+
 /// Connects to the first of the addresses that takes a connection, within the time left.
 fn connect_once<N: Net + Clock>(
     net: &N,
     addresses: &[SocketAddr],
-    deadline: Deadline,
+    deadline: &mut Deadline,
 ) -> Result<N::Stream, ContactFault> {
     let mut fault = ContactFault::NoAddress;
     for address in addresses {
-        let left = match deadline.left(net) {
-            Ok(left) => left,
-            Err(halt) => return Err(halt_fault(halt, Received::Unconnected)),
-        };
-        match TcpStream::connect_timeout(net, address, left) {
+        match connect_to(net, address, deadline) {
             Ok(stream) => return Ok(stream),
-            Err(error) => fault = fault_so_far(fault, fault_of(net, address, &error)),
+            Err(ContactFault::Late(received)) => return Err(ContactFault::Late(received)),
+            Err(last) => fault = fault_so_far(fault, last),
         }
     }
     Err(fault)
-}
-
-/// The player that a message is for, and the message's deadline.
-#[derive(Clone, Copy)]
-struct AddressedMessage<'a> {
-    player: &'a PlayerAddress<'a>,
-    deadline: Deadline,
 }
 
 /// Looks up the player's host, unless it is known already. Its addresses count only if the message has time left for them.
 fn find_host<N: Net + Clock>(
     net: &N,
     alloc: Global,
-    addressed: AddressedMessage<'_>,
+    player: &PlayerAddress<'_>,
     lookup: &mut Lookup,
+    deadline: &mut Deadline,
 ) -> Result<(), ContactFault> {
     if lookup.is_known() {
         return Ok(());
     }
-    if let Err(shortage) = lookup.look_up(net, alloc, addressed.player) {
+    let asked = match deadline.after(net, Duration::ZERO) {
+        Ok(left) => left,
+        Err(halt) => return Err(halt_fault(halt, Received::Unconnected)),
+    };
+    if let Err(shortage) = lookup.look_up(net, alloc, player) {
         return Err(ContactFault::Shortage(shortage));
     }
-    match addressed.deadline.left(net) {
+    match deadline.after(net, asked) {
         Ok(_) => Ok(()),
-        Err(halt) => Err(lookup_fault(halt)),
+        Err(halt) => Err(halt_fault(halt, Received::Unconnected)),
     }
 }
 
 /// Pauses before another try to connect. The error is the fault of the message if it has no time left for one; `fault` is that of this try.
-fn pause<N: Clock>(net: &N, deadline: Deadline, fault: ContactFault) -> Result<(), ContactFault> {
-    let pause = Duration::from_millis(PAUSE_MILLIS);
-    let paused = match deadline.left(net) {
+fn pause<N: Clock>(
+    net: &N,
+    deadline: &mut Deadline,
+    fault: ContactFault,
+) -> Result<(), ContactFault> {
+    let paused = match deadline.after(net, Duration::ZERO) {
         Ok(left) => {
-            thread::sleep(net, left.min(pause));
-            deadline.left(net)
+            let pause = left.min(Duration::from_millis(PAUSE_MILLIS));
+            thread::sleep(net, pause);
+            deadline.after(net, pause)
         }
         Err(halt) => Err(halt),
     };
@@ -380,59 +407,88 @@ fn after_try(fault: ContactFault, before: ContactFault, is_patient: bool) -> Aft
     }
 }
 
+/// A player that takes no connection is tried again down to this time left of the message, by the time left now.
+fn patience_from(left: Duration) -> Duration
+    ensures { as_nanos result ≡ as_nanos left - 2_000_000_000 }
+{
+    left.saturating_sub(Duration::from_secs(RETRY_SECONDS))
+}
+
 /// Connects to the player within the time left. Tries again while the referee is short of something, and notes this in `waited`. Where the
 /// player takes no connection it is tried again for some seconds, since the message began or since such a shortage.
 fn connect<N: Net + Clock>(
     net: &N,
     alloc: Global,
-    addressed: AddressedMessage<'_>,
+    player: &PlayerAddress<'_>,
     lookup: &mut Lookup,
+    deadline: &mut Deadline,
     waited: &mut Option<Shortage>,
 ) -> Result<N::Stream, ContactFault> {
-    let mut patience = Deadline::within(net, RETRY_SECONDS).map_err(ContactFault::Shortage)?;
+    let mut patient_to = patience_from(deadline.left());
     let mut before = ContactFault::Late(Received::Unconnected);
     for _ in 0..MAX_CONNECTS {
-        let connected = match find_host(net, alloc, addressed, lookup) {
-            Ok(()) => connect_once(net, lookup.addresses(), addressed.deadline),
+        let connected = match find_host(net, alloc, player, lookup, deadline) {
+            Ok(()) => connect_once(net, lookup.addresses(), deadline),
             Err(fault) => Err(fault),
         };
         let fault = match connected {
             Ok(stream) => return Ok(stream),
             Err(fault) => fault,
         };
-        let is_patient = fault == ContactFault::NoConnection && patience.left(net).is_ok();
-        match after_try(fault, before, is_patient) {
+        match after_try(fault, before, deadline.left() > patient_to) {
             AfterTry::Waits(shortage) => {
                 *waited = Some(shortage);
-                patience = Deadline::within(net, RETRY_SECONDS).map_err(ContactFault::Shortage)?;
+                patient_to = patience_from(deadline.left());
             }
             AfterTry::Tries => {}
             AfterTry::Ends(fault) => return Err(fault),
         }
-        pause(net, addressed.deadline, fault)?;
+        pause(net, deadline, fault)?;
         before = fault;
     }
     Err(before)
+}
+
+/// The fault of an exchange that failed so. If the program was not running for a part of it, `has_stalled`, a player that ended the
+/// connection may have waited long enough.
+fn fault_after_stall(has_stalled: bool, fault: ContactFault) -> ContactFault
+    ensures { result ≡ fault_after_stall has_stalled fault }
+{
+    match (has_stalled, fault) {
+        (
+            true,
+            ContactFault::Exchange(
+                WireFault::CutShort | WireFault::ReadFault(_) | WireFault::WriteFault,
+                _,
+            ),
+        ) => ContactFault::Shortage(Shortage::NotRunning),
+        (_, fault) => fault,
+    }
 }
 
 /// Sends the player the message and reads its answer, over the connection.
 fn exchange_over<N: Net + Clock>(
     net: &N,
     alloc: Global,
-    addressed: AddressedMessage<'_>,
+    player: &PlayerAddress<'_>,
+    deadline: Deadline,
     stream: N::Stream,
     message: &SharedText<'_>,
 ) -> Result<Text, ContactFault> {
-    let mut stream = Counted::new(TimedStream::new(net, addressed.deadline, stream));
+    let mut stream = Counted::new(TimedStream::new(net, deadline, stream));
     let mut received = Received::Unsent;
     let exchanged = exchange_shared(
         alloc,
         &mut stream,
-        addressed.player.name.as_bytes(),
+        player.name.as_bytes(),
         message,
         &mut received,
     );
-    outcome_of(stream.end().halt(), received, exchanged)
+    let stream = stream.end();
+    match outcome_of(stream.halt(), received, exchanged) {
+        Ok(text) => Ok(text),
+        Err(fault) => Err(fault_after_stall(stream.has_stalled(), fault)),
+    }
 }
 
 /// Hands a player a message and returns the body of its answer. Looking up the host, connecting, writing and reading have `seconds`
@@ -445,14 +501,13 @@ pub fn contact_found<N: Net + Clock>(
     seconds: u32,
     message: &SharedText<'_>,
 ) -> Result<Text, ContactFault> {
-    let deadline = match Deadline::within(net, seconds) {
+    let mut deadline = match Deadline::within(net, seconds) {
         Ok(deadline) => deadline,
         Err(shortage) => return Err(ContactFault::Shortage(shortage)),
     };
-    let addressed = AddressedMessage { player, deadline };
     let mut waited = None;
-    let reached = match connect(net, alloc, addressed, lookup, &mut waited) {
-        Ok(stream) => exchange_over(net, alloc, addressed, stream, message),
+    let reached = match connect(net, alloc, player, lookup, &mut deadline, &mut waited) {
+        Ok(stream) => exchange_over(net, alloc, player, deadline, stream, message),
         Err(fault) => Err(fault),
     };
     match reached {

@@ -1,45 +1,54 @@
 //! One deadline for all steps of a message.
-ghost use Rattle.std.specs.Prelude.{◌≡◌, ◌+◌, ◌*◌, ◌<◌, ◌≤◌, ◌↔◌, ◌⊎◌, Err, IfErr, IfOk, IfSome, IsOkAnd, IsSome, IsTrue, MatchResult, None, OnErr, OnOk};
+ghost use Rattle.std.specs.Prelude.{◌≡◌, ◌⊎◌, ◌-◌, ◌*◌, ◌/◌, max, min, ◌<◌, ◌≤◌, ◌↔◌, Err, IfErr, IfOk, IsOkAnd, IsSome, IsTrue, MatchResult, None, OnOk};
 ghost use Rattle.std.specs.Duration.{as_nanos};
 ghost use Rattle.std.specs.Io.{ReadsAtMost, WritesAtMost};
 ghost use Rattle.std.specs.Io.KnownBytes.{ReadConsumes, WriteAppends};
 ghost use Rattle.std.specs.IoError.{error_kind, raw_os_error};
-ghost use Rattle.match_plans.specs.declared.shortages.Shortage.TheVariants.{Clock, NotRunning};
-ghost use Rattle.network_players.specs.Shortages.{IsTimeOut, failed_halt, given_halt, late_halt, read_limit};
-ghost use Rattle.network_players.specs.declared.deadline.Halt.TheVariants.{Late, Short};
+ghost use Rattle.match_plans.specs.declared.shortages.Shortage.TheVariants.{Clock};
+ghost use Rattle.network_players.specs.Deadlines.{IsCharged, IsStep};
+ghost use Rattle.network_players.specs.Shortages.{IsTimeOut, failed_halt};
+ghost use Rattle.network_players.specs.declared.deadline.Halt.TheVariants.{Late};
 
 use crate::shortage::system_shortage;
 use match_plans::Shortage;
-use std::io;
 use std::io::{ErrorKind, Read, Write};
 use std::net::OpenStream;
 use std::time::{Clock, Duration, Instant};
+use std::{io, thread};
 
-/// The rest of a limit after the time `passed`. `None` if nothing is left.
-fn left_of(limit: Duration, passed: Duration) -> Option<Duration>
-    ensures variant { IsSome result ↔ (as_nanos passed < as_nanos limit) }
-    ensures left { IfSome result (λ left. as_nanos left + as_nanos passed ≡ as_nanos limit) }
+/// A step that takes so much longer than it was asked to, and an eighth of that, shows that the program was not running. In milliseconds.
+const STALL_MILLIS: u64 = 100;
+
+/// The last part of a message's time is slept through, since the system ends a sleep exactly, and a wait for bytes too late. In milliseconds.
+const LAST_MILLIS: u64 = 20;
+
+/// So many reads may take what is there once the time is over. Together they hold the longest answer.
+const LOOKS: u32 = 64;
+
+/// The limit of a read whose bytes are there, in milliseconds.
+const AT_ONCE_MILLIS: u64 = 1;
+
+/// The time that a step costs a message. If the program was not running for a part of it, only what the step was asked to take.
+fn charged(asked: Duration, passed: Duration) -> Duration
+    ensures { IsCharged (as_nanos asked) (as_nanos passed) (as_nanos result) }
 {
-    match limit.checked_sub(passed) {
-        Some(left) if !left.is_zero() => Some(left),
-        _ => None,
+    let over = passed.saturating_sub(asked);
+    let allowed = (asked / 8).saturating_add(Duration::from_millis(STALL_MILLIS));
+    if over.saturating_sub(allowed).is_zero() {
+        passed
+    } else {
+        asked
     }
 }
 
-/// For so long after the end of its limit a step may still be woken, in milliseconds. If it is woken later, the program was not running.
-const WAKING_MILLIS: u64 = 100;
-
-/// The limit of a read that takes only what is there, in milliseconds.
-const AT_ONCE_MILLIS: u64 = 1;
-
-/// Whether more than a tenth of a second has passed since the end of the limit.
-fn is_long_over(limit: Duration, passed: Duration) -> bool
-    ensures { IsTrue result ↔ (as_nanos limit + 100_000_000 < as_nanos passed) }
+/// The limit of the first try to connect or to write, by the time left: a quarter, and at most a second. Such a step mostly ends at once, so a
+/// program that is stopped in it loses no more of the message's time.
+pub(crate) fn first_limit(left: Duration) -> Duration
+    ensures { as_nanos result ≡ max 1_000_000 (min 1_000_000_000 (as_nanos left / 4)) }
 {
-    match passed.checked_sub(limit) {
-        Some(over) => over > Duration::from_millis(WAKING_MILLIS),
-        None => false,
-    }
+    (left / 4)
+        .min(Duration::from_secs(1))
+        .max(Duration::from_millis(1))
 }
 
 /// Why a step of a message does not count, whatever its result is.
@@ -51,43 +60,29 @@ pub enum Halt {
     Short(Shortage),
 }
 
-/// The rest of a limit after the time `passed`. Without any the error is `Late`, or `NotRunning` if the limit has long been over. The error is
-/// `Clock` if that time is not known.
-fn left_in(limit: Duration, passed: io::Result<Duration>) -> Result<Duration, Halt>
-    ensures some { IfOk result (λ left. 0 < as_nanos left) }
-    ensures within { IfOk result (λ left. as_nanos left ≤ as_nanos limit) }
-    ensures halts { IfErr result (λ halt. (halt ≡ Late) ⊎ (halt ≡ Short Clock) ⊎ (halt ≡ Short NotRunning)) }
-    ensures left { IfOk passed (λ passed. IfOk result (λ left. as_nanos left + as_nanos passed ≡ as_nanos limit)) }
-    ensures late { IfOk passed (λ passed. (result ≡ Err Late) ↔ ((as_nanos limit ≤ as_nanos passed) × (as_nanos passed ≤ as_nanos limit + 100_000_000))) }
-    ensures asleep { IfOk passed (λ passed. (result ≡ Err (Short NotRunning)) ↔ (as_nanos limit + 100_000_000 < as_nanos passed)) }
-    ensures unknown { OnErr passed (result ≡ Err (Short Clock)) }
-{
-    match passed {
-        Ok(passed) => match left_of(limit, passed) {
-            Some(left) => Ok(left),
-            None if is_long_over(limit, passed) => Err(Halt::Short(Shortage::NotRunning)),
-            None => Err(Halt::Late),
-        },
-        Err(_) => Err(Halt::Short(Shortage::Clock)),
-    }
-}
-
-/// The beginning of a message, and the time that it may take.
+/// The time that a message has left. It runs while the referee runs.
 #[derive(Clone, Copy)]
 pub struct Deadline {
-    start: Instant,
-    limit: Duration,
+    /// The moment of the last reading of the clock, and the time left at it.
+    seen: Instant,
+    left: Duration,
+    /// Whether the program was not running for a part of the message.
+    has_stalled: bool,
+    /// So many reads may still take what is there once the time is over.
+    looks: u32,
 }
 
 /// A deadline `seconds` from this moment. The error is `Clock` if the moment is not known.
 fn deadline_from(now: io::Result<Instant>, seconds: u32) -> Result<Deadline, Shortage>
-    ensures { MatchResult now (λ start. IsOkAnd result (λ deadline. (deadline.start ≡ start) × (as_nanos deadline.limit ≡ seconds * 1_000_000_000)))
+    ensures { MatchResult now (λ start. IsOkAnd result (λ deadline. (deadline.seen ≡ start) × (as_nanos deadline.left ≡ seconds * 1_000_000_000)))
         (λ _. result ≡ Err Clock) }
 {
     match now {
-        Ok(start) => Ok(Deadline {
-            start,
-            limit: Duration::from_secs(u64::from(seconds)),
+        Ok(seen) => Ok(Deadline {
+            seen,
+            left: Duration::from_secs(u64::from(seconds)),
+            has_stalled: false,
+            looks: LOOKS,
         }),
         Err(_) => Err(Shortage::Clock),
     }
@@ -96,30 +91,184 @@ fn deadline_from(now: io::Result<Instant>, seconds: u32) -> Result<Deadline, Sho
 impl Deadline {
     /// A deadline `seconds` from now. The error is `Clock` if the clock can't be read.
     pub fn within(clock: &impl Clock, seconds: u32) -> Result<Deadline, Shortage>
-        ensures limit { IfOk result (λ deadline. as_nanos deadline.limit ≡ seconds * 1_000_000_000) }
+        ensures limit { IfOk result (λ deadline. as_nanos deadline.left ≡ seconds * 1_000_000_000) }
         ensures clock { IfErr result (λ shortage. shortage ≡ Clock) }
     {
         deadline_from(Instant::now(clock), seconds)
     }
 
-    /// The time left, which is above 0. Without any the error is `Late`, or `NotRunning` if the deadline is more than a tenth of a second ago.
-    /// It is `Clock` if the clock can't be read.
-    pub fn left(&self, clock: &impl Clock) -> Result<Duration, Halt>
-        ensures some { IfOk result (λ left. 0 < as_nanos left) }
-        ensures within { IfOk result (λ left. as_nanos left ≤ as_nanos self.now.limit) }
-        ensures halts { IfErr result (λ halt. (halt ≡ Late) ⊎ (halt ≡ Short Clock) ⊎ (halt ≡ Short NotRunning)) }
+    /// Takes what a step costs from the time left. It took the time `passed`.
+    fn charge(&mut self, charged: Duration, passed: Duration)
+        ensures left { as_nanos self.new.left ≡ as_nanos self.old.left - as_nanos charged }
+        ensures stalled { IsTrue self.new.has_stalled ↔ (IsTrue self.old.has_stalled ⊎ (as_nanos charged < as_nanos passed)) }
+        ensures looks { self.new.looks ≡ self.old.looks }
     {
-        left_in(self.limit, self.start.elapsed(clock))
+        self.left = self.left.saturating_sub(charged);
+        if !passed.saturating_sub(charged).is_zero() {
+            self.has_stalled = true;
+        }
+    }
+
+    /// The time left after a step that was asked to take this long, 0 for one that waits for nothing. Without any the error is `Late`, and
+    /// `Clock` if the clock can't be read.
+    pub fn after(&mut self, clock: &impl Clock, asked: Duration) -> Result<Duration, Halt>
+        ensures some { IfOk result (λ left. 0 < as_nanos left) }
+        ensures left { IfOk result (λ left. left ≡ self.new.left) }
+        ensures late { IfErr result (λ halt. halt ≡ Late → as_nanos self.new.left ≡ 0) }
+    {
+        let Ok(now) = Instant::now(clock) else {
+            return Err(Halt::Short(Shortage::Clock));
+        };
+        let passed = now - self.seen;
+        self.charge(charged(asked, passed), passed);
+        self.seen = now;
+        if self.left.is_zero() {
+            Err(Halt::Late)
+        } else {
+            Ok(self.left)
+        }
+    }
+
+    /// What a read does next. A look at what is there is one less to come.
+    fn next_step(&mut self) -> Step
+        ensures step { IsStep (as_nanos self.old.left) self.old.looks result }
+        ensures left { self.new.left ≡ self.old.left }
+        ensures looks { self.new.looks ≤ self.old.looks }
+    {
+        let step = step_at(self.left, self.looks);
+        if matches!(step, Step::Looks) {
+            self.looks = self.looks.saturating_sub(1);
+        }
+        step
+    }
+
+    /// The time left at the last reading of the clock.
+    pub fn left(&self) -> Duration
+        ensures { result ≡ self.now.left }
+    {
+        self.left
+    }
+
+    /// Whether the program was not running for a part of the message.
+    pub fn has_stalled(&self) -> bool
+        ensures { result ≡ self.now.has_stalled }
+    {
+        self.has_stalled
     }
 }
 
-/// The halt of a failed read or write, by the error's kind and its number; `late` is that of one which ran out of time. `None` if the player
-/// caused the failure. A connection that the system gave up by a limit of its own counts as closed by the player.
-fn failed_halt(late: Halt, kind: ErrorKind, number: Option<i32>) -> Option<Halt>
-    ensures { result ≡ failed_halt late kind number }
+/// What a read of a message does next, until its bytes are there.
+#[derive(Clone, Copy)]
+enum Step {
+    /// It waits for them.
+    Waits(Duration),
+    /// It sleeps to the end of the time.
+    Sleeps(Duration),
+    /// It takes what is there.
+    Looks,
+    /// It ends.
+    Ends,
+}
+
+impl Step {
+    /// How long the step was asked to take.
+    fn asked(&self) -> Duration {
+        match *self {
+            Step::Waits(time) | Step::Sleeps(time) => time,
+            Step::Looks | Step::Ends => Duration::ZERO,
+        }
+    }
+}
+
+/// The next step of a read, by the time left, and by how many looks are left. A wait takes half the time: the system may end it an eighth
+/// too late.
+fn step_at(left: Duration, looks: u32) -> Step
+    ensures { IsStep (as_nanos left) looks result }
+{
+    if left > Duration::from_millis(LAST_MILLIS) {
+        Step::Waits(left / 2)
+    } else if !left.is_zero() {
+        Step::Sleeps(left)
+    } else if looks > 0 {
+        Step::Looks
+    } else {
+        Step::Ends
+    }
+}
+
+/// More steps than a wait for bytes takes, unless the program is stopped as often.
+const MAX_STEPS: u32 = 1_000_000;
+
+/// Whether an error says that a step ran out of time. With a number it is the system's own: it gave the connection up.
+pub(crate) fn is_time_out(error: &io::Error) -> bool
+    ensures { IsTrue result ↔ IsTimeOut (error_kind error.now) (raw_os_error error.now) }
+{
+    match error.kind() {
+        ErrorKind::WouldBlock => true,
+        ErrorKind::TimedOut => error.raw_os_error().is_none(),
+        _ => false,
+    }
+}
+
+/// Takes the step. Returns whether bytes are there, or the end of the stream.
+fn take_step<C: Clock, S: OpenStream>(clock: &C, stream: &S, step: &Step) -> io::Result<bool> {
+    let mut byte = [0];
+    let peeked = match *step {
+        Step::Waits(time) => {
+            stream.set_read_timeout(Some(time))?;
+            stream.peek(&mut byte)
+        }
+        Step::Sleeps(time) => {
+            thread::sleep(clock, time);
+            return Ok(false);
+        }
+        Step::Looks => {
+            stream.set_nonblocking(true)?;
+            let peeked = stream.peek(&mut byte);
+            stream.set_nonblocking(false)?;
+            peeked
+        }
+        Step::Ends => return Ok(false),
+    };
+    match peeked {
+        Ok(_) => Ok(true),
+        Err(error) if error.kind() == ErrorKind::Interrupted || is_time_out(&error) => Ok(false),
+        Err(error) => Err(error),
+    }
+}
+
+/// Waits until bytes are there, or the stream has ended. The result is the halt of a message that has no time left for that.
+fn wait_for_bytes<C: Clock, S: OpenStream>(
+    clock: &C,
+    stream: &S,
+    deadline: &mut Deadline,
+) -> io::Result<Option<Halt>> {
+    if let Err(Halt::Short(shortage)) = deadline.after(clock, Duration::ZERO) {
+        return Ok(Some(Halt::Short(shortage)));
+    }
+    for _ in 0..MAX_STEPS {
+        let step = deadline.next_step();
+        let is_there = take_step(clock, stream, &step);
+        if let Err(Halt::Short(shortage)) = deadline.after(clock, step.asked()) {
+            return Ok(Some(Halt::Short(shortage)));
+        }
+        if is_there? {
+            return Ok(None);
+        }
+        if matches!(step, Step::Looks | Step::Ends) {
+            break;
+        }
+    }
+    Ok(Some(Halt::Late))
+}
+
+/// The halt of a failed read or write, by the error's kind and its number. `None` if the player caused the failure. A connection that the
+/// system gave up by a limit of its own counts as closed by the player.
+fn failed_halt(kind: ErrorKind, number: Option<i32>) -> Option<Halt>
+    ensures { result ≡ failed_halt kind number }
 {
     match (kind, number) {
-        (ErrorKind::WouldBlock, _) | (ErrorKind::TimedOut, None) => Some(late),
+        (ErrorKind::WouldBlock, _) | (ErrorKind::TimedOut, None) => Some(Halt::Late),
         _ => match system_shortage(kind, number) {
             Some(shortage) => Some(Halt::Short(shortage)),
             None => None,
@@ -127,38 +276,8 @@ fn failed_halt(late: Halt, kind: ErrorKind, number: Option<i32>) -> Option<Halt>
     }
 }
 
-/// The limit of a read, by the time left. If the referee was not running as the time ended, the read takes what is there at once.
-fn read_limit(left: Result<Duration, Halt>) -> Result<Duration, Halt>
-    ensures { (at_once : Duration) → as_nanos at_once ≡ 1_000_000 → result ≡ read_limit at_once left }
-{
-    match left {
-        Err(Halt::Short(Shortage::NotRunning)) => Ok(Duration::from_millis(AT_ONCE_MILLIS)),
-        left => left,
-    }
-}
-
-/// The halt of a read that gave bytes, by the time left after it. What is there once the referee runs again counts.
-fn given_halt(left: Result<Duration, Halt>) -> Option<Halt>
-    ensures { result ≡ given_halt left }
-{
-    match left {
-        Ok(_) | Err(Halt::Short(Shortage::NotRunning)) => None,
-        Err(halt) => Some(halt),
-    }
-}
-
-/// The halt of a read that ran out of time, by the time left before it. The referee was not running if nothing was there at once.
-fn late_halt(left: Result<Duration, Halt>) -> Halt
-    ensures { result ≡ late_halt left }
-{
-    match left {
-        Ok(_) => Halt::Late,
-        Err(halt) => halt,
-    }
-}
-
-/// A stream with one deadline for all its reads and writes. The limit of each read and write is the time left. The bytes of a read count
-/// only if it ended before the deadline, or if the program was not running as the deadline passed and found them once it ran again.
+/// A stream with one deadline for all its reads and writes. The bytes of a read count if they were there when the program looked first after
+/// the deadline: it looks at once if it runs.
 #[derive(Drop)]
 pub struct TimedStream<'a, C, S> {
     clock: &'a C,
@@ -180,18 +299,23 @@ impl<'a, C: Clock, S: OpenStream> TimedStream<'a, C, S> {
         }
     }
 
-    /// The limit of a read or a write. Without any the error is `TimedOut`, and the halt is noted.
-    fn limit(&mut self, limit: Result<Duration, Halt>) -> io::Result<Duration>
+    /// Notes the halt of a step that is not taken, and returns its error.
+    fn halted(&mut self, halt: Halt) -> io::Error
         ensures kept { self.new.stream ≡ self.old.stream }
-        ensures halted { OnErr result (IsSome self.new.halt) }
+        ensures halted { IsSome self.new.halt }
     {
-        match limit {
-            Ok(limit) => Ok(limit),
-            Err(halt) => {
-                self.halt = Some(halt);
-                Err(io::Error::from(ErrorKind::TimedOut))
-            }
-        }
+        self.halt = Some(halt);
+        io::Error::from(ErrorKind::TimedOut)
+    }
+
+    /// Notes the halt of a step that failed so, and returns the error.
+    fn failed(&mut self, error: io::Error) -> io::Error
+        ensures kept { self.new.stream ≡ self.old.stream }
+        ensures halt { self.new.halt ≡ failed_halt (error_kind error) (raw_os_error error) }
+        ensures error { result ≡ error }
+    {
+        self.halt = failed_halt(error.kind(), error.raw_os_error());
+        error
     }
 
     /// The halt of the last read or write. `None` if it counts, or if the player made it fail.
@@ -199,6 +323,13 @@ impl<'a, C: Clock, S: OpenStream> TimedStream<'a, C, S> {
         ensures { result ≡ self.now.halt }
     {
         self.halt
+    }
+
+    /// Whether the program was not running for a part of the message.
+    pub fn has_stalled(&self) -> bool
+        ensures { result ≡ self.now.deadline.has_stalled }
+    {
+        self.deadline.has_stalled()
     }
 }
 
@@ -208,19 +339,42 @@ impl<C: Clock, S: Read + OpenStream> Read for TimedStream<'_, C, S> {
     fn read(&mut self, buf: &mut [u8]) -> io::Result<usize>
         ensures bound { ReadsAtMost result buf.new }
         ensures bytes { ReadConsumes (S.remaining self.old.stream) (S.remaining self.new.stream) result buf.new }
+        ensures counts { OnOk result (self.new.halt ≡ None) }
         ensures late { IfErr result (λ error. IsTimeOut (error_kind error) (raw_os_error error) → IsSome self.new.halt) }
     {
-        let left = self.deadline.left(self.clock);
-        let limit = self.limit(read_limit(left))?;
-        let given = match self.stream.set_read_timeout(Some(limit)) {
+        match wait_for_bytes(self.clock, &self.stream, &mut self.deadline) {
+            Ok(None) => {}
+            Ok(Some(halt)) => return Err(self.halted(halt)),
+            Err(error) => return Err(self.failed(error)),
+        }
+        let at_once = Duration::from_millis(AT_ONCE_MILLIS);
+        let given = match self.stream.set_read_timeout(Some(at_once)) {
             Ok(()) => self.stream.read(buf),
             Err(error) => Err(error),
         };
-        self.halt = match &given {
-            Ok(_) => given_halt(self.deadline.left(self.clock)),
-            Err(error) => failed_halt(late_halt(left), error.kind(), error.raw_os_error()),
+        match given {
+            Ok(count) => {
+                self.halt = None;
+                Ok(count)
+            }
+            Err(error) => Err(self.failed(error)),
+        }
+    }
+}
+
+impl<C: Clock, S: Write + OpenStream> TimedStream<'_, C, S> {
+    /// Writes for so long at most, which the message has as time left.
+    fn write_within(&mut self, buf: &[u8], limit: Duration) -> io::Result<usize>
+        ensures bound { WritesAtMost result buf.now }
+        ensures bytes { WriteAppends (S.contents self.old.stream) (S.contents self.new.stream) result buf.now }
+    {
+        let taken = match self.stream.set_write_timeout(Some(limit)) {
+            Ok(()) => self.stream.write(buf),
+            Err(error) => Err(error),
         };
-        given
+        // The next step finds whether time is left.
+        let _ = self.deadline.after(self.clock, limit);
+        taken
     }
 }
 
@@ -233,17 +387,27 @@ impl<C: Clock, S: Write + OpenStream> Write for TimedStream<'_, C, S> {
         ensures counts { OnOk result (self.new.halt ≡ None) }
         ensures late { IfErr result (λ error. IsTimeOut (error_kind error) (raw_os_error error) → IsSome self.new.halt) }
     {
-        let left = self.deadline.left(self.clock);
-        let limit = self.limit(left)?;
-        let taken = match self.stream.set_write_timeout(Some(limit)) {
-            Ok(()) => self.stream.write(buf),
-            Err(error) => Err(error),
+        let first = match self.deadline.after(self.clock, Duration::ZERO) {
+            Ok(left) => first_limit(left),
+            Err(halt) => return Err(self.halted(halt)),
         };
-        self.halt = match &taken {
-            Ok(_) => None,
-            Err(error) => failed_halt(Halt::Late, error.kind(), error.raw_os_error()),
+        let taken = match self.write_within(buf, first) {
+            Err(error) if is_time_out(&error) => {
+                let left = match self.deadline.after(self.clock, Duration::ZERO) {
+                    Ok(left) => left,
+                    Err(halt) => return Err(self.halted(halt)),
+                };
+                self.write_within(buf, left)
+            }
+            taken => taken,
         };
-        taken
+        match taken {
+            Ok(count) => {
+                self.halt = None;
+                Ok(count)
+            }
+            Err(error) => Err(self.failed(error)),
+        }
     }
 
     fn flush(&mut self) -> io::Result<()> {
