@@ -61,9 +61,9 @@ fn gives_record<G: Game + Drop>(
     alloc: Global,
     games: Vec<G>,
     account: &[u8],
-    record: &[u8],
+    shown: &[u8],
 ) -> Result<bool, AllocError>
-    ensures { IfOk result (λ gives. IsTrue gives → GivesRecords G.rules games.entry.items (lines account.now) (record.now ++ line_feed ∷ [])) }
+    ensures { IfOk result (λ gives. IsTrue gives → GivesRecords G.rules games.items (lines account.now) (shown.now ++ line_feed ∷ [])) }
 {
     let replayed = match replay(alloc, games, account) {
         Ok(replayed) => replayed,
@@ -73,7 +73,7 @@ fn gives_record<G: Game + Drop>(
     let mut given = Vec::new(alloc);
     push_records(alloc, &replayed.manager, &mut given)?;
     let mut wanted = Vec::new(alloc);
-    wanted.extend_from_slice(record)?;
+    wanted.extend_from_slice(shown)?;
     wanted.push(b'\n')?;
     if given.as_slice() != wanted.as_slice() {
         return Ok(false);
