@@ -1,10 +1,7 @@
 //! The accounts behind the records of a file: whether each is whole.
-ghost use Rattle.std.specs.Prelude.{◌≡◌, ◌++◌, ◌∷◌, [], IfErr, IfOk, IsTrue};
-ghost use Rattle.std.specs.Str.Lines.{lines};
-ghost use Rattle.game_core.specs.Bytes.{line_feed};
+ghost use Rattle.std.specs.Prelude.{IfErr};
 ghost use Rattle.command_faults.specs.Faults.{IsFileFault};
 ghost use Rattle.command_faults.specs.declared.files.NamedFile.TheVariants.{Records};
-ghost use Rattle.matches_to_play.specs.Accounts.{GivesRecords};
 
 use command_faults::{Fault, FileFault, MAX_LINE, NamedFile, opened_regular, reading_fault};
 use desk_text::{ReplayFault, replay};
@@ -63,7 +60,6 @@ fn gives_record<G: Game + Drop>(
     account: &[u8],
     shown: &[u8],
 ) -> Result<bool, AllocError>
-    ensures { IfOk result (λ gives. IsTrue gives → GivesRecords G.rules games.items (lines account.now) (shown.now ++ line_feed ∷ [])) }
 {
     let replayed = match replay(alloc, games, account) {
         Ok(replayed) => replayed,
@@ -75,10 +71,7 @@ fn gives_record<G: Game + Drop>(
     let mut wanted = Vec::new(alloc);
     wanted.extend_from_slice(shown)?;
     wanted.push(b'\n')?;
-    if given.as_slice() != wanted.as_slice() {
-        return Ok(false);
-    }
-    Ok(true)
+    Ok(given.as_slice() == wanted.as_slice())
 }
 
 /// The number of calls of an account to which the reply was `over`.
