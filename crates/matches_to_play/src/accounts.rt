@@ -59,8 +59,7 @@ fn gives_record<G: Game + Drop>(
     games: Vec<G>,
     account: &[u8],
     shown: &[u8],
-) -> Result<bool, AllocError>
-{
+) -> Result<bool, AllocError> {
     let replayed = match replay(alloc, games, account) {
         Ok(replayed) => replayed,
         Err(ReplayFault::Memory) => return Err(AllocError),
