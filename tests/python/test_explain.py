@@ -6,6 +6,7 @@ import json
 import os
 import pathlib
 import subprocess
+import sys
 import tempfile
 import unittest
 from unittest import mock
@@ -309,10 +310,10 @@ class Commands(WithStandIn):
 
     def test_standard_input_and_output(self):
         for words in ([], ["--lines"]):
-            ran = subprocess.run([EXPLAIN, "/none", *words, "--countdown=3"], preexec_fn=lambda: os.close(0), capture_output=True, text=True)
+            ran = subprocess.run([sys.executable, EXPLAIN, "/none", *words, "--countdown=3"], preexec_fn=lambda: os.close(0), capture_output=True, text=True)
             self.assertEqual((ran.returncode, ran.stdout, ran.stderr), (3, "", "ggp-explain-record: standard input can't be read: Bad file descriptor\n"))
         self.answers(b"lawful\n")
-        words = EXPLAIN, self.referee.path, RECORD, "--countdown=3"
+        words = sys.executable, EXPLAIN, self.referee.path, RECORD, "--countdown=3"
         self.assertEqual(subprocess.run(words, capture_output=True).stdout, b"lawful\n")
         with mock.patch.object(explain.sys, "stderr", None):
             explain.say("x")
@@ -354,7 +355,7 @@ class Whole(unittest.TestCase):
     """The command with the program itself."""
 
     def explained(self, text, *words, referee=None):
-        done = subprocess.run([EXPLAIN, referee or program(), *(words or ("--countdown", "3"))], input=text, capture_output=True)
+        done = subprocess.run([sys.executable, EXPLAIN, referee or program(), *(words or ("--countdown", "3"))], input=text, capture_output=True)
         self.assertNotIn(b"Traceback", done.stderr)
         return done.returncode, done.stdout.decode().splitlines(), done.stderr.decode()
 
@@ -426,7 +427,7 @@ class Whole(unittest.TestCase):
             self.assertEqual((found, out, told.partition(" [")[0]), (2, [], "usage: ggp-explain-record"), words)
 
     def test_outputs_that_are_full_or_closed(self):
-        words = [EXPLAIN, program(), "--countdown=3", RECORD]
+        words = [sys.executable, EXPLAIN, program(), "--countdown=3", RECORD]
         with open("/dev/full", "w") as full:
             ran = subprocess.run(words, stdout=full, stderr=subprocess.PIPE)
         self.assertEqual((ran.returncode, ran.stderr), (3, b"ggp-explain-record: standard output can't be written: No space left on device\n"))

@@ -413,7 +413,7 @@ class Play(InFolder):
         changes = [
             ("records/cup-001.json", lambda text: text.replace(b"(take 1)", b"(take 2)", 1), "not lawful"),
             ("records/cup-002.json", lambda text: text[:-20], "not one line"),
-            ("accounts/cup-003.txt", lambda text: text.replace(b"taken", b"over", 1), "does not give its record again"),
+            ("accounts/cup-003.txt", lambda text: text.replace(b"taken", b"over", 1), "is not a call that a referee makes there"),
             ("accounts/cup-004.txt", None, "its account is missing"),
             ("records/cup-005.json", lambda _: (self.folder / "records/cup-006.json").read_bytes(), "does not give its record again"),
         ]
@@ -469,7 +469,7 @@ class Play(InFolder):
         damages = [
             (b"5\n", "its record does not begin with `{`"),
             (b"\n", "its record does not begin with `{`"),
-            (before["records/cup-001.json"][:-1] + b" " * (16 << 20) + b"\n", "its record has more than 16,777,216 bytes"),
+            (before["records/cup-001.json"][:-1] + b" " * (16 << 20) + b"\n", "its account does not give its record again"),
         ]
         for (data, words), ending in zip(damages, ("refused", "refused.2", "refused.3")):
             with self.subTest(words):
@@ -492,8 +492,8 @@ class Play(InFolder):
         self.planned(["good", "good"])
         short = "echo 'ggp_manager: want of memory' >&2; exit 3"
         played = ("records/cup-001.json", "accounts/cup-001.txt", "logs/cup-001.txt")
-        # With --lines `verify` only says whether the rules are accepted, as the plan is read.
-        record = '"$1" = verify && "$2" != --lines'
+        # With an empty input `verify` only says whether the rules are accepted, as the plan is read.
+        record = '"$1" = verify && -s /dev/stdin'
         shortages = [(record, short, "want of memory"), (record, "kill -9 $$", "status -9"), ('"$1" = replay', short, "want of memory")]
         for (asked, done, words), ending in zip(shortages, ("unchecked", "unchecked.2", "unchecked.3")):
             before = self.files() if (self.folder / "records").exists() else {}
@@ -516,7 +516,7 @@ class Play(InFolder):
     def test_a_record_that_does_not_verify_does_not_count(self):
         self.planned(["good", "good"])
         goals = 's/"goalValues":.100,0./"goalValues":[50,50]/; s/"goalValues":.0,100./"goalValues":[50,50]/'
-        for change, words in ((goals, "not lawful: goals"), ("s/taken$/over/", "its account does not give its record again")):
+        for change, words in ((goals, "not lawful: goals"), ("s/taken$/over/", "is not a call that a referee makes there")):
             liar = self.folder / "liar"
             liar.write_text(f"#!/bin/bash\nset -o pipefail\n[ \"$1\" = run ] || exec {program()} \"$@\"\n{program()} \"$@\" | sed '{change}'\n")
             liar.chmod(0o755)
