@@ -101,7 +101,7 @@ class Examples(unittest.TestCase):
         record, most = RECORD.read_bytes().rstrip(b"\n"), 16 << 20
         with tempfile.TemporaryDirectory() as room:
             file = pathlib.Path(room) / "record"
-            for more, end, is_read in ((0, b"\n", True), (0, b"", True), (1, b"", False), (1, b"\n", False), (2, b"\n", False)):
+            for more, end, is_read in ((0, b"\n", True), (0, b"", True), (1, b"", False), (1, b"\n", False), (2, b"\n", False), (1_000, b"", False)):
                 file.write_bytes(record[:-1] + b" " * (most + more - len(record)) + b"}" + end)
                 status, page, said = run(SHOW_RECORD, file)
                 wanted = (0, "") if is_read else (1, "ggp-show-record: no record: it is longer than 16 MiB\n")

@@ -26,6 +26,7 @@ ABOUT = (
 )
 STATUS = "status 0: the page is written. 1: the text is no record. 2: wrong use, or it can't be read, or the page can't be written."
 LONGEST_RECORD = USUAL_RECORD
+TOO_LONG = "it is longer than 16 MiB"
 RECORD_BEGINS = b'{"cause":'
 ONE_RECORD = "A page is of one record: `ggp-records pages` makes a page of each"
 VERSIONS = (1, 2)
@@ -264,7 +265,7 @@ def read_record(data: bytes) -> dict:
         return checked_record(parsed(data))
     rest = without_states(data)
     if len(rest) > LONGEST_RECORD:
-        raise NoRecord("it is longer than 16 MiB")
+        raise NoRecord(TOO_LONG)
     record = parsed(rest)
     if isinstance(record, dict):
         record["states"] = first_states(data, LONGEST_RECORD)
@@ -276,6 +277,13 @@ def lines_of(file: BinaryIO) -> Iterator[bytes]:
     return iter(lambda: file.readline(LONGEST_RECORD + 2), b"")
 
 
+def of_usual_length(data: bytes) -> bytes:
+    """Returns the bytes of a record. If it is too long for a page of one file, only its beginning was read, so it is refused here."""
+    if len(data) - data.endswith(b"\n") > LONGEST_RECORD:
+        raise NoRecord(TOO_LONG)
+    return data
+
+
 def record_of(file: BinaryIO) -> bytes:
     """Returns the bytes of a file that has one record. The account that `run --history` writes behind it is read over."""
     first, second = file.readline(LONGEST_RECORD + 2), file.readline(LONGEST_RECORD + 2)
@@ -283,10 +291,10 @@ def record_of(file: BinaryIO) -> bytes:
         for number, line in enumerate(lines_of(file), 3):
             if not ACCOUNT_LINE.fullmatch(line.rstrip(b"\r\n")):
                 raise NoRecord(f"line {number} is no line of its account. {ONE_RECORD}")
-        return first
+        return of_usual_length(first)
     if first.startswith(RECORD_BEGINS) and second.startswith(RECORD_BEGINS):
         raise NoRecord(f"line 2 has another one. {ONE_RECORD}")
-    return (first + second + file.read(LONGEST_RECORD + 2))[: LONGEST_RECORD + 2]
+    return of_usual_length((first + second + file.read(LONGEST_RECORD + 2))[: LONGEST_RECORD + 2])
 
 
 # ---- boards
