@@ -130,6 +130,18 @@ class Pages(Served):
         self.assertIn(f"matches/{match.id}.html", self.page("/games/heap.html"))
         self.assertIn(f"matches/{match.id}.html", self.page("/matches.html"))
 
+    def test_a_board_that_is_followed_late_shows_the_last_turn_that_is_over(self):
+        match = self.plan.matches[0]
+        self.page("/")
+        log = begin(self.plan, match, started(match))
+        self.site.look()
+        self.assertIn("before turn 1", self.page("/index.html"))
+        # The site has no moment to look between the last answer of a turn and the first one of the next.
+        self.say(log, self.play(match, 2, "NIL", ["(take 2)", "noop"]) + self.play(match, 3, "((take 2) noop)", ["noop"]))
+        self.assertIn("after turn 1; awaited: the answers to turn 2 (", self.page("/index.html"))
+        own = self.page(f"/matches/{match.id}.html")
+        self.assertIn("State 1, after turn 1", own)
+
     def test_each_link_leads_to_a_page(self):
         begin(self.plan, self.plan.matches[0], started(self.plan.matches[0]))
         end(self.plan, self.plan.matches[1], record_of(self.plan.matches[1], [["(take 2)", "noop"]], [["", "TO"]], [50, 50]))

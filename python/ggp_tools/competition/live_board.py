@@ -1,6 +1,7 @@
 """Follows a match that is open by the rules of its game: the state after the last turn, and what was replaced. It goes by the match's log
 alone, through an interpreter of its own, and says where the log is not enough."""
 
+import copy
 import time
 from collections import deque
 from dataclasses import dataclass
@@ -98,6 +99,15 @@ class LiveBoard:
         # What the log left open of a turn before the last one; and what keeps the present turn from being closed.
         self.lasting_doubt, self.waits_for = "", ""
         self.version += 1
+        self.settle()
+
+    def settle(self) -> None:
+        """Keeps as `settled` what may be shown: how far the match was followed before the first answer of the turn that is open."""
+        if not self.answers:
+            self.settled = None
+            settled = copy.copy(self)
+            settled.states, settled.turns = self.states.copy(), self.turns.copy()
+            self.settled = settled
 
     def doubt(self) -> str:
         """Returns what the log leaves open of the state, as sentences. Empty where it is certain."""
@@ -125,6 +135,8 @@ class LiveBoard:
                 self.trouble, self.version = TOO_DEEP, self.version + 1
             except Exception as why:
                 self.trouble, self.version = FAULT.format(why), self.version + 1
+            if self.version != self.settled.version:
+                self.settle()
         return not self.lines
 
     def take(self, line: LogLine) -> None:

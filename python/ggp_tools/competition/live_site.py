@@ -206,8 +206,9 @@ class LiveSite:
             board = self.boards.get(name) or self.begin_board(seen)
             board.follow(time.monotonic() + left / (len(wanted) - at))
             # What a message of an open turn tells of the turn before it is shown with that turn.
-            if name not in self.followed or not board.answers and self.followed[name].version != board.version:
-                found[name] = Followed(board.version, live_pages.board_html(board), board.turn, tuple(board.turns))
+            settled = board.settled
+            if name not in self.followed or self.followed[name].version != settled.version:
+                found[name] = Followed(settled.version, live_pages.board_html(settled), settled.turn, tuple(settled.turns))
         return found
 
     def begin_board(self, seen: Seen) -> LiveBoard:
