@@ -131,8 +131,11 @@ class Told(InFolder):
         self.assertEqual((status, said), (0, ""), out)
         self.assertIn("; 4 matches are those of descriptions with variables; ", out)
         files = files_of(self.folder / "cup.tar.gz")
-        held = [name for name, data in files.items() if data.endswith(b"\nheld against the description: the same\n")]
-        self.assertEqual(held, [f"cup/logs/{match}.txt" for match, game, *_ in self.schedule if game != "countdown"])
+        logs = {match: (self.folder / f"logs/{match}.txt").read_bytes() for match, *_ in self.schedule}
+        held = [match for match, log in logs.items() if log.endswith(b"\nheld against the description: the same\n")]
+        self.assertEqual(held, [match for match, game, *_ in self.schedule if game != "countdown"])
+        # No call confirms that line, so `publish` leaves it out, and `check` holds the matches against their descriptions again.
+        self.assertEqual([name for name, data in files.items() if name.startswith("cup/logs/") and b"held against" in data], [])
         self.assertEqual(files["cup/rules/nim.players"], self.rules("nim.players"))
         for name, (spoil, words) in SPOILINGS.items():
             with self.subTest(name):
