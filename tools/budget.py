@@ -5,7 +5,7 @@ import os
 from collections.abc import Iterator
 from dataclasses import dataclass, field
 
-from crates import TOP
+from crates import TOP, with_below
 
 MEASURED = f"{TOP}/bin/budget.json"
 BUDGET = f"{TOP}/tools/budget.txt"
@@ -85,8 +85,8 @@ def write_budget(budget: Budget, file: str = BUDGET) -> None:
 def totals_of(sizes: Sizes, known: dict[str, list[str]]) -> Sizes:
     """Returns the megabytes of all crates, and of the longest chain of crates that stand on one another."""
     chains: Sizes = {}
-    for name, deps in known.items():
-        chains[name] = sizes.get(name, 0) + max((chains[dep] for dep in deps), default=0)
+    for name in with_below([*known], known):
+        chains[name] = sizes.get(name, 0) + max((chains[dep] for dep in known[name]), default=0)
     return {"in_all": sum(sizes.values()), "longest_chain": max(chains.values(), default=0)}
 
 
