@@ -140,8 +140,10 @@ SPOILINGS = {
     "a move of the account is another one": (changed("cup/accounts/cup-001.txt", lambda text: text.replace(b"READY", b"BUSY").replace(b"(take 1)", b"(take 2)")), "cup-001: "),
     "two accounts are exchanged": (swapped("cup/accounts/cup-001.txt", "cup/accounts/cup-002.txt"), "does not give its record again"),
     "two whole matches are exchanged": (None, "cup-001: its matchId is 'cup-002'"),
-    "calls of one account stand in another": (moved_calls, "cup-001: its account is not of one match alone"),
-    "an account has a line that replay skips": (changed("cup/accounts/cup-003.txt", lambda text: b'{"goalValues":[100,0]}\n' + text), "cup-003: its account is not of one match alone"),
+    "calls of one account stand in another": (moved_calls, "of its account is of another match: 0 strict cup-002 "),
+    "an account has a line that replay skips": (
+        changed("cup/accounts/cup-003.txt", lambda text: b'{"goalValues":[100,0]}\n' + text), 'cup-003: line 1 of its account does not open a match: {"goalValues":[100,0]}',
+    ),
     "a match is missing": (without("cup/records/cup-003.json", "cup/accounts/cup-003.txt", "cup/logs/cup-003.txt"), "cup-003: it has no record"),
     "an account is missing": (without("cup/accounts/cup-004.txt"), "cup-004: its account is missing"),
     "a log tells of another answer": (changed("cup/logs/cup-001.txt", lambda text: re.sub(rb"(PLAY [^:]*: )[^,]*,", rb"\1(take 7),", text, count=1)), "of its log is not what its account says"),
@@ -289,7 +291,7 @@ class Archive(unittest.TestCase):
 
     def test_an_archive_for_which_memory_is_short(self):
         words, said = ["ggp_competition", "check", str(self.archive), "--program", program()], io.StringIO()
-        for place in ("ggp_tools.competition.archive.unpacked", "ggp_tools.competition.kept.read_at_most"):
+        for place in ("ggp_tools.competition.archive.unpacked", "ggp_tools.competition.kept.file_bytes"):
             with mock.patch(place, side_effect=MemoryError), mock.patch("sys.argv", words), mock.patch("sys.stderr", said):
                 self.assertEqual(main(), 3)
         what = "the archive", "records and accounts"
