@@ -322,7 +322,7 @@ class Play(InFolder):
             time.sleep(0.01)
 
     def test_a_match_begun_as_its_run_is_killed_is_not_played(self):
-        with subprocess.Popen(["sleep", "60"], preexec_fn=lambda: end_with(0)) as orphan:
+        with subprocess.Popen(["sleep", "60"], preexec_fn=lambda: end_with(0, None)) as orphan:
             self.assertEqual(orphan.wait(), -signal.SIGKILL)
 
     def test_an_abort_without_an_answer_is_due_until_it_is_answered(self):
