@@ -236,6 +236,8 @@ class Files(InCache):
         self.assertEqual((second[0], second[1] != first[1]), (first[0], True))
         log = self.plan.folder.log(self.plan.matches[0].id)
         log.write_bytes(log.read_bytes() + b"x\n")
+        self.assertEqual(self.published()[0], first[0], "a line that no account confirms is not published")
+        log.write_bytes(b"")
         self.assertNotEqual(self.published()[0], first[0])
 
     def test_check_believes_nothing_that_is_known(self):

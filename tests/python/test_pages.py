@@ -51,7 +51,12 @@ def number_text(number):
     return b"%d" % number
 
 
+TESTS = os.getpid()
+
+
 def killed(_):
+    # The process of the tests must not end, even if the work is not split.
+    assert os.getpid() != TESTS
     os._exit(1)
 
 
@@ -71,7 +76,8 @@ class SideBySide(unittest.TestCase):
         self.assertEqual(list(made_side_by_side(number_text, [])), [])
 
     def test_a_process_that_is_killed_is_a_shortage(self):
-        with self.assertRaisesRegex(Unchecked, "a process was ended"):
+        # Other tests may have left a thread, with which the work would not be split.
+        with patch("threading.active_count", return_value=1), self.assertRaisesRegex(Unchecked, "a process was ended"):
             list(made_side_by_side(killed, [(1,), (2,)]))
 
 
