@@ -1,5 +1,6 @@
 """What is delivered in Python beside the referee `ggp_manager`: games are instantiated, competitions held, records shown, explained and
-checked by many processes. All of it needs the standard library alone, and the grounder gringo for descriptions with variables."""
+checked by many processes. Pages need jinja2, the live pages of a competition also aiohttp, and descriptions with variables the grounder
+gringo. All else needs only the standard library."""
 
 import os
 import sys

@@ -4,6 +4,7 @@ import unittest
 
 from ggp_tools.answers import MOST_TOLD, Illegal, Whys, game_of, listed, no_expression
 from ggp_tools.records.show import page_of
+from html_pages import parsed
 from support import GAMES
 
 STATES = [["(heap 2)", "(turn red)"], ["(heap 1)", "(turn blue)"]]
@@ -59,7 +60,7 @@ class Answers(unittest.TestCase):
             "endMarks": [None, None], "errors": [["IL <b>", "IL ?"]], "moves": [["(take 1)", "noop"]], "states": STATES, "version": 2, "strikes": 0,
             "matchId": "m1", "startClock": 1, "playClock": 1,
         }
-        page = page_of(record, game, {(1, 0): "(<i>"}).decode("ascii")
-        self.assertIn('title="the answer was no legal move, of which there were 2: (take 1), (take 2)"', page)
-        self.assertIn('title="the answer was not one expression: a list that is not closed at column 1"', page)
-        self.assertNotIn("of which", page_of(record).decode("ascii"))
+        titles = [cell["title"] for cell in parsed(page_of(record, game, {(1, 0): "(<i>"})).select("td.substituted")]
+        told = ["the answer was no legal move, of which there were 2: (take 1), (take 2)", "the answer was not one expression: a list that is not closed at column 1"]
+        self.assertEqual(titles, told)
+        self.assertEqual([cell["title"] for cell in parsed(page_of(record)).select("td.substituted")], [title.partition(",")[0].partition(":")[0] for title in told])

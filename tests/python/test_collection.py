@@ -226,7 +226,6 @@ class Commands(unittest.TestCase):
             page = path.read_text(encoding="ascii")
             inside = page.count('<div class="wide"><table') + page.count('<div class="turns"><table')
             self.assertEqual((page.count("<table"), page.count('class="board"')), (inside, page.count('<div class="wide"><div class="board"')))
-            self.assertIn("h1, p, li { overflow-wrap: anywhere; }", page)
 
     def test_a_pile_that_is_not_there_is_no_verdict(self):
         said = self.run_records("check", str(self.folder / "none"))

@@ -16,6 +16,7 @@ from ggp_tools.competition.plan import read_plan
 from ggp_tools.competition.results import Retirement, result_of, result_of_values, values_of
 from ggp_tools.competition.table_text import in_order
 from ggp_tools.referee import Referee
+from html_pages import parsed, rows_of
 from live_support import plan_in, record_of
 from made_up import make_up
 from support import InFolder, program, run
@@ -215,7 +216,7 @@ class Files(InCache):
         log = self.plan.folder.log(self.plan.matches[0].id)
         log.write_bytes(log.read_bytes().replace(b"00:00:00.000Z", b"00:00:00.100Z"))
         Pages(self.plan, known=Known(self.folder)).write(results)
-        self.assertIn("0.9</tr>", (self.plan.folder.pages / "matches.html").read_text())
+        self.assertEqual(rows_of(parsed((self.plan.folder.pages / "matches.html").read_bytes()))[1][-1], "0.9")
 
     def published(self):
         knowledge, path = Known(self.folder), self.folder / "cup.tar.gz"

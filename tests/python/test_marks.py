@@ -1,11 +1,10 @@
 """What boards show of the words that stand on them: no two words look alike, and known pieces have their glyphs."""
 
-import html
-import re
 import unittest
 
 from ggp_tools.records.marks import LONGEST, Mark, marks_of, numbered, shortened
 from ggp_tools.records.show import board_page, board_places, boards_of, marks_of_board
+from html_pages import parsed
 
 KING, PAWN, MAN, CROWNED, STONE = "\u265a", "\u265f\ufe0e", "\u26c2", "\u26c3", "\u25cf"
 
@@ -90,8 +89,8 @@ class Boards(unittest.TestCase):
         """Returns of each cell of the board of these terms its classes, its title and its text."""
         (board,) = boards_of([list(terms)])
         page = board_page(board, board_places(board, list(terms)), None, None, marks_of_board(board, [list(terms)]))
-        found = re.findall(r"<i(?: class=\"([^\"]*)\")?(?: title=\"([^\"]*)\"( tabindex=0)?)? style=\"[^\"]*\">(.*?)</i>", page)
-        return [(kinds, html.unescape(title), bool(tab), html.unescape(text)) for kinds, title, tab, text in found]
+        found = parsed(page)("i")
+        return [(" ".join(cell.get("class", [])), cell.get("title", ""), cell.has_attr("tabindex"), cell.text) for cell in found]
 
     def test_a_man_is_no_king(self):
         found = self.cells("(piece 1 1 black man)", "(piece 2 2 black king)")
@@ -103,7 +102,7 @@ class Boards(unittest.TestCase):
 
     def test_several_in_one_place(self):
         found = self.cells("(at red 1 1)", "(at blue 2 2)", "(wall 1 1)", "(wall 1 2)", "(wall 2 2)")
-        self.assertEqual(found[0], ("", "1 1: red, wall", True, f'<span class="red">{STONE}</span><br>wall'))
+        self.assertEqual(found[0], ("", "1 1: red, wall", True, f"{STONE}wall"))
         self.assertEqual(found[1], ("", "", False, "wall"))
 
     def test_words_are_text(self):

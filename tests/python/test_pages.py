@@ -1,16 +1,16 @@
 """The pages of 300 matches: each link leads to a page that is there, and what names and rules say is text."""
 
-import html.parser
 import json
 import os
 import pathlib
-import re
 import subprocess
 import tempfile
 import time
 import unittest
 from dataclasses import replace
 from unittest.mock import patch
+
+import bs4
 
 from ggp_tools.competition import pages as pages_module
 from ggp_tools.competition.competition_file import read_competition
@@ -20,22 +20,12 @@ from ggp_tools.competition.pages import Pages, made_side_by_side, seconds_betwee
 from ggp_tools.competition.plan import Plan
 from ggp_tools.competition.results import result_of
 from ggp_tools.referee import Unchecked
+from html_pages import links_of, parsed, rows_of, text_of
 from planning import planned
 from support import toml
 
 BEGAN, ENDED = "began 2026-01-02T03:04:05.000Z\n", "ended 2026-01-02T03:04:07.500Z\n"
 LOG = f"{BEGAN}m role 0 ann message 1 (START m a (..: ready, 7 ms\n{ENDED}".encode()
-
-
-class Links(html.parser.HTMLParser):
-    def __init__(self, text):
-        super().__init__()
-        self.links, self.tags = [], set()
-        self.feed(text)
-
-    def handle_starttag(self, tag, attributes):
-        self.tags.add(tag)
-        self.links += [value for key, value in attributes if key in ("href", "src")]
 
 
 def record_of(match, number):
@@ -97,6 +87,13 @@ class PagesOfMany(unittest.TestCase):
             folder.log(match.id).write_bytes(LOG)
             self.results.append(result_of(record, match))
 
+    def page(self, pages: Pages, name: str) -> bs4.BeautifulSoup:
+        return parsed((pages.folder / name).read_bytes())
+
+    def last_match(self, pages: Pages) -> list[str]:
+        """Returns the texts of the row of the match that ended last."""
+        return rows_of(self.page(pages, "index.html").find(id="matches"))[0]
+
     def test_each_link_leads_to_a_page(self):
         pages = Pages(self.plan)
         pages.write(self.results)
@@ -105,18 +102,17 @@ class PagesOfMany(unittest.TestCase):
         self.assertEqual(len(files), 328)
         linked = {pages.folder / "index.html"}
         for file in files:
-            found = Links(file.read_text("ascii"))
-            self.assertFalse(found.tags & {"b", "img"} and file.parent.name != "matches")
-            for link in found.links:
+            found = parsed(file.read_text("ascii"))
+            self.assertEqual(found.select("img, script:not(:last-child), td b, h1 b"), [], file)
+            for link in links_of(found):
                 if not link.startswith("#"):
                     linked.add((file.parent / link.partition("#")[0]).resolve())
         self.assertEqual({path.resolve() for path in linked}, {path.resolve() for path in files})
-        first = (pages.folder / "index.html").read_text()
-        self.assertIn("300 of 300 matches are over. From 2026-01-02 03:04:05 to 2026-01-02 03:04:07 UTC.", first)
-        self.assertIn("<td>2.5", first)
-        for text in ("&lt;/pre&gt;&lt;script&gt;", "(role ?&lt;script&gt;)"):
-            self.assertIn(text, (pages.folder / "games/one.html").read_text())
-        self.assertNotIn("<script", first + (pages.folder / "games/one.html").read_text())
+        first, game = (self.page(pages, name) for name in ("index.html", "games/one.html"))
+        self.assertIn("300 of 300 matches are over. From 2026-01-02 03:04:05 to 2026-01-02 03:04:07 UTC.", text_of(first))
+        self.assertEqual({row[-1] for row in rows_of(first.find(id="matches"))}, {"2.5"})
+        self.assertEqual([text.get_text() for text in game("pre")], ["(role ?<script>)", "; </pre><script>\n(role a)"])
+        self.assertEqual(first("script") + game("script"), [])
 
     def test_lists_of_many_matches_come_in_parts(self):
         with patch.object(pages_module, "MOST_LISTED", 120):
@@ -124,19 +120,20 @@ class PagesOfMany(unittest.TestCase):
             pages.write(self.results)
             files = {file.name for file in pages.folder.iterdir() if file.is_file()}
             self.assertEqual(files, {"index.html", "matches.html", "matches-2.html", "matches-3.html"})
-            texts = [(pages.folder / name).read_text() for name in ("matches.html", "matches-2.html", "matches-3.html")]
-            self.assertEqual([text.count('<tr id="match-') for text in texts], [120, 120, 60])
-            self.assertIn('cup-001 to cup-120, <a href="matches-2.html">cup-121 to cup-240</a>', texts[0])
-            game, player = ((pages.folder / name).read_text() for name in ("games/one.html", "players/player-p0.html"))
-            for text in (game, player):
-                self.assertEqual((text.count('<tr id="match-'), text.count('id="match-cup-300"')), (120, 1))
-                self.assertIn('These are 120 of 300; the others are among <a href="../matches.html">all matches</a>.', text)
+            lists = [self.page(pages, name) for name in ("matches.html", "matches-2.html", "matches-3.html")]
+            self.assertEqual([len(page.select("#matches tr")) for page in lists], [120, 120, 60])
+            others = lists[0].find(id="pages")
+            self.assertEqual((text_of(others), links_of(others)), ("cup-001 to cup-120, cup-121 to cup-240, cup-241 to cup-300", ["matches-2.html", "matches-3.html"]))
+            for name in ("games/one.html", "players/player-p0.html"):
+                page = self.page(pages, name)
+                self.assertEqual((len(page.select("#matches tr")), len(page.select("#match-cup-300"))), (120, 1))
+                self.assertIn("These are 120 of 300; the others are among all matches.", text_of(page))
             # With fewer matches there are fewer pages.
             pages.write(self.results[:120])
             self.assertEqual({file.name for file in pages.folder.iterdir() if file.is_file()}, {"index.html", "matches.html"})
             gaps = Pages(self.plan, shows_gaps=True)
             gaps.write(self.results[:10])
-            self.assertIn("And 170 more, which GAPS.tsv names.", (gaps.folder / "index.html").read_text())
+            self.assertIn("And 170 more, which GAPS.tsv names.", text_of(self.page(gaps, "index.html")))
 
     def test_what_a_log_says_is_text(self):
         for match, log in zip(self.plan.matches, (b"began <plaintext>\n" + LOG, LOG + b"began <plaintext>\nended <plaintext>\n")):
@@ -145,7 +142,7 @@ class PagesOfMany(unittest.TestCase):
         pages.write(self.results[:3])
         for name in ("index.html", "games/one.html"):
             self.assertNotIn("plaintext", (pages.folder / name).read_text())
-        self.assertEqual((spelt("<b>2026-01-02T03:04:05.678Z"), spelt(None)), ("&lt;b&gt;2026-01-02 03:04", ""))
+        self.assertEqual((spelt("<b>2026-01-02T03:04:05.678Z"), spelt(None)), ("<b>2026-01-02 03:04", ""))
 
     def test_the_page_of_a_player(self):
         match, player = self.plan.matches[0], self.plan.matches[0].players[1]
@@ -155,13 +152,13 @@ class PagesOfMany(unittest.TestCase):
         self.plan.folder.log(match.id).write_bytes(before + LOG + b"\n".join(lines) + b"\n")
         pages = Pages(self.plan)
         pages.write(self.results[:1])
-        text = (pages.folder / f"players/player-{player}.html").read_text()
-        self.assertIn("Place 1 of 2 in all games: 1 matches, mean goal 50.00, 1 won, 0 drawn, 0 lost; 1 of 1 moves replaced", text)
-        self.assertIn("<td class=\"left\">b<td>1<td>50.00<td>1 of 1<td><td>1,500 ms", text)
-        for word in (f"<code>(PLAY {match.id} NIL)</code>", "<code>&lt;script&gt;</code>", "<code>noop</code>", "the answer was no legal move", "<svg"):
-            self.assertIn(word, text)
-        self.assertIn("It has played no match.", (pages.folder / "players/player-p24.html").read_text())
-        self.assertIn("No move of it was replaced.", (pages.folder / f"players/player-{match.players[0]}.html").read_text())
+        page = self.page(pages, f"players/player-{player}.html")
+        self.assertIn("Place 1 of 2 in all games: 1 matches, mean goal 50.00, 1 won, 0 drawn, 0 lost; 1 of 1 moves replaced", text_of(page))
+        self.assertEqual(rows_of(page.find(id="seats"))[1:], [["one", "b", "1", "50.00", "1 of 1", "", "1,500 ms"]])
+        self.assertEqual(rows_of(page.find(id="errors"))[1:], [[match.id, "1", "the answer was no legal move IL", f"(PLAY {match.id} NIL)", "<script>", "noop"]])
+        self.assertEqual(len(page.select("#times svg")), 1)
+        self.assertIn("It has played no match.", text_of(self.page(pages, "players/player-p24.html")))
+        self.assertIn("No move of it was replaced.", text_of(self.page(pages, f"players/player-{match.players[0]}.html")))
 
     def test_the_last_errors_of_a_match_stand_on_the_page_of_a_player(self):
         match = self.plan.matches[0]
@@ -170,10 +167,11 @@ class PagesOfMany(unittest.TestCase):
         self.plan.folder.record(match.id).write_text(json.dumps(record))
         pages = Pages(self.plan)
         pages.write([result_of(record, match)])
-        text = (pages.folder / f"players/player-{match.players[1]}.html").read_text()
-        self.assertEqual(re.findall(r'#state-(\d+)"', text), [str(turn) for turn in range(15, 5, -1)])
+        errors = self.page(pages, f"players/player-{match.players[1]}.html").find(id="errors")
+        self.assertEqual([row[1] for row in rows_of(errors)[1:]], [str(turn) for turn in range(15, 5, -1)])
+        self.assertEqual(links_of(errors)[1], f"../matches/{match.id}.html#state-15")
         for words in ("The last 100, and of a match the last 10.", "5 more stand in the records"):
-            self.assertIn(words, text)
+            self.assertIn(words, text_of(errors))
 
     def test_a_clock_that_is_set_back(self):
         match = self.plan.matches[0]
@@ -184,8 +182,7 @@ class PagesOfMany(unittest.TestCase):
             self.plan.folder.log(match.id).write_text(f"began {began}\n{lines}ended {last}\n")
             pages = Pages(self.plan)
             pages.write(self.results[:1])
-            text = (pages.folder / "index.html").read_text()
-            self.assertIn("2026-01-02 10:00:00<td>the clock was set back", text)
+            self.assertEqual(self.last_match(pages)[-2:], ["2026-01-02 10:00:00", "the clock was set back"])
 
     def test_of_a_log_that_is_too_long_the_first_lines_are_read(self):
         match = self.plan.matches[0]
@@ -197,11 +194,11 @@ class PagesOfMany(unittest.TestCase):
             pages = Pages(self.plan)
             with patch.object(pages_module, "MOST_OF_LOG", most):
                 pages.write(self.results[:1])
-            text = (pages.folder / name).read_text()
-            self.assertIn(f"<td>{longest}", text)
-            self.assertEqual(f"Of the logs of {match.id} the first 16 MiB are read" in text, is_cut)
+            page = self.page(pages, name)
+            self.assertEqual(rows_of(page.find(id="seats"))[1][-1], longest)
+            self.assertEqual(f"Of the logs of {match.id} the first 16 MiB are read" in text_of(page), is_cut)
             # When it began and ended is known all the same.
-            self.assertIn("2026-01-02 03:04:05<td>2.5", text)
+            self.assertEqual(self.last_match(pages)[-2:], ["2026-01-02 03:04:05", "2.5"])
 
     def test_a_match_that_was_ordered_again_counts_nowhere(self):
         old, new = self.plan.matches[0], self.plan.matches[48]
@@ -215,18 +212,18 @@ class PagesOfMany(unittest.TestCase):
         results = [result_of(record_of(match, number), match) for number, match in enumerate((old, new))]
         pages = Pages(self.plan)
         pages.write(results)
-        text = (pages.folder / f"players/player-{player}.html").read_text()
-        self.assertIn('<td class="left">b<td>1<td>50.00<td>1 of 1<td><td>1,500 ms', text)
-        self.assertEqual((text.count("<code>&lt;script&gt;</code>"), text.count(f"{old.id} does not count: {new.id} was ordered in its place")), (1, 2))
-        self.assertNotIn("9,000", text)
-        self.assertIn("1 of 299 matches are over.", (pages.folder / "index.html").read_text())
+        page = self.page(pages, f"players/player-{player}.html")
+        self.assertEqual(rows_of(page.find(id="seats"))[1:], [["one", "b", "1", "50.00", "1 of 1", "", "1,500 ms"]])
+        self.assertEqual([row[0] for row in rows_of(page.find(id="errors"))[1:]], [new.id])
+        self.assertEqual(text_of(page).count(f"{old.id} does not count: {new.id} was ordered in its place"), 2)
+        self.assertIn("1 of 299 matches are over.", text_of(self.page(pages, "index.html")))
         # As long as the new one is not played there is nothing that counts.
         pages = Pages(self.plan)
         pages.write(results[:1])
-        text = (pages.folder / f"players/player-{player}.html").read_text()
-        self.assertIn("It has played no match that counts.", text)
-        self.assertNotIn("Goals by game and seat", text)
-        self.assertIn("0 of 299 matches are over.", (pages.folder / "index.html").read_text())
+        page = self.page(pages, f"players/player-{player}.html")
+        self.assertIn("It has played no match that counts.", text_of(page))
+        self.assertEqual(text_of(page.find(id="seats")), "")
+        self.assertIn("0 of 299 matches are over.", text_of(self.page(pages, "index.html")))
 
     def test_a_page_is_made_again_only_where_something_has_changed(self):
         pages = Pages(self.plan)

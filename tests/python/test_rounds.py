@@ -3,7 +3,6 @@ referee is a stand-in here, and the records are only what results are read from.
 
 import json
 import pathlib
-import re
 import tempfile
 import unittest
 from collections import Counter
@@ -22,6 +21,7 @@ from ggp_tools.competition.rounds import Round, bracket, matches_to_come, paired
 from ggp_tools.competition.schedule import Match, asked
 from ggp_tools.competition.table import tables_of
 from ggp_tools.competition.table_text import notes, standings_rows, table_files
+from html_pages import parsed, rows_of
 from support import stand_in, toml
 
 REFEREE = stand_in(
@@ -127,10 +127,10 @@ class ByRounds(unittest.TestCase):
         plan = self.make()
         plan_next_round(plan, self.play(plan, lambda _: [50, 50]))
         results = self.play(plan, lambda match: [40, 0] if match.players[0] in ("p0", "p1") else [60, 0])
-        rows = [re.sub("<[^>]*>+", " ", line).split() for line in rounds_part(plan, list(results.values()), 9).text.splitlines()[2:-1]]
+        rows = rows_of(parsed(rounds_part(plan, list(results.values()), 9).text))[1:]
         both = "p0 p3 1 : 1 40 : 60 2 of 2"
         self.assertEqual([" ".join(row) for row in rows][:4], [f"2 {both}", "2 p1 p2 1 : 1 40 : 60 2 of 2", "1 p3 p4 1 : 1 100 : 100 2 of 2", "1 p2 p5 1 : 1 100 : 100 2 of 2"])
-        self.assertEqual([" ".join(row) for row in rows][4:], ["1 p0 (bye)", "1 p1 (bye)"])
+        self.assertEqual([" ".join(row) for row in rows][4:], ["1 p0 (bye)   ", "1 p1 (bye)   "])
         self.assertIn("Round 2 of 3.", round_text(plan.competition, plan.matches[-1]))
         plan_next_round(plan, results)
         self.assertEqual((count_of_all(plan), rounds_words(plan)), (10, " Round 3 of 3."))

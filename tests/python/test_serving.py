@@ -22,9 +22,9 @@ from ggp_tools.competition.page_changes import changes
 from ggp_tools.competition.page_parts import Items, Part
 from ggp_tools.moments import moment_at
 from ggp_tools.referee import NoReferee
+from html_pages import links_of, parsed, rows_of, text_of
 from live_support import SILENT, begin, end, line, plan_in, record_of, started
 from support import GAMES, InFolder, run, start
-from test_pages import Links
 
 HOSTILE = ["<script>alert(1)</script>", "\"'><img src=x onerror=alert(1)>", "</tbody></table><b>", "&lt;&#65;", "<!--"]
 
@@ -104,7 +104,7 @@ class Pages(Served):
         first, own = self.page("/index.html"), self.page(f"/matches/{match.id}.html")
         self.assertIn("after turn 1", first)
         self.assertIn('title="1 2: black king"', first)
-        self.assertRegex(first, f'<tr id="open-{match.id}">.*turn 2<td>.*</tr>')
+        self.assertEqual(rows_of(parsed(first).find(id="open"))[0][3:5], ["2", "the answers to turn 2"])
         self.assertIn("State 1, after turn 1", own)
         self.assertIn("<code>(take 2)</code>", own)
         self.say(log, self.play(match, 3, "((take 2) noop)", [SILENT]))
@@ -112,7 +112,9 @@ class Pages(Served):
         # Once half of the clock is over the page names who is awaited.
         self.site.reader.open[match.id].since -= 1_000
         self.site.look()
-        self.assertIn("player-bob.html\">bob</a>: turn 2 (", self.page(f"/matches/{match.id}.html"))
+        now = parsed(self.page(f"/matches/{match.id}.html")).find(id="now")
+        self.assertRegex(text_of(now), r"awaited: bob: turn 2 \(")
+        self.assertEqual(links_of(now), ["../players/player-bob.html"])
         self.say(log, self.play(match, 3, "((take 2) noop)", [SILENT, "(take 1)"]).splitlines(keepends=True)[1])
         self.assertIn("no answer came in time", self.page("/"))
         moves, errors = [["(take 2)", "noop"], ["noop", "(take 1)"]], [["", ""], ["TO", ""]]
@@ -123,7 +125,7 @@ class Pages(Served):
         over = self.page(f"/matches/{match.id}.html")
         self.assertIn('id="state-2"', over)
         self.assertIn(f"<p>{match.players[1]} won.</p>", over)
-        self.assertIn(f"{match.players[1]}</a> 100</strong>", self.page("/"))
+        self.assertEqual([text_of(winner) for winner in parsed(self.page("/")).select("#matches strong")], [f"{match.players[1]} 100"])
         player = self.page("/players/player-ann.html")
         for text in ("no answer came in time", f"(PLAY {match.id} ((take 2) noop))", "<code>TO</code>", f"<code>{SILENT}</code>", "5 ms", "<svg"):
             self.assertIn(text, player)
@@ -150,7 +152,8 @@ class Pages(Served):
         while todo:
             path = todo.pop()
             known.add(path)
-            found = [os.path.normpath(os.path.join(os.path.dirname(path), link.partition("#")[0])) for link in Links(self.page(path)).links if link[0] != "#"]
+            links = [link.partition("#")[0] for link in links_of(parsed(self.page(path)))]
+            found = [os.path.normpath(os.path.join(os.path.dirname(path), link)) for link in links if link]
             todo += [path for path in dict.fromkeys(found) if path not in known and path not in todo]
         self.assertEqual(len(known), len({"index", "all matches", "game"}) + 3 + 2)
 
@@ -159,7 +162,7 @@ class Pages(Served):
             for match in self.plan.matches[:3]:
                 end(self.plan, match, record_of(match, [], [], [50, 50]))
             self.site.look()
-            self.assertEqual([self.page(f"/matches{more}.html").count('<tr id="match-') for more in ("", "-2")], [2, 1])
+            self.assertEqual([len(parsed(self.page(f"/matches{more}.html")).select("#matches tr")) for more in ("", "-2")], [2, 1])
             self.assertEqual([self.ask(f"/matches-{more}.html")[0] for more in ("3", "0", "1", "x")], [404] * 4)
 
     def test_a_record_is_read_once_and_a_page_made_once(self):
@@ -237,7 +240,7 @@ class Pages(Served):
             (files.Refused(f"{path}/schedule.tsv is not what {path}/competition.toml says"), "schedule.tsv is not what competition.toml says"),
             (files.Refused(f"{path}/schedule.tsv: /opt/games/heap.kif is there"), "schedule.tsv: heap.kif is there"),
             (OSError(5, "Input/output error", f"{path}/rules/heap.kif"), "rules/heap.kif: Input/output error"),
-            (NoReferee(f"{path}/ggp_manager is no program that can be run"), "the program can&#x27;t be asked for its rules"),
+            (NoReferee(f"{path}/ggp_manager is no program that can be run"), "the program can&#39;t be asked for its rules"),
         )
         places = ["/", "/matches.html", "/games/heap.html", f"/matches/{match.id}.html", f"/matches/{other.id}.html", "/players/player-ann.html"]
         for number, (fault, said) in enumerate(faults):
@@ -276,7 +279,7 @@ class Pages(Served):
         self.site.look()
         first = self.page("/")
         self.assertIn("5 wait, 1 was given up", first)
-        self.assertRegex(first, f"(?s)<h2>Matches that were given up</h2>.*?<td class=\"left\">{lost.id}<.*?ann is silent</span></tr>\n</table>")
+        self.assertEqual([(row[0], row[-1]) for row in rows_of(parsed(first).find(id="given-up"))[1:]], [(lost.id, "ann is silent")])
         self.assertIn("It was given up: ann is silent.", self.page(f"/matches/{lost.id}.html"))
         self.assertIn("It has not begun.", self.page(f"/matches/{again.id}.html"))
         # The next run plays it.
@@ -522,12 +525,12 @@ class Hostile(Served):
         places = ["/", "/matches.html", "/games/heap.html", f"/matches/{match.id}.html", f"/matches/{other.id}.html"]
         for path in [*places, *(f"/players/player-{name}.html" for name in ("ann", "bob", "cid"))]:
             text = self.page(path)
-            found = Links(text)
-            self.assertFalse(found.tags & {"img", "plaintext"}, path)
-            self.assertLessEqual(text.count("<script"), 1, path)
+            found = parsed(text)
+            self.assertEqual(found.select("img, plaintext, td b, body > b"), [], path)
+            self.assertLessEqual(len(found("script")), 1, path)
             self.assertEqual([word for word in HOSTILE if word in text], [], path)
         own = self.page(f"/matches/{match.id}.html")
-        self.assertEqual((own.count('id="turn-'), own.count("IL &lt;!--"), own.count("&lt;!--")), (len(HOSTILE), 1, 6))
+        self.assertEqual((len(parsed(own).select("#turns tr")), own.count("IL &lt;!--"), own.count("&lt;!--")), (len(HOSTILE), 1, 6))
         self.assertIn("&lt;script&gt;alert(1)&lt;/script&gt;", self.page(f"/players/player-{other.players[0]}.html"))
 
 

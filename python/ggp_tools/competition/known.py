@@ -13,6 +13,7 @@ from ggp_tools.competition.files import opened_file, write_whole
 from ggp_tools.descriptions.kept import cache
 
 PACKAGE = pathlib.Path(__file__).resolve().parents[1]
+CODE = {".py", ".html", ".css", ".js"}
 # What is known of competitions that were not looked at lately goes first, once there are more than this.
 MOST_KEPT = 20
 # Of a competition no more than this is kept: some 30,000 matches have as much.
@@ -46,7 +47,7 @@ class Known:
     def __init__(self, folder: pathlib.Path) -> None:
         self.name = sum_of_parts(os.fsencode(folder.absolute()))
         # Whoever makes a value another way makes another one.
-        self.code = sum_of_parts(sys.version.encode(), *(file.read_bytes() for file in sorted(PACKAGE.rglob("*.py")))).encode()
+        self.code = sum_of_parts(sys.version.encode(), *(file.read_bytes() for file in sorted(PACKAGE.rglob("*")) if file.suffix in CODE)).encode()
         self.before, self.asked = self.read(), {}
 
     def read(self) -> dict[str, dict[str, object]]:

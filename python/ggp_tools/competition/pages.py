@@ -5,7 +5,6 @@ import contextlib
 import datetime
 import hashlib
 import heapq
-import html
 import itertools
 import multiprocessing
 import os
@@ -14,6 +13,7 @@ import shutil
 import signal
 import threading
 import time
+import typing
 from collections.abc import Callable, Iterator
 from dataclasses import dataclass
 
@@ -21,9 +21,9 @@ from ggp_tools.answers import MOST_RULES, game_of
 from ggp_tools.competition.files import UNFINISHED, drop_unfinished, write_whole
 from ggp_tools.competition.kept import PROCESSORS
 from ggp_tools.competition.known import Known, sum_or_none
-from ggp_tools.competition.page_parts import Items, PageParts, Part, link, page, row, rows_part, table
+from ggp_tools.competition.page_parts import Item, Items, PageParts, Part, html_of, part, rows_part
 from ggp_tools.competition.plan import Plan
-from ggp_tools.competition.player_pages import page_name, player_link, player_parts, standing_of, standing_texts
+from ggp_tools.competition.player_pages import page_name, player_parts, standing_of, standing_texts
 from ggp_tools.competition.plots import rating_plot
 from ggp_tools.competition.results import WON, Result, is_set_back, remarks, times_of, winner_words
 from ggp_tools.competition.round_pages import count_of_all, round_text, rounds_part, rounds_words
@@ -33,6 +33,10 @@ from ggp_tools.competition.table_text import FORFEIT, METHOD, crosstable_rows, n
 from ggp_tools.descriptions.loading import Rules, sum_of
 from ggp_tools.referee import Unchecked
 from ggp_tools.records.show import NoRecord, page_of, read_record
+from ggp_tools.templating import page
+
+if typing.TYPE_CHECKING:
+    from markupsafe import Markup
 
 # While matches are played, the pages are written again after SECONDS seconds at the earliest, and for at most a tenth of the time.
 SECONDS, SHARE = 2, 10
@@ -47,29 +51,20 @@ MOST_OF_LOG, LOG_WORDS = 16 << 20, "16 MiB"
 
 SET_BACK = "the clock was set back"
 MATCH_HEADS = ["match", "game", "players and goals", "turns", "replaced moves", "begin (UTC)", "seconds"]
-LEFT, WORDS = {0, 1, 2, 4, 5}, {2}
 
 
 def standings(found: Table, up: str) -> PageParts:
-    """Returns the standings of a table, the plot of its ratings, and the crosstable; a part of which there is nothing yet is empty. The
-    players' pages stand below `up`."""
-    heads, *rows = [list(map(html.escape, row)) for row in standings_rows(found, "\u00b1")]
+    """Returns the standings of a table, the plot of its ratings, and the crosstable; a part without content is empty. The pages of the
+    players are below `up`."""
+    heads, *rows = standings_rows(found, "\u00b1")
     players = [line.player for line in found.standings()]
-    for cells, player in zip(rows, players):
-        cells[1] = cells[1].replace(html.escape(player), player_link(player, up), 1)
-    said = "".join(f'<p class="odd">{html.escape(note)}</p>' for note in notes(found))
+    crosstable = list(crosstable_rows(found))[1:] if len(players) <= MOST_CROSSED else []
     plot = rating_plot(found.standings()) if found.is_of_pairs() else ""
     return [
-        Part("standings", f"<h2>Standings</h2>{table([heads, *rows], {1})}{said}"),
-        Part("ratings", f"<h2>Ratings</h2>{plot}" if plot else ""),
-        Part("crosstable", f"<h2>Points / meetings</h2>{crosstable(found)}" if found.is_of_pairs() else ""),
+        part("standings", heads=heads, rows=list(zip(players, rows)), notes=list(notes(found)), up=up),
+        part("ratings", plot=plot) if plot else Part("ratings", ""),
+        part("crosstable", rows=crosstable) if found.is_of_pairs() else Part("crosstable", ""),
     ]
-
-
-def crosstable(found: Table) -> str:
-    if len(found.standings()) > MOST_CROSSED:
-        return "<p>The file <code>crosstable.csv</code> has them.</p>"
-    return table([list(map(html.escape, row)) for row in crosstable_rows(found)], {1})
 
 
 def seconds_between(times: dict) -> str:
@@ -82,26 +77,23 @@ def seconds_between(times: dict) -> str:
 
 
 def spelt(time: str | None) -> str:
-    """Returns a time of a log as HTML, to the second."""
-    return html.escape((time or "").replace("T", " ")[:19])
+    """Returns a time of a log to the second."""
+    return (time or "").replace("T", " ")[:19]
 
 
-def match_row(result: Result, times: dict, up: str) -> tuple[str, str]:
-    """Returns what the list of matches says of one: its links go from a page that stands so far below the first."""
+def match_row(result: Result, times: dict, up: str) -> Item:
+    """Returns the row of a match in a list; the first page is at `up`."""
     match = result.match
     goals = result.goals or ["none"] * len(match.players)
-    told = [f"{player_link(player, up)} {goal}" for player, goal in zip(match.players, goals)]
-    who = ", ".join(f"<strong>{text}</strong>" if result.outcome(role) == WON else text for role, text in enumerate(told))
-    replaced = ", ".join(f"{html.escape(name)} {result.replaced(role)}" for role, name in enumerate(match.players) if result.replaced(role))
-    cause = f" ({html.escape(result.cause)})" if result.cause else ""
-    more = "".join(f'<br><span class="odd">{html.escape(remark)}</span>' for remark in remarks(result))
-    links = link(f"{up}matches/{match.id}.html", match.id), link(f"{up}games/{match.game}.html", match.game)
-    odd = f'<span class="odd">{replaced}</span>' if replaced else ""
-    return row(f"match-{match.id}", [*links, who + cause + more, str(result.turns), odd, spelt(times["begin"]), seconds_between(times)], LEFT, WORDS)
+    seats = [(player, goals[role], result.outcome(role) == WON) for role, player in enumerate(match.players)]
+    replaced = [(name, result.replaced(role)) for role, name in enumerate(match.players) if result.replaced(role)]
+    told = {"seats": seats, "cause": result.cause, "remarks": list(remarks(result)), "turns": result.turns, "replaced": replaced}
+    when = {"begin": spelt(times["begin"]), "seconds": seconds_between(times)}
+    return f"match-{match.id}", html_of("competition", "match_row", match=match, **told, **when, up=up)
 
 
-def matches_part(rows: list[tuple[str, str]], title: str = "Matches") -> Items:
-    return rows_part("matches", f"<h2>{title}</h2>", MATCH_HEADS, LEFT, rows, "No match is over.")
+def matches_part(rows: list[Item], title: str = "Matches") -> Items:
+    return rows_part("matches", title, MATCH_HEADS, rows, "No match is over.")
 
 
 def pages_of_all(results: list[Result]) -> dict[str, list[Result]]:
@@ -110,25 +102,15 @@ def pages_of_all(results: list[Result]) -> dict[str, list[Result]]:
     return {f"matches{f'-{at}' if at > 1 else ''}": results[start : start + MOST_LISTED] for at, start in enumerate(starts, 1)}
 
 
-def rules_parts(rules: Rules) -> Iterator[str]:
-    """Returns the rules of a game, and before them what its players are told in their place, where they are."""
-    if rules.player_rules is not None:
-        yield "<h2>Rules for players</h2><p>Players are told these rules, with variables; the referee plays the ground rules below.</p>"
-        yield rules_text(rules.player_rules)
-        yield "<h2>Ground rules</h2>"
-    else:
-        yield "<h2>Rules</h2>"
-    yield rules_text(rules.text)
+def rules_part(rules: Rules) -> Part:
+    """Returns the rules of a game, and before them the rules that its players get in their place, if there are any."""
+    told = rules.player_rules
+    return part("rules", text=rules.text, sum=sum_of(rules.text), player_text=told, player_sum=sum_of(told) if told is not None else "")
 
 
-def rules_text(text: bytes) -> str:
-    return f'<p class="dim">SHA-256: {sum_of(text)}</p><pre>{html.escape(text.decode("ascii", "backslashreplace"))}</pre>'
-
-
-def match_page(way: bytes, data: bytes, rules: bytes, answers: dict[tuple[int, int], str]) -> bytes:
-    """Returns the page of a match by its record, as `show-record` makes it, with the way back: with rules it tells what was legal."""
-    page = page_of(read_record(data), (lambda: game_of(rules)) if rules else None, answers)
-    return page.replace(b"<body>", b"<body>\n" + way, 1) + b"\n"
+def match_page(head: "Markup", data: bytes, rules: bytes, answers: dict[tuple[int, int], str]) -> bytes:
+    """Returns the page of a match: that of its record, as `ggp-show-record` makes it, with a head. With rules it says what was legal."""
+    return page_of(read_record(data), (lambda: game_of(rules)) if rules else None, answers, head)
 
 
 @dataclass(frozen=True)
@@ -139,8 +121,8 @@ class Told:
     result: Result
     begin: str | None
     end: str | None
-    above: tuple[str, str]
-    below: tuple[str, str]
+    above: Item
+    below: Item
     sittings: list[Sitting]
     is_cut: bool
 
@@ -183,16 +165,13 @@ class Site:
             known.put("told", key, [times["begin"], times["end"], *rows, list(map(values_of, sittings))])
         return data
 
-    def way_of_match(self, result: Result) -> bytes:
-        """Returns what stands at the head of the page of a match: the way back, and what there is to say of it."""
-        match = result.match
-        players = ", ".join(player_link(player, "../") for player in match.players)
-        way = f"<p>{link('../index.html', self.plan.competition.name)} / {link(f'../games/{match.game}.html', match.game)} / {players}</p>"
-        said = [winner_words(result), *remarks(result)]
-        way += round_text(self.plan.competition, match) + "".join(f"<p>{html.escape(text)}</p>" for text in filter(None, said))
-        return way.encode("ascii")
+    def way_of_match(self, result: Result) -> "Markup":
+        """Returns the head of the page of a match: the way back, and what there is to say of the match."""
+        lines = [line for line in (winner_words(result), *remarks(result)) if line]
+        told = {"name": self.plan.competition.name, "round": round_text(self.plan.competition, result.match)}
+        return html_of("competition", "way_of_match", match=result.match, lines=lines, **told)
 
-    def match_work(self, result: Result, data: bytes) -> tuple[bytes, bytes, bytes, dict[tuple[int, int], str]]:
+    def match_work(self, result: Result, data: bytes) -> tuple["Markup", bytes, bytes, dict[tuple[int, int], str]]:
         """Returns what the page of a match is made of: what stands at its head, its record, the rules where they tell more of a replaced
         move and are not too long, and those answers of the log that were no expressions, as far as they are told."""
         faults = [(sitting.role, fault) for sitting in self.told_of(result).sittings for fault in sitting.faults]
@@ -206,8 +185,7 @@ class Site:
     def own_matches(self, results: list[Result]) -> PageParts:
         """Returns the list of the matches of a player or a game: the last ones in the schedule's order where there are many."""
         shown = results[-MOST_LISTED:]
-        said = f"These are {len(shown)} of {len(results):,}; the others are among {link('../matches.html', 'all matches')}."
-        note = Part("more", f'<p class="dim">{said}</p>' if len(shown) < len(results) else "")
+        note = part("more", shown=len(shown), count=len(results)) if len(shown) < len(results) else Part("more", "")
         return [matches_part([self.told_of(result).below for result in shown]), note]
 
     def last_matches(self, results: list[Result]) -> Items:
@@ -219,65 +197,48 @@ class Site:
         """Gives what the first page says of the matches that have no record, where it does."""
         missing = without_record(self.plan, results) if self.shows_gaps else []
         if missing:
-            rows = [["match", "game", "players"], *([match.id, match.game, ", ".join(match.players)] for match in missing[:MOST_LISTED])]
-            more = f"<p>And {len(missing) - MOST_LISTED:,} more, which GAPS.tsv names.</p>" if len(missing) > MOST_LISTED else ""
-            said = "<h2>Matches without a record</h2><p>These count for nobody.</p>"
-            yield Part("gaps", said + table(rows, {0, 1, 2}) + more)
+            yield part("gaps", matches=missing[:MOST_LISTED], more=max(0, len(missing) - MOST_LISTED))
 
-    def span(self, results: list[Result]) -> str:
-        """Returns when the first match began and the last one ended, as text."""
+    def span(self, results: list[Result]) -> tuple[str, str]:
+        """Returns when the first match began and the last one ended; empty texts if no log says it."""
         if self.written and results:
             results = [min(results, key=self.written), max(results, key=self.written)]
         told = [self.told_of(result) for result in results]
         begins, ends = [match.begin for match in told if match.begin], [match.end for match in told if match.end]
-        if not begins or not ends:
-            return ""
-        return f" From {spelt(min(begins))} to {spelt(max(ends))} UTC."
+        return (spelt(min(begins)), spelt(max(ends))) if begins and ends else ("", "")
 
     def head(self, results: list[Result]) -> Part:
         plan = self.plan
-        games = ", ".join(link(f"games/{game.name}.html", game.name) for game in plan.competition.games)
         # A match in whose place another one was ordered is none of these, as in the table.
-        count = sum(not result.match.again for result in results)
-        forfeit = f" {FORFEIT}" if plan.competition.forfeit else ""
-        lines = [
-            f"<h1>{html.escape(plan.competition.name)}</h1>",
-            f"<p>{count} of {count_of_all(plan)} matches are over.{rounds_words(plan)}{self.span(results)}{forfeit}</p>",
-            f"<p>Games: {games}. In each the standings of that game, and its rules. {link('matches.html', 'All matches')} that are over.</p>",
-        ]
-        return Part("head", "".join(lines))
+        count, (begin, end) = sum(not result.match.again for result in results), self.span(results)
+        told = {"count": count, "of_all": count_of_all(plan), "rounds": rounds_words(plan), "begin": begin, "end": end}
+        games, forfeit = [game.name for game in plan.competition.games], FORFEIT if plan.competition.forfeit else ""
+        return part("head", name=plan.competition.name, games=games, forfeit=forfeit, **told)
 
     def first_parts(self, tables: list[Table], results: list[Result]) -> PageParts:
-        method = Part("method", f'<p class="dim">Ratings: {html.escape(METHOD)}.</p>')
-        rounds = rounds_part(self.plan, results, MOST_LISTED)
+        rounds, method = rounds_part(self.plan, results, MOST_LISTED), part("method", text=METHOD)
         return [self.head(results), rounds, *standings(tables[0], ""), method, *self.gaps(results), self.last_matches(results)]
-
-    def way_back(self, title: str) -> str:
-        return f"<p>{link('../index.html', self.plan.competition.name)}</p><h1>{html.escape(title)}</h1>"
 
     def all_matches(self, results: list[Result], name: str) -> PageParts:
         """Returns a page of the list of all matches, with links to the others."""
         pages = pages_of_all(results)
-        way = f"<p>{link('index.html', self.plan.competition.name)}</p><h1>All matches that are over</h1>"
-        spans = {page: f"{own[0].match.id} to {own[-1].match.id}" for page, own in pages.items()} if len(pages) > 1 else {}
-        others = ", ".join(span if page == name else link(f"{page}.html", span) for page, span in spans.items())
+        head = Part("head", html_of("competition", "all_matches", name=self.plan.competition.name))
+        spans = [(page, f"{own[0].match.id} to {own[-1].match.id}") for page, own in pages.items()] if len(pages) > 1 else []
         list_of_own = matches_part([self.told_of(result).above for result in pages[name]])
-        return [Part("head", way), Part("pages", f"<p>{others}</p>" if others else ""), list_of_own]
+        return [head, part("pages", spans=spans, own=name) if spans else Part("pages", ""), list_of_own]
 
     def game_parts(self, found: Table, results: list[Result]) -> PageParts:
         """Returns the page of a game, from its table and its own results."""
-        game = next(candidate for candidate in self.plan.competition.games if candidate.name == found.game)
+        clocks = next(candidate for candidate in self.plan.competition.games if candidate.name == found.game)
         rules = self.plan.rules[found.game]
-        said = f"<p>Roles: {html.escape(', '.join(rules.roles))}. Clocks: {game.start} s for START, {game.play} s for every other message.</p>"
-        head = Part("head", self.way_back(found.game) + said)
-        return [head, *standings(found, "../"), *self.own_matches(results), Part("rules", "\n".join(rules_parts(rules)))]
+        head = part("game", name=self.plan.competition.name, title=found.game, roles=rules.roles, clocks=clocks)
+        return [head, *standings(found, "../"), *self.own_matches(results), rules_part(rules)]
 
     def player_parts(self, player: str, standing: str, results: list[Result]) -> PageParts:
         """Returns the page of a player, from its own results."""
         own = [sitting for result in results for sitting in self.told_of(result).sittings if result.match.players[sitting.role] == player]
         cut = [result.match.id for result in results if self.told_of(result).is_cut]
-        said = f"Of the logs of {', '.join(cut)} the first {LOG_WORDS} are read: later times, messages and answers are not shown."
-        note = Part("cut", f'<p class="odd">{html.escape(said)}</p>' if cut else "")
+        note = part("cut", ids=cut, words=LOG_WORDS) if cut else Part("cut", "")
         return [*player_parts(self.plan.competition.name, player, standing, own), note, *self.own_matches(results)]
 
 
@@ -340,7 +301,7 @@ class Pages:
                 continue
             data = self.site.add(result, self.known)
             work = self.site.match_work(result, data)
-            key = self.known.key(*work[:3], repr(work[3]).encode()) if self.known else ""
+            key = self.known.key(work[0].encode(), *work[1:3], repr(work[3]).encode()) if self.known else ""
             if not self.known or self.known.get("pages", key) != (sum_or_none(self.folder / name) or ""):
                 left.append((name, key, work))
                 size += len(data)
@@ -390,7 +351,7 @@ class Pages:
         write_whole(self.folder / name, data, is_lasting=False)
 
     def put_parts(self, name: str, title: str, parts: PageParts) -> None:
-        self.put(name, page(titled(self.plan, title), parts))
+        self.put(name, page("parts", title=titled(self.plan, title), script="", live=None, parts=parts))
 
     def drop_others(self, folder: str, names: set[str], form: str = "*.html") -> None:
         """Takes away the pages of what is no longer there, and those that were never finished. All else is left alone."""

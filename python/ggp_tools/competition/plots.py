@@ -1,9 +1,13 @@
-"""Small plots, as SVG that stands in a page: ratings with their intervals, goals over time, and response times."""
+"""Small plots, as SVG inside of a page: ratings with their intervals, goals over time, and response times."""
 
-import html
-from collections.abc import Iterable
+import itertools
+import typing
 
+from ggp_tools.competition.page_parts import html_of
 from ggp_tools.competition.table import Line
+
+if typing.TYPE_CHECKING:
+    from markupsafe import Markup
 
 WIDTH, ROW, MARGIN = 640, 20, 8
 NAMES, FIGURES = 150, 90
@@ -13,22 +17,8 @@ HEIGHT = 120
 BARS = 18
 
 
-def number(value: float) -> str:
-    """Returns a number as a place in a plot: the same on each computer."""
-    return f"{value:.1f}"
-
-
-def svg(height: float, said: str, parts: Iterable[str]) -> str:
-    return f'<svg viewBox="0 0 {WIDTH} {number(height)}" width="{WIDTH}" role="img" aria-label="{html.escape(said)}">{"".join(parts)}</svg>'
-
-
-def text(across: float, down: float, words: str, anchor: str = "start", kind: str = "") -> str:
-    name = f' class="{kind}"' if kind else ""
-    return f'<text x="{number(across)}" y="{number(down)}" text-anchor="{anchor}"{name}>{html.escape(words)}</text>'
-
-
-def line(points: list[tuple[float, float]], kind: str) -> str:
-    return f'<polyline class="{kind}" points="{" ".join(f"{number(x)},{number(y)}" for x, y in points)}"/>'
+def drawn(plot: str, **values: object) -> "Markup":
+    return html_of("plots", plot, width=WIDTH, **values)
 
 
 def rating_plot(lines: list[Line]) -> str:
@@ -43,20 +33,22 @@ def rating_plot(lines: list[Line]) -> str:
     def place(value: float) -> float:
         return NAMES + across * (value - least) / max(1, most - least)
 
-    parts = [line([(place(0), 0), (place(0), ROW * len(rated))], "axis")] if least <= 0 <= most else []
-    for at, (row, (low, high)) in enumerate(zip(rated, ends)):
-        middle, rating = ROW * (at + 0.5), round(row.rating.rating)
-        parts += [
-            text(NAMES - MARGIN, middle + 4, row.player[:20], "end", "name"),
-            line([(place(low), middle), (place(high), middle)], "line"),
-            f'<circle class="dot" cx="{number(place(rating))}" cy="{number(middle)}" r="4"/>',
-            text(WIDTH, middle + 4, f"{rating} \u00b1 {round(row.rating.half)}", "end"),
-        ]
-    return svg(ROW * len(rated), "ratings with intervals of 95%", parts)
+    rows = [
+        {"left": NAMES - MARGIN, "y": ROW * (at + 0.5), "player": row.player[:20], "low": place(low), "high": place(high)}
+        | {"x": place(round(row.rating.rating)), "rating": round(row.rating.rating), "half": round(row.rating.half)}
+        for at, (row, (low, high)) in enumerate(zip(rated, ends))
+    ]
+    return drawn("ratings", height=ROW * (len(rated) + 1), rows=rows, ticks=[(place(value), str(value)) for value in ticks(least, most)])
+
+
+def ticks(least: int, most: int) -> range:
+    """Returns round values between two, at most five."""
+    step = next(size for power in itertools.count() for size in (10**power, 2 * 10**power, 5 * 10**power) if (most - least) // size < 5)
+    return range(-(-least // step) * step, most + 1, step)
 
 
 def sampled(values: list[float]) -> list[tuple[int, float]]:
-    """Returns so many of the values as a plot has room for, each with its number from 1 on; the last one is among them."""
+    """Returns so many of the values as a plot has room for, each with its number counted from 1; the last one is among them."""
     step = max(1, -(-len(values) // MOST_POINTS))
     return [(at + 1, value) for at, value in enumerate(values) if (len(values) - 1 - at) % step == 0]
 
@@ -65,25 +57,14 @@ def goals_plot(goals: list[int]) -> str:
     """Returns the goals of matches in their order, as dots, and the mean of all until then as a line; nothing for fewer than two."""
     if len(goals) < 2:
         return ""
-    sums, total = [], 0
-    for count, goal in enumerate(goals, 1):
-        total += goal
-        sums.append(total / count)
+    means = [total / count for count, total in enumerate(itertools.accumulate(goals), 1)]
 
     def place(count: int, goal: float) -> tuple[float, float]:
         return 34 + (WIDTH - 44) * (count - 1) / (len(goals) - 1), 10 + (HEIGHT - 30) * (100 - goal) / 100
 
-    parts = [part for goal in (0, 50, 100) for part in goal_line(goal, place(1, goal)[1])]
-    for count, goal in sampled([float(goal) for goal in goals]):
-        x, y = place(count, goal)
-        parts.append(f'<circle class="faint" cx="{number(x)}" cy="{number(y)}" r="3"/>')
-    parts.append(line([place(count, mean) for count, mean in sampled(sums)], "line"))
-    parts.append(text(WIDTH - 10, HEIGHT - 4, f"match {len(goals)}", "end"))
-    return svg(HEIGHT, f"goals of {len(goals)} matches, and their mean, at last {sums[-1]:.1f}", parts)
-
-
-def goal_line(goal: int, down: float) -> tuple[str, str]:
-    return line([(34, down), (WIDTH - 10, down)], "axis"), text(28, down + 4, str(goal), "end")
+    lines = [(place(1, goal)[1], str(goal)) for goal in (0, 50, 100)]
+    dots, line = ([place(*pair) for pair in sampled(values)] for values in (list(map(float, goals)), means))
+    return drawn("goals", height=HEIGHT, lines=lines, dots=dots, means=line, count=len(goals), mean=means[-1])
 
 
 def bar_of(milliseconds: int) -> int:
@@ -100,13 +81,6 @@ def times_plot(counts: list[int]) -> str:
     if not any(counts):
         return ""
     most, wide = max(counts), (WIDTH - 20) / BARS
-    parts = [line([(10, HEIGHT - 20), (WIDTH - 10, HEIGHT - 20)], "axis")]
-    for at, count in enumerate(counts):
-        high = (HEIGHT - 40) * count / most
-        if count:
-            corner = f'x="{number(10 + wide * at)}" y="{number(HEIGHT - 20 - high)}"'
-            parts.append(f'<rect class="dot" {corner} width="{number(wide - 2)}" height="{number(high)}"/>')
-            parts.append(text(10 + wide * (at + 0.5), HEIGHT - 24 - high, f"{count:,}", "middle"))
-        if at % 2 and at < BARS - 1:
-            parts.append(text(10 + wide * (at + 1), HEIGHT - 6, spelt_time(1 << at), "middle"))
-    return svg(HEIGHT, f"{sum(counts):,} response times, each bar up to twice the one before", parts)
+    bars = [(10 + wide * at, wide, (HEIGHT - 40) * count / most, count) for at, count in enumerate(counts) if count]
+    marks = [(10 + wide * (at + 1), spelt_time(1 << at)) for at in range(1, BARS - 1, 2)]
+    return drawn("times", height=HEIGHT, bars=bars, ticks=marks, count=sum(counts))

@@ -1,15 +1,15 @@
 """What the pages say of the rounds of a Swiss competition or a knockout: how many there are, who meets whom, and what came of it."""
 
 from ggp_tools.competition.competition_file import Competition
-from ggp_tools.competition.page_parts import Part, table
+from ggp_tools.competition.page_parts import Part, part
 from ggp_tools.competition.plan import Plan
-from ggp_tools.competition.player_pages import player_link
 from ggp_tools.competition.results import Result
 from ggp_tools.competition.rounds import Meeting, Round, Scores, matches_to_come, meeting_of, rounds_of
 from ggp_tools.competition.schedule import Match
 from ggp_tools.competition.table_text import count_of_planned, points_text
 
-HEADS = ["round", "player", "meets", "points", "goals", "matches over"]
+# A round, a pair, of whom the second may be missing, and their points, goals and matches.
+Row = tuple[int, tuple[str, str], list[str]]
 
 
 def count_of_all(plan: Plan) -> int:
@@ -27,28 +27,27 @@ def rounds_words(plan: Plan) -> str:
 
 
 def round_text(competition: Competition, match: Match) -> str:
-    """Returns the round of a match, as HTML; nothing where it has none."""
-    return f"<p>Round {match.round} of {rounds_of(competition)}.</p>" if match.round else ""
+    """Returns the round of a match; an empty text if it has none."""
+    return f"Round {match.round} of {rounds_of(competition)}." if match.round else ""
 
 
 def rounds_part(plan: Plan, results: list[Result], most: int) -> Part:
-    """Returns who meets whom in each round that is planned, the last one first, and what came of it; so many lines at most."""
+    """Returns who meets whom in each round that is planned, the last one first, and what came of it; so many rows at most."""
     of_meeting: dict[Meeting, list[Result]] = {}
     for result in results:
         if result.match.round and not result.match.again:
             of_meeting.setdefault(meeting_of(result), []).append(result)
     rows = [row for found in reversed(plan.rounds) for row in rows_of(plan.competition, found, of_meeting)]
-    more = f'<p class="dim">and {len(rows) - most:,} more</p>' if len(rows) > most else ""
-    return Part("rounds", f"<h2>Rounds</h2>{table([HEADS, *rows[:most]], {1, 2})}{more}" if rows else "")
+    return part("rounds", rows=rows[:most], count=len(rows)) if rows else Part("rounds", "")
 
 
-def rows_of(competition: Competition, found: Round, of_meeting: dict[Meeting, list[Result]]) -> list[list[str]]:
-    """Returns the lines of a round: its pairs, and then its byes."""
+def rows_of(competition: Competition, found: Round, of_meeting: dict[Meeting, list[Result]]) -> list[Row]:
+    """Returns the rows of a round: its pairs, and then its byes."""
     rows = []
     for pair in found.pairs:
         scores, over = Scores(competition), of_meeting.get((found.number, frozenset(pair)), [])
         for result in over:
             scores.count_result(result)
         points, goals = (" : ".join(points_text(counts[player]) for player in pair) for counts in (scores.points, scores.goals))
-        rows.append([str(found.number), *(player_link(player, "") for player in pair), points, goals, f"{len(over)} of {scores.meeting}"])
-    return rows + [[str(found.number), player_link(player, ""), "(bye)", "", "", ""] for player in found.byes]
+        rows.append((found.number, pair, [points, goals, f"{len(over)} of {scores.meeting}"]))
+    return rows + [(found.number, (player, ""), [""] * 3) for player in found.byes]

@@ -1,9 +1,7 @@
 """Serves the live pages of a competition to browsers: only these, read only, and to so many at a time."""
 
 import argparse
-import base64
 import contextlib
-import hashlib
 import ipaddress
 import signal
 import socket
@@ -16,16 +14,16 @@ from http import HTTPStatus
 from http.server import BaseHTTPRequestHandler, ThreadingHTTPServer
 
 from ggp_tools.competition.files import Folder, Refused
-from ggp_tools.competition.live_pages import LIVE_STYLE, trouble_part
+from ggp_tools.competition.live_pages import trouble_part
 from ggp_tools.competition.live_site import PATH, LiveSite, OpenPage, plan_stamp
-from ggp_tools.competition.page_parts import page
 from ggp_tools.competition.plan import read_plan
 from ggp_tools.competition.results import Result
 from ggp_tools.ground_games import MOST_CALLS
 from ggp_tools.human.server import is_own_name
-from ggp_tools.records.show import BOARD_STYLE, NoRecord
+from ggp_tools.records.show import NoRecord
 from ggp_tools.referee import Referee
 from ggp_tools.reporting import say
+from ggp_tools.templating import page
 
 # The folder is looked at once in so many seconds, and a page that is told nothing for so many gets a line, by which a connection that is
 # gone is noticed. A browser without a script loads the page again after so many.
@@ -36,71 +34,12 @@ MOST_CONNECTIONS, MOST_DELAY = 4_096, 3_600
 # Of the pages of matches that are over so many bytes are kept.
 MOST_KEPT = 64 << 20
 BUSY = b"HTTP/1.0 503 Service Unavailable\r\nRetry-After: 10\r\nContent-Length: 0\r\nConnection: close\r\n\r\n"
-SCRIPT = """
-"use strict";
-const $ = (id) => document.getElementById(id);
-let skew = Date.now() / 1000 - Number(document.body.dataset.now);
-
-function spelled(seconds) {
-  const whole = Math.max(0, Math.floor(seconds)), two = (number) => String(number).padStart(2, "0");
-  return whole < 100 ? `${whole} s` : `${Math.floor(whole / 3600)}:${two(Math.floor(whole / 60) % 60)}:${two(whole % 60)}`;
-}
-
-function tick() {
-  const now = Date.now() / 1000 - skew;
-  for (const it of document.querySelectorAll("[data-since]")) it.textContent = spelled(now - Number(it.dataset.since));
-}
-
-function made(html) {
-  const room = document.createElement("template");
-  room.innerHTML = html;
-  return room.content.firstElementChild;
-}
-
-// The keyboard stays where it was: at the same link, or the same cell, of what is new.
-function replace(old, other) {
-  const reached = (it) => [...it.querySelectorAll("a, [tabindex]")], at = reached(old).indexOf(document.activeElement);
-  old.replaceWith(other);
-  if (at >= 0) reached(other)[at]?.focus({ preventScroll: true });
-}
-
-function change(told) {
-  if (told.reload) { location.reload(); return; }
-  skew = Date.now() / 1000 - told.now;
-  for (const name of told.drop) $(name)?.remove();
-  for (const [name, html] of told.set) if ($(name)) replace($(name), made(html));
-  for (const [place, before, html] of told.add) $(place)?.insertBefore(made(html), before && $(before));
-  tick();
-}
-
-function listen() {
-  const events = new EventSource(document.body.dataset.events);
-  events.onmessage = (event) => { $("lost").hidden = true; change(JSON.parse(event.data)); };
-  events.onopen = () => { $("lost").hidden = true; };
-  events.onerror = () => {
-    $("lost").hidden = false;
-    if (events.readyState === EventSource.CLOSED) setTimeout(() => location.reload(), 10000);
-  };
-}
-
-setInterval(tick, 1000);
-tick();
-listen();
-"""
-LOST = '<p id="lost" class="odd" role="status" hidden>The page is not told of changes: the server does not answer, or has too many visitors.</p>'
-
-
-def script_policy() -> str:
-    digest = base64.b64encode(hashlib.sha256(SCRIPT.encode()).digest()).decode()
-    return f"default-src 'none'; style-src 'unsafe-inline'; script-src 'sha256-{digest}'; connect-src 'self'; base-uri 'none'; form-action 'none'"
 
 
 def live_page(found: OpenPage, path: str, token: str, now: float) -> bytes:
     """Returns a page that is told of changes from its version on."""
     events = f"{'../' * (path.count('/') - 1)}events{path}?after={token}-{found.version}"
-    body = f' data-now="{now:.1f}" data-events="{events}"'
-    again = f'<noscript><meta http-equiv="refresh" content="{RELOAD}"></noscript>'
-    return page(found.title, found.parts, LIVE_STYLE + BOARD_STYLE, script_policy(), body, f"{LOST}{again}<script>{SCRIPT}</script>")
+    return page("parts", title=found.title, script="live.js", live={"now": now, "events": events, "reload": RELOAD}, parts=found.parts)
 
 
 def with_head(data: bytes, said: str) -> bytes:

@@ -1,0 +1,94 @@
+"""Pages from the templates in `templates`. Each value that a template prints is escaped, and what is not visible ASCII is shown as its code."""
+
+import base64
+import functools
+import hashlib
+import pathlib
+import sys
+import typing
+from collections.abc import Sequence
+
+if typing.TYPE_CHECKING:
+    import jinja2
+    import markupsafe
+
+FOLDER = pathlib.Path(__file__).parent / "templates"
+# The Debian packages of the modules that only some commands need.
+PACKAGES = {"jinja2": "python3-jinja2", "aiohttp": "python3-aiohttp"}
+
+
+def end_without(missing: ImportError) -> typing.NoReturn:
+    """Ends the command because a module is missing."""
+    name = (missing.name or "").partition(".")[0]
+    package = PACKAGES.get(name, f"python3-{name}")
+    print(f"{pathlib.Path(sys.argv[0]).name}: this command needs the Python module {name}: apt-get install {package}", file=sys.stderr)
+    raise SystemExit(2)
+
+
+def visible(text: str) -> str:
+    """Returns a text with anything but visible ASCII and the space as its code."""
+    if text.isascii() and text.isprintable():
+        return text
+    return "".join(letter if " " <= letter <= "~" else f"\\u{{{ord(letter):x}}}" for letter in text)
+
+
+def rows_of_text(data: bytes) -> "markupsafe.Markup":
+    """Returns a text of several rows for a page."""
+    import markupsafe
+
+    return markupsafe.Markup("\n").join(map(visible, data.decode("latin-1").splitlines()))
+
+
+def policy(script: str) -> str:
+    """Returns what a page may load and run: nothing but its own script and styles."""
+    own = f"script-src 'sha256-{base64.b64encode(hashlib.sha256(script.encode()).digest()).decode()}'; connect-src 'self'; " if script else ""
+    return f"default-src 'none'; style-src 'unsafe-inline'; {own}base-uri 'none'; form-action 'none'"
+
+
+@functools.cache
+def source(name: str) -> str:
+    """Returns a file of the templates: a style or a script, which has its own line ends."""
+    return (FOLDER / name).read_text("ascii")
+
+
+@functools.cache
+def environment() -> "jinja2.Environment":
+    try:
+        import jinja2
+        import markupsafe
+    except ImportError as why:
+        end_without(why)
+
+    def printed(value: object) -> object:
+        return visible(value) if isinstance(value, str) and not isinstance(value, markupsafe.Markup) else value
+
+    found = jinja2.Environment(
+        loader=jinja2.FileSystemLoader(FOLDER),
+        autoescape=True,
+        finalize=printed,
+        trim_blocks=True,
+        lstrip_blocks=True,
+        undefined=jinja2.StrictUndefined,
+        auto_reload=False,
+    )
+    found.globals |= {"policy": policy, "source": lambda name: markupsafe.Markup(source(name))}
+    found.filters |= {"rows_of_text": rows_of_text, "count": "{:,}".format}
+    return found
+
+
+def joined(parts: Sequence["markupsafe.Markup"]) -> "markupsafe.Markup":
+    """Returns parts of HTML as one."""
+    import markupsafe
+
+    return markupsafe.Markup("").join(parts)
+
+
+@functools.cache
+def macros(name: str) -> typing.Any:
+    """Returns the macros of a template, which return HTML."""
+    return environment().get_template(f"{name}.html").module
+
+
+def page(name: str, **values: object) -> bytes:
+    """Returns the page that a template makes of these values, in ASCII."""
+    return environment().get_template(f"{name}.html").render(values).encode("ascii", "xmlcharrefreplace")
