@@ -4,6 +4,7 @@ compiled, and records that are followed."""
 import itertools
 import random
 import re
+import sys
 import unittest
 from unittest import mock
 
@@ -11,7 +12,7 @@ from ggp_tools.holding import compiling
 from ggp_tools.holding.following import Differs, Following, fits, must_be_record, place_of
 from ggp_tools.holding.game import Game
 from ggp_tools.holding.planning import Sizes, is_known, is_test
-from ggp_tools.holding.positions import Index, Position, Whole, index_of
+from ggp_tools.holding.positions import Index, Position, Tables, Whole, by_functor, index_of
 from ggp_tools.holding.reading import (
     Asked, Either, NotFollowed, Rule, Same, Sentence, all_rules, conditions_of, is_built, is_variable, low, products, relation_of, sentences_of, term_of, variables,
     variables_of,
@@ -235,8 +236,9 @@ class Positions(unittest.TestCase):
         self.assertEqual((Index(rows, (0,)).get("e"), Index(rows, (0,)).get("x", ())), (rows[2:], ()))
 
     def test_a_position_has_its_terms_by_their_functors(self):
-        found = Position(frozenset({"s", ("at", "a"), ("at", "b"), ("at", "a", "b")}), [("r", "m")], [])
-        self.assertEqual({key: sorted(rows) for key, rows in found.rows.items()}, {("s", 0): ["s"], ("at", 2): [("at", "a"), ("at", "b")], ("at", 3): [("at", "a", "b")]})
+        rows = by_functor({"s", ("at", "a"), ("at", "b"), ("at", "a", "b")})
+        self.assertEqual({key: sorted(terms) for key, terms in rows.items()}, {("s", 0): ["s"], ("at", 2): [("at", "a"), ("at", "b")], ("at", 3): [("at", "a", "b")]})
+        found = Position(frozenset(), [("r", "m")], rows, None, Tables())
         self.assertEqual((found.index(0, ("at", 2), (1,))("b"), found.index(0, ("at", 2), (1,))("b"), found.index(1, ("no", 2), (1,))("b", ()), found.does), ([("at", "b")], [("at", "b")], (), {"r": "m"}))
 
     def test_all_that_is_true_of_a_circle_grows_and_each_row_is_there_once(self):
@@ -250,42 +252,55 @@ class Positions(unittest.TestCase):
         self.assertEqual(sorted(index("a")), [("a", "a"), ("a", "b"), ("a", "c")])
 
 
-class Reckoned(unittest.TestCase):
-    """How many answers a condition is reckoned to have."""
+class Estimates(unittest.TestCase):
+    """How many answers a condition has by the estimate."""
 
     def setUp(self):
         text = "(e a b) (e a c) (e b c) (f a) (<= (d ?x) (e ?x ?y)) (<= (w ?x ?y) (e ?x ?y)) (<= (w ?x ?z) (w ?x ?y) (e ?y ?z)) (<= (big ?x ?y) (f ?x) (f ?y)) (big x y)"
-        self.sizes = Sizes(Relations(rules(text)), ["r", "s", "t"], ["s", ("at", "a", "x"), ("at", "b", "x"), ("at", "b", "y"), ("on", "z")])
+        text += "(<= (way up ?x ?y) (e ?x ?y)) (<= (way down ?y ?x) (e ?x ?y)) (<= (way (k ?x) ?x ?y) (e ?x ?y)) (big x x) (big x z)"
+        self.sizes = Sizes(Relations(rules(text)), 3, by_functor(["s", ("at", "a", "x"), ("at", "b", "x"), ("at", "b", "y"), ("on", "z")]))
 
-    def answers(self, text, *bound):
+    def answers(self, text, *bound, sizes=None):
         (name, *arguments) = term_of(text)
-        return self.sizes.answers(Asked(True, (name, len(arguments)), tuple(arguments)), set(bound))
+        return (sizes or self.sizes).answers(Asked(True, (name, len(arguments)), tuple(arguments)), set(bound))
 
     def test_facts_are_counted_and_narrowed_by_what_is_known(self):
         self.assertEqual([self.answers("(e ?x ?y)"), self.answers("(e ?x ?y)", "?x"), self.answers("(e ?x ?y)", "?y"), self.answers("(e a c)"), self.answers("(none ?x)")], [3, 1.5, 1.5, 0.75, 0])
 
-    def test_terms_are_counted_in_the_first_state(self):
+    def test_terms_are_counted_in_a_state(self):
         self.assertEqual([self.answers("(true (at ?x ?y))"), self.answers("(true (at ?x ?y))", "?x"), self.answers("(true (at b y))"), self.answers("(true ?t)"), self.answers("(true s)")], [3, 1.5, 0.75, 5, 1])
-        self.assertAlmostEqual(self.answers("(true (not-there ?x))"), 8 ** 0.5)
+
+    def test_a_term_that_no_state_had_has_fewer_answers_the_more_is_known(self):
+        known = [(), ("?x",), ("?x", "?y"), ("?x", "?y", "?p")]
+        self.assertEqual([self.answers("(true (cell ?x ?y ?p))", *bound) for bound in known], [27, 9, 3, 1])
 
     def test_a_role_makes_one_move(self):
         self.assertEqual([self.answers("(does r ?m)"), self.answers("(does ?r ?m)"), self.answers("(does ?r ?m)", "?r")], [1, 3, 1])
 
-    def test_rules_have_the_answers_of_their_bodies(self):
-        self.assertEqual((self.answers("(d ?x)"), self.answers("(big ?x ?y)"), self.answers("(d ?x)", "?x")), (3, 2, 1))
-        self.assertAlmostEqual(self.answers("(big ?x ?y)", "?x"), 2 ** 0.5)
+    def test_rules_have_the_answers_and_the_values_of_their_bodies(self):
+        self.assertEqual((self.answers("(d ?x)"), self.answers("(d ?x)", "?x")), (3, 1.5))
+        self.assertEqual((self.answers("(big ?x ?y)"), self.answers("(big ?x ?y)", "?x"), self.answers("(big ?x ?y)", "?y")), (4, 4, 4 / 3))
+        self.assertEqual((self.answers("(way ?d ?x ?y)"), self.answers("(way ?d ?x ?y)", "?x"), self.answers("(way up ?x ?y)"), self.answers("(way up ?x ?y)", "?x")), (9, 4.5, 4.5, 2.25))
 
-    def test_what_is_reckoned_of_circles_and_of_nothing(self):
-        # Three edges, and for each one as many ways that end there as the root of 64.
-        self.assertAlmostEqual(self.answers("(w ?x ?y)"), 3 + 3 * 8)
-        few = Sizes(Relations(rules("(<= p (q a))")), (), ())
-        asked = [Asked(True, ("true", 1), ("?t",)), Asked(True, ("does", 2), ("?r", "?m")), Asked(True, ("p", None), ())]
-        self.assertEqual([few.answers(condition, set()) for condition in asked], [8, 1, 1])
+    def test_estimates_of_circles_and_of_nothing(self):
+        # Three edges, and for each one three ways that end there.
+        self.assertEqual(self.answers("(w ?x ?y)"), 3 + 3 * 3)
+        few = Sizes(Relations(rules("(<= p (q a))")), 0, {})
+        self.assertEqual([self.answers("(true ?t)", sizes=few), self.answers("(does ?r ?m)", sizes=few), few.answers(Asked(True, ("p", None), ()), set())], [3, 1, 1])
 
     def test_a_body_is_joined_from_what_has_the_fewest_answers(self):
         e, f = Asked(True, ("e", 2), ("?x", "?y")), Asked(True, ("f", 1), ("?x",))
         beside = [Asked(False, ("e", 2), ("?x", "?x")), Same(False, ("?x", "?y")), Either(((f,), (e,)))]
-        self.assertEqual([self.sizes.joined(body) for body in ([e, f], [*beside, e, f], beside, [])], [1.5, 1.5, 1, 1])
+        self.assertEqual([self.sizes.joined(body) for body in ([e, f], [*beside, e, f], beside, [])], [(1.5, {"?x": 1, "?y": 2})] * 2 + [(1, {})] * 2)
+
+    def test_the_plan_is_for_the_largest_states_so_far(self):
+        state = {term: [(term, str(at)) for at in range(count)] for term, count in (("on", 8), ("at", 12), ("new", 8))}
+        rows = {(name, 2): terms for name, terms in state.items()}
+        self.assertIsNone(self.sizes.after(rows | {("at", 2): state["at"][:8]}))
+        self.assertIsNone(self.sizes.after({}))
+        after = self.sizes.after(rows)
+        self.assertEqual([self.answers(text, sizes=after) for text in ("(true (on ?x))", "(true (at ?x))", "(true (at ?x ?y))", "(true (new ?x))", "(does ?r ?m)")], [8, 12, 3, 8, 3])
+        self.assertIsNone(after.after(rows))
 
     def test_what_is_known_and_what_is_a_test(self):
         self.assertEqual([is_known(("f", "?x", "a"), {"?x"}), is_known("?y", {"?x"}), is_known("a", set())], [True, False, True])
@@ -325,9 +340,15 @@ class Games(unittest.TestCase):
             self.assertEqual([self.game.sources(*words) for _ in range(3)], [[5, 7]] * 3)
         self.assertLessEqual(made.call_count, 1)
 
-    def test_terms_are_reckoned_by_the_first_state_and_moves_by_the_roles(self):
+    def test_the_plan_is_for_the_first_state_and_the_roles_until_a_state_has_many_more_terms(self):
         asked = Asked(True, ("true", 1), ("?t",)), Asked(True, ("does", 2), ("?r", "?m"))
-        self.assertEqual([self.game.program.sizes.answers(condition, set()) for condition in asked], [1, 2])
+        answers = lambda: [self.game.program.sizes.answers(condition, set()) for condition in asked]
+        self.assertEqual(answers(), [1, 2])
+        before = self.game.position(frozenset({"s"}))
+        self.game.position(frozenset(("p", str(at)) for at in range(9)))
+        self.assertEqual(answers(), [10, 2])
+        # A position that was made before it is asked as before.
+        self.assertEqual((self.game.moves(before, "a"), self.game.is_over(before)), (["go", "stay"], False))
 
     def test_what_follows_the_moves(self):
         self.assertEqual(set(self.game.following(self.game.position(frozenset({"s"}), self.MOVES))), {("did", "a", "go"), ("did", "b", ("m", "1"))})
@@ -476,5 +497,59 @@ class Compiled(unittest.TestCase):
         first, second = (game.position(frozenset()) for _ in range(2))
         for position in (first, second):
             game.moves(position, "r")
-        kept = [whole for one, whole in zip(first.tables, second.tables) if one is whole and any(isinstance(value, compiling.positions.Whole) for value in one.values())]
+        kept = [table for number, table in first.tables.items() if table is second.tables[number] and any(isinstance(value, compiling.positions.Whole) for value in table.values())]
         self.assertEqual(len(kept), 1)
+        # What is planned again keeps it too.
+        third = game.position(frozenset(("e", str(at), "b") for at in range(9)))
+        game.moves(third, "r")
+        self.assertTrue(any(table is kept[0] for table in third.tables.values()))
+
+
+class Steps(unittest.TestCase):
+    """How many lines of compiled rules run, whatever the machine."""
+
+    def steps(self, game, state, *moves):
+        """Returns what is legal and what follows, and how many lines ran for it."""
+        count = 0
+
+        def trace(frame, event, argument):
+            nonlocal count
+            count += event == "line" and frame.f_code.co_filename == "<rules>"
+            return trace
+
+        position = game.position(state, moves)
+        before = sys.gettrace()
+        sys.settrace(trace)
+        try:
+            found = game.is_over(position), set(game.moves(position, game.roles[0])), set(game.following(position)) if moves else set()
+        finally:
+            sys.settrace(before)
+        return found, count
+
+    def test_five_in_a_row_on_a_board_that_begins_empty(self):
+        size = 15
+        succ = " ".join(f"(index {at}) (succ {at} {at + 1})" for at in range(size))
+        cells, steps = (" ".join(text.replace("N", f"{at}").replace("M", f"{at + 1}") for at in range(count)) for text, count in (("(true (cell ?xN ?yN ?r))", 5), ("(step ?d ?xN ?yN ?xM ?yM)", 4)))
+        game = Game(f"""(role r) (init s) {succ} (<= (step a ?x ?y ?u ?y) (succ ?x ?u) (index ?y)) (<= (step b ?x ?y ?x ?v) (succ ?y ?v) (index ?x))
+            (<= (step c ?x ?y ?u ?v) (succ ?x ?u) (succ ?y ?v)) (<= (step d ?x ?v ?u ?y) (succ ?x ?u) (succ ?y ?v)) (<= terminal (line ?r)) (<= (line ?r) {cells} {steps})
+            (<= (taken ?x ?y) (true (cell ?x ?y ?r))) (<= (legal r (mark ?x ?y)) (index ?x) (index ?y) (not (taken ?x ?y)))
+            (<= (next (cell ?x ?y r)) (does r (mark ?x ?y))) (<= (next (cell ?x ?y ?r)) (true (cell ?x ?y ?r)))""")
+        state, most = game.initial, 0
+        # No five of these lie in a row.
+        for x, y in [(x, y) for x in range(size) for y in range(size) if (x + 2 * y) % 5][:150]:
+            (is_over, moves, state), steps = self.steps(game, frozenset(state), ("mark", str(x), str(y)))
+            most = max(most, steps)
+            self.assertFalse(is_over)
+        self.assertEqual((len(state), len(moves)), (150, 15 * 15 - 149))
+        self.assertLess(most, 20_000)
+
+    def test_conditions_without_a_variable_in_common_are_met_once(self):
+        ring = " ".join(f"(n {at}) (e {at} {(at + 1) % 60})" for at in range(60)) + " (few 1) (few 2) (few 3) " + " ".join(f"(some {at})" for at in range(20))
+        for body, wanted in (
+            ("?x) (n ?x) (e ?a ?b) (e ?b ?c) (e ?c ?a)", 0), ("?x) (n ?x) (e ?a ?b) (e ?b ?c) (e ?c ?d) (few ?c)", 60),
+            ("(p ?x ?y)) (some ?x) (e ?y ?b) (e ?b ?c) (e ?c ?d) (few ?d)", 60), ("(p ?x ?y)) (few ?x) (e ?a ?b) (e ?b ?c) (e ?c ?a) (few ?y)", 0),
+        ):
+            game = Game(f"(role r) (init s) {ring} (<= (legal r {body})")
+            (_, moves, _), steps = self.steps(game, game.initial)
+            self.assertEqual(len(moves), wanted, body)
+            self.assertLess(steps, 600, body)

@@ -8,7 +8,7 @@ from collections.abc import Callable, Iterable, Iterator, Sequence
 
 from . import positions
 from .planning import Sizes, is_known, is_test
-from .positions import Position, State
+from .positions import Position, State, functor_of
 from .reading import Asked, Condition, Either, NotFollowed, Relation, Rule, Same, Term, is_built, is_variable, low, spelled, variables, variables_of
 from .relations import DOES, TRUE, Relations
 
@@ -43,7 +43,7 @@ class Program:
 
     def __init__(self, relations: Relations, sizes: Sizes) -> None:
         self.relations, self.sizes = relations, sizes
-        self.made, self.waiting, self.fixed, self.count = {}, [], [], 0
+        self.made, self.waiting, self.count = {}, [], 0
         self.space = {"NONE": (), "ONE": (0,), "Whole": positions.Whole, "BUSY": object(), "GoesRound": GoesRound, "low": low}
 
     def function(self, relation: Relation, known: tuple[bool, ...]) -> Callable:
@@ -77,10 +77,12 @@ class Program:
         self.space[name] = value
         return name
 
-    def table(self, is_timely: bool) -> int:
-        """The number of a new table: one that stays, or one that each position has anew."""
-        self.fixed.append(None if is_timely else {})
-        return len(self.fixed) - 1
+    def table(self, key: tuple, is_timely: bool) -> int:
+        """The number of a table: one that stays, whatever is planned again, or one that each position has anew."""
+        number = self.relations.tables.setdefault(key, len(self.relations.tables))
+        if not is_timely:
+            self.relations.fixed.setdefault(number, {})
+        return number
 
     def facts(self, relation: Relation, places: tuple[int, ...] | None) -> str:
         """The name of the facts of a relation: all of them, or an index by these places."""
@@ -91,8 +93,8 @@ class Program:
             self.made[key] = self.constant(value)
         return self.made[key]
 
-    def position(self, state: State, pairs: Sequence[tuple[str, Term]]) -> Position:
-        return positions.Position(state, pairs, [{} if table is None else table for table in self.fixed])
+    def position(self, state: State, pairs: Sequence[tuple[str, Term]], rows: dict) -> Position:
+        return positions.Position(state, pairs, rows, self.function, positions.Tables(self.relations.fixed))
 
 
 class Lines:
@@ -205,7 +207,7 @@ class Lines:
             return
         if is_variable(pattern[0]):
             raise NotFollowed(f"{spelled(pattern)} is no term")
-        functor = pattern[0], len(pattern)
+        functor = functor_of(pattern)
         places = tuple(at for at, member in enumerate(pattern) if at and is_known(member, bound))
         rows = f"D.rows.get({functor!r}, NONE)"
         if places:
@@ -265,44 +267,79 @@ class Lines:
             if not left:
                 finish.write(self, place, bound)
                 return
-            is_done = depth and not finish.is_test and all(name in bound for name in finish.names)
-            if is_done or depth == MOST_DEPTH:
-                self.apart(place, left, bound, finish, is_done)
+            groups = apart(left, bound)
+            if len(groups) > 1:
+                self.product(place, groups, bound, finish)
                 return
-            binding = [condition for condition in left if isinstance(condition, Asked) and condition.positive]
-            best = min(binding, key=lambda condition: self.program.sizes.answers(condition, bound))
+            if depth and not finish.is_test and all(name in bound for name in finish.names):
+                self.put(place, f"if {finish.is_written(bound)} or not {self.helper(left, bound, TRUTH)}: continue")
+                finish.write(self, place, bound)
+                return
+            if depth == MOST_DEPTH:
+                call = self.helper(left, bound, finish)
+                self.put(place, f"if {call}: return True" if finish.is_test else call)
+                return
+            best = self.least(left, bound)
             left.remove(best)
             self.loop(place, best, bound)
             place, depth = place + 1, depth + 1
 
-    def apart(self, place: int, left: list[Condition], bound: Bound, finish: "Finish", is_done: bool) -> None:
-        """Meets the other conditions in a function of its own: whether they can be met, where that is all that is left to know."""
+    def least(self, conditions: Iterable[Condition], bound: Bound) -> Asked:
+        """The condition that has the fewest answers."""
+        binding = [condition for condition in conditions if isinstance(condition, Asked) and condition.positive]
+        return min(binding, key=lambda condition: self.program.sizes.answers(condition, bound))
+
+    def product(self, place: int, groups: list[list[Condition]], bound: Bound, finish: "Finish") -> None:
+        """Meets groups of conditions that have no variables in common: each group once, not again for each answer of another."""
+        answers = []
+        for group in sorted(groups, key=lambda group: self.program.sizes.answers(self.least(group, bound), bound)):
+            own = {name for condition in group for name in variables_of(condition)}
+            names = [name for name in finish.names if name in own and name not in bound]
+            if not names:
+                self.put(place, f"if not {self.helper(group, bound, TRUTH)}: continue")
+                continue
+            rows = self.fresh()
+            self.put(place, f"{rows} = {self.helper(group, bound, Answer(names), '{}')}")
+            self.put(place, f"if not {rows}: continue")
+            answers.append((names, rows))
+        for names, rows in answers:
+            bound.update((name, self.fresh()) for name in names)
+            self.put(place, f"for {key_text([bound[name] for name in names])} in {rows}:")
+            place += 1
+        finish.write(self, place, bound)
+
+    def helper(self, left: list[Condition], bound: Bound, finish: "Finish", answers: str = "F") -> str:
+        """The call of a new function that meets conditions: it gives whether they can be met, or adds to the answers and gives these."""
         name, needed = self.program.fresh("h"), {variable for condition in left for variable in variables_of(condition)} | set(finish.names)
         live = {variable: text for variable, text in bound.items() if variable in needed}
-        inner, test = Lines(self.program, self.extra), is_done or finish.is_test
-        names = {variable: self.program.fresh("v") for variable in live}
-        words = [*finish.parameters(self.extra, is_done), *names.values()]
-        inner.put(0, f"def {name}({', '.join(words)}):")
+        inner, names = Lines(self.program, self.extra), {variable: self.program.fresh("v") for variable in live}
+        given = ["D", *(["W"] if self.extra else []), *(["F"] if isinstance(finish, Answer) else [])]
+        inner.put(0, f"def {name}({', '.join([*given, *names.values()])}):")
         inner.put(1, "for _ in ONE:")
-        inner.body(2, left, dict(names), TRUTH if test else finish)
-        if test:
-            inner.put(1, "return False")
+        inner.body(2, left, dict(names), finish)
+        inner.put(1, "return F" if isinstance(finish, Answer) else "return False")
         self.helpers += [*inner.helpers, inner.lines]
-        call = f"{name}({', '.join([*finish.parameters(self.extra, is_done), *live.values()])})"
-        self.put(place, f"if {call}:" if test else call)
-        if is_done:
-            finish.write(self, place + 1, bound)
-        elif test:
-            self.put(place + 1, "return True")
+        return f"{name}({', '.join([answers if word == 'F' else word for word in given] + list(live.values()))})"
+
+
+def apart(conditions: Iterable[Condition], bound: Bound) -> list[list[Condition]]:
+    """The conditions in groups that have no variable in common that is not bound."""
+    groups = []
+    for condition in conditions:
+        names, group, others = variables_of(condition).keys() - bound.keys(), [condition], []
+        for other_names, other in groups:
+            if names & other_names:
+                names, group = names | other_names, other + group
+            else:
+                others.append((other_names, other))
+        groups = [*others, (names, group)]
+    return [group for _, group in groups]
 
 
 class Truth:
-    """What is asked is whether it is so."""
+    """The question is whether it is so."""
 
     is_test, names = True, ()
-
-    def parameters(self, extra: str, is_done: bool) -> list[str]:
-        return ["D", "W"] if extra else ["D"]
 
     def write(self, lines: Lines, place: int, bound: Bound) -> None:
         lines.put(place, "return True")
@@ -319,11 +356,14 @@ class Answer:
     def __init__(self, terms: Sequence[Term]) -> None:
         self.terms, self.names = terms, list(variables(terms))
 
-    def parameters(self, extra: str, is_done: bool) -> list[str]:
-        return ["D"] if is_done else ["D", "F"]
+    def key(self, bound: Bound) -> str:
+        return key_text([term_text(term, bound) for term in self.terms])
+
+    def is_written(self, bound: Bound) -> str:
+        return f"{self.key(bound)} in F"
 
     def write(self, lines: Lines, place: int, bound: Bound) -> None:
-        lines.put(place, f"F[{key_text([term_text(term, bound) for term in self.terms])}] = None")
+        lines.put(place, f"F[{self.key(bound)}] = None")
 
 
 class Derived:
@@ -334,12 +374,14 @@ class Derived:
     def __init__(self, number: int, terms: Sequence[Term]) -> None:
         self.number, self.terms, self.names = number, terms, list(variables(terms))
 
-    def parameters(self, extra: str, is_done: bool) -> list[str]:
-        return ["D", "W"]
+    def row(self, bound: Bound) -> str:
+        return tuple_text(f"low({term_text(term, bound)})" if is_built(term) else term_text(term, bound) for term in self.terms)
+
+    def is_written(self, bound: Bound) -> str:
+        return f"{self.row(bound)} in W.sets[{self.number}]"
 
     def write(self, lines: Lines, place: int, bound: Bound) -> None:
-        texts = (f"low({term_text(term, bound)})" if is_built(term) else term_text(term, bound) for term in self.terms)
-        lines.put(place, f"W.add({self.number}, {tuple_text(texts)})")
+        lines.put(place, f"W.add({self.number}, {self.row(bound)})")
 
 
 # What is done where all conditions of a body hold.
@@ -390,7 +432,7 @@ class Asking:
 
     def kept(self) -> Iterator[str]:
         """The function that looks first at what was found before."""
-        number = self.program.table(self.relation in self.program.relations.timely)
+        number = self.program.table((self.relation, self.known), self.relation in self.program.relations.timely)
         words, key = ["D", *self.parameters], key_text(self.parameters) if self.parameters else "0"
         yield f"def {self.name}({', '.join(words)}):"
         yield f"    T = D.tables[{number}]"
@@ -447,7 +489,7 @@ class Circle:
         lines.body(2, [*rule.body[:at], *rule.body[at + 1 :]], bound, Derived(number, rule.arguments))
 
     def kept(self, variants: list[list[str]]) -> Iterator[str]:
-        number = self.program.table(any(relation in self.program.relations.timely for relation in self.circle))
+        number = self.program.table(self.circle, any(relation in self.program.relations.timely for relation in self.circle))
         lists = ", ".join("[" + ", ".join(f"lambda W, R: {name}(D, W, R)" for name in names) + "]" for names in variants)
         yield f"def {self.name}(D):"
         yield f"    T = D.tables[{number}]"

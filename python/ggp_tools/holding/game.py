@@ -5,7 +5,7 @@ from collections.abc import Sequence
 
 from .compiling import Program
 from .planning import Sizes
-from .positions import Position, State
+from .positions import Position, State, by_functor
 from .reading import NotFollowed, Relation, Rule, Term, all_rules, sentences_of
 from .relations import GOAL, INIT, LEGAL, NEXT, ROLE, TERMINAL, Relations
 
@@ -21,34 +21,47 @@ class Game:
         relations = Relations(self.rules)
         for head, others in ((INIT, ("true", "does")), (ROLE, ("true", "does")), (LEGAL, ("does",)), (GOAL, ("does",)), (TERMINAL, ("does",))):
             refuse_dependence(relations, head, others)
-        first = Program(relations, Sizes(relations, (), ()))
-        found, roles = (first.function(relation, (False,)) for relation in (INIT, ROLE))
-        empty = first.position(frozenset(), ())
-        self.initial, self.roles = frozenset(found(empty)), roles(empty)
+        self.program, self.roles, self.kept = Program(relations, Sizes(relations, 0, {})), (), (None, None)
+        empty = self.position(frozenset())
+        self.initial, self.roles = frozenset(empty.ask(INIT, (False,))(empty)), empty.ask(ROLE, (False,))(empty)
         self.has_fixed_order = ROLE not in relations.rules
-        self.program = Program(relations, Sizes(relations, self.roles, self.initial))
-        self.following, self.is_legal = self.program.function(NEXT, (False,)), self.program.function(LEGAL, (True, True))
-        self.moves, self.values = self.program.function(LEGAL, (True, False)), self.program.function(GOAL, (True, False))
-        self.is_over, self.kept = self.program.function(TERMINAL, ()), (None, None)
+        self.program = Program(relations, Sizes(relations, len(self.roles), by_functor(self.initial)))
+        for relation, known in ((NEXT, (False,)), (LEGAL, (True, True)), (LEGAL, (True, False)), (GOAL, (True, False)), (TERMINAL, ())):
+            self.program.function(relation, known)
 
     def position(self, state: State, moves: Sequence[Term] = ()) -> Position:
-        """The position of a state, with a move of each role where there are some."""
-        return self.program.position(state, list(zip(self.roles, moves)))
+        """The position of a state, with a move of each role where there are some. If a state has many more terms than those before it, the
+        rules are planned again."""
+        rows = by_functor(state)
+        if sizes := self.program.sizes.after(rows):
+            self.program = Program(self.program.relations, sizes)
+        return self.program.position(state, list(zip(self.roles, moves)), rows)
 
-    def goals(self, position: Position, role: str) -> list[int]:
+    def following(self, position: Position) -> list[Term]:
+        """The terms of the state after the moves of a position."""
+        return position.ask(NEXT, (False,))(position)
+
+    def is_legal(self, position: Position, role: Term, move: Term) -> bool:
+        return position.ask(LEGAL, (True, True))(position, role, move)
+
+    def moves(self, position: Position, role: Term) -> list[Term]:
+        return position.ask(LEGAL, (True, False))(position, role)
+
+    def is_over(self, position: Position) -> bool:
+        return position.ask(TERMINAL, ())(position)
+
+    def goals(self, position: Position, role: Term) -> list[int]:
         """The goals of a role, without those that are no numbers from 0 to 100."""
-        found = self.values(position, role)
+        found = position.ask(GOAL, (True, False))(position, role)
         return sorted({int(goal) for goal in found if isinstance(goal, str) and GOAL_NUMBER.fullmatch(goal)})
 
     def sources(self, relation: Relation, arguments: Sequence[Term], state: State, moves: Sequence[Term] = ()) -> list[int]:
         """The sentences that derive this in a state, looked up one by one."""
         alone = {number: self.set_apart(relation, number, rules) for number, rules in self.by_sentence(relation).items()}
-        holds = {number: self.program.function(apart, (True,) * len(arguments)) for number, apart in alone.items()}
-        # A position has room for what was compiled before it.
-        key = state, moves, len(self.program.fixed)
-        if self.kept[0] != key:
-            self.kept = key, self.position(state, moves)
-        return [number for number, derives in holds.items() if derives(self.kept[1], *arguments)]
+        if self.kept[0] != (state, moves):
+            self.kept = (state, moves), self.position(state, moves)
+        position, known = self.kept[1], (True,) * len(arguments)
+        return [number for number, apart in alone.items() if position.ask(apart, known)(position, *arguments)]
 
     def by_sentence(self, relation: Relation) -> dict[int, list[Rule]]:
         """The rules of a relation by their sentences."""

@@ -1,72 +1,120 @@
-"""In which order the conditions of a rule are looked up: what is known first, then what has the fewest answers."""
+"""The order in which the conditions of a rule are met: what is known first, then what has the fewest answers."""
 
-from collections.abc import Container, Iterable, Sequence
+import math
+from collections.abc import Collection, Container, Iterable, Mapping, Sequence
+from typing import NamedTuple
 
-from .reading import Asked, Condition, Relation, Term, is_variable, variables, variables_of
+from .positions import functor_of
+from .reading import Asked, Condition, Relation, Rule, Term, is_variable, variables, variables_of
 from .relations import DOES, TRUE, Relations
 
-# What is taken for the number of answers of what is not known yet, and the most that is reckoned with.
-FEW, MOST = 8.0, 1e6
+# The answers for each argument that is not known, if a relation has no rows yet. And the most answers that an estimate gives.
+FEW, MOST = 3.0, 1e6
+# If a state has this many times the terms that the plan was made for, the rules are planned again.
+GROWTH, LEAST = 4, 2
+
+
+class Table(NamedTuple):
+    """How many rows a relation has, and how many values each of its arguments."""
+
+    rows: float
+    values: Sequence[float]
+
+    def answers(self, arguments: Sequence[Term], bound: Container[str]) -> float:
+        """How many rows fit the arguments if these variables are bound, on average."""
+        found = self.rows
+        for argument, values in zip(arguments, self.values):
+            if is_known(argument, bound):
+                found /= max(1.0, values)
+        return found
+
+
+def counted(rows: Collection[Sequence[Term]]) -> Table:
+    return Table(float(len(rows)), [float(len(set(column))) for column in zip(*rows)])
+
+
+def unknown(arguments: int) -> Table:
+    return Table(FEW ** arguments, [FEW] * arguments)
 
 
 class Sizes:
-    """How many answers a condition may have, from the facts, and from the terms of the first state."""
+    """How many answers a condition has, estimated from the facts and from the terms that states had so far, by their functors."""
 
-    def __init__(self, relations: Relations, roles: Sequence[Term], sample: Iterable[Term]) -> None:
-        self.relations, self.roles, self.known, self.columns = relations, max(1, len(roles)), {}, {}
-        self.rows = {}
-        for term in sample:
-            key = (term, 0) if isinstance(term, str) else (term[0], len(term))
-            self.rows.setdefault(key, []).append(term)
+    def __init__(self, relations: Relations, roles: int, terms: Mapping[Relation, Collection[Term]]) -> None:
+        self.relations, self.terms, self.tables = relations, terms, {}
+        self.moves = Table(max(1.0, roles), [max(1.0, roles), FEW])
+        self.all_terms = float(sum(map(len, terms.values())) or FEW)
+
+    def after(self, terms: Mapping[Relation, Collection[Term]]) -> "Sizes | None":
+        """The sizes with those of a state that has many more terms of some functor; none if it has not."""
+        if all(len(rows) <= GROWTH * max(LEAST, len(self.terms.get(functor, ()))) for functor, rows in terms.items()):
+            return None
+        larger = {functor: rows for functor, rows in terms.items() if len(rows) > len(self.terms.get(functor, ()))}
+        return Sizes(self.relations, int(self.moves.rows), {**self.terms, **larger})
 
     def answers(self, condition: Asked, bound: Container[str]) -> float:
-        """How many answers a condition is reckoned to have where these variables are bound."""
+        """How many answers a condition has if these variables are bound."""
+        arguments, table = self.table(condition)
+        return table.answers(arguments, bound)
+
+    def table(self, condition: Asked) -> tuple[Sequence[Term], Table]:
+        """The arguments of a condition, or of its term, and the table that they are looked up in."""
         relation, arguments = condition.relation, condition.arguments
-        if relation == TRUE:
-            return self.terms(arguments[0], bound)
         if relation == DOES:
-            return 1.0 if is_known(arguments[0], bound) else float(self.roles)
-        places = [at for at, argument in enumerate(arguments) if is_known(argument, bound)]
-        if relation not in self.relations.rules:
-            return self.narrowed(relation, list(self.relations.facts.get(relation, ())), places)
-        return self.size(relation) ** ((len(arguments) - len(places)) / max(1, len(arguments)))
-
-    def terms(self, pattern: Term, bound: Container[str]) -> float:
+            return arguments, self.moves
+        if relation != TRUE:
+            if relation not in self.tables:
+                self.tables[relation] = self.derived(relation)
+            return arguments, self.tables[relation]
+        pattern = arguments[0]
         if is_variable(pattern):
-            return float(sum(map(len, self.rows.values())) or FEW)
-        key = (pattern, 0) if isinstance(pattern, str) else (pattern[0], len(pattern))
-        if key not in self.rows:
-            return FEW ** 0.5
-        return self.narrowed(key, self.rows[key], [at for at, member in enumerate(pattern) if at and is_known(member, bound)])
+            return arguments, Table(self.all_terms, [self.all_terms])
+        functor = functor_of(pattern)
+        if (TRUE, functor) not in self.tables:
+            self.tables[TRUE, functor] = self.of_terms(functor)
+        return pattern[1:] if functor[1] else (), self.tables[TRUE, functor]
 
-    def narrowed(self, key: Relation, rows: Sequence[Term], places: list[int]) -> float:
-        """How many rows have the same values at these places, on average."""
-        if key not in self.columns:
-            self.columns[key] = [len(set(column)) for column in zip(*rows)]
-        found = float(len(rows))
-        for place in places if rows else ():
-            found /= self.columns[key][place]
-        return found
+    def of_terms(self, functor: Relation) -> Table:
+        rows, arguments = self.terms.get(functor, ()), max(0, functor[1] - 1)
+        return counted([row[1:] for row in rows]) if rows and arguments else unknown(arguments)
 
-    def size(self, relation: Relation) -> float:
-        """How many sentences of a relation are reckoned to be true."""
-        if relation not in self.known:
-            self.known[relation] = FEW * FEW if relation in self.relations.circles else FEW
-            count = float(len(self.relations.facts.get(relation, ())))
-            for rule in self.relations.rules[relation]:
-                count += self.joined(rule.body)
-            self.known[relation] = max(1.0, min(MOST, count))
-        return self.known[relation]
+    def derived(self, relation: Relation) -> Table:
+        """The table of a relation by its facts and rules."""
+        found = counted(self.relations.facts.get(relation, ()))
+        rules = self.relations.rules.get(relation, ())
+        if not rules:
+            return found
+        # What the relation asks of itself.
+        self.tables[relation] = unknown(relation[1] or 0)
+        joined = [(rule, *self.joined(rule.body)) for rule in rules]
+        rows = max(1.0, min(MOST, found.rows + sum(count for _, count, _ in joined)))
+        columns = found.values or [0.0] * (relation[1] or 0)
+        return Table(rows, [min(rows, max(column, values_at(place, joined))) for place, column in enumerate(columns)])
 
-    def joined(self, body: Iterable[Condition]) -> float:
-        """How many ways there are to meet all conditions."""
-        count, bound, left = 1.0, set(), [condition for condition in body if isinstance(condition, Asked) and condition.positive]
+    def joined(self, body: Iterable[Condition]) -> tuple[float, dict[str, float]]:
+        """In how many ways all conditions hold, and how many values each variable has."""
+        count, values, left = 1.0, {}, [condition for condition in body if isinstance(condition, Asked) and condition.positive]
         while left:
-            best = min(left, key=lambda condition: self.answers(condition, bound))
-            count *= max(0.5, self.answers(best, bound))
-            bound |= variables(best.arguments).keys()
+            best = min(left, key=lambda condition: self.answers(condition, values))
             left.remove(best)
-        return min(MOST, count)
+            arguments, table = self.table(best)
+            count = min(MOST, count * max(0.5, table.answers(arguments, values)))
+            for argument, number in zip(arguments, table.values):
+                for name in variables(argument):
+                    values[name] = min(number, values.get(name, number))
+        return count, values
+
+
+def values_at(place: int, joined: Iterable[tuple[Rule, float, Mapping[str, float]]]) -> float:
+    """How many values an argument of a relation has by its rules: those of a variable, or one for each term without variables."""
+    most, constants = 1.0, set()
+    for rule, _, values in joined:
+        argument = rule.arguments[place]
+        if names := variables(argument):
+            most = max(most, math.prod(values[name] for name in names))
+        else:
+            constants.add(argument)
+    return max(most, float(len(constants)))
 
 
 def is_known(term: Term, bound: Container[str]) -> bool:

@@ -11,6 +11,19 @@ Rows = dict[object, list[Term]]
 NONE = ()
 
 
+def functor_of(term: Term) -> tuple[str, int]:
+    """The first name of a term, and how many members it has: none for an atom."""
+    return (term, 0) if isinstance(term, str) else (term[0], len(term))
+
+
+class Tables(dict):
+    """What was found so far, by the numbers of functions."""
+
+    def __missing__(self, number: int) -> dict:
+        self[number] = found = {}
+        return found
+
+
 def index_of(rows: Iterable[Term], places: tuple[int, ...]) -> Rows:
     """Rows by what they have at these places: by one value, or by a tuple of several."""
     found, key = {}, itemgetter(*places)
@@ -26,15 +39,20 @@ class Index:
         self.get = index_of(rows, places).get
 
 
+def by_functor(state: State) -> dict[tuple[str, int], list[Term]]:
+    """The terms of a state by their functors."""
+    found = {}
+    for term in state:
+        found.setdefault(functor_of(term), []).append(term)
+    return found
+
+
 class Position:
     """A state, with the moves of a turn where there are some."""
 
-    def __init__(self, state: State, pairs: Sequence[tuple[str, Term]], tables: list[dict]) -> None:
-        self.state, self.pairs, self.does, self.tables = state, pairs, dict(pairs), tables
-        self.rows, self.indexes = {}, {}
-        for term in state:
-            key = (term, 0) if isinstance(term, str) else (term[0], len(term))
-            self.rows.setdefault(key, []).append(term)
+    def __init__(self, state: State, pairs: Sequence[tuple[str, Term]], rows: dict[tuple[str, int], list[Term]], ask: Callable, tables: Tables) -> None:
+        self.state, self.pairs, self.does, self.rows, self.ask, self.tables = state, pairs, dict(pairs), rows, ask, tables
+        self.indexes = {}
 
     def index(self, number: int, functor: tuple[str, int], places: tuple[int, ...]) -> Callable:
         """The terms of a functor by what they have at these places."""

@@ -34,6 +34,8 @@ class Relations:
         self.asks = {relation: dict.fromkeys(asked for rule in rules for asked, _ in asked_in(rule.body)) for relation, rules in self.rules.items()}
         self.circles, self.denying = {}, set()
         self.timely = {TRUE, DOES}
+        # The numbers of the tables that functions keep what they find in, and the tables of what depends on no state.
+        self.tables, self.fixed = {}, {}
         for group in grouped(self.asks):
             self.take(group)
 
