@@ -2,12 +2,12 @@
 """Writes what `verify` must say of records of Countdown. It is an oracle, and shares nothing with the program, nor with
 what stands in `python`: it replays a record by its own reading of the profile, sections 8 and 9.
 
-records.py                    writes NAME.word for each NAME.record of examples/records, and the tests' constants
+records.py                    writes NAME.word for each NAME.record of examples/records
 records.py --check            ends with status 1 where one of these files is not what it would write
 records.py --random SEED MATCHES CHANGES
                               prints records of random matches, each followed by as many that are changed in one place
-records.py --program PROGRAM  asks the program of records of random matches, and of each changed in one place again and again, and
-                               ends with status 1 where it says something else
+records.py --program PROGRAM  asks the program of these records, of random matches, and of each changed in one place again and again,
+                               and ends with status 1 where it says something else
 """
 
 import argparse
@@ -20,7 +20,7 @@ import subprocess
 import sys
 
 TOP = pathlib.Path(__file__).resolve().parents[2]
-RECORDS, UNIT_TESTS = TOP / "examples/records", TOP / "tests/unit/record_tests/src"
+RECORDS = TOP / "examples/records"
 ROLES = ["red", "blue"]
 KEYS = (
     "cause endMarks errors goalValues matchId moves phase playClock players roles startClock startMarks states strikes version"
@@ -315,35 +315,20 @@ def random_records(seed, matches, changes):
 # ---- files
 
 
-def table(head, name, rows):
-    text = f"//! {head} Written by `tests/oracle/records.py`.\n\n"
-    text += "/// The heap of Countdown, a record, and what its check says.\n"
-    text += f"pub const {name}: [(u8, &str, &str); {len(rows)}] = [\n"
-    for heap, record, said in rows:
-        text += f'    (\n        {heap},\n        r#"{record}"#,\n        "{said}",\n    ),\n'
-    return text + "];\n"
-
-
-def files():
-    """Each file that is written, with its text."""
-    rows = []
+def example_records():
+    """Each record of examples/records: its path, the heap, and its text."""
     for path in sorted(RECORDS.glob("*.record")):
-        heap, text = int(path.stem.split("-")[1]), path.read_text().removesuffix("\n")
-        rows.append((heap, text, word(heap, text)))
-        yield path.with_suffix(".word"), rows[-1][2] + "\n"
-    yield UNIT_TESTS / "example_records.rt.test", table("The example records.", "EXAMPLE_RECORDS", rows)
-    rows = [(heap, text, word(heap, text)) for heap, text in random_records(1, 2, 7)]
-    yield UNIT_TESTS / "random_records.rt.test", table("Records of random matches, and each of them changed in one place.", "RANDOM_RECORDS", rows)
+        yield path, int(path.stem.split("-")[1]), path.read_text().removesuffix("\n")
 
 
 def compare(program):
-    records = list(random_records(2, 16, 7))
+    records = [*((heap, text) for _, heap, text in example_records()), *random_records(2, 16, 7)]
     for heap, text in records:
         asked = subprocess.run([program, "verify", "--countdown", str(heap)], input=text, capture_output=True, text=True)
         said = (asked.stdout + asked.stderr.removeprefix("ggp_manager: not lawful: ")).strip()
         if said != word(heap, text):
             sys.exit(f"the program says {said!r} and not {word(heap, text)!r} of {text}")
-    print(f"of {len(records)} records of random matches the program says what it must")
+    print(f"of {len(records)} records the program says what it must")
 
 
 def main():
@@ -356,11 +341,12 @@ def main():
         return print(*(text for _, text in random_records(*given.random)), sep="\n")
     if given.program:
         return compare(given.program)
-    for path, text in files():
+    for path, heap, text in example_records():
+        written, said = path.with_suffix(".word"), word(heap, text) + "\n"
         if not given.check:
-            path.write_text(text)
-        elif not path.exists() or path.read_text() != text:
-            sys.exit(f"{path.name} is not what it must be: run tests/oracle/records.py")
+            written.write_text(said)
+        elif not written.exists() or written.read_text() != said:
+            sys.exit(f"{written.name} is not what it must be: run tests/oracle/records.py")
 
 
 if __name__ == "__main__":

@@ -1,0 +1,9 @@
+"""What a program that shares nothing with the referee says of records, beside what the referee says."""
+
+import subprocess
+
+from support import TOP, program
+
+
+def test_the_program_says_of_records_what_the_oracle_says() -> None:
+    subprocess.run([TOP / "tests/oracle/records.py", "--program", program()], check=True)
