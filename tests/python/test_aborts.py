@@ -1,9 +1,8 @@
 """ABORT, which the referee's command sends to players of any kind: each answers, or did not."""
 
-import os
+import asyncio
 import pathlib
 import socket
-import subprocess
 import tempfile
 import threading
 import time
@@ -13,7 +12,11 @@ import unittest.mock
 from ggp_tools.competition import aborts
 from ggp_tools.competition.aborts import send_aborts
 from ggp_tools.referee import Referee
-from support import program
+from support import command_of, program
+
+
+def sent(*words):
+    return asyncio.run(send_aborts(*words))
 
 
 class Aborts(unittest.TestCase):
@@ -36,7 +39,7 @@ class Aborts(unittest.TestCase):
         return f"ann@127.0.0.1:{listening.getsockname()[1]}"
 
     def silent(self, places):
-        return send_aborts(Referee(program()), places)
+        return sent(Referee(program()), places)
 
     def test_who_answers(self):
         answering = self.player(b"HTTP/1.0 200 OK\r\nContent-Length: 4\r\n\r\ndone")
@@ -57,7 +60,7 @@ class Aborts(unittest.TestCase):
             waiting.chmod(0o755)
             places = [f"bob@127.0.0.1:{port}" for port in range(1000, 1030)]
             began = time.monotonic()
-            self.assertEqual(send_aborts(Referee(str(waiting)), {"cup-001": places}, 1), {"cup-001": places})
+            self.assertEqual(sent(Referee(str(waiting)), {"cup-001": places}, 1), {"cup-001": places})
             self.assertLess(time.monotonic() - began, 500)
 
     def test_a_host_that_is_no_name(self):
@@ -67,11 +70,11 @@ class Aborts(unittest.TestCase):
     def test_a_referee_that_can_not_be_run(self):
         with tempfile.TemporaryDirectory() as room:
             none = Referee(str(pathlib.Path(room) / "none"))
-            self.assertEqual(send_aborts(none, {"cup-001": ["ann@127.0.0.1:9"]}), {"cup-001": ["ann@127.0.0.1:9"]})
+            self.assertEqual(sent(none, {"cup-001": ["ann@127.0.0.1:9"]}), {"cup-001": ["ann@127.0.0.1:9"]})
 
 
 class Words:
-    """A referee whose command for a place are the words that stand there."""
+    """A referee whose command for an address is this address, as a script."""
 
     def __init__(self):
         self.begun = []
@@ -84,41 +87,36 @@ class Words:
 class Processes(unittest.TestCase):
     """What becomes of the processes, whatever they do."""
 
+    def setUp(self):
+        self.room = pathlib.Path(self.enterContext(tempfile.TemporaryDirectory()))
+
     def test_only_status_0_is_an_answer(self):
         places = {"a": ["exit 0", "exit 1", "exit 3", "kill -9 $$"], "b": ["exit 0"], "c": ["exit 2"]}
-        self.assertEqual(send_aborts(Words(), places), {"a": ["exit 1", "exit 3", "kill -9 $$"], "c": ["exit 2"]})
+        self.assertEqual(sent(Words(), places), {"a": ["exit 1", "exit 3", "kill -9 $$"], "c": ["exit 2"]})
 
-    def test_what_can_not_be_begun_is_no_answer_and_the_others_are_sent(self):
+    def test_a_process_that_can_not_be_started_is_no_answer_and_the_others_are_sent(self):
         begun = iter([OSError(11, "none")])
-        plain = subprocess.Popen
+        plain = asyncio.create_subprocess_exec
 
-        def popen(*words, **more):
-            for fault in begun:
-                raise fault
+        def start(*words, **more):
+            for error in begun:
+                raise error
             return plain(*words, **more)
 
-        with unittest.mock.patch("ggp_tools.competition.aborts.subprocess.Popen", popen):
-            self.assertEqual(send_aborts(Words(), {"a": ["exit 0", "exit 0;"], "b": ["exit 0"]}), {"a": ["exit 0"]})
+        with unittest.mock.patch("asyncio.create_subprocess_exec", start):
+            self.assertEqual(sent(Words(), {"a": ["exit 0", "exit 0;"], "b": ["exit 0"]}), {"a": ["exit 0"]})
 
     def test_with_no_time_none_has_answered(self):
-        referee = Words()
-        self.assertEqual(send_aborts(referee, {"b": ["y", "x"], "a": ["z"]}, 0), {"b": ["x", "y"], "a": ["z"]})
-        self.assertEqual(referee.begun, [])
+        self.assertEqual(sent(Words(), {"b": ["exec sleep 600", "exec sleep 60"], "a": ["exec sleep 6000"]}, 0), {"b": ["exec sleep 60", "exec sleep 600"], "a": ["exec sleep 6000"]})
+        self.assertEqual(sent(Words(), {}), {})
 
-    def test_so_many_at_a_time_and_those_that_are_left_at_the_end_are_ended(self):
-        referee, processes, plain = Words(), [], aborts.abort_of
-
-        def begun(*words):
-            processes.append(plain(*words))
-            return processes[-1]
-
-        with unittest.mock.patch.object(aborts, "AT_ONCE", 2), unittest.mock.patch.object(aborts, "abort_of", begun):
-            self.assertEqual(send_aborts(referee, {"a": ["exec sleep 600"], "b": ["exec sleep 600"], "c": ["exit 0"]}, 0.2),
-                             {"a": ["exec sleep 600"], "b": ["exec sleep 600"], "c": ["exit 0"]})
-        self.assertEqual(([match for match, _ in referee.begun], [process.poll() for process in processes]), (["a", "b"], [-9, -9]))
+    def test_only_so_many_at_a_time_and_those_that_are_left_at_the_end_are_ended(self):
+        referee, script = Words(), f"echo $$ > {self.room}/%s; exec sleep 600"
+        with unittest.mock.patch.object(aborts, "AT_ONCE", 2):
+            self.assertEqual(sent(referee, {"a": [script % 1], "b": [script % 2], "c": ["exit 0"]}, 0.5), {"a": [script % 1], "b": [script % 2], "c": ["exit 0"]})
+        self.assertEqual([match for match, _ in referee.begun], ["a", "b"])
+        for file in self.room.iterdir():
+            self.assertEqual(command_of(file.read_text().strip() or "none"), b"")
 
     def test_ctrl_c_at_the_terminal_does_not_reach_them(self):
-        process = aborts.abort_of(Words(), "a", "exec sleep 600")
-        self.addCleanup(process.wait)
-        self.addCleanup(process.kill)
-        self.assertEqual(os.getsid(process.pid), process.pid)
+        self.assertEqual(sent(Words(), {"a": [f"test $(cut -d' ' -f6 /proc/$$/stat) = $$"]}), {})

@@ -16,7 +16,7 @@ import unittest.mock
 from ggp_tools.competition import hosts
 from ggp_tools.competition.competition_file import Host
 from ggp_tools.competition.hosts import Hosts, destination, remote_words
-from ggp_tools.competition.playing import HANG_UP_SECONDS
+from ggp_tools.competition.children import HANG_UP_SECONDS
 from ggp_tools.moments import MOMENT
 from fake_ssh import calls, deafen, lose, write_ssh
 from players import TestPlayer

@@ -1,6 +1,7 @@
 """What `play` does with many matches: which begin, what becomes of those that end, and what is there before and after. The matches are
-stand-ins that go on as a test says."""
+stand-ins that go on as a test lays down."""
 
+import asyncio
 import collections
 import dataclasses
 import errno
@@ -8,6 +9,7 @@ import pathlib
 import resource
 import signal
 import tempfile
+import threading
 import types
 import unittest
 from unittest import mock
@@ -23,11 +25,11 @@ UNSAID = "it ended with status {} and no word, as where it is killed or the disk
 
 
 class Said:
-    """A reporter that keeps what it is told."""
+    """A reporter that keeps what it is given."""
 
     def __init__(self):
         self.lines, self.ended, self.shown, self.drawn = [], [], [], []
-        self.fault, self.journal = None, types.SimpleNamespace(fault=None)
+        self.fault, self.journal, self.is_shown = None, types.SimpleNamespace(fault=None), True
 
     def line(self, text):
         self.lines.append(text)
@@ -36,7 +38,7 @@ class Said:
         self.ended.append((result, seconds))
 
     def progress(self, over, open_count, to_come, left):
-        self.shown.append((over, open_count, to_come))
+        self.shown.append((over, open_count, to_come, left()))
 
     def draw(self, text):
         self.drawn.append(text)
@@ -46,7 +48,8 @@ class Said:
 
 
 class Standing:
-    """A match that is open. What it does at each step is what a test laid down for its id: a stage, or a call."""
+    """A match that is open. What it does is what a test lays down for its id, step by step: a stage, or a call. One of each match is enough
+    unless a list of such lists is laid down."""
 
     laid_down: dict = {}
     begun: list = []
@@ -55,42 +58,30 @@ class Standing:
         self.shared, self.match, self.host = shared, match, host
         self.stage, self.places, self.seconds, self.seated = "asking", [f"{player}@h" for player in match.players], 1.5, 0.0
         self.result, self.why = None, None
-        self.may_begin, self.is_broken, self.stops_game, self.has_left, self.is_ended = True, False, False, False, False
-        # How many looks after it was hung up its host has ended it: 0 where it is on none.
-        self.looks, self.is_hung_up = 0, False
-        self.steps = self.go()
+        self.is_broken, self.stops_game, self.is_seated, self.goes_on, self.is_ended = False, False, True, False, False
         Standing.begun.append(self)
 
-    def go(self):
-        for step in Standing.laid_down.get(self.match.id, [won]):
-            step(self) if callable(step) else setattr(self, "stage", step)
-            yield
+    async def go(self):
+        try:
+            for step in Standing.laid_down.get(self.match.id, [won]):
+                step(self) if callable(step) else setattr(self, "stage", step)
+                await asyncio.sleep(0)
+        except BaseException:
+            self.is_broken, self.is_ended = self.stage == "playing", True
+            raise
 
     def leave(self):
-        self.has_left = True
-        self.shared.seats.leave(self.match)
-
-    def is_on_host(self):
-        self.looks -= self.is_hung_up and self.looks > 0
-        return self.looks > 0
-
-    def hang_up(self):
-        self.is_hung_up = self.looks > 0
-
-    def end_children(self):
-        self.is_ended = True
-
-    def close(self):
-        self.leave()
-        self.stage = "over"
+        if self.is_seated:
+            self.is_seated = False
+            self.shared.seats.leave(self.match)
+            self.host and self.shared.hosts.leave(self.host)
+            self.shared.has_left()
 
 
 def over(**more):
-    """Returns a step with which a match is over, with these of its fields."""
+    """Returns a step with which a match is over, with these of its attributes."""
 
     def step(match):
-        match.shared.seats.leave(match.match)
-        match.stage = "over"
         for name, value in more.items():
             setattr(match, name, value)
 
@@ -98,7 +89,7 @@ def over(**more):
 
 
 def won(match):
-    over(result=f"result of {match.match.id}")(match)
+    match.result = f"result of {match.match.id}"
 
 
 class WithMatches(unittest.TestCase):
@@ -108,12 +99,11 @@ class WithMatches(unittest.TestCase):
         self.folder = pathlib.Path(self.enterContext(tempfile.TemporaryDirectory()))
         Standing.laid_down, Standing.begun = {}, []
         self.enterContext(mock.patch.object(playing, "OpenMatch", Standing))
-        self.enterContext(mock.patch.object(playing, "REST", 0))
         self.aborted, self.silent = [], {}
         self.enterContext(mock.patch.object(playing, "send_aborts", self.send_aborts))
         self.begin()
 
-    def send_aborts(self, referee, places, seconds=None):
+    async def send_aborts(self, referee, places, seconds=None):
         self.aborted.append((dict(places), seconds))
         return {match: self.silent[match] for match in places if match in self.silent}
 
@@ -122,14 +112,18 @@ class WithMatches(unittest.TestCase):
         self.plan.competition = dataclasses.replace(self.plan.competition, hosts=hosts)
         self.reporter = Said()
         self.playing = Playing(self.plan, "referee", Seats(self.plan.competition), self.reporter, at_once)
-        return self.playing
 
-    def wait_for_all(self):
-        for match in self.plan.matches:
-            self.playing.wait(match)
+    def go(self, **laid_down):
+        """Plays all matches, each as is laid down for its id."""
+        Standing.laid_down |= {match.replace("_", "-"): steps for match, steps in laid_down.items()}
+        self.playing.add(self.plan.matches)
+        asyncio.run(self.playing.go())
 
     def begun(self):
         return [match.match.id for match in Standing.begun]
+
+    def interrupt(self, count):
+        return lambda match: self.playing.interrupt(count)
 
 
 class Going(WithMatches):
@@ -137,60 +131,73 @@ class Going(WithMatches):
         most, ids = [], {match.id for match in self.plan.matches}
 
         def look(match):
-            most.append(max(collections.Counter(player for standing in Standing.begun if standing.stage != "over" for player in standing.match.players).values()))
+            most.append(max(collections.Counter(player for standing in Standing.begun if standing.is_seated for player in standing.match.players).values()))
 
         Standing.laid_down = {match: [look, "playing", look, won] for match in ids}
-        self.wait_for_all()
-        self.playing.go()
+        self.go()
         self.assertEqual((collections.Counter(self.begun()), set(self.playing.results), max(most)), (collections.Counter(ids), ids, 1))
-        self.assertEqual((self.playing.results["cup-001"], self.playing.open, list(self.playing.waiting), self.playing.left), ("result of cup-001", [], [], {}))
+        self.assertEqual((self.playing.results["cup-001"], self.playing.open, list(self.playing.waiting), self.playing.left), ("result of cup-001", {}, [], {}))
         self.assertEqual(sorted(self.reporter.ended), sorted((f"result of {match}", 1.5) for match in ids))
-        self.assertEqual((self.reporter.shown[-1], self.reporter.drawn[-1], self.aborted), ((len(ids), 0, 0), "", []))
+        self.assertEqual((self.reporter.shown[0], self.reporter.drawn[-1], self.aborted), ((0, 2, 10, None), "", []))
 
-    def test_so_many_are_at_play_at_a_time_and_those_that_are_checked_hold_nobody_up(self):
-        self.begin("", at_once=1)
-        counts = []
+    def test_only_so_many_are_at_play_at_a_time_and_those_that_are_checked_hold_nobody_up(self):
+        self.begin(at_once=1)
+        counts, checked = [], []
 
         def look(match):
-            counts.append(sum(standing.stage in ("asking", "playing") for standing in Standing.begun))
+            counts.append(sum(standing.is_seated for standing in Standing.begun))
+            checked.append(len(self.playing.open))
 
         def check(match):
             match.stage = "checking"
-            match.shared.seats.leave(match.match)
+            match.leave()
 
-        def end(match):
-            match.result, match.stage = "it", "over"
+        Standing.laid_down = {match.id: [look, "playing", look, check, *["checking"] * 9, won] for match in self.plan.matches}
+        self.go()
+        self.assertEqual((max(counts), max(checked) > 1, len(self.playing.results)), (1, True, 12))
 
-        Standing.laid_down = {match.id: [look, "playing", look, check, look, look, end] for match in self.plan.matches}
-        self.wait_for_all()
-        self.playing.go()
-        self.assertEqual((max(counts), len(self.playing.results)), (1, 12))
-        self.assertGreater(max(open_count for _, open_count, _ in self.reporter.shown), 1)
+    def test_the_results_are_passed_on_in_a_thread_and_its_error_is_reported(self):
+        watched, again = [], threading.Event()
 
-    def test_who_ends_tells_who_waits_for_it(self):
-        told = []
-        self.playing.ended = told.append
-        self.wait_for_all()
-        self.playing.go()
-        self.assertEqual(sorted(told), sorted(f"result of {match.id}" for match in self.plan.matches))
+        def watch(results):
+            watched.append((len(results), threading.current_thread() is threading.main_thread()))
+            again.set()
+            return "pages are not written" if len(watched) == 1 else None
+
+        self.begin(at_once=1)
+        self.playing.watch = watch
+        # The last match ends once the first results were passed on.
+        self.go(cup_012=["playing", lambda match: again.wait(600), won])
+        self.assertEqual((watched[0][0] > 0, {is_main for _, is_main in watched}, self.reporter.lines), (True, {False}, ["pages are not written"]))
 
     def test_a_match_without_a_result_is_left_with_the_reason_or_waits_again(self):
         again = iter([over(), won])
-        Standing.laid_down = {"cup-001": [over(why="ann is silent")], "cup-002": [lambda match: next(again)(match)]}
-        self.wait_for_all()
-        self.playing.go()
+        self.go(cup_001=[over(why="ann is silent")], cup_002=[lambda match: next(again)(match)])
         self.assertEqual((self.playing.left, self.begun().count("cup-002"), self.begun().count("cup-001")), ({"cup-001": "ann is silent"}, 2, 1))
         self.assertEqual((self.reporter.lines, len(self.playing.results)), (["no record cup-001: ann is silent"], 11))
 
-    def test_the_players_of_a_match_that_broke_off_are_sent_abort(self):
+    def test_a_player_that_rests_is_waited_for(self):
+        self.begin("wait = 1\n")
+        again = iter([lambda match: self.playing.seats.was_not_there("ann", match.seated), won])
+        self.plan.matches = self.plan.matches[:1]
+        self.playing.seats.missed = dict.fromkeys(self.NAMES, -1.0)
+        self.go(cup_001=[lambda match: next(again)(match)])
+        self.assertEqual((self.begun(), list(self.playing.results)), (["cup-001"] * 2, ["cup-001"]))
+
+    def test_the_players_of_a_match_that_broke_off_are_free_once_they_were_sent_abort(self):
         room = self.plan.folder.open / "cup-001"
         room.mkdir(parents=True)
         (room / "players").touch()
         (room / "played").touch()
-        Standing.laid_down = {"cup-001": [over(why="ggp_manager: want of memory", is_broken=True)]}
-        self.wait_for_all()
-        self.playing.go()
-        self.assertEqual((self.aborted, room.exists()), ([({"cup-001": ["ann@h", "bob@h"]}, None)], False))
+        free, send = [], self.send_aborts
+
+        async def send_aborts(*words):
+            free.append(self.playing.seats.free["ann"])
+            return await send(*words)
+
+        with mock.patch.object(playing, "send_aborts", send_aborts):
+            self.go(cup_001=["playing", over(why="ggp_manager: want of memory", is_broken=True)])
+        self.assertEqual((self.aborted, room.exists(), free), ([({"cup-001": ["ann@h", "bob@h"]}, None)], False, [0]))
         self.assertEqual(self.reporter.lines, ["abort cup-001: ann@h, bob@h", "no record cup-001: ggp_manager: want of memory"])
 
     def test_a_game_whose_rules_are_wrong_is_not_played_on(self):
@@ -198,219 +205,132 @@ class Going(WithMatches):
         self.plan.competition = dataclasses.replace(self.plan.competition, games=(*games, dataclasses.replace(games[0], name="other")))
         self.plan.matches[6:] = [dataclasses.replace(match, game="other") for match in self.plan.matches[6:]]
         self.playing = Playing(self.plan, "referee", Seats(self.plan.competition), self.reporter, 2)
-        Standing.laid_down = {"cup-001": [over(why="differs", stops_game=True)], "cup-003": [over()]}
-        self.wait_for_all()
-        self.playing.go()
+        # The second match differs too, and says nothing more; it was open by then.
+        self.go(cup_001=[over(why="differs", stops_game=True)], cup_003=["playing", "playing", over(why="differs too", stops_game=True)])
         why = "heap is not played on, since cup-001 is no match of its description"
-        self.assertEqual(self.playing.left, {"cup-001": "differs", **{match.id: why for match in self.plan.matches[:6] if match.id != "cup-001"}})
-        self.assertEqual((set(self.playing.results), self.playing.stopped), ({match.id for match in self.plan.matches[6:]}, {"heap": why}))
-        self.assertEqual(self.reporter.lines, ["no record cup-001: differs", f"stopped {why}; 4 matches of it do not begin"])
-        # A second one of that game says nothing more.
-        standing = Standing(self.playing.shared, self.plan.matches[1])
-        standing.stage, standing.why, standing.stops_game, standing.steps = "over", "differs too", True, iter(())
-        self.playing.step(standing)
-        self.assertEqual((self.reporter.lines[2:], self.playing.stopped["heap"]), (["no record cup-002: differs too"], why))
+        left = {match.id: why for match in self.plan.matches[:6]} | {"cup-001": "differs", "cup-003": "differs too"}
+        self.assertEqual((self.playing.left, self.playing.stopped), (left, {"heap": why}))
+        self.assertEqual((set(self.playing.results), self.playing.may_still_begin(self.plan.matches[0])), ({match.id for match in self.plan.matches[6:]}, False))
+        self.assertEqual(self.reporter.lines, ["no record cup-001: differs", f"stopped {why}; 4 matches of it do not begin", "no record cup-003: differs too"])
 
-    def test_where_a_file_can_not_be_written_no_more_matches_begin(self):
-        for fault, words in ((OSError(errno.ENOSPC, "x", "f"), "f: No space left on device"), (OSError("odd"), "its files: Input/output error")):
-            self.begin(at_once=1)
-            Standing.begun = []
+    def test_if_a_file_can_not_be_written_no_more_matches_begin(self):
+        full = OSError(errno.ENOSPC, "x", "f")
+        for error, words in ((full, "f: No space left on device"), (OSError("odd"), "its files: Input/output error"), (ExceptionGroup("x", [ExceptionGroup("y", [full])]), "f: No space left on device")):
+            for stage, aborted in (("asking", []), ("playing", [({"cup-001": ["ann@h", "bob@h"]}, None)]), ("checking", [])):
+                self.begin(at_once=1)
+                Standing.begun, self.aborted = [], []
 
-            def fail(match):
-                raise fault
+                def fail(match):
+                    raise error
 
-            Standing.laid_down = {"cup-001": [fail]}
-            self.wait_for_all()
-            self.playing.go()
-            standing, = Standing.begun
-            self.assertEqual((self.playing.left, self.playing.is_full, self.playing.may_go_on(), standing.is_ended, standing.has_left, standing.is_broken), ({"cup-001": words}, True, False, True, True, False))
-        self.assertEqual(self.playing.seats.free, dict.fromkeys(self.NAMES, 1))
+                self.go(cup_001=[stage, fail])
+                self.assertEqual((self.playing.left, self.playing.is_full, self.playing.may_go_on(), self.begun(), self.aborted), ({"cup-001": words}, True, False, ["cup-001"], aborted))
+                self.assertEqual(self.playing.seats.free, dict.fromkeys(self.NAMES, 1))
 
-    def test_a_match_at_play_that_is_lost_is_broken_and_one_that_is_checked_has_left(self):
-        for stage, is_broken, has_left in (("asking", False, True), ("playing", True, True), ("checking", False, False)):
-            standing = Standing(self.playing.shared, self.plan.matches[0])
-            standing.stage = stage
-            self.playing.lose(standing, "why")
-            self.assertEqual((standing.is_broken, standing.has_left, standing.is_ended, standing.stage, standing.why), (is_broken, has_left, True, "over", "why"))
+    def test_another_error_is_not_taken_for_one_of_the_disk(self):
+        def fail(match):
+            raise ValueError
 
-    def test_a_full_disk_that_the_referee_tells_lets_no_more_begin(self):
+        with self.assertRaises(ExceptionGroup):
+            self.go(cup_001=[fail])
+
+    def test_a_full_disk_that_the_referee_reports_lets_no_more_begin(self):
         self.begin(at_once=1)
-        Standing.laid_down = {"cup-001": [over(why="ggp_manager: write fault")]}
-        self.wait_for_all()
-        self.playing.go()
+        self.go(cup_001=[over(why="ggp_manager: write fault")])
         self.assertEqual((self.begun(), self.playing.is_full), (["cup-001"], True))
         self.assertEqual([says_full(why, on_host) for why, on_host in (("x: write fault", True), ("x: write fault", False), (UNSAID.format(1), False), (UNSAID.format(1), True), (UNSAID.format(2), False), ("write fault ", False))],
                          [True, True, True, False, False, False])
         for hosts, is_broken, is_full in (((Host("h", 1),), True, False), ((Host("h", 1),), False, True), ((), True, True)):
             self.begin(hosts=hosts)
-            standing = Standing(self.playing.shared, self.plan.matches[0])
-            standing.stage, standing.why, standing.is_broken, standing.steps = "over", UNSAID.format(1), is_broken, iter(())
-            self.playing.step(standing)
+            self.go(cup_001=[over(why=UNSAID.format(1), is_broken=is_broken)])
             self.assertEqual(bool(self.playing.is_full), is_full, (hosts, is_broken))
 
-    def test_one_interrupt_lets_open_matches_end_and_two_end_them(self):
-        def interrupt(count):
-            def step(match):
-                self.playing.interrupts += count
-
-            return step
-
+    def test_after_one_interrupt_open_matches_are_played_to_their_ends(self):
         self.begin(at_once=3)
-        Standing.laid_down = {"cup-001": ["playing", interrupt(1), "playing", won], "cup-003": ["playing", "playing", "playing", won]}
-        self.wait_for_all()
-        self.playing.go()
-        self.assertEqual((sorted(self.begun()), sorted(self.playing.results)), (["cup-001", "cup-003"], ["cup-001", "cup-003"]))
+        may_begin = []
+        self.go(cup_001=["playing", self.interrupt(1), "playing", won], cup_003=["playing", "playing", lambda match: may_begin.append(self.playing.may_still_begin(match.match)), won])
+        self.assertEqual((sorted(self.begun()), sorted(self.playing.results), may_begin), (["cup-001", "cup-003"], ["cup-001", "cup-003"], [False]))
         self.assertEqual(self.reporter.lines, ["no more matches begin; 2 are played to their ends, or ended by one more Ctrl-C"])
-        self.assertEqual([standing.may_begin for standing in Standing.begun], [False, False])
+
+    def test_a_match_whose_players_were_asked_when_it_came_waits_again(self):
+        self.begin(at_once=1)
+        self.go(cup_001=[self.interrupt(1), over()])
+        self.assertEqual((self.begun(), len(self.playing.waiting), self.playing.left), (["cup-001"], 12, {}))
 
     def test_a_second_interrupt_ends_those_that_the_first_one_let_go_on(self):
-        def interrupt(match):
-            self.playing.interrupts += 1
+        for counts in ((1, 1), (2, 0)):
+            self.begin(at_once=2)
+            Standing.begun, self.aborted = [], []
+            for match in ("cup-001", "cup-003"):
+                (self.plan.folder.open / match).mkdir(parents=True, exist_ok=True)
+            self.go(cup_001=["playing", self.interrupt(counts[0]), "playing", self.interrupt(counts[1]), *["playing"] * 9, won], cup_003=[*["asking"] * 9, won])
+            self.assertEqual((self.begun(), self.playing.results, [standing.is_ended for standing in Standing.begun]), (["cup-001", "cup-003"], {}, [True, True]))
+            self.assertEqual((self.playing.left, self.aborted), ({"cup-001": "it was ended before its end"}, [({"cup-001": ["ann@h", "bob@h"]}, 3)]))
+            self.assertEqual(self.playing.seats.free, dict.fromkeys(self.NAMES, 1))
 
+    def test_those_that_are_checked_go_on(self):
         self.begin(at_once=2)
-        Standing.laid_down = {"cup-001": ["playing", interrupt, "playing", interrupt, "playing", won], "cup-003": ["asking"] * 5 + [won]}
-        self.wait_for_all()
-        self.playing.go()
-        self.assertEqual((self.begun(), self.playing.results, [standing.is_ended for standing in Standing.begun]), (["cup-001", "cup-003"], {}, [True, True]))
-        self.assertEqual((self.playing.left, [list(places) for places, _ in self.aborted]), ({"cup-001": "it was ended before its end"}, [["cup-001"]]))
+        self.go(cup_001=["playing", self.interrupt(2), *["playing"] * 9, won], cup_003=["checking", *["checking"] * 9, self.interrupt(1), won])
+        self.assertEqual(([standing.is_ended for standing in Standing.begun], list(self.playing.results), list(self.playing.left)), ([True, False], ["cup-003"], ["cup-001"]))
 
-    def test_who_ends_open_matches_tells_their_players(self):
-        self.begin(at_once=9)
-        for match in ("cup-001", "cup-003"):
-            (self.plan.folder.open / match).mkdir(parents=True)
-        stages, places = ("playing", "asking", "checking"), [match for match in self.plan.matches if match.id in ("cup-001", "cup-003", "cup-002")]
-        for stage, match in zip(stages, places):
-            standing = Standing(self.playing.shared, match)
-            standing.stage = stage
-            self.playing.open.append(standing)
-        first, second, third = self.playing.open
-        self.playing.interrupts = 2
-        self.playing.say_interrupt()
-        self.assertEqual(([standing.stage for standing in (first, second, third)], [standing.is_ended for standing in (first, second, third)]), (["over", "over", "checking"], [True, True, False]))
-        self.assertEqual((self.aborted, self.playing.left), ([({first.match.id: first.places}, 3)], {first.match.id: "it was ended before its end"}))
-        self.assertEqual((first.is_broken, first.why, first.has_left, second.has_left, third.has_left), (True, None, True, True, False))
+    def test_the_directory_of_a_match_that_may_go_on_at_a_host_is_kept(self):
+        room = self.plan.folder.open / "cup-001"
+        room.mkdir(parents=True)
+        (room / "players").touch()
+        self.go(cup_001=["playing", over(goes_on=True), self.interrupt(2), *["playing"] * 9])
+        self.assertEqual(([file.name for file in room.iterdir()], self.aborted), (["players"], [({"cup-001": ["ann@h", "bob@h"]}, 3)]))
+
+    def test_an_interrupt_during_an_abort_sends_it_once_more_within_some_seconds(self):
+        async def send_aborts(referee, places, seconds=None):
+            self.aborted.append((dict(places), seconds))
+            if seconds is None:
+                self.playing.interrupt(2)
+                await asyncio.sleep(600)
+            return {}
+
+        with mock.patch.object(playing, "send_aborts", send_aborts):
+            self.go(cup_001=["playing", over(why="want of memory", is_broken=True)])
+        self.assertEqual(([seconds for _, seconds in self.aborted], self.playing.left["cup-001"]), ([None, 3], "want of memory"))
 
     def test_without_a_reader_of_its_lines_no_more_begin(self):
         self.begin(at_once=1)
-        Standing.laid_down = {"cup-001": ["playing", lambda match: setattr(self.reporter, "fault", OSError()), won]}
-        self.wait_for_all()
-        self.playing.go()
+        self.go(cup_001=["playing", lambda match: setattr(self.reporter, "fault", OSError()), won])
         self.assertEqual((self.begun(), self.playing.interrupts, self.playing.may_go_on(), list(self.playing.results)), (["cup-001"], 1, False, ["cup-001"]))
 
     def test_without_a_journal_no_more_begin(self):
         self.begin(at_once=1)
-        Standing.laid_down = {"cup-001": [lambda match: setattr(self.reporter.journal, "fault", OSError(errno.ENOSPC, "full", "play.log")), won]}
-        self.wait_for_all()
-        self.playing.go()
+        self.go(cup_001=[lambda match: setattr(self.reporter.journal, "fault", OSError(errno.ENOSPC, "full", "play.log")), won])
         self.assertEqual((self.begun(), self.reporter.lines, self.playing.is_full), (["cup-001"], ["play.log is not written, and no more matches begin: full"], True))
 
     def test_on_hosts_as_many_begin_as_they_have_room_for(self):
         self.begin(hosts=(Host("near", 1), Host("far", 1)))
         most = []
-        Standing.laid_down = {match.id: [lambda match: most.append(sum(self.playing.hosts.open.values())), self.leave_host] for match in self.plan.matches}
-        self.wait_for_all()
-        self.playing.go()
+        Standing.laid_down = {match.id: [lambda match: most.append(sum(self.playing.hosts.open.values())), won] for match in self.plan.matches}
+        self.go()
         self.assertEqual((max(most), len(self.playing.results), self.playing.hosts.open), (2, 12, {"near": 0, "far": 0}))
         self.assertEqual({standing.host for standing in Standing.begun}, {"near", "far"})
-        self.assertEqual(self.playing.seconds_left() is None, False)
+        self.assertIsNotNone(self.playing.seconds_left())
 
-    def leave_host(self, match):
-        self.playing.hosts.leave(match.host)
-        won(match)
-
-    def test_where_all_hosts_are_lost_no_match_begins(self):
+    def test_if_all_hosts_are_lost_no_match_begins(self):
         self.begin("tries = 1\n", hosts=(Host("near", 9),))
         self.playing.hosts.failed["near"] = 1
-        self.wait_for_all()
-        self.playing.go()
+        self.go()
         self.assertEqual((self.begun(), self.playing.may_begin()), ([], False))
-        # A host whose room nobody wants has it again.
-        self.begin(hosts=(Host("near", 9),))
-        self.playing.begin()
-        self.assertEqual(self.playing.hosts.open, {"near": 0})
 
     def test_what_may_begin(self):
         self.assertTrue(self.playing.may_begin() and self.playing.may_go_on())
         for name, value in (("interrupts", 1), ("is_full", True)):
             self.begin()
             setattr(self.playing, name, value)
-            self.assertFalse(self.playing.may_begin() or self.playing.may_go_on(), name)
+            self.assertFalse(self.playing.may_begin() or self.playing.may_go_on() or self.playing.may_still_begin(self.plan.matches[0]), name)
         self.begin()
         self.reporter.fault = OSError()
         self.assertEqual((self.playing.may_begin(), self.playing.may_go_on()), (True, False))
 
-    def test_further_matches_are_looked_at_again(self):
+    def test_further_matches_are_looked_for_again(self):
         self.playing.seats.idle_until = 1e9
         self.playing.add(self.plan.matches[:2])
         self.assertEqual((list(self.playing.waiting), self.playing.seats.idle_until), (self.plan.matches[:2], 0.0))
-
-
-class OnHosts(WithMatches):
-    """Matches on hosts that are ended before their ends. A look at them takes half a second."""
-
-    NEVER = 10**9
-
-    def setUp(self):
-        super().setUp()
-        self.now, self.seen, self.meanwhile = 50.0, [], lambda: None
-        self.enterContext(mock.patch.object(playing, "REST", 0.5))
-        self.enterContext(mock.patch.object(playing, "time", types.SimpleNamespace(monotonic=lambda: self.now, sleep=self.sleep)))
-
-    def sleep(self, seconds):
-        self.now += seconds
-        self.seen.append([(standing.is_hung_up, standing.is_ended, len(self.aborted)) for standing in Standing.begun])
-        self.meanwhile()
-
-    def at_play(self, *looks):
-        """Has a match be at play for each of these, which has ended after so many looks."""
-        for name, count in zip(("cup-001", "cup-003"), looks):
-            standing = Standing(self.playing.shared, next(match for match in self.plan.matches if match.id == name))
-            standing.stage, standing.looks = "playing", count
-            self.playing.open.append(standing)
-
-    def ended(self, *looks):
-        """Returns how many seconds it takes to end such matches."""
-        self.begin()
-        Standing.begun, self.seen, self.aborted, began = [], [], [], self.now
-        self.at_play(*looks)
-        self.playing.end_open_matches()
-        self.assertEqual([(standing.stage, standing.is_ended) for standing in Standing.begun], [("over", True)] * len(looks))
-        self.assertEqual([sorted(places) for places, _ in self.aborted], [["cup-001", "cup-003"][: len(looks)]])
-        return self.now - began
-
-    def test_all_are_hung_up_at_once_and_killed_and_told_when_they_have_ended(self):
-        self.assertEqual((self.ended(0, 0), self.seen), (0, []))
-        for looks, seconds in (((2, 0), 0.5), ((3, 1), 1), ((1, 3), 1)):
-            self.assertEqual(self.ended(*looks), seconds, looks)
-            self.assertEqual(self.seen, [[(count > 0, False, 0) for count in looks]] * len(self.seen))
-
-    def test_those_that_do_not_hear_it_are_waited_for_together_and_not_for_long(self):
-        self.assertEqual(self.ended(self.NEVER, self.NEVER), playing.HANG_UP_SECONDS)
-        self.assertEqual(set(map(tuple, self.seen)), {((True, False, 0),) * 2})
-
-    def test_further_interrupts_wait_for_nobody(self):
-        self.at_play(self.NEVER)
-        checked = Standing(self.playing.shared, self.plan.matches[1])
-        checked.stage, self.playing.interrupts = "checking", 2
-        self.playing.open.append(checked)
-        Standing.laid_down = {"cup-002": [lambda _: None] * 9 + [won]}
-
-        def interrupt():
-            self.playing.interrupts += len(self.seen) in (2, 9)
-
-        self.meanwhile = interrupt
-        self.playing.go()
-        self.assertEqual((self.playing.interrupts, len(self.seen) - len(self.reporter.shown)), (4, 2 * playing.HANG_UP_SECONDS))
-
-    def test_a_match_whose_file_can_not_be_written_is_hung_up_too(self):
-        def fail(match):
-            raise OSError(errno.ENOSPC, "x", "f")
-
-        Standing.laid_down = {"cup-001": [fail]}
-        self.at_play(2, self.NEVER)
-        self.playing.step(self.playing.open[0])
-        first, second = self.playing.open
-        self.assertEqual((self.seen, first.is_ended, second.is_hung_up, self.aborted), ([[(True, False, 0), (False, False, 0)]], True, False, [({"cup-001": first.places}, None)]))
 
 
 class Before(WithMatches):
@@ -530,7 +450,7 @@ class Before(WithMatches):
             (room / "played").touch()
         self.silent = {"cup-002": ["bob@h:2"]}
         places = {"cup-001": ["ann@h:1"], "cup-002": ["ann@h:1", "bob@h:2"], "cup-003": ["cid@h:3"]}
-        abort_matches("referee", places, self.plan.folder, self.reporter, 4, {"cup-003"})
+        asyncio.run(abort_matches("referee", places, self.plan.folder, self.reporter, 4, {"cup-003"}))
         self.assertEqual((self.aborted[0][1], first.exists(), *([file.name for file in room.iterdir()] for room in (second, third))), (4, False, ["players"], ["players"]))
         lines = ["abort cup-001: ann@h:1", "abort cup-002: ann@h:1, bob@h:2", "no answer to abort cup-002: bob@h:2", "abort cup-003: cid@h:3"]
         self.assertEqual(self.reporter.lines, lines)
@@ -552,7 +472,7 @@ class Before(WithMatches):
 
     def test_what_was_not_begun_is_missing(self):
         def interrupt(match):
-            self.playing.interrupts = 1
+            self.playing.interrupt(1)
             won(match)
 
         self.begin(at_once=1)
@@ -569,30 +489,42 @@ class Words(unittest.TestCase):
         self.assertEqual(list(said_of_missing({**eleven, "x": "else"})), ["missing 11 matches, m0 to m10: why", "missing x: else"])
         self.assertEqual(list(said_of_missing({f"m{at}": "it was not begun" for at in range(1_200)})), ["missing 1,200 matches, m0 to m1199: it was not begun"])
 
-    def test_signals_are_counted_and_put_back(self):
+    def counted(self, *signals):
+        """Returns how many interrupts there were after each of these signals, while they are counted."""
+        counts, total = [], [0]
+
+        def interrupt(count):
+            total[0] += count
+
+        async def raise_all():
+            with interrupts_counted(types.SimpleNamespace(interrupt=interrupt)):
+                for number in signals:
+                    signal.raise_signal(number)
+                    before = total[0]
+                    for _ in range(1_000):
+                        await asyncio.sleep(0)
+                        if total[0] > before:
+                            break
+                    counts.append(total[0])
+
+        asyncio.run(raise_all())
+        return counts
+
+    def test_signals_are_counted(self):
         self.addCleanup(signal.signal, signal.SIGHUP, signal.getsignal(signal.SIGHUP))
         # A hang-up is ignored under nohup.
         signal.signal(signal.SIGHUP, signal.SIG_DFL)
-        found = types.SimpleNamespace(interrupts=0)
-        before = {number: signal.getsignal(number) for number in (signal.SIGINT, signal.SIGTERM, signal.SIGHUP)}
-        counts = []
-        with interrupts_counted(found):
-            for number in before:
-                signal.raise_signal(number)
-                counts.append(found.interrupts)
-        self.assertEqual((counts, {number: signal.getsignal(number) for number in before}), ([1, 3, 5], before))
+        self.assertEqual(self.counted(signal.SIGINT, signal.SIGTERM, signal.SIGHUP), [1, 3, 5])
+        self.assertEqual([signal.getsignal(number) for number in (signal.SIGINT, signal.SIGTERM, signal.SIGHUP)], [signal.default_int_handler, signal.SIG_DFL, signal.SIG_DFL])
 
     def test_a_hang_up_that_is_ignored_stays_so(self):
         self.addCleanup(signal.signal, signal.SIGHUP, signal.getsignal(signal.SIGHUP))
         signal.signal(signal.SIGHUP, signal.SIG_IGN)
-        found = types.SimpleNamespace(interrupts=0)
-        with interrupts_counted(found):
-            signal.raise_signal(signal.SIGHUP)
-            self.assertEqual((found.interrupts, signal.getsignal(signal.SIGHUP)), (0, signal.SIG_IGN))
+        self.assertEqual((self.counted(signal.SIGHUP), signal.getsignal(signal.SIGHUP)), ([0], signal.SIG_IGN))
 
     def test_so_many_files_may_be_open(self):
         endless = resource.RLIM_INFINITY
-        for limits, wanted in (((1_024, 8_192), (4_096, 8_192)), ((1_024, endless), (4_096, endless)), ((1_024, 2_000), (2_000, 2_000)), ((4_096, 8_192), None), ((5_000, 8_192), None), ((2_000, 2_000), None), ((endless, endless), None)):
+        for limits, wanted in (((1_024, 20_000), (16_384, 20_000)), ((1_024, endless), (16_384, endless)), ((1_024, 2_000), (2_000, 2_000)), ((16_384, 20_000), None), ((17_000, 20_000), None), ((2_000, 2_000), None), ((endless, endless), None)):
             with mock.patch("resource.getrlimit", lambda _, limits=limits: limits), mock.patch("resource.setrlimit") as changed:
                 allow_descriptors()
             self.assertEqual([call.args for call in changed.call_args_list], [(resource.RLIMIT_NOFILE, wanted)] if wanted else [], limits)

@@ -1,19 +1,21 @@
 """The processes that play and check matches. They end with this one, however it ends."""
 
+import asyncio
+import contextlib
 import ctypes
 import math
 import os
 import pathlib
 import resource
 import signal
-import subprocess
+import sys
 import time
 from collections.abc import Callable
 from dataclasses import dataclass
-from typing import Any
+from typing import IO, Any
 
 from ggp_tools.competition.files import new_file
-from ggp_tools.competition.timed_lines import LineReader, untimed
+from ggp_tools.competition.timed_lines import MOST_OF_LINE, TimedLines, untimed
 from ggp_tools.moments import moment
 from ggp_tools.printable import MOST_READ, message_lines
 
@@ -23,23 +25,31 @@ UNSAID = "it ended with status {} and no word, as where it is killed or the disk
 # Which limit a process has passed.
 PRINTED, SAID = "it printed more than {:,} bytes, which no match has", "it said more than {:,} bytes, which no match has"
 SILENT = "nothing was heard of it for {:.0f} s"
-# So many seconds after the end of a process what it said is taken to be read.
+# What a process said is read for at most so many seconds after its end: a process that it left behind may hold the pipe.
 MOST_UNREAD = 2
+# A process that plays a match on another machine gets a byte every `BEAT` seconds, and so many seconds to end there.
+BEAT, HANG_UP_SECONDS = 2, 3
 LIBRARY = ctypes.CDLL(None)
 
 
 @dataclass(frozen=True)
 class Limits:
-    """What a process may do that a host plays a match by: how many bytes it may print, and say on standard error, and for how many seconds
-    it may do neither."""
+    """What a process may do that plays a match on another machine: how many bytes it may print, and say on standard error, and for how many
+    seconds it may do neither."""
 
     printed: int
     said: int
     silence: float
 
 
+def watch_by_descriptors() -> None:
+    """Has asyncio wait for processes by descriptors. Before Python 3.12 its default is a thread for each process."""
+    if sys.version_info < (3, 12):
+        asyncio.set_child_watcher(asyncio.PidfdChildWatcher())
+
+
 def end_with(parent: int, limits: Limits | None) -> None:
-    """Has the process that calls it end when its parent does, also where that has ended before it could ask, and when it prints too much."""
+    """Has the process that calls it end when its parent does, also if that has ended before it could ask, and when it prints too much."""
     if limits:
         resource.setrlimit(resource.RLIMIT_FSIZE, (limits.printed, limits.printed))
     LIBRARY.prctl(END_WITH_PARENT, signal.SIGKILL)
@@ -47,33 +57,48 @@ def end_with(parent: int, limits: Limits | None) -> None:
         os.kill(os.getpid(), signal.SIGKILL)
 
 
-def started(words: list[str], limits: Limits | None = None, **streams: Any) -> subprocess.Popen:
+async def started(words: list[str], limits: Limits | None = None, **streams: Any) -> asyncio.subprocess.Process:
     """Starts a process that ends with this one. Ctrl-C at the terminal does not reach it."""
     parent = os.getpid()
-    return subprocess.Popen(words, start_new_session=True, preexec_fn=lambda: end_with(parent, limits), **streams)
+    return await asyncio.create_subprocess_exec(*words, start_new_session=True, preexec_fn=lambda: end_with(parent, limits), **streams)
+
+
+async def kill(process: asyncio.subprocess.Process) -> None:
+    """Ends a process that has not ended, and what it has started."""
+    if process.returncode is None:
+        with contextlib.suppress(ProcessLookupError):
+            os.killpg(process.pid, signal.SIGKILL)
+        await process.wait()
 
 
 def end_of(path: pathlib.Path) -> bytes:
-    """Returns the last bytes of a file, in which the last lines are."""
+    """Returns the last bytes of a file, which have the last lines."""
     with open(path, "rb") as file:
         file.seek(max(0, os.fstat(file.fileno()).st_size - MOST_READ))
         return file.read()
 
 
 class Child:
-    """A process that writes into files of a folder: NAME what it prints, and NAME.said what it says on standard error."""
+    """A process that writes into files of a directory: NAME what it prints, and NAME.said what it says on standard error. Its status is
+    None if it did not end by itself."""
 
-    def __init__(self, words: list[str], folder: pathlib.Path, name: str, given: pathlib.Path | str) -> None:
-        self.out, self.said = folder / name, folder / f"{name}.said"
-        self.began = time.monotonic()
+    def __init__(self, room: pathlib.Path, name: str) -> None:
+        self.out, self.said = room / name, room / f"{name}.said"
+        self.status: int | None = None
+        self.seconds = 0.0
+
+    async def run(self, words: list[str], given: pathlib.Path | str = "/dev/null", seconds: float | None = None) -> None:
+        """Runs the process to its end. It is killed once its time is over, or if this is cancelled."""
+        began = time.monotonic()
         with open(given, "rb") as stdin, new_file(self.out) as out, new_file(self.said) as said:
-            self.process = started(words, stdin=stdin, stdout=out, stderr=said)
-
-    def is_over(self) -> bool:
-        return self.process.poll() is not None
-
-    def status(self) -> int | None:
-        return self.process.returncode
+            process = await started(words, stdin=stdin, stdout=out, stderr=said)
+        try:
+            with contextlib.suppress(TimeoutError):
+                async with asyncio.timeout(seconds):
+                    self.status = await process.wait()
+            self.seconds = time.monotonic() - began
+        finally:
+            await kill(process)
 
     def printed(self) -> str:
         """Returns the last line that it has printed."""
@@ -83,69 +108,96 @@ class Child:
         return end_of(self.said)
 
     def last_words(self, is_word: Callable[[str], bool] = lambda line: True) -> str:
-        """Returns the last line on standard error of those that count as its words, or how the process ended where there is none."""
+        """Returns the last line on standard error of those that count as its words. If there is none: how the process ended."""
         lines = list(filter(is_word, message_lines(self.said_end())))
-        return lines[-1] if lines else UNSAID.format(self.status())
-
-    def end(self) -> None:
-        """Ends the process, and what it has started."""
-        if not Child.is_over(self):
-            os.killpg(self.process.pid, signal.SIGKILL)
-            self.process.wait()
+        return lines[-1] if lines else UNSAID.format(self.status)
 
 
 class TimedChild(Child):
-    """A process of whose lines on standard error the file NAME.said has the times too. One with limits has a byte on standard input now
-    and then, and is ended when it passes a limit."""
+    """A process that plays a match. The file NAME.said has the times of its lines, too. With limits it plays on another machine: then it gets
+    a byte on standard input every few seconds, and is ended when it passes a limit."""
 
-    def __init__(self, words: list[str], folder: pathlib.Path, name: str, reader: LineReader, limits: Limits | None = None) -> None:
-        self.out, self.said, self.limits, self.passed = folder / name, folder / f"{name}.said", limits, ""
-        self.began, self.began_at, self.ended = time.monotonic(), moment(), 0.0
-        self.size, self.grown = 0, self.began
-        given = subprocess.PIPE if limits else subprocess.DEVNULL
-        with new_file(self.out) as out:
-            self.process = started(words, limits, stdin=given, stdout=out, stderr=subprocess.PIPE, bufsize=0)
-        try:
-            self.reader = reader
-            self.lines = reader.read(self.process.stderr, self.said, self.process.stdin, limits.said if limits else math.inf)
-        except OSError:
-            # Nobody else knows of it, and a match would go on.
-            self.end()
-            raise
+    def __init__(self, room: pathlib.Path, name: str, limits: Limits | None = None, heard: Callable[[bytes], None] = lambda line: None) -> None:
+        super().__init__(room, name)
+        self.limits, self.passed, self.goes_on = limits, "", False
+        self.lines = TimedLines(self.said, limits.said if limits else math.inf, heard)
+        self.began, self.began_at, self.heard_at = time.monotonic(), moment(), time.monotonic()
+        self.was_read = asyncio.Event()
 
-    def hang_up(self) -> None:
-        """Has the standard input of a process that is beaten come to its end soon."""
-        self.reader.hang_up(self.lines)
-
-    def is_over(self) -> bool:
-        """Returns whether the process has ended, and all that it said was read. What it has left behind may still hold the pipe."""
-        if not super().is_over():
-            if self.limits and (passed := self.limit_passed(self.limits)):
-                self.end()
-                self.passed = passed
-            return False
+    async def run(self, words: list[str]) -> None:
+        """Runs the process to its end, or until it passes a limit."""
+        said, beaten = os.pipe(), os.pipe()
+        with open(said[0], "rb", buffering=0) as heard, open(beaten[1], "wb", buffering=0) as beats, self.lines.file:
+            with open(said[1], "wb") as theirs, open(beaten[0], "rb") as given, new_file(self.out) as out:
+                process = await started(words, self.limits, stdin=given if self.limits else asyncio.subprocess.DEVNULL, stdout=out, stderr=theirs)
+            beating = asyncio.create_task(self.beat(beats))
+            asyncio.get_running_loop().add_reader(heard, self.hear, heard, process)
+            try:
+                await self.outwait(process)
+            finally:
+                beating.cancel()
+                await self.end(process, beats)
+                asyncio.get_running_loop().remove_reader(heard)
+                self.status, self.seconds = process.returncode, time.monotonic() - self.began
         if self.limits and self.out.stat().st_size >= self.limits.printed:
             self.passed = PRINTED.format(self.limits.printed)
-        self.ended = self.ended or time.monotonic()
-        return self.lines.is_over or time.monotonic() > self.ended + MOST_UNREAD
 
-    def limit_passed(self, limits: Limits) -> str:
-        """Returns which of its limits the process has passed, as words, or nothing."""
-        if self.lines.left < 0:
-            return SAID.format(limits.said)
-        size = self.out.stat().st_size
-        if size != self.size:
-            self.size, self.grown = size, time.monotonic()
-        is_silent = time.monotonic() - max(self.grown, self.lines.heard) > limits.silence
-        return SILENT.format(limits.silence) if is_silent else ""
+    def hear(self, said: IO[bytes], process: asyncio.subprocess.Process) -> None:
+        """Takes what the process has said."""
+        data = said.read(MOST_OF_LINE)
+        self.heard_at = time.monotonic()
+        self.lines.take(data)
+        if not data:
+            asyncio.get_running_loop().remove_reader(said)
+            self.was_read.set()
+        if self.lines.left < 0 and not self.passed:
+            self.passed = SAID.format(self.limits.said)
+            with contextlib.suppress(ProcessLookupError):
+                os.killpg(process.pid, signal.SIGKILL)
+
+    async def beat(self, beats: IO[bytes]) -> None:
+        """Shows the other end that this process is there. A pipe that is full, or has no reader any more, is no error."""
+        os.set_blocking(beats.fileno(), False)
+        while self.limits:
+            with contextlib.suppress(OSError):
+                beats.write(b"\n")
+            await asyncio.sleep(BEAT)
+
+    async def outwait(self, process: asyncio.subprocess.Process) -> None:
+        """Waits until the process has ended and all that it said was read, or until it was silent for too long."""
+        size = 0
+        while True:
+            heard_at = self.heard_at
+            try:
+                async with asyncio.timeout_at(heard_at + self.limits.silence if self.limits else None):
+                    await process.wait()
+                break
+            except TimeoutError:
+                grown = self.out.stat().st_size
+                if grown == size and self.heard_at == heard_at:
+                    self.passed = SILENT.format(self.limits.silence)
+                    return
+                size, self.heard_at = grown, self.heard_at if grown == size else time.monotonic()
+        with contextlib.suppress(TimeoutError):
+            async with asyncio.timeout(MOST_UNREAD):
+                await self.was_read.wait()
+
+    async def end(self, process: asyncio.subprocess.Process, beats: IO[bytes]) -> None:
+        """Ends the process. One that plays on another machine can first end the match there, which may go on if this one is killed."""
+        beats.close()
+        if self.limits and process.returncode is None:
+            # Before Python 3.12, `asyncio.timeout` does not work in a task that is being cancelled.
+            _, late = await asyncio.wait([asyncio.create_task(process.wait())], timeout=HANG_UP_SECONDS)
+            self.goes_on = bool(late)
+        await kill(process)
 
     def last_words(self, is_word: Callable[[str], bool] = lambda line: True) -> str:
         return self.passed or super().last_words(is_word)
 
     def timed_bytes(self) -> bytes:
         """Returns what it said, with the times. Raises what kept it from being written."""
-        if self.lines.fault:
-            raise self.lines.fault
+        if self.lines.error:
+            raise self.lines.error
         return self.said.read_bytes()
 
     def said_end(self) -> bytes:

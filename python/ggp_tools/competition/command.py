@@ -163,14 +163,13 @@ def run_play(asked: argparse.Namespace, referee: Referee) -> int:
         return run_held_play(asked, referee)
 
 
-def are_written(write: Callable, results: list[Result], reporter: Reporter) -> bool:
-    """Returns whether the pages of the results are written. Where they can't be that is told, and matches go on."""
+def error_of_pages(write: Callable[[], None]) -> str | None:
+    """Writes pages. Returns why they can't be written, if so; the matches go on."""
     try:
-        write(results)
-        return True
+        write()
+        return None
     except OSError as why:
-        reporter.line(f"pages are not written: {why.filename or 'a file'}: {why.strerror}")
-        return False
+        return f"pages are not written: {why.filename or 'a file'}: {why.strerror}"
 
 
 def run_held_play(asked: argparse.Namespace, referee: Referee) -> int:
@@ -179,10 +178,12 @@ def run_held_play(asked: argparse.Namespace, referee: Referee) -> int:
     playing = Playing(plan, referee, Seats(plan.competition), reporter, asked.at_once)
     if asked.watch:
         pages = Pages(plan)
-        playing.ended = lambda _: are_written(pages.write_now_and_then, lambda: in_order(plan, playing.results), reporter)
+        playing.watch = lambda results: error_of_pages(lambda: pages.write_now_and_then(lambda: in_order(plan, results)))
     missing = play(playing)
     write_matches(plan, in_order(plan, playing.results))
-    lacks_pages = asked.watch and not are_written(pages.write, in_order(plan, playing.results), reporter)
+    lacks_pages = error_of_pages(lambda: pages.write(in_order(plan, playing.results))) if asked.watch else None
+    if lacks_pages:
+        reporter.line(lacks_pages)
     for line in said_of_missing(missing):
         reporter.sum_up(line)
     left = rounds_left(plan)
@@ -191,7 +192,7 @@ def run_held_play(asked: argparse.Namespace, referee: Referee) -> int:
     reporter.sum_up(f"{len(playing.results)} of {len(plan.matches)} matches have a lawful record")
     if reporter.fault:
         raise reporter.fault
-    return bool(missing) or lacks_pages or bool(left)
+    return bool(missing or lacks_pages or left)
 
 
 def run_table(asked: argparse.Namespace, referee: Referee) -> int:

@@ -1,8 +1,11 @@
 """The machines on which matches are played: which of them has room, and how a match is played there, by an ssh of its own."""
 
+import asyncio
+import contextlib
 import math
 import shlex
 import time
+from collections.abc import Callable
 
 from ggp_tools.competition.competition_file import Host
 
@@ -48,11 +51,13 @@ def remote_words(host: str, run_words: list[str]) -> list[str]:
 class Hosts:
     """Where matches are played. A host that was lost is left alone for a while, and after so many times in a row for good."""
 
-    def __init__(self, hosts: tuple[Host, ...], tries: int, wait: int, at_once: int) -> None:
+    def __init__(self, hosts: tuple[Host, ...], tries: int, wait: int, at_once: int, news: Callable[[], None] = lambda: None) -> None:
         self.room = {host.name: host.matches or at_once for host in hosts}
-        self.tries, self.wait = tries, wait
+        self.tries, self.wait, self.news = tries, wait, news
+        # It is set, and replaced by another one, when a host may have room that had none.
+        self.changed = asyncio.Event()
         self.open = dict.fromkeys(self.room, 0)
-        self.connecting = dict.fromkeys(self.room, 0)
+        self.connecting = {name: asyncio.Semaphore(CONNECTING) for name in self.room}
         self.failed = dict.fromkeys(self.room, 0)
         self.rested = dict.fromkeys(self.room, 0.0)
         # When each was lost the last time.
@@ -74,14 +79,30 @@ class Hosts:
         self.open[host] += 1
         return host
 
+    async def taken(self, lost: str) -> str | None:
+        """Waits for a host with room for a match that was lost on this one; none if all hosts are lost."""
+        while not self.are_all_lost():
+            now = time.monotonic()
+            if host := self.take(now, lost):
+                return host
+            with contextlib.suppress(TimeoutError):
+                async with asyncio.timeout_at(min((rested for rested in self.rested.values() if rested > now), default=None)):
+                    await self.changed.wait()
+        return None
+
+    def has_changed(self) -> None:
+        self.changed.set()
+        self.changed = asyncio.Event()
+        self.news()
+
     def leave(self, host: str) -> None:
         self.open[host] -= 1
-
-    def can_connect(self, host: str) -> bool:
-        return self.connecting[host] < CONNECTING
+        self.has_changed()
 
     def was_there(self, host: str) -> None:
-        self.failed[host] = 0
+        if self.failed[host]:
+            self.failed[host] = 0
+            self.has_changed()
 
     def was_lost(self, host: str, since: float) -> str:
         """Counts that a host was lost to a match that was begun there at this time, and says what follows. Several matches that were open
@@ -90,6 +111,7 @@ class Hosts:
             self.missed[host] = time.monotonic()
             self.failed[host] += 1
             self.rested[host] = self.missed[host] + self.wait
+            self.has_changed()
         return "no match goes there any more" if self.failed[host] >= self.tries else f"no match goes there for {self.wait} s"
 
     def are_all_lost(self) -> bool:

@@ -1,11 +1,12 @@
-"""A match from INFO to its files. It goes on in steps, and returns between them, so that many are played at once."""
+"""One match, from INFO to its files."""
 
+import asyncio
 import contextlib
-import dataclasses
 import pathlib
 import shutil
 import time
-from collections.abc import Generator
+from collections.abc import Callable
+from dataclasses import dataclass
 
 from ggp_tools.competition import described
 from ggp_tools.competition.children import Child, Limits, TimedChild
@@ -13,53 +14,50 @@ from ggp_tools.competition.files import PLAYERS, file_bytes, write_whole
 from ggp_tools.competition.hosts import CONNECTED, LOST, SILENCE, Hosts, remote_words
 from ggp_tools.competition.kept import fault_of_files, keep, most_of_record, size_of
 from ggp_tools.competition.plan import Plan
+from ggp_tools.competition.results import fault_of_record, read_record, result_of
 from ggp_tools.competition.schedule import Match
 from ggp_tools.competition.seats import Seats
-from ggp_tools.competition.timed_lines import LineReader
+from ggp_tools.moments import moment
 from ggp_tools.records.lengths import LONGEST_ACCOUNT, MOST_TURNS, longest_record
 from ggp_tools.referee import LAWFUL, NO_NAME, PROGRAM, Referee, is_no_answer, is_not_lawful, is_not_replayed
-from ggp_tools.competition.results import fault_of_record, read_record, result_of
-from ggp_tools.moments import moment
 from ggp_tools.reporting import Reporter
 
 # The referee ends INFO by itself after so many seconds, and soon after that it has said whether it was short of something itself.
 WHOLE, SOON = 10, 1
 THERE = ("available", "ready", "unknown")
-# So many bytes show whether a host was reached, and of a message the log has no more.
+# A referee on a host says at most so many bytes before the match, and of each message the log has at most so many.
 MOST_BEFORE, MOST_OF_MESSAGE = 1 << 20, 1 << 10
-# A match on a host is taken to be lost if nothing was heard of it for so many seconds beyond its longest clock.
+# A match on a host counts as lost if nothing was heard of it for so many seconds beyond its longest clock.
 MOST_SILENCE = 120
-# The players of a match that was lost with its host are given so many seconds for ABORT.
+# The players of a match that was lost with its host have so many seconds to answer ABORT.
 ABORT_SECONDS = 5
 
 
 def leave_players(room: pathlib.Path) -> None:
-    """Leaves of the room of a match that is not played any more what names its players, so that nobody takes it for one that is open."""
+    """Leaves only the file that names the players in the directory of a match that is not played any more: so the match does not look open."""
     with contextlib.suppress(OSError):
         for file in room.iterdir():
             if file.name != PLAYERS:
                 file.unlink()
 
 
-# What a match does until it has to wait, again and again.
-Steps = Generator[None, None, None]
-
-
-@dataclasses.dataclass
+@dataclass
 class Shared:
-    """What all open matches have in common. Without hosts they are played on this computer."""
+    """What all open matches have in common. Without hosts they are played on this computer. `has_left` is called when players or a host
+    are free again."""
 
     plan: Plan
     referee: Referee
     seats: Seats
     reporter: Reporter
-    reader: LineReader
     hosts: Hosts | None
+    may_begin: Callable[[Match], bool]
+    has_left: Callable[[], None]
 
 
 class OpenMatch:
-    """A match that is open. `stage` is asking, playing, checking or over; then there is a result, or a word why there is none, or
-    neither where the match is to be put back. Its host has room for it, where there are any."""
+    """A match that is open. `stage` is asking, playing or checking. In the end it has a result, or the reason why there is none. If it has
+    neither, it waits to be played later."""
 
     def __init__(self, shared: Shared, match: Match, host: str | None = None) -> None:
         self.shared, self.match, self.host = shared, match, host
@@ -67,34 +65,37 @@ class OpenMatch:
         self.referee = self.plan.judge(shared.referee, match.game)
         self.room = self.plan.folder.open / match.id
         self.places = [self.plan.competition.player(player).place() for player in match.players]
-        self.stage, self.children, self.seconds = "asking", [], 0.0
-        # Whether its ssh is being connected.
-        self.connects = False
-        # What plays it, or did so last.
-        self.played: TimedChild | None = None
-        # When its players sat down. Where one of them is missed, all matches that were open by then asked it in one try.
-        self.seated = time.monotonic()
+        self.stage, self.seconds = "asking", 0.0
+        # While its ssh is being connected it holds one of the connections of its host. Then it has reached the host.
+        self.connects, self.is_reached = False, False
+        # Whether a referee may still play it on a host, after it was ended here.
+        self.goes_on = False
+        # When its players sat down. All matches that were open when a player turned out to be missing asked it in one try.
+        self.seated, self.is_seated = time.monotonic(), True
         self.result, self.why = None, None
-        self.may_begin, self.is_broken, self.stops_game = True, False, False
-        self.steps = self.go()
+        self.is_broken, self.stops_game = False, False
 
-    def go(self) -> Steps:
-        """The steps of the match."""
-        self.room.mkdir(0o700, parents=True, exist_ok=True)
-        if not (yield from self.ask()) or not self.may_begin:
+    async def go(self) -> None:
+        """Plays the match. If it is ended before its end while it is at play, it is broken: its players must be sent ABORT."""
+        try:
+            self.room.mkdir(0o700, parents=True, exist_ok=True)
+            if await self.ask() and self.shared.may_begin(self.match) and (played := await self.play()):
+                self.leave()
+                self.stage = "checking"
+                await self.check(*played)
+        except BaseException:
+            self.is_broken = self.stage == "playing"
+            raise
+        finally:
             self.close()
-            return
-        played = yield from self.play()
-        self.leave()
-        self.stage = "checking"
-        if played:
-            yield from self.check(*played)
-        self.close()
 
     def leave(self) -> None:
-        """Has its players and its host go to other matches."""
-        self.seats.leave(self.match)
-        self.leave_host()
+        """Frees its players and its host for other matches."""
+        if self.is_seated:
+            self.is_seated = False
+            self.seats.leave(self.match)
+            self.leave_host()
+            self.shared.has_left()
 
     def leave_host(self) -> None:
         if self.host:
@@ -103,60 +104,43 @@ class OpenMatch:
         self.host = None
 
     def close(self) -> None:
-        """Ends the match, and removes its room unless its players have yet to be freed: it broke off, or did so in a `play` before, and
-        has not begun again since."""
-        is_abort_due = self.stage == "asking" and (self.room / PLAYERS).exists()
-        if self.stage == "asking":
-            self.leave()
-        self.stage = "over"
-        if is_abort_due:
+        """Removes its directory, unless its players have yet to be freed: it broke off now, or in a `play` before and has not begun again."""
+        if self.stage == "asking" and (self.room / PLAYERS).exists():
             leave_players(self.room)
         elif not self.is_broken:
             shutil.rmtree(self.room, ignore_errors=True)
 
-    def child(self, words: list[str], name: str, given: pathlib.Path | str = "/dev/null") -> Child:
-        self.children.append(Child(words, self.room, name, given))
-        return self.children[-1]
+    async def child(self, words: list[str], name: str, given: pathlib.Path | str = "/dev/null", seconds: float | None = None) -> Child:
+        """Runs a process to its end, or for so many seconds."""
+        child = Child(self.room, name)
+        await child.run(words, given, seconds)
+        return child
 
-    def is_on_host(self) -> bool:
-        """Returns whether an ssh has it played on a host. As long as it does, messages of the match may come to its players."""
-        return bool(self.host and self.played and not self.played.is_over())
-
-    def hang_up(self) -> None:
-        """Has its host end it, if that is reached: the watch there hears that nothing comes any more, and the ssh ends soon after it."""
-        if self.is_on_host():
-            self.played.hang_up()
-
-    def end_children(self) -> None:
-        for child in self.children:
-            child.end()
-
-    def ask(self) -> Generator[None, None, bool]:
+    async def ask(self) -> bool:
         """Asks each player whether it is free. Returns whether the match can begin."""
-        asked = [self.child(self.referee.info_words(place), f"info-{at}") for at, place in enumerate(self.places)]
-        seconds = self.plan.competition.info
-        until = time.monotonic() + (seconds if seconds < WHOLE else WHOLE + SOON)
-        left = dict(zip(self.match.players, asked))
-        while left:
-            for player in [player for player, child in left.items() if child.is_over() or time.monotonic() >= until]:
-                self.reporter.note(f"info {self.match.id} {player}: {self.outcome(left.pop(player))}")
-            yield
-        said, faults = [], []
-        for player, child in zip(self.match.players, asked):
-            is_silent = not child.is_over() or is_no_answer(child.status(), child.last_words())
-            said.append("silent" if is_silent else child.printed())
-            if not is_silent and child.status():
-                faults.append(f"{player} could not be asked: {child.last_words()}")
-            child.end()
-        if faults:
-            # They are faults of this computer, and tell nothing of a player.
-            self.why = faults[0]
+        async with asyncio.TaskGroup() as group:
+            asked = {player: group.create_task(self.info(at, player)) for at, player in enumerate(self.match.players)}
+        said, errors = {}, []
+        for player, child in ((player, task.result()) for player, task in asked.items()):
+            is_silent = child.status is None or is_no_answer(child.status, child.last_words())
+            said[player] = "silent" if is_silent else child.printed()
+            if child.status and not is_silent:
+                errors.append(f"{player} could not be asked: {child.last_words()}")
+        if errors:
+            # They are errors of this computer, and say nothing about a player.
+            self.why = errors[0]
             return False
-        return self.can_begin(dict(zip(self.match.players, said)))
+        return self.can_begin(said)
+
+    async def info(self, at: int, player: str) -> Child:
+        seconds = self.plan.competition.info
+        child = await self.child(self.referee.info_words(self.places[at]), f"info-{at}", seconds=seconds if seconds < WHOLE else WHOLE + SOON)
+        self.reporter.note(f"info {self.match.id} {player}: {self.outcome(child)}")
+        return child
 
     def can_begin(self, said: dict[str, str]) -> bool:
-        """Returns whether the match can begin by what its players have said. Else it is left with the reason, or put back. What becomes
-        of it is told once all of them are judged."""
+        """Returns whether the match can begin by what its players have said. If not, it is left with the reason, or put back. This is
+        reported once all of its players have been considered."""
         missed = {player: word for player, word in said.items() if word not in THERE}
         for player in said.keys() - missed.keys():
             self.seats.was_there(player)
@@ -173,57 +157,52 @@ class OpenMatch:
         return not left and not again
 
     def outcome(self, child: Child) -> str:
-        """Returns what came of an INFO. Who was refused, or lost the connection, is told from who let the seconds pass by the time alone."""
-        seconds = time.monotonic() - child.began
-        if not child.is_over():
-            return f"silent for {seconds:.1f} s"
-        if is_no_answer(child.status(), child.last_words()):
-            what = "its name is not known" if child.last_words() == NO_NAME else "refused" if seconds < WHOLE else "silent"
-            return f"{what}, {seconds:.1f} s"
-        return f"{child.last_words() if child.status() else child.printed()}, {seconds:.1f} s"
+        """Returns what came of an INFO. Only the time distinguishes a refused or lost connection from a player that let the seconds pass."""
+        if child.status is None:
+            return f"silent for {child.seconds:.1f} s"
+        if is_no_answer(child.status, child.last_words()):
+            what = "its name is not known" if child.last_words() == NO_NAME else "refused" if child.seconds < WHOLE else "silent"
+            return f"{what}, {child.seconds:.1f} s"
+        return f"{child.last_words() if child.status else child.printed()}, {child.seconds:.1f} s"
 
-    def play(self) -> Generator[None, None, tuple[pathlib.Path, bytes] | None]:
-        """Plays the match; where its host is lost, again on another one. Returns the file that the referee wrote, and the log of what it said
-        and when; none where it gives no record."""
-        competition = self.plan.competition
+    async def play(self) -> tuple[pathlib.Path, bytes] | None:
+        """Plays the match; if its host is lost, again on another one. Returns the file that the referee wrote, and the log of what it said
+        and when. If there is no record, it returns none, and the match is broken."""
         write_whole(self.room / PLAYERS, "".join(f"{place}\n" for place in self.places).encode())
         self.stage, log = "playing", b""
-        for times_left in reversed(range(competition.tries)):
-            host = self.host
-            child = yield from self.run()
-            self.seconds = time.monotonic() - child.began
+        for times_left in reversed(range(self.plan.competition.tries)):
+            host, child = self.host, await self.run()
+            self.seconds = child.seconds
             log += self.log_of(child, host)
-            if not child.status():
+            if not child.status:
                 return child.out, log + f"ended {moment()}\n".encode()
-            if not host or not child.passed and self.was_reached(child) and child.status() not in LOST:
-                if host and child.status() < 0:
-                    # The ssh was killed, and not the referee.
-                    yield from self.outlast()
+            if not host or not child.passed and self.is_reached and child.status not in LOST:
+                if host and child.status < 0:
+                    # The ssh was killed, and not the referee, which may go on until it notices that.
+                    await asyncio.sleep(SILENCE)
                 break
             log += f"lost {moment()} {child.last_words()}\n".encode("ascii", "replace")
-            if not (yield from self.move_on(child, times_left)):
+            if not await self.move_on(child, times_left):
                 break
         self.why, self.is_broken = self.why or child.last_words(self.is_word), True
         return None
 
-    def run(self) -> Generator[None, None, TimedChild]:
+    async def run(self) -> TimedChild:
         """Has the referee play the match, and returns its process once that is over."""
-        competition, match = self.plan.competition, self.match
+        competition, match, self.is_reached = self.plan.competition, self.match, False
         rules, player_rules = self.plan.folder.rules_of(match.game).absolute(), self.plan.player_rules_path(match.game)
         words = self.referee.run_words(rules, player_rules and player_rules.absolute(), match, competition.strikes, self.places)
         if self.host:
-            while not self.shared.hosts.can_connect(self.host):
-                yield
-            self.begin_connecting()
-            words = remote_words(self.host, words)
-        self.played = child = TimedChild(words, self.room, "played", self.shared.reader, self.limits() if self.host else None)
-        self.children.append(child)
-        if self.host:
-            yield from self.connect(child)
+            await self.shared.hosts.connecting[self.host].acquire()
+            self.connects, words = True, remote_words(self.host, words)
         else:
             self.reporter.begins(match)
-        while not child.is_over():
-            yield
+        child = TimedChild(self.room, "played", self.limits() if self.host else None, self.heard)
+        try:
+            await child.run(words)
+        finally:
+            self.goes_on = child.goes_on
+            self.end_connecting()
         return child
 
     def limits(self) -> Limits:
@@ -232,40 +211,19 @@ class OpenMatch:
         printed = longest_record(self.plan.rules[self.match.game].text) + LONGEST_ACCOUNT
         return Limits(printed, said, max(self.match.start, self.match.play) + MOST_SILENCE)
 
-    def connect(self, child: TimedChild) -> Generator[None, None, None]:
-        """Waits until a process plays the match on its host, or is over."""
-        is_reached = yield from self.hear(child, CONNECTED)
-        self.end_connecting()
-        if is_reached:
+    def heard(self, line: bytes) -> None:
+        """Takes a line that the referee has said. Only on a host does it matter."""
+        if self.host and not self.is_reached and line.endswith(CONNECTED.encode()):
+            self.is_reached = True
+            self.end_connecting()
             self.reporter.begins(self.match, self.host)
-        if (yield from self.hear(child, f" {self.match.id} role ")):
+        elif self.is_reached and f" {self.match.id} role ".encode() in b" " + line:
             self.shared.hosts.was_there(self.host)
-
-    def hear(self, child: TimedChild, text: str) -> Generator[None, None, bool]:
-        """Waits until a process has said a text, or is over. Returns whether it has."""
-        count = -1
-        while True:
-            is_over = child.is_over()
-            if child.lines.count != count:
-                count = child.lines.count
-                if text.encode() in file_bytes(child.said, MOST_BEFORE):
-                    return True
-            if is_over:
-                return False
-            yield
-
-    def begin_connecting(self) -> None:
-        self.connects = True
-        self.shared.hosts.connecting[self.host] += 1
 
     def end_connecting(self) -> None:
         if self.connects:
-            self.shared.hosts.connecting[self.host] -= 1
+            self.shared.hosts.connecting[self.host].release()
         self.connects = False
-
-    def was_reached(self, child: TimedChild) -> bool:
-        """Returns whether a process has reached its host. The shell there may say something before."""
-        return CONNECTED.encode() in file_bytes(child.said, MOST_BEFORE)
 
     def log_of(self, child: TimedChild, host: str | None) -> bytes:
         """Returns what a process that played the match has said, with the times, and when the match began. On a host it begins when that
@@ -273,45 +231,37 @@ class OpenMatch:
         timed = child.timed_bytes()
         if not host:
             return f"began {child.began_at}\n".encode() + timed
-        before, _, after = timed.partition(f" {CONNECTED}\n".encode())
-        if not after and not self.was_reached(child):
+        lines = timed.splitlines(keepends=True)
+        at = next((at for at, line in enumerate(lines) if line.endswith(f"{CONNECTED}\n".encode())), None)
+        if at is None:
             return timed
-        lines = before.splitlines(keepends=True)
-        return b"".join(lines[:-1]) + b"began %s\nhost %s\n" % (lines[-1], host.encode()) + after
+        began = b"began %s\nhost %s\n" % (lines[at].split(b" ")[0], host.encode())
+        return b"".join([*lines[:at], began, *lines[at + 1 :]])
 
-    def move_on(self, child: TimedChild, times_left: int) -> Generator[None, None, bool]:
+    async def move_on(self, child: TimedChild, times_left: int) -> bool:
         """Leaves a host that is lost. Returns whether the match has another one, on which it can begin."""
         hosts, lost = self.shared.hosts, self.host
         follows = hosts.was_lost(lost, child.began)
         self.reporter.line(f"lost {self.match.id} on {lost}: {child.last_words()}; {follows}")
         self.leave_host()
-        if self.was_reached(child):
-            yield from self.outlast()
-            yield from self.free_players()
-        while times_left and not hosts.are_all_lost():
-            if host := hosts.take(time.monotonic(), lost):
-                self.host = host
-                return True
-            yield
-        self.why = f"its host is lost: {child.last_words()}"
-        return False
+        if self.is_reached:
+            # The match may go on at a host that is not reached any more.
+            await asyncio.sleep(SILENCE)
+            await self.free_players()
+        self.host = await hosts.taken(lost) if times_left else None
+        if not self.host:
+            self.why = f"its host is lost: {child.last_words()}"
+        return bool(self.host)
 
-    def outlast(self) -> Steps:
-        """Waits as long as the match may go on at a host that is not reached any more."""
-        until = time.monotonic() + SILENCE
-        while time.monotonic() < until:
-            yield
+    async def free_players(self) -> None:
+        """Sends its players ABORT, since the match that they play in is lost."""
+        async with asyncio.TaskGroup() as group:
+            for at, player in enumerate(self.match.players):
+                group.create_task(self.free(at, player))
 
-    def free_players(self) -> Generator[None, None, None]:
-        """Sends its players ABORT, since the match that they sit in is lost."""
-        sent = [self.child(self.referee.abort_words(self.match.id, place), f"abort-{at}") for at, place in enumerate(self.places)]
-        until = time.monotonic() + ABORT_SECONDS
-        while time.monotonic() < until and not all(child.is_over() for child in sent):
-            yield
-        for player, child in zip(self.match.players, sent):
-            is_freed = child.is_over() and child.status() == 0
-            self.reporter.note(f"abort {self.match.id} {player}: {'answered' if is_freed else 'no answer'}")
-            child.end()
+    async def free(self, at: int, player: str) -> None:
+        child = await self.child(self.referee.abort_words(self.match.id, self.places[at]), f"abort-{at}", seconds=ABORT_SECONDS)
+        self.reporter.note(f"abort {self.match.id} {player}: {'answered' if child.status == 0 else 'no answer'}")
 
     def is_word(self, line: str) -> bool:
         """Returns whether a line of the referee's standard error says more than its log, which may be cut off."""
@@ -319,10 +269,10 @@ class OpenMatch:
             return not line.startswith((f"{self.match.id} role ", CONNECTED))
         return line.startswith(f"{PROGRAM}: ")
 
-    def check(self, played: pathlib.Path, log: bytes) -> Steps:
-        """Has the record verified and the account replayed, and only then puts the files of the match where they count. Where the
-        referee came to no verdict they are kept aside, since the match was played."""
-        text = self.plan.rules[self.match.game].text
+    async def check(self, played: pathlib.Path, log: bytes) -> None:
+        """Has the record verified and the account replayed, and only then puts the files of the match where they count. If the referee
+        comes to no verdict they are kept aside, since the match was played."""
+        text, rules = self.plan.rules[self.match.game].text, self.plan.folder.rules_of(self.match.game)
         with open(played, "rb") as file:
             record, account = file.readline(most_of_record(text, size_of(played)) + 2), file.read(LONGEST_ACCOUNT + 1)
         if fault := fault_of_files(record, account, text):
@@ -330,38 +280,42 @@ class OpenMatch:
             return
         for name, data in (("record", record), ("account", account)):
             (self.room / name).write_bytes(data)
-        rules = self.plan.folder.rules_of(self.match.game)
-        verified = self.child(self.referee.verify_words(rules), "verified", self.room / "record")
-        replayed = self.child(self.referee.replay_words(rules), "replayed", self.room / "account")
-        held, why_not = self.hold()
-        while not all(child.is_over() for child in (verified, replayed, *([held] if held else []))):
-            yield
-        is_lawful = verified.status() == 0 and file_bytes(verified.out, MOST_OF_MESSAGE) == f"{LAWFUL}\n".encode()
-        if not is_lawful and is_not_lawful(verified.status(), verified.last_words()):
-            self.why = verified.printed()
-        elif not is_lawful or replayed.status() and not is_not_replayed(replayed.status(), replayed.last_words()):
-            kept = keep(self.plan.folder, self.match.id, record, account, log, "unchecked")
-            self.why = f"it was played, but not checked, and is kept as {kept}: {(replayed if is_lawful else verified).last_words()}"
-        elif replayed.status() or file_bytes(replayed.out, MOST_OF_MESSAGE + len(record)).partition(b"\n")[2] != record:
-            self.why = "its account does not give its record again"
-        elif held and held.status() == described.DIFFERENT:
-            self.differ(held.printed(), record, account, log)
-        else:
-            if held and held.status():
-                why_not = held.printed().removeprefix(described.IS_NOT_FOLLOWED) or held.last_words()
-            self.count(read_record(record), record, account, log + (described.log_line(why_not) if held or why_not else b""))
+        async with asyncio.TaskGroup() as group:
+            verifying = group.create_task(self.child(self.referee.verify_words(rules), "verified", self.room / "record"))
+            replaying = group.create_task(self.child(self.referee.replay_words(rules), "replayed", self.room / "account"))
+            holding = group.create_task(self.hold())
+        # Files are written to the disk in a thread, so that other matches go on meanwhile.
+        await asyncio.to_thread(self.judge, (record, account, log), verifying.result(), replaying.result(), *holding.result())
 
-    def hold(self) -> tuple[Child | None, str | None]:
-        """Has the record held against the description of its game. Returns the process, or why there is none; neither where the game was
+    def judge(self, files: tuple[bytes, bytes, bytes], verified: Child, replayed: Child, held: Child | None, why_not: str | None) -> None:
+        """Decides by what the referee found whether the match counts, and keeps its files: record, account and log."""
+        record, account, log = files
+        is_lawful = verified.status == 0 and file_bytes(verified.out, MOST_OF_MESSAGE) == f"{LAWFUL}\n".encode()
+        if not is_lawful and is_not_lawful(verified.status, verified.last_words()):
+            self.why = verified.printed()
+        elif not is_lawful or replayed.status and not is_not_replayed(replayed.status, replayed.last_words()):
+            kept = keep(self.plan.folder, self.match.id, *files, "unchecked")
+            self.why = f"it was played, but not checked, and is kept as {kept}: {(replayed if is_lawful else verified).last_words()}"
+        elif replayed.status or file_bytes(replayed.out, MOST_OF_MESSAGE + len(record)).partition(b"\n")[2] != record:
+            self.why = "its account does not give its record again"
+        elif held and held.status == described.DIFFERENT:
+            self.differ(held.printed(), *files)
+        else:
+            if held and held.status:
+                why_not = held.printed().removeprefix(described.IS_NOT_FOLLOWED) or held.last_words()
+            self.count(record, account, log + (described.log_line(why_not) if held or why_not else b""))
+
+    async def hold(self) -> tuple[Child | None, str | None]:
+        """Has the record held against the description of its game. Returns the process, or why there is none; neither if the game was
         given as its rules."""
         game = next(candidate for candidate in self.plan.competition.games if candidate.name == self.match.game)
         self.description, why_not = described.description_of(self.plan, game)
         if self.description is None:
             return None, why_not
-        # Players of other matches may have the file changed meanwhile.
+        # The file itself may be changed meanwhile.
         copy = self.room / "description.kif"
         copy.write_bytes(self.description)
-        return self.child(described.words_of(copy), "held", self.room / "record"), None
+        return await self.child(described.words_of(copy), "held", self.room / "record"), None
 
     def differ(self, words: str, record: bytes, account: bytes, log: bytes) -> None:
         """Keeps a match that is not one of the description of its game, which ends the game: its rules are wrong."""
@@ -371,8 +325,9 @@ class OpenMatch:
         self.stops_game = True
         self.why = f"by the description of {self.match.game} it {words}; it is kept as {kept}; please report it, with {report}"
 
-    def count(self, read: dict, record: bytes, account: bytes, log: bytes) -> None:
+    def count(self, record: bytes, account: bytes, log: bytes) -> None:
         """Puts the files of a match that was found right where they count, if they are of this match."""
+        read = read_record(record)
         self.why = fault_of_record(read, self.match, self.plan.competition.strikes)
         if not self.why:
             keep(self.plan.folder, self.match.id, record, account, log)

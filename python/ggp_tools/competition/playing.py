@@ -1,18 +1,20 @@
 """Plays the matches of a competition that have no lawful record yet, many at once, each when its players are free."""
 
+import asyncio
 import collections
 import contextlib
 import errno
+import math
 import os
 import pathlib
 import resource
 import shutil
 import signal
 import time
-from collections.abc import Container, Iterable, Iterator
+from collections.abc import Callable, Container, Iterable, Iterator
 
 from ggp_tools.competition.aborts import send_aborts
-from ggp_tools.competition.children import UNSAID
+from ggp_tools.competition.children import UNSAID, watch_by_descriptors
 from ggp_tools.competition.competition_file import is_place
 from ggp_tools.competition.files import PLAYERS, Folder, Refused, file_bytes
 from ggp_tools.competition.hosts import Hosts
@@ -22,37 +24,38 @@ from ggp_tools.competition.plan import Plan, plan_next_round, refuse_addresses, 
 from ggp_tools.competition.schedule import Match
 from ggp_tools.competition.seats import Seats
 from ggp_tools.competition.time_left import TimeLeft
-from ggp_tools.competition.timed_lines import LineReader
 from ggp_tools.referee import Referee
-from ggp_tools.reporting import Reporter
+from ggp_tools.reporting import REDRAWN, Reporter
 
-REST = 0.02
-# Who ends open matches does not wait longer than so many seconds for their hosts to end them, then for their players to answer ABORT.
-HANG_UP_SECONDS, ABORT_SECONDS = 3, 3
-# So many open files are enough for as many matches at once as may be.
-DESCRIPTORS = 4_096
-NOT_BEGUN = "it was not begun"
+# The players of matches that are ended have so many seconds to answer ABORT.
+ABORT_SECONDS = 3
+# So many open files are enough for as many matches at once as there may be.
+DESCRIPTORS = 16_384
+NOT_BEGUN, ENDED = "it was not begun", "it was ended before its end"
 # The names and addresses of a match's players have fewer bytes.
 MOST_OF_PLACES = 1 << 20
-# So many matches that are missing for one reason have a line each; of more the number is told.
+# Up to so many matches that are missing for one reason have a line each. Of more only the number is reported.
 MOST_LINES = 10
-# What counts as how many interrupts: the first has no more matches begin, the second ends those that are open.
+# How many interrupts a signal counts as: after the first no more matches begin, the second ends those that are open.
 INTERRUPTS = {signal.SIGINT: 1, signal.SIGTERM: 2, signal.SIGHUP: 2}
 
 
 class Playing:
-    """The matches that wait, those that are open, and what came of the others."""
+    """The matches that wait, those that are open, and what came of the others. `watch` gets the results now and then, if it is given."""
 
     def __init__(self, plan: Plan, referee: Referee, seats: Seats, reporter: Reporter, at_once: int) -> None:
         self.plan, self.referee, self.seats, self.reporter, self.at_once = plan, referee, seats, reporter, at_once
         competition = plan.competition
-        self.hosts = Hosts(competition.hosts, competition.tries, competition.wait, at_once) if competition.hosts else None
-        self.shared = Shared(plan, referee, seats, reporter, LineReader(), self.hosts)
-        self.results, self.left, self.open = {}, {}, []
+        # `news` is set when matches may begin that could not before, or there is an interrupt; `ends` when there is another result.
+        self.news, self.ends = asyncio.Event(), asyncio.Event()
+        self.hosts = Hosts(competition.hosts, competition.tries, competition.wait, at_once, self.news.set) if competition.hosts else None
+        self.shared = Shared(plan, referee, seats, reporter, self.hosts, self.may_still_begin, self.news.set)
+        self.results, self.left, self.stopped = {}, {}, {}
+        self.open: dict[OpenMatch, asyncio.Task] = {}
         self.waiting = collections.deque()
-        self.interrupts, self.is_full, self.stopped = 0, False, {}
+        self.interrupts, self.is_full, self.looked = 0, False, 0.0
         self.time_left = TimeLeft(competition)
-        self.ended = lambda result: None
+        self.watch: Callable[[dict], str | None] | None = None
 
     def wait(self, match: Match) -> None:
         """Has a match wait behind the others."""
@@ -63,49 +66,62 @@ class Playing:
         """Returns whether further matches may begin."""
         return not self.interrupts and not self.is_full and not (self.hosts and self.hosts.are_all_lost())
 
-    def begin(self) -> None:
+    def may_still_begin(self, match: Match) -> bool:
+        """Returns whether a match may begin whose players are free."""
+        return not self.interrupts and not self.is_full and match.game not in self.stopped
+
+    def may_go_on(self) -> bool:
+        """Returns whether another round may begin: nothing has hindered the matches before."""
+        return not (self.interrupts or self.is_full or self.reporter.fault)
+
+    def begin(self, group: asyncio.TaskGroup) -> None:
         """Opens matches as long as fewer than may be are at play and one can begin."""
-        at_play = sum(open_match.stage in ("asking", "playing") for open_match in self.open)
+        self.looked, at_play = time.monotonic(), sum(open_match.is_seated for open_match in self.open)
         while at_play < self.at_once:
-            host = self.hosts.take(time.monotonic()) if self.hosts else None
-            if self.hosts and not host:
-                return
-            match = self.seats.next_match(self.waiting, time.monotonic())
+            host = self.hosts.take(self.looked) if self.hosts else None
+            match = self.seats.next_match(self.waiting, self.looked) if host or not self.hosts else None
             if not match:
                 if host:
                     self.hosts.leave(host)
                 return
             self.time_left.add(match, -1)
-            self.open.append(OpenMatch(self.shared, match, host))
+            open_match = OpenMatch(self.shared, match, host)
+            self.open[open_match] = group.create_task(self.hold(open_match))
             at_play += 1
 
-    def step(self, open_match: OpenMatch) -> None:
-        """Has an open match go on. Where a file can't be written the match is lost, and no further one begins."""
+    async def hold(self, open_match: OpenMatch) -> None:
+        """Plays a match, and settles what comes of it."""
         try:
-            next(open_match.steps, None)
-        except OSError as why:
-            self.hang_up([open_match])
-            self.lose(open_match, f"{why.filename or 'its files'}: {os.strerror(why.errno or errno.EIO)}")
-            self.is_full = True
-        if open_match.stage != "over":
-            return
-        if open_match.is_broken:
-            abort_matches(self.referee, {open_match.match.id: open_match.places}, self.plan.folder, self.reporter)
+            try:
+                await open_match.go()
+            except* OSError as errors:
+                why = next(leaves(errors))
+                open_match.why, self.is_full = f"{why.filename or 'its files'}: {os.strerror(why.errno or errno.EIO)}", True
+            if open_match.is_broken:
+                await abort_matches(self.referee, {open_match.match.id: open_match.places}, self.plan.folder, self.reporter)
+            self.settle(open_match)
+        finally:
+            open_match.leave()
+            del self.open[open_match]
+            self.news.set()
+
+    def settle(self, open_match: OpenMatch) -> None:
+        match = open_match.match
         if open_match.result:
-            self.results[open_match.match.id] = open_match.result
-            self.time_left.ended(open_match.match, time.monotonic() - open_match.seated)
+            self.results[match.id] = open_match.result
+            self.time_left.ended(match, time.monotonic() - open_match.seated)
             self.reporter.ends(open_match.result, open_match.seconds)
-            self.ended(open_match.result)
+            self.ends.set()
         elif open_match.why:
-            self.is_full |= says_full(open_match.why, open_match.is_broken and self.plan.competition.hosts)
-            self.left[open_match.match.id] = open_match.why
-            self.reporter.line(f"no record {open_match.match.id}: {open_match.why}")
-            if open_match.stops_game and open_match.match.game not in self.stopped:
-                self.stop_game(open_match.match)
-        elif open_match.match.game in self.stopped:
-            self.left[open_match.match.id] = self.stopped[open_match.match.game]
+            self.is_full |= says_full(open_match.why, open_match.is_broken and bool(self.hosts))
+            self.left[match.id] = open_match.why
+            self.reporter.line(f"no record {match.id}: {open_match.why}")
+            if open_match.stops_game and match.game not in self.stopped:
+                self.stop_game(match)
+        elif match.game in self.stopped:
+            self.left[match.id] = self.stopped[match.game]
         else:
-            self.wait(open_match.match)
+            self.wait(match)
 
     def stop_game(self, match: Match) -> None:
         """Has no further match begin of a game whose rules are wrong. Those that are open are played to their ends."""
@@ -117,44 +133,94 @@ class Playing:
         self.waiting = collections.deque(waiting for waiting in self.waiting if waiting.game != match.game)
         self.reporter.line(f"stopped {self.stopped[match.game]}; {len(others)} matches of it do not begin")
 
-    def lose(self, open_match: OpenMatch, why: str | None) -> None:
-        """Ends a match before its end."""
-        open_match.end_children()
-        open_match.is_broken = open_match.stage == "playing"
-        if open_match.stage in ("asking", "playing"):
-            open_match.leave()
-        open_match.stage, open_match.why = "over", why
-
-    def hang_up(self, open_matches: list[OpenMatch]) -> None:
-        """Has the hosts end these matches, all at once, and waits for that, but not long: a match whose ssh is killed goes on there for a
-        while, and its players would hear of it after ABORT."""
-        for open_match in open_matches:
-            open_match.hang_up()
-        until = time.monotonic() + HANG_UP_SECONDS
-        while time.monotonic() < until and any(open_match.is_on_host() for open_match in open_matches):
-            time.sleep(REST)
-
-    def go(self) -> None:
-        """Goes on until no match is open, and none waits or may begin."""
-        told = 0
-        while self.open or self.waiting and self.may_begin():
-            if self.reporter.fault and not self.interrupts:
-                # No more matches begin whose lines nobody gets; the open ones are played to their ends.
-                self.interrupts = 1
-            self.look_at_journal()
-            if self.may_begin():
-                self.begin()
-            for open_match in self.open:
-                open_match.may_begin = not self.interrupts and not self.is_full and open_match.match.game not in self.stopped
-                self.step(open_match)
-            if self.interrupts > told:
-                told = self.interrupts
-                self.say_interrupt()
-            self.open = [open_match for open_match in self.open if open_match.stage != "over"]
-            self.reporter.progress(len(self.results), len(self.open), len(self.waiting), self.seconds_left)
-            time.sleep(REST)
+    async def go(self) -> None:
+        """Plays until no match is open, and none waits or may begin."""
+        async with asyncio.TaskGroup() as group:
+            shown = [group.create_task(self.show_progress()), group.create_task(self.show_results())]
+            obeyed = 0
+            while self.open or self.waiting and self.may_begin():
+                if self.reporter.fault and not self.interrupts:
+                    # No more matches begin whose lines nobody gets; the open ones are played to their ends.
+                    self.interrupts = 1
+                self.look_at_journal()
+                if self.may_begin():
+                    self.begin(group)
+                if self.interrupts > obeyed:
+                    obeyed = self.interrupts
+                    await self.obey_interrupt()
+                elif self.open or self.waiting and self.may_begin():
+                    await self.hear_news()
+            for task in shown:
+                task.cancel()
         self.look_at_journal()
         self.reporter.clear()
+
+    async def hear_news(self) -> None:
+        """Waits until something has happened that lets matches begin or end, or until a player or a host has rested."""
+        moments = [self.seats.idle_until, *(self.hosts.rested.values() if self.hosts else ())] if self.waiting and self.may_begin() else []
+        until = min((moment for moment in moments if self.looked < moment < math.inf), default=None)
+        with contextlib.suppress(TimeoutError):
+            async with asyncio.timeout_at(until):
+                await self.news.wait()
+        self.news.clear()
+
+    async def show_progress(self) -> None:
+        while self.reporter.is_shown:
+            self.reporter.progress(len(self.results), len(self.open), len(self.waiting), self.seconds_left)
+            await asyncio.sleep(REDRAWN)
+
+    async def show_results(self) -> None:
+        """Passes on the results when there are more, in a thread: matches go on meanwhile."""
+        while self.watch:
+            await self.ends.wait()
+            self.ends.clear()
+            if why := await asyncio.to_thread(self.watch, dict(self.results)):
+                self.reporter.line(why)
+
+    def look_at_journal(self) -> None:
+        """Has no further match begin if nothing can be added to the journal."""
+        if (fault := self.reporter.journal.fault) and not self.is_full:
+            self.is_full = True
+            self.reporter.line(f"{fault.filename} is not written, and no more matches begin: {fault.strerror}")
+
+    def seconds_left(self) -> float | None:
+        """Returns how many seconds the rest takes; none if that is not known yet."""
+        now = time.monotonic()
+        at_once = min(self.at_once, self.hosts.all_room()) if self.hosts else self.at_once
+        return self.time_left.left([(open_match.match, now - open_match.seated) for open_match in self.open], max(at_once, 1))
+
+    def interrupt(self, count: int) -> None:
+        self.interrupts += count
+        self.news.set()
+
+    async def obey_interrupt(self) -> None:
+        if self.interrupts == 1:
+            at_play = sum(open_match.stage == "playing" for open_match in self.open)
+            self.reporter.line(f"no more matches begin; {at_play} are played to their ends, or ended by one more Ctrl-C")
+        else:
+            await self.end_open_matches()
+
+    async def end_open_matches(self) -> None:
+        """Ends the matches whose players are asked or play, and sends those that play ABORT. Matches that are being checked go on."""
+        ended = {open_match: task for open_match, task in self.open.items() if open_match.stage in ("asking", "playing")}
+        broken = [open_match for open_match in ended if open_match.stage == "playing"]
+        for task in ended.values():
+            task.cancel()
+        await asyncio.gather(*ended.values(), return_exceptions=True)
+        for open_match in broken:
+            self.left.setdefault(open_match.match.id, open_match.why or ENDED)
+        going_on = {open_match.match.id for open_match in broken if open_match.goes_on}
+        places = {open_match.match.id: open_match.places for open_match in broken}
+        await abort_matches(self.referee, places, self.plan.folder, self.reporter, ABORT_SECONDS, going_on)
+
+    async def play_rounds(self) -> None:
+        """Plays the matches that wait, and round after round those that follow from them."""
+        with interrupts_counted(self):
+            await self.go()
+            while self.may_go_on() and (matches := plan_next_round(self.plan, self.results)):
+                self.reporter.line(round_words(self.plan, matches))
+                self.add(matches)
+                await self.go()
 
     def add(self, matches: Iterable[Match]) -> None:
         """Lets further matches wait."""
@@ -162,60 +228,27 @@ class Playing:
             self.wait(match)
         self.seats.look_again()
 
-    def may_go_on(self) -> bool:
-        """Returns whether further matches may begin: nothing has hindered those before."""
-        return not (self.interrupts or self.is_full or self.reporter.fault)
 
-    def look_at_journal(self) -> None:
-        """Has no further match begin where nothing can be added to the journal."""
-        if (fault := self.reporter.journal.fault) and not self.is_full:
-            self.is_full = True
-            self.reporter.line(f"{fault.filename} is not written, and no more matches begin: {fault.strerror}")
-
-    def seconds_left(self) -> float | None:
-        """Returns how many seconds the rest takes; none where that is not known yet."""
-        now = time.monotonic()
-        at_once = min(self.at_once, self.hosts.all_room()) if self.hosts else self.at_once
-        return self.time_left.left([(open_match.match, now - open_match.seated) for open_match in self.open], max(at_once, 1))
-
-    def say_interrupt(self) -> None:
-        if self.interrupts == 1:
-            at_play = sum(open_match.stage == "playing" for open_match in self.open)
-            self.reporter.line(f"no more matches begin; {at_play} are played to their ends, or ended by one more Ctrl-C")
-        else:
-            self.end_open_matches()
-
-    def end_open_matches(self) -> None:
-        """Ends the matches that are at play, and tells their players. Those that are being checked go on."""
-        self.hang_up(self.open)
-        going_on = {open_match.match.id for open_match in self.open if open_match.is_on_host()}
-        places = {}
-        for open_match in self.open:
-            if open_match.stage == "playing":
-                places[open_match.match.id] = open_match.places
-                self.left[open_match.match.id] = "it was ended before its end"
-            if open_match.stage == "asking":
-                open_match.end_children()
-                open_match.close()
-            elif open_match.stage == "playing":
-                self.lose(open_match, None)
-        abort_matches(self.referee, places, self.plan.folder, self.reporter, ABORT_SECONDS, going_on)
+def leaves(errors: BaseExceptionGroup) -> Iterator[BaseException]:
+    """Gives the exceptions that a group consists of."""
+    for error in errors.exceptions:
+        yield from leaves(error) if isinstance(error, BaseExceptionGroup) else (error,)
 
 
-def says_full(why: str, is_on_host: object) -> bool:
+def says_full(why: str, is_on_host: bool) -> bool:
     """Returns whether a match has no record since the disk is full, which the referee may be the first to see. It says so with status 1,
     or can't write that either. On a host that status may have other reasons."""
     return why.endswith("write fault") or not is_on_host and why.endswith(UNSAID.format(1))
 
 
-def abort_matches(
+async def abort_matches(
     referee: Referee, places: dict[str, list[str]], folder: Folder, reporter: Reporter, seconds: float | None = None, going_on: Container[str] = ()
 ) -> None:
-    """Sends the players of these matches ABORT, within so many seconds where they are given. The room of a match is kept where one does not
-    answer, or where the match may be going on at a host, so that it is sent again."""
+    """Sends the players of these matches ABORT, within so many seconds if they are given. The directory of a match is kept if one does not
+    answer, or if the match may be going on at a host, so that it is sent again."""
     for match in places:
         leave_players(folder.open / match)
-    silent = send_aborts(referee, places, seconds)
+    silent = await send_aborts(referee, places, seconds)
     for match, found in places.items():
         reporter.line(f"abort {match}: {', '.join(found)}")
         if match in silent:
@@ -225,7 +258,7 @@ def abort_matches(
 
 
 def places_in(room: pathlib.Path) -> list[str]:
-    """Returns the players of a match that was open; none where nothing in its room names them."""
+    """Returns the players of a match that was open; none if nothing in its directory names them."""
     try:
         found = file_bytes(room / PLAYERS, MOST_OF_PLACES).decode("ascii").split()
     except (OSError, ValueError):
@@ -234,7 +267,7 @@ def places_in(room: pathlib.Path) -> list[str]:
 
 
 def rooms(plan: Plan) -> list[pathlib.Path]:
-    """Returns the folders of matches that were open, of this plan or of one before it, and not what else stands beside them."""
+    """Returns the directories of matches that were open, of this plan or of one before it, and nothing else that is beside them."""
     names = {match.id for match in plan.matches}
     found = (room for room in sorted(plan.folder.open.iterdir()) if room.is_dir() and not room.is_symlink())
     return [room for room in found if room.name in names or places_in(room)]
@@ -249,7 +282,8 @@ def clear_open_rooms(playing: Playing) -> None:
             shutil.rmtree(room)
         else:
             places[room.name] = found
-    abort_matches(playing.referee, places, playing.plan.folder, playing.reporter)
+    if places:
+        asyncio.run(abort_matches(playing.referee, places, playing.plan.folder, playing.reporter))
 
 
 def follows(again: str, words: str) -> str:
@@ -270,7 +304,7 @@ def set_all_aside(playing: Playing, faults: dict[str, str]) -> None:
 
 
 def prepared(playing: Playing) -> None:
-    """Looks at what is there already, frees players of matches that were lost, and lets the others wait."""
+    """Reads what is there already, frees players of matches that were lost, and lets the other matches wait."""
     plan, folder, reporter = playing.plan, playing.plan.folder, playing.reporter
     folder.must_be_text()
     refuse_addresses(folder, plan.competition)
@@ -284,7 +318,7 @@ def prepared(playing: Playing) -> None:
         advice = f"move what is of no match out of {folder.records}, and play again"
         raise Refused(f"{folder.records / found[0]} is of no match of the schedule{more}", advice)
     if found := sum(bool(places_in(room)) and not folder.record(room.name).exists() for room in rooms(plan)):
-        # Records take a while to look at, and players that do not answer take longer.
+        # Records take a while to check, and players that do not answer take longer.
         reporter.line(f"open {found} matches, when a play before this one was ended; their players are sent ABORT")
     reporter.draw("looking at the records")
     playing.results, faults, misfits = look_at_records(plan, playing.referee)
@@ -301,21 +335,19 @@ def prepared(playing: Playing) -> None:
 @contextlib.contextmanager
 def interrupts_counted(playing: Playing) -> Iterator[None]:
     """Has signals end no open match without an ABORT. A hang-up that is ignored, as under nohup, stays so."""
-
-    def interrupted(number: int, _: object) -> None:
-        playing.interrupts += INTERRUPTS[number]
-
+    loop = asyncio.get_running_loop()
     caught = [number for number in INTERRUPTS if number != signal.SIGHUP or signal.getsignal(number) != signal.SIG_IGN]
-    before = {number: signal.signal(number, interrupted) for number in caught}
+    for number in caught:
+        loop.add_signal_handler(number, playing.interrupt, INTERRUPTS[number])
     try:
         yield
     finally:
-        for number, handler in before.items():
-            signal.signal(number, handler)
+        for number in caught:
+            loop.remove_signal_handler(number)
 
 
 def allow_descriptors() -> None:
-    """Has this process open more files than a shell mostly lets it: each open match takes up to three."""
+    """Has this process open more files than a shell mostly lets it: an open match takes several."""
     soft, hard = resource.getrlimit(resource.RLIMIT_NOFILE)
     wanted = DESCRIPTORS if hard == resource.RLIM_INFINITY else min(hard, DESCRIPTORS)
     if soft != resource.RLIM_INFINITY and soft < wanted:
@@ -325,13 +357,9 @@ def allow_descriptors() -> None:
 def play(playing: Playing) -> dict[str, str]:
     """Plays, in a folder that is held. Returns for each match that has no lawful record why."""
     allow_descriptors()
+    watch_by_descriptors()
     prepared(playing)
-    with interrupts_counted(playing):
-        playing.go()
-        while playing.may_go_on() and (matches := plan_next_round(playing.plan, playing.results)):
-            playing.reporter.line(round_words(playing.plan, matches))
-            playing.add(matches)
-            playing.go()
+    asyncio.run(playing.play_rounds())
     missing = [planned for planned in playing.plan.matches if planned.id not in playing.results]
     return {planned.id: playing.left.get(planned.id) or why_missing(planned) for planned in missing}
 
@@ -342,7 +370,7 @@ def why_missing(match: Match) -> str:
 
 
 def said_of_missing(missing: dict[str, str]) -> Iterator[str]:
-    """Gives lines that say which matches are missing, and why: the number alone where many are for one reason, or were not begun."""
+    """Gives lines that say which matches are missing, and why: only their number if many are missing for one reason."""
     by_reason: dict[str, list[str]] = {}
     for match, why in missing.items():
         by_reason.setdefault(why, []).append(match)
