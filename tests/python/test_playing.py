@@ -311,6 +311,14 @@ class Going(WithMatches):
         self.assertEqual({standing.host for standing in Standing.begun}, {"near", "far"})
         self.assertIsNotNone(self.playing.seconds_left())
 
+    def test_a_host_with_room_does_not_keep_play_busy_while_no_player_is_free(self):
+        self.begin(hosts=(Host("near", 9),))
+        begun, begin = [], self.playing.begin
+        self.playing.begin = lambda group: begun.append(1) or begin(group)
+        Standing.laid_down = {match.id: [*["playing"] * 99, won] for match in self.plan.matches}
+        self.go()
+        self.assertLess(len(begun), 4 * len(self.plan.matches))
+
     def test_if_all_hosts_are_lost_no_match_begins(self):
         self.begin("tries = 1\n", hosts=(Host("near", 9),))
         self.playing.hosts.failed["near"] = 1

@@ -68,15 +68,17 @@ class Hosts:
         room = 1 if self.failed[host] else self.room[host]
         return self.open[host] < room and self.failed[host] < self.tries and self.rested[host] <= now
 
-    def take(self, now: float, lost: str | None = None) -> str | None:
-        """Returns a host with room, that of which the smallest part is taken, and takes room for a match there; none where none has room. A
-        match that was lost on a host goes to another one where it can."""
+    def with_room(self, now: float, lost: str | None = None) -> str | None:
+        """Returns the host with room of which the smallest part is taken, none if none has room. A match that was lost on a host goes to
+        another one if it can."""
         found = [host for host in self.room if self.has_room(host, now)]
         found = [host for host in found if host != lost] or found
-        if not found:
-            return None
-        host = min(found, key=lambda host: self.open[host] / self.room[host])
-        self.open[host] += 1
+        return min(found, key=lambda host: self.open[host] / self.room[host], default=None)
+
+    def take(self, now: float, lost: str | None = None) -> str | None:
+        """Takes room for a match on a host, which it returns; none if none has room."""
+        if host := self.with_room(now, lost):
+            self.open[host] += 1
         return host
 
     async def taken(self, lost: str) -> str | None:

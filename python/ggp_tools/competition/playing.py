@@ -77,15 +77,12 @@ class Playing:
     def begin(self, group: asyncio.TaskGroup) -> None:
         """Opens matches as long as fewer than may be are at play and one can begin."""
         self.looked, at_play = time.monotonic(), sum(open_match.is_seated for open_match in self.open)
-        while at_play < self.at_once:
-            host = self.hosts.take(self.looked) if self.hosts else None
-            match = self.seats.next_match(self.waiting, self.looked) if host or not self.hosts else None
+        while at_play < self.at_once and (not self.hosts or self.hosts.with_room(self.looked)):
+            match = self.seats.next_match(self.waiting, self.looked)
             if not match:
-                if host:
-                    self.hosts.leave(host)
                 return
             self.time_left.add(match, -1)
-            open_match = OpenMatch(self.shared, match, host)
+            open_match = OpenMatch(self.shared, match, self.hosts and self.hosts.take(self.looked))
             self.open[open_match] = group.create_task(self.hold(open_match))
             at_play += 1
 
