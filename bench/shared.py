@@ -1,8 +1,6 @@
 """What the measuring scripts share."""
 import argparse
 import contextlib
-import importlib.machinery
-import importlib.util
 import os
 import pathlib
 import re
@@ -12,18 +10,9 @@ import socket
 import subprocess
 import sys
 import tempfile
-import types
 from collections.abc import Iterator
 
 TOP = pathlib.Path(__file__).resolve().parent.parent
-
-
-def script(name: str) -> types.ModuleType:
-    """Returns another measuring script as a module."""
-    loader = importlib.machinery.SourceFileLoader(name, str(TOP / "bench" / name))
-    module = importlib.util.module_from_spec(importlib.util.spec_from_loader(name, loader))
-    loader.exec_module(module)
-    return module
 
 
 def program_there(path: str) -> str:
