@@ -1,11 +1,12 @@
-"""The live pages of a competition, as they are at this moment: each is made when somebody looks at it, and again where its data changed."""
+"""The live pages of a competition, as they are at this moment: each is made when somebody opens it, and again if its data has changed. One
+thread does all that changes something here."""
 
 import contextlib
 import re
 import sys
-import threading
 import time
-from collections import OrderedDict, deque
+import typing
+from collections import OrderedDict
 from collections.abc import Callable
 from dataclasses import dataclass, field
 
@@ -23,12 +24,20 @@ from ggp_tools.competition.table import Table, tables_of
 from ggp_tools.competition.table_text import in_order
 from ggp_tools.ground_games import Game
 from ggp_tools.kif import expressions
+from ggp_tools.records.show import NoRecord
 from ggp_tools.referee import NoReferee, Unchecked
+from ggp_tools.templating import page
+
+if typing.TYPE_CHECKING:
+    from markupsafe import Markup
 
 # The tables are computed anew for at most so small a part of the time, and boards are followed for at most so many seconds in a look.
 SHARE, FOLLOW = 10, 0.25
 # A page that nobody looks at any more is kept for a while, and of all pages so many at most; of a page so many changes.
 IDLE, MOST_PAGES, MOST_EVENTS = 30.0, 200, 60
+# Of the pages of matches that are over so many bytes are kept. A browser without a script loads a page again after so many seconds.
+MOST_KEPT, RELOAD = 64 << 20, 10
+RELOADED = b'data: {"reload": true}\n\n'
 NAME = "[A-Za-z0-9_.-]+"
 PATH = re.compile(rf"/(?:(index|matches(?:-[1-9][0-9]{{0,5}})?)|(matches|games)/({NAME})|players/player-({NAME}))\.html")
 
@@ -59,36 +68,43 @@ class Followed:
     """How far a match was followed: its state as HTML, after so many turns, and the last turns."""
 
     version: int
-    state: str
+    state: "Markup"
     turn: int
     turns: tuple[Turn, ...]
 
 
 @dataclass
 class OpenPage:
-    """A page that somebody looks at, or did a moment ago. `stamp` is what it was made of."""
+    """A page that somebody has open, or had a moment ago. `stamp` is what it was made of. The last changes are in `events`, each with the
+    version of the page that it leads to; they are replaced as a whole, so that another thread may read them."""
 
     title: str
     parts: PageParts
     stamp: tuple
-    version: int = 0
-    events: deque[tuple[int, bytes]] = field(default_factory=lambda: deque(maxlen=MOST_EVENTS))
+    events: tuple[tuple[int, bytes], ...] = ((0, b""),)
     viewers: int = 0
     touched: float = 0.0
     is_final: bool = False
 
-    def since(self, version: int) -> list[bytes] | None:
-        """Returns the changes since a version; none where they are known no more."""
-        if version > self.version or self.version - version > len(self.events):
-            return None
-        return [text for number, text in self.events if number > version]
+    @property
+    def version(self) -> int:
+        return self.events[-1][0]
+
+    def news(self, version: int) -> tuple[list[bytes], int, bool]:
+        """Returns the changes since a version, the version that they lead to, and whether nothing more will change. If these changes are
+        not known any more, the page must be loaded again."""
+        is_final, events = self.is_final, self.events
+        if is_final or not events[0][0] <= version <= events[-1][0]:
+            return [RELOADED], events[-1][0], True
+        return [text for number, text in events if number > version], events[-1][0], False
 
 
 class LiveSite:
-    """The pages, and the matches behind them. One thread looks at the folder; others ask for pages, one at a time."""
+    """The pages, and the matches that they show."""
 
     def __init__(self, plan: Plan, read_plan: Callable[[], Plan], stamp: tuple | None = None, delay: float = 0.0) -> None:
-        self.read_plan, self.changed, self.delay, self.reader = read_plan, threading.Condition(), delay, None
+        self.read_plan, self.delay, self.reader = read_plan, delay, None
+        self.kept: OrderedDict[str, tuple[Result, bytes]] = OrderedDict()
         # Versions of pages of another run, or of another plan, are none of this one's.
         self.token = f"{time.time_ns():x}"
         self.pages: OrderedDict[str, OpenPage] = OrderedDict()
@@ -113,36 +129,31 @@ class LiveSite:
     # ---- looking at the folder
 
     def look(self) -> None:
-        """Reads what has come, and tells those who look at a page of which something has changed."""
-        with self.changed:
-            self.look_at_plan()
-            self.reader.look()
-            self.count_results()
-            wanted = self.wanted_boards()
-        followed = self.follow(wanted)
-        with self.changed:
-            self.followed |= followed
-            self.drop_idle_pages()
+        """Reads what has come, and renews the pages that somebody has open."""
+        self.look_at_plan()
+        self.reader.look()
+        self.count_results()
+        self.follow(self.wanted_boards())
+        self.drop_idle_pages()
+        self.renew_pages()
+        if self.fault:
+            self.reader.version, self.fault = self.reader.version + 1, ""
             self.renew_pages()
-            if self.fault:
-                self.reader.version, self.fault = self.reader.version + 1, ""
-                self.renew_pages()
 
     def fail(self, why: Exception) -> None:
         """Says on the pages that a look has failed. The next look may do better; what is there already stays as it is."""
-        with self.changed:
-            self.fault = f"these pages have a fault, and may be behind: {why!r}"
-            self.reader.version += 1
-            with contextlib.suppress(Exception):
-                self.renew_pages()
+        self.fault = f"these pages have a fault, and may be behind: {why!r}"
+        self.reader.version += 1
+        with contextlib.suppress(Exception):
+            self.renew_pages()
 
     def renew_pages(self) -> None:
-        """Tells those who look at a page of which something has changed. One that can't be made holds up no other."""
+        """Renews the pages that somebody has open. One that can't be made holds up no other."""
         faults = []
         for path, found in self.pages.items():
             try:
-                if found.viewers and self.renew(path, found):
-                    self.changed.notify_all()
+                if found.viewers:
+                    self.renew(path, found)
             except Exception as why:
                 found.stamp = ()
                 faults.append(why)
@@ -197,10 +208,9 @@ class LiveSite:
         self.rows = {name: found for name, found in self.rows.items() if name in self.reader.open}
         return [self.reader.open[name] for name in names]
 
-    def follow(self, wanted: list[Seen]) -> dict[str, Followed]:
-        """Follows matches by their rules, each for its share of the time, and returns those that have gone on. Only the thread that looks
-        at the folder does so, and meanwhile others may ask for pages."""
-        ends, found = time.monotonic() + FOLLOW, {}
+    def follow(self, wanted: list[Seen]) -> None:
+        """Follows matches by their rules, each for its share of the time."""
+        ends = time.monotonic() + FOLLOW
         for at, seen in enumerate(wanted):
             name, left = seen.match.id, max(0.0, ends - time.monotonic())
             board = self.boards.get(name) or self.begin_board(seen)
@@ -208,8 +218,7 @@ class LiveSite:
             # What a message of an open turn tells of the turn before it is shown with that turn.
             settled = board.settled
             if name not in self.followed or self.followed[name].version != settled.version:
-                found[name] = Followed(settled.version, live_pages.board_html(settled), settled.turn, tuple(settled.turns))
-        return found
+                self.followed[name] = Followed(settled.version, live_pages.board_html(settled), settled.turn, tuple(settled.turns))
 
     def begin_board(self, seen: Seen) -> LiveBoard:
         game = self.games.get(seen.match.game)
@@ -291,25 +300,24 @@ class LiveSite:
                 self.rows[seen.match.id] = seen.version, live_pages.open_row(seen)
         return [self.rows[seen.match.id][1] for seen in self.reader.open_matches()]
 
-    def renew(self, path: str, found: OpenPage) -> bool:
-        """Makes a page again where its data changed. Returns whether those who look at it are to be told."""
+    def renew(self, path: str, found: OpenPage) -> None:
+        """Makes a page again if its data has changed, and keeps what has changed of it."""
         stamp = self.stamp(path)
         if stamp == found.stamp or found.is_final:
-            return False
+            return
         found.stamp = stamp
         if stamp is None:
             # The match is over, and its page another one.
-            told, found.is_final = {"reload": True}, True
-        else:
-            found.title, parts = self.make(path)
-            told, found.parts = changes(found.parts, parts), parts
+            found.is_final = True
+            return
+        found.title, parts = self.make(path)
+        told, found.parts = changes(found.parts, parts), parts
         if told:
-            found.version += 1
-            found.events.append((found.version, event_text(f"{self.token}-{found.version}", told, self.reader.now())))
-        return bool(told)
+            version = found.version + 1
+            found.events = (*found.events[1 - MOST_EVENTS :], (version, event_text(f"{self.token}-{version}", told, self.reader.now())))
 
     def opened(self, path: str) -> OpenPage | None:
-        """Returns a page as it is now, none where there is no such page, or it is that of a match that is over. To be called under the lock."""
+        """Returns a page as it is now, none where there is no such page, or it is that of a match that is over."""
         found = self.pages.get(path)
         if found:
             self.renew(path, found)
@@ -321,6 +329,38 @@ class LiveSite:
         found.touched = time.monotonic()
         self.pages.move_to_end(path)
         return found
+
+    def page(self, path: str) -> bytes | None:
+        """Returns the page at a path, none where there is none."""
+        if found := self.opened(path):
+            # It gets the changes from its version on.
+            events = f"{'../' * (path.count('/') - 1)}events{path}?after={self.token}-{found.version}"
+            live = {"now": self.reader.now(), "events": events, "reload": RELOAD}
+            return page("parts", title=found.title, script="live.js", live=live, parts=found.parts)
+        match = PATH.fullmatch(path)
+        result = self.reader.results.get(match[3]) if match and match[2] == "matches" else None
+        data = result and self.page_of_match(path, result)
+        trouble = live_pages.trouble_part(self.trouble).text.encode("ascii", "xmlcharrefreplace")
+        return data and data.replace(b"<body>", b"<body>" + trouble, 1)
+
+    def page_of_match(self, path: str, result: Result) -> bytes | None:
+        """Returns the page of a match that is over, and keeps it for a while; none where its record is not there any more."""
+        if path in self.kept and self.kept[path][0] is result:
+            self.kept.move_to_end(path)
+            return self.kept[path][1]
+        try:
+            data = self.site.match_page(result, self.plan.read_record(result.match))
+        except (OSError, NoRecord):
+            return None
+        self.kept[path] = result, data
+        while sum(len(kept) for _, kept in self.kept.values()) > MOST_KEPT:
+            self.kept.popitem(last=False)
+        return data
+
+    def version_of(self, known: str) -> int:
+        """Returns the version that a browser knows: one before all others where it is none of this run."""
+        token, _, number = known.rpartition("-")
+        return int(number) if token == self.token and number.isdecimal() and len(number) < 12 else -1
 
     def drop_idle_pages(self) -> None:
         now = time.monotonic()
