@@ -1,10 +1,14 @@
 """The package as others see it: each command has its launcher and its entry point, and no module stands outside of it."""
 
+import os
+import pathlib
 import re
+import subprocess
+import tempfile
 import tomllib
 import unittest
 
-from support import TOP
+from support import GAMES, TOP, InFolder, program
 
 PYTHON = TOP / "python"
 LAUNCHED = re.compile(r"^from (ggp_tools\S*) import main$", re.MULTILINE)
@@ -22,3 +26,34 @@ class Package(unittest.TestCase):
         files = [*(PYTHON / "ggp_tools").rglob("*.py"), *(path for path in PYTHON.glob("ggp*") if path.is_file())]
         self.assertGreater(len(files), 40)
         self.assertEqual([path for path in files if BY_PATH.search(path.read_text())], [])
+
+
+class WithoutPackages(InFolder):
+    """Python where the packages for pages are missing."""
+
+    def setUp(self):
+        super().setUp()
+        self.room = self.enterContext(tempfile.TemporaryDirectory())
+        for name in ("jinja2", "aiohttp"):
+            pathlib.Path(self.room, f"{name}.py").write_text(f"raise ModuleNotFoundError('missing', name='{name}')\n")
+
+    def ran(self, command, *words):
+        done = subprocess.run([PYTHON / command, *words], cwd=self.folder, env={**os.environ, "PYTHONPATH": self.room}, capture_output=True, text=True)
+        return done.returncode, done.stderr
+
+    def test_what_makes_no_page_runs_and_what_does_names_the_package(self):
+        self.plan([("ann", "h:1"), ("bob", "h:2")], [("countdown", GAMES / "countdown.kif")])
+        program_words = "--program", program()
+        for words in (("plan",), ("table",)):
+            self.assertEqual(self.ran("ggp_competition", *program_words, *words), (0, ""), words)
+        record = GAMES.parent / "records/countdown-3-second_version.record"
+        self.assertEqual(self.ran("ggp-explain-record", program(), "--countdown", "3", record), (0, ""))
+        for command in (path.name for path in PYTHON.glob("ggp*") if path.is_file()):
+            self.assertEqual(self.ran(command, "--help"), (0, ""), command)
+        jinja = "{}: this command needs the Python module jinja2: apt-get install python3-jinja2\n"
+        self.assertEqual(self.ran("ggp_competition", *program_words, "pages"), (2, jinja.format("ggp_competition")))
+        self.assertEqual(self.ran("ggp-show-record", record), (2, jinja.format("ggp-show-record")))
+        self.assertEqual(self.ran("ggp_competition", *program_words, "serve"), (2, jinja.format("ggp_competition")))
+        pathlib.Path(self.room, "jinja2.py").unlink()
+        aiohttp = "ggp_competition: this command needs the Python module aiohttp: apt-get install python3-aiohttp\n"
+        self.assertEqual(self.ran("ggp_competition", *program_words, "serve"), (2, aiohttp))

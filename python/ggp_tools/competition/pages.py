@@ -33,7 +33,7 @@ from ggp_tools.competition.table_text import FORFEIT, METHOD, crosstable_rows, n
 from ggp_tools.descriptions.loading import Rules, sum_of
 from ggp_tools.referee import Unchecked
 from ggp_tools.records.show import NoRecord, page_of, read_record
-from ggp_tools.templating import page
+from ggp_tools.templating import environment, page
 
 if typing.TYPE_CHECKING:
     from markupsafe import Markup
@@ -132,6 +132,8 @@ class Site:
     that have no record. Where it is known when records were written no log is read to find the last ones."""
 
     def __init__(self, plan: Plan, shows_gaps: bool = False, written: Callable[[Result], float] | None = None) -> None:
+        # What the pages need is missing at once, or never.
+        environment()
         self.plan, self.shows_gaps, self.written = plan, shows_gaps, written
         self.told: dict[str, Told] = {}
 
