@@ -25,14 +25,14 @@ DESCRIPTIONS = [
     (FACTS + "(init (x 1)", "line 3, column 1: a list that is not closed"),
     (FACTS + "  (init (x 1)))", "line 3, column 15: a `)` with no open list"),
     (FACTS + "(init caf\N{LATIN SMALL LETTER E WITH ACUTE})", "line 3, column 10: a byte that is no character"),
-    (FACTS + "; a comment (\n(<= (next (x 1)) (init (x 1)))", "line 4, column 18: init or next as a condition, but they are for heads: (<= (next (x 1)) (init (x 1)))"),
+    (FACTS + "; a comment (\n(<= (next (x 1)) (init (x 1)))", "line 4, column 1: true or does as a head, init or next as a condition, or a role with conditions: (<= (next (x 1)) (init (x 1)))"),
     (FACTS + "(<= (legal a ?m) (not (move ?m)))", "line 3, column 1: sentence 2, (<= (legal a ?m) (not (move ?m))): ?m is unsafe"),
-    (FACTS + "(<= p q)\n(<= q p)\n(<= terminal p)", "line 3, column 1: an atom that depends on itself: (<= p q); line 4, column 1: (<= q p)"),
+    (FACTS + "(<= p q)\n(<= q p)\n(<= terminal p)", "line 4, column 1: an atom that depends on itself: (<= q p)"),
     ("(init x)", "no (role NAME), but a game has one at least"),
-    (FACTS + "(role a)", "line 3, column 1: a role that is named twice: (role a); line 1, column 1: (role a)"),
-    (FACTS + "(legal a go) (init s)\n(goal a 101)", "line 4, column 1: not of the form (goal ROLE NUMBER), with a number from 0 to 100: (goal a 101)"),
+    (FACTS + "(role a)", "line 3, column 1: a role that is named twice: (role a)"),
+    (FACTS + "(legal a go) (init s)\n(goal a 101)", "line 4, column 1: neither a fact nor a rule: (goal a 101)"),
     (FACTS + "(" * 70 + "a" + ")" * 70, "line 3, column 65: a list inside 64 others, but 64 are the limit"),
-    ("".join(f"(role r{number})" for number in range(17)), "17 roles, but 16 are the limit"),
+    ("".join(f"(role r{number})" for number in range(17)), "line 1, column 151: more than 8192 sentences, 16384 different atomic sentences, 16 roles or 4096 moves of one role: (role r16)"),
 ]
 
 

@@ -202,7 +202,8 @@ class Game(InFolder):
     def test_a_description_that_is_not_accepted(self):
         status, lines = self.look("(role a)\n(=> (legal a x) p)\n(<= (next x) (init x))")
         self.assertEqual((status, lines), (1, [
-            "game.kif is not accepted: line 3, column 14: init or next as a condition, but they are for heads: (<= (next x) (init x))",
+            "game.kif is not accepted: line 3, column 1: true or does as a head, init or next as a condition, or a role with conditions: (<= (next x) (init x))",
+            "sentence 2, (<= (next x) (init x)): (init x) is in a body",
             "suspicious: line 2, column 1: `=>` is no word of GDL, and nothing of the game asks for it; is `<=` meant?: (=> (legal a x) p)",
             "the rest was not looked at",
         ]))
@@ -212,7 +213,26 @@ class Game(InFolder):
         said = ["game.kif is not accepted: it has more than 1,048,576 bytes", "the rest was not looked at"]
         self.assertEqual(self.look(" x" * (1 << 19) + "x"), (1, said))
         status, lines = self.look(SOUND + "(goal ann 200)")
-        self.assertEqual((status, lines[1:]), (1, ["nothing else is suspicious"]), lines)
+        words = "(goal ann 200) can be derived, and its goal is no number from 0 to 100: sentence 12, line 11: (goal ann 200)"
+        self.assertEqual((status, lines[1:]), (1, [words, "nothing else is suspicious"]), lines)
+
+    def test_what_is_wrong_with_sentences_together(self):
+        for text, words in [
+            ("(role a)\n(<= p q)\n(<= q (not p))\n(<= r r)\n(<= p x)", [
+                "these depend on each other: line 2, column 1: (<= p q); line 3, column 1: (<= q (not p))",
+                "these depend on each other: line 4, column 1: (<= r r)",
+            ]),
+            ("(role a)\n(role b)\n(role A)", ["these name the same role: line 1, column 1: (role a); line 3, column 1: (role a)"]),
+            ("(role a)\n(<= terminal p)\n(<= p (does a b))", ["terminal depends on does"]),
+            ("(role a)\n(goal a 101)", ["(goal a 101) can be derived, and its goal is no number from 0 to 100: sentence 1, line 2: (goal a 101)"]),
+            ("(role a)\n(role a b)", ["sentence 1, (role a b): (role a b) is no sentence"]),
+            ("(role a)\n" + "".join(f"(<= p{number} p{(number + 1) % 10})\n" for number in range(10)), [
+                "these depend on each other: " + "; ".join(f"line {at + 2}, column 1: (<= p{at} p{at + 1})" for at in range(8)) + "; and 2 more"
+            ]),
+        ]:
+            status, lines = self.look(text)
+            self.assertEqual((status, lines[1 : len(words) + 1]), (1, words))
+            self.assertRegex(lines[0], r"^game\.kif is not accepted: line \d+, column 1: ")
 
     def test_aborted_matches(self):
         status, lines = self.look(SOUND.replace("(not (true (step 1)))", "(true (step 3))"), "--matches", "3", "--seed", "7")

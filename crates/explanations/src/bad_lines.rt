@@ -79,8 +79,16 @@ fn form_of(call: &[u8]) -> &'static str {
 /// How many bytes of a line are shown.
 const SHOWN: usize = 80;
 
-/// Appends to `out` what is wrong with a line, as a line of standard error. Lines are numbered from 1. The beginning of the line is shown,
-/// with `?` for each byte that is not visible, and two dots if more follows.
+/// Appends to `out` the beginning of a line, with `?` for each byte that is not visible, two dots if more follows, and a line feed.
+pub fn push_shown(out: &mut String, line: &[u8]) -> Result<(), AllocError> {
+    for byte in line.iter().take(SHOWN) {
+        let is_seen = byte.is_ascii_graphic() || *byte == b' ';
+        out.push(if is_seen { char::from(*byte) } else { '?' })?;
+    }
+    out.push_str(if line.len() > SHOWN { "..\n" } else { "\n" })
+}
+
+/// Appends to `out` what is wrong with a line, as a line of standard error. Lines are numbered from 1.
 pub fn push_bad_line(
     out: &mut String,
     number: u64,
@@ -93,11 +101,7 @@ pub fn push_bad_line(
         out,
         "ggp_manager: line {number}, column {column}: {words}{form}: "
     )?;
-    for byte in line.iter().take(SHOWN) {
-        let is_seen = byte.is_ascii_graphic() || *byte == b' ';
-        out.push(if is_seen { char::from(*byte) } else { '?' })?;
-    }
-    out.push_str(if line.len() > SHOWN { "..\n" } else { "\n" })
+    push_shown(out, line)
 }
 
 /// Appends to `out` what is wrong with the first bad line of a script, as a line of standard error.

@@ -12,19 +12,13 @@
 
 mod bad_entries;
 mod bad_lines;
-mod excerpts;
-mod explaining;
-mod links;
-mod members;
+mod descriptions;
 mod places;
 mod records;
 mod refused_matches;
-mod scan;
-mod shared_faults;
-mod spots;
 
 pub use bad_entries::push_bad_entry;
 pub use bad_lines::push_first_bad_line;
-pub use explaining::push_description;
+pub use descriptions::push_description;
 pub use records::{push_several_lines, push_skipped_lines};
 pub use refused_matches::{push_broken_rules, push_refused_matches};

@@ -2,7 +2,6 @@
 
 use command_faults::Printable;
 use command_line::{MatchTask, RunPlan};
-use described_games::DescriptionFault;
 use explanations::{
     push_bad_entry, push_broken_rules, push_description, push_first_bad_line, push_refused_matches,
     push_several_lines, push_skipped_lines,
@@ -27,11 +26,7 @@ pub enum Subject<'a> {
 }
 
 /// Appends the lines about this evidence to `lines`. The error means that memory was refused.
-fn push_evidence(
-    alloc: Global,
-    evidence: &Evidence,
-    lines: &mut String,
-) -> Result<(), DescriptionFault> {
+fn push_evidence(alloc: Global, evidence: &Evidence, lines: &mut String) -> Result<(), AllocError> {
     match evidence {
         Evidence::Nothing => {}
         Evidence::CommandLine(words) => lines.push_str(words.as_str())?,
@@ -54,11 +49,7 @@ fn one_line(alloc: Global, id: &str) -> Result<String, AllocError> {
 }
 
 /// Appends the lines about this subject to `lines`. The error means that memory was refused.
-fn push_lines(
-    alloc: Global,
-    subject: &Subject<'_>,
-    lines: &mut String,
-) -> Result<(), DescriptionFault> {
+fn push_lines(alloc: Global, subject: &Subject<'_>, lines: &mut String) -> Result<(), AllocError> {
     match subject {
         Subject::Evidence(evidence) => return push_evidence(alloc, *evidence, lines),
         Subject::Schedule(schedule) => push_refused_matches(*schedule, lines)?,

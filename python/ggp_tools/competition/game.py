@@ -14,6 +14,7 @@ from ggp_tools.descriptions.loading import NoDescription, Rules, Stopped, has_va
 from ggp_tools.competition.files import Refused
 from ggp_tools.descriptions.random_matches import RandomMatches, counted
 from ggp_tools.referee import Referee, Unchecked
+from ggp_tools.descriptions.refused import why_refused
 from ggp_tools.descriptions.suspicious import NOT_ALL, Suspicions, suspicions
 from ggp_tools.reporting import Reporter
 
@@ -122,6 +123,9 @@ def report_game(reporter: Reporter, asked: argparse.Namespace, referee: Referee,
     except NoDescription as why:
         for line in str(why).splitlines():
             reporter.line(f"{path} is not accepted: {line}")
+        is_ground = len(text) <= most_bytes(asked.large) and not has_variables(text)
+        for line in why_refused(text) if is_ground else ():
+            reporter.line(line)
         report_suspicions(reporter, asked, text, None)
         return True
     reporter.line(f"{path} is accepted: {said_of_rules(text, rules)}")
