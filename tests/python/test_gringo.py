@@ -2,6 +2,7 @@
 installed, beside a plain way to find all instances."""
 
 import itertools
+import math
 import os
 import random
 import resource
@@ -10,7 +11,7 @@ import unittest
 from unittest import mock
 
 from ggp_tools.instantiating import gringo
-from ggp_tools.instantiating.gringo import Grounder, LogicProgram, TooMany, level_count, limit_memory, term_list, term_text
+from ggp_tools.instantiating.gringo import Grounder, LogicProgram, TooMany, TooSlow, level_count, limit_process, term_list, term_text
 from ggp_tools.instantiating.relations import Relations
 from ggp_tools.instantiating.sentences import all_rules
 from ggp_tools.kif import Refused, expressions, levels, put, relation, spelled, variables
@@ -148,10 +149,15 @@ class Runs(InFolder):
             Grounder(program_of("(d a)")).instances()
         self.assertEqual(str(why.exception), "gringo is not installed")
 
-    def test_it_may_take_so_much_memory(self):
-        with mock.patch.object(resource, "setrlimit") as limited:
-            limit_memory()
-        self.assertEqual(limited.call_args.args, (resource.RLIMIT_AS, (2 << 30, 2 << 30)))
+    def test_it_may_take_so_much_memory_and_so_many_seconds(self):
+        for seconds, others in ((math.inf, []), (0.5, [(resource.RLIMIT_CPU, (1, 2))]), (60, [(resource.RLIMIT_CPU, (60, 61))])):
+            with mock.patch.object(resource, "setrlimit") as limited:
+                limit_process(seconds)
+            self.assertEqual([call.args for call in limited.call_args_list], [(resource.RLIMIT_AS, (2 << 30, 2 << 30)), *others])
+
+    def test_one_that_has_used_its_seconds(self):
+        with self.assertRaises(TooSlow):
+            self.instances("kill -XCPU $$")
 
     @unittest.skipUnless(shutil.which("gringo"), "gringo is not installed")
     def test_instances_are_those_that_a_plain_way_finds(self):

@@ -104,17 +104,17 @@ class Held(unittest.TestCase):
 
 class Seconds(unittest.TestCase):
     def setUp(self):
-        self.addCleanup(signal.signal, signal.SIGALRM, signal.getsignal(signal.SIGALRM))
-        self.addCleanup(signal.setitimer, signal.ITIMER_REAL, 0)
+        self.addCleanup(signal.signal, signal.SIGPROF, signal.getsignal(signal.SIGPROF))
+        self.addCleanup(signal.setitimer, signal.ITIMER_PROF, 0)
 
     def test_each_record_has_its_own(self):
         times = []
         with mock.patch.object(signal, "setitimer", lambda kind, limit: times.append((kind, limit))):
             self.assertEqual(list(hold(ONE_TURN, [RECORD, WRONG], 2.5)), [(SAME, "the same: 1 turns"), (NOT_FOLLOWED, "not followed: it is no record: roles is missing, or of another kind")])
-        self.assertEqual(times, [(signal.ITIMER_REAL, 2.5), (signal.ITIMER_REAL, 0)] * 2)
+        self.assertEqual(times, [(signal.ITIMER_PROF, 2.5), (signal.ITIMER_PROF, 0)] * 2)
 
     def test_where_they_are_over_it_is_told(self):
-        with mock.patch.object(command.Following, "follow", lambda *_: signal.raise_signal(signal.SIGALRM)):
+        with mock.patch.object(command.Following, "follow", lambda *_: signal.raise_signal(signal.SIGPROF)):
             self.assertEqual(list(hold(ONE_TURN, [RECORD], 90.0)), [(NOT_FOLLOWED, "not followed: its time was over, after 90 s")])
         self.assertEqual(list(hold(ONE_TURN, [RECORD], 90.0)), [(SAME, "the same: 1 turns")])
 

@@ -6,6 +6,7 @@ import hashlib
 import io
 import itertools
 import random
+import signal
 import unittest
 import unittest.mock
 
@@ -64,10 +65,17 @@ def dice_game(dice):
     return sorted(rules, key=lambda rule: rule.sentence)
 
 
+def folded(rules, most_sentences, most_bytes):
+    """Returns a game folded as if it had to be within these."""
+    game = folding.begun(rules)
+    game.fold(folding.Target(most_sentences, most_bytes))
+    return game
+
+
 def refused(rules, most_sentences, most_bytes):
     """Why a game is not folded at all."""
     try:
-        folding.folded(rules, most_sentences, most_bytes, True)
+        folding.begun(rules).must_have_room(folding.Target(most_sentences, most_bytes))
     except folding.Hopeless as why:
         return str(why)
     return None
@@ -83,17 +91,30 @@ class Folding(unittest.TestCase):
             rules = dice_game(random.Random(seed))
             plain = [sentence_of(rule) for rule in rules]
             for most in 10_000, 0:
-                found = [sentence for _, sentence in folding.folded(rules, most, most).written()]
+                found = [sentence for _, sentence in folded(rules, most, most).written()]
                 self.compare(plain, found, seed)
 
     def test_what_can_not_be_within_the_limits_is_refused_early(self):
         rules = dice_game(random.Random(0))
-        game = folding.folded(rules, 10_000, 1 << 20)
+        game = folded(rules, 10_000, 1 << 20)
         self.assertIsNone(refused(rules, game.sentences(), 1 << 20))
         self.assertRegex(refused(rules, 3, 1 << 20), r"^sentences \(at least \d+ of 3\)$")
         text = "(<= (next s) (does r a)) " + " ".join(f"(<= (next {t}) p{k} p{k + 1})" for k, t in enumerate("abcdefgh"))
         text += " ".join(f"(<= p{k} (true a) (true b{k})) (<= p{k} (not (true c)) (true d{k}) (true e{k}))" for k in range(9))
         self.assertRegex(refused(all_rules(expressions(text)), 12, 500), r"^bytes \(at least \d+ of 500, since \d+ of 18 sentences have to stand in others\)$")
+
+    def test_it_is_folded_to_the_first_target_that_it_can_be_within(self):
+        rules = dice_game(random.Random(0))
+        small, large = folding.Target(20, 1 << 20), folding.Target(10_000, 1 << 20)
+        self.assertEqual([folding.folded(rules, targets).sentences() for targets in ([small], [large], [small, large])], [20, 42, 20])
+        # What takes too much work at first or later, or has no room, has the next one.
+        for target in (small._replace(work=1), small._replace(work=folding.begun(rules).formulas.work * folding.MORE_WORK), folding.Target(3, 10)):
+            self.assertEqual(folding.folded(rules, [target, large]).sentences(), 42, target)
+        with self.assertRaises(folding.Hopeless) as why:
+            folding.folded(rules, [folding.Target(3, 10), small._replace(work=1)])
+        self.assertEqual(str(why.exception), "to fold it takes more than 1 steps")
+        # What only the last could take is given, past the limit as it is.
+        self.assertEqual(folding.folded(rules, [folding.Target(20, 100)]).sentences(), 20)
 
     def test_what_is_refused_early_has_its_figures(self):
         text = "(<= (next s) (does r a)) " + " ".join(f"(<= (next {t}) p{k} p{k + 1})" for k, t in enumerate("abcdefgh"))
@@ -116,18 +137,18 @@ class Folding(unittest.TestCase):
             (2, 10_000, 1 << 20, 28, 985, "9d19918f"), (2, 20, 1 << 20, 20, 1_026, "16d8ccef"), (2, 0, 0, 11, 3_911, "6c23f4a4"),
             (3, 10_000, 1 << 20, 42, 1_395, "410003ec"), (3, 20, 1 << 20, 20, 1_465, "1868759f"), (3, 0, 0, 12, 4_639, "010299d4"),
         ):
-            game = folding.folded(dice_game(random.Random(seed)), most, most_bytes)
+            game = folded(dice_game(random.Random(seed)), most, most_bytes)
             text = "\n".join(f"{number} {spelled(sentence)}" for number, sentence in game.written())
             self.assertEqual([game.sentences(), game.bytes(), hashlib.sha256(text.encode()).hexdigest()[:8]], figures, (seed, most))
         for deep, figures in ((5, (30, 1_066)), (6, (27, 1_099)), (10, (22, 1_035)), (13, (18, 1_146)), (14, (13, 1_170)), (24, (12, 1_292)), (25, (11, 3_911))):
             with unittest.mock.patch.object(folding, "MOST_DEEP", deep):
-                game = folding.folded(dice_game(random.Random(2)), 0, 0)
+                game = folded(dice_game(random.Random(2)), 0, 0)
                 self.assertEqual((game.sentences(), game.bytes()), figures, deep)
 
     def written(self, text, most=10_000, most_bytes=1 << 20):
         """Returns what is written of a game behind the sentences of its role and its moves."""
         moves = [f"(legal r m{k})" for k in range(8)]
-        game = folding.folded(all_rules(expressions(f"(role r) {' '.join(moves)} {text}")), most, most_bytes)
+        game = folded(all_rules(expressions(f"(role r) {' '.join(moves)} {text}")), most, most_bytes)
         return [f"{number} {spelled(sentence)}" for number, sentence in game.written()][9:]
 
     def test_bodies_and_formulas_become_parts_where_that_is_shorter(self):
@@ -191,14 +212,14 @@ class Folding(unittest.TestCase):
         frame = "".join(f"(<= (next c) (true c) (does r (m {k})))" for k in range(8))
         sets = "".join(f"(<= (next c) (true {k}{t}) (true {t}{k}) (does r (m 8)))" for k, t in enumerate("stuv"))
         rules = [rule._replace(sentence=number) for number, text in enumerate(["(role r)", moves, frame, sets]) for rule in all_rules(expressions(text))]
-        costs = folding.folded(rules, 10_000, 1 << 20).costs(True)
+        costs = folded(rules, 10_000, 1 << 20).costs(True)
         self.assertGreater(costs[3], costs[2])
 
     def test_what_is_put_into_others_costs_whose_it_is(self):
         # The long relation is asked for once, and stands in the rule that asks: what it costs there is its own.
         long = " ".join(f"(true (a-long-name {k}))" for k in range(20))
         text = f"(role r) (legal r m) (<= (next s) w (true s)) (<= w {long})"
-        game = folding.folded(all_rules(expressions(text)), 3, 1 << 20)
+        game = folded(all_rules(expressions(text)), 3, 1 << 20)
         self.assertEqual(game.sentences(), 3)
         costs = game.costs(True)
         self.assertEqual({sentence: round(cost) for sentence, cost in costs.items()}, {0: 9, 1: 12, 2: 25, 3: 468})
@@ -209,7 +230,7 @@ class Folding(unittest.TestCase):
         long = " ".join(f"(true (a-long-name {k}))" for k in range(9))
         rules = [Rule(2, ("next", "c0"), (Literal(True, ("true", "s")),))]
         rules += [Rule(3, ("next", f"c{k}"), tuple(Literal(True, atom) for atom in expressions(long))) for k in range(5)]
-        game = folding.folded([*all_rules(expressions("(role r) (legal r m)")), *rules], 10_000, 1 << 20)
+        game = folded([*all_rules(expressions("(role r) (legal r m)")), *rules], 10_000, 1 << 20)
         self.assertEqual(game.part_count, 1)
         costs = game.costs(True)
         self.assertGreater(costs[3], 5 * costs[2])
@@ -225,7 +246,7 @@ class Folding(unittest.TestCase):
     def test_legal_moves_keep_their_order(self):
         for seed in range(20):
             rules = dice_game(random.Random(seed))
-            found = [sentence for _, sentence in folding.folded(rules, 0, 0).written()]
+            found = [sentence for _, sentence in folded(rules, 0, 0).written()]
             self.assertEqual(legal_heads([sentence_of(rule) for rule in rules]), legal_heads(found))
 
     def test_frames_become_short(self):
@@ -234,7 +255,7 @@ class Folding(unittest.TestCase):
         for cell, away in enumerate(moves):
             body = Literal(True, ("true", ("c", str(cell))))
             rules += [Rule(2, ("next", ("c", str(cell))), (body, Literal(True, ("does", "r", other)))) for other in moves if other != away]
-        found = [sentence for _, sentence in folding.folded(rules, 10_000, 10_000_000).written()]
+        found = [sentence for _, sentence in folded(rules, 10_000, 10_000_000).written()]
         self.assertEqual(len(found), 201)
         self.assertIn(("<=", ("next", ("c", "7")), ("true", ("c", "7")), ("not", ("does", "r", "m7"))), found)
 
@@ -373,11 +394,12 @@ class Texts(unittest.TestCase):
         with unittest.mock.patch.object(forms, "MOST_INSTANCES", 5):
             said = "there are more than 5 instances; the most instances, "
             self.assertEqual(self.refusal(text)[: len(said)], said)
-        self.assertEqual(self.refusal(text, 0.000001), "stopped after 1e-06 s, reading it")
+        with unittest.mock.patch.object(making, "all_rules", lambda *_: signal.raise_signal(signal.SIGPROF)):
+            self.assertEqual(self.refusal(text), "stopped after 60 s, reading it")
 
     def test_rounds_that_are_too_many_are_said(self):
         text = (GAMES / "general/hex.kif").read_text()
-        with unittest.mock.patch.dict(limits.MOST, {"sentences": 100}), self.assertRaises(Refused) as why, contextlib.redirect_stderr(io.StringIO()):
+        with unittest.mock.patch.dict(limits.MOST, {"sentences": 100}), unittest.mock.patch.dict(limits.LARGE, {"sentences": 100}), self.assertRaises(Refused) as why, contextlib.redirect_stderr(io.StringIO()):
             making.Making(text, 60, making.WHERE_NEEDED).run()
         said = "nothing is written, since this is past the limit, however it is folded: sentences (at least "
         self.assertEqual(str(why.exception)[: len(said)], said)

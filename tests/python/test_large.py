@@ -1,9 +1,10 @@
 """A game that is past the usual limits: looked at, planned, played, published and checked by those for large games."""
 
 
+from ggp_tools.instantiating.limits import LARGE_NOTE
 from ggp_tools.kif import expressions
 from players import TestPlayer
-from support import GAMES, InFolder, call, run, toml
+from support import GAMES, InFolder, call, run
 
 # As many sentences as the usual limits allow, beside those of the game.
 BESIDE = 8_192
@@ -15,21 +16,15 @@ class Large(InFolder):
         self.file = self.folder / "big.kif"
         self.file.write_text((GAMES / "countdown.kif").read_text() + "".join(f"(beside {number})\n" for number in range(BESIDE)))
 
-    def test_it_is_accepted_only_where_large_games_are_asked_for(self):
-        words = "game", str(self.file), "--matches", "2"
-        status, out, _ = run(self.folder, *words)
-        self.assertEqual((status, "big.kif is not accepted: " in out), (1, True), out)
-        status, out, said = run(self.folder, *words, "--large")
-        self.assertEqual((status, said), (0, ""), out)
-        self.assertIn("random matches, seeds 1 to 2: 2 finished, 0 aborted", out)
-        (self.folder / "competition.toml").write_text(toml([("ann", "h:1"), ("bob", "h:2")], [("big", "big.kif")]))
-        status, out, said = run(self.folder, "plan")
-        self.assertEqual((status, out), (2, ""), said)
-        self.assertIn("games.file: ", said)
+    def test_it_is_accepted_without_asking_for_large_games(self):
+        for words, is_told in (((), True), (("--large",), False)):
+            status, out, said = run(self.folder, "game", str(self.file), "--matches", "2", *words)
+            self.assertEqual((status, said, f"its ground rules: {LARGE_NOTE}\n" in out), (0, "", is_told), out)
+            self.assertIn("random matches, seeds 1 to 2: 2 finished, 0 aborted", out)
 
     def test_it_is_played_published_and_checked(self):
         players = [TestPlayer(name, "good", at) for at, name in enumerate(("ann", "bob"))]
-        schedule = self.plan([(player.name, player.place()) for player in players], [("big", "big.kif", "large = true")])
+        schedule = self.plan([(player.name, player.place()) for player in players], [("big", "big.kif")])
         status, out, said = run(self.folder, "play")
         self.assertEqual((status, said), (0, ""), out)
         self.assertEqual([len(player.told[schedule[0][0]]) for player in players], [len(expressions(self.file.read_text()))] * 2)

@@ -80,12 +80,12 @@ class Figures(unittest.TestCase):
 
     def test_what_is_counted(self):
         sentences = expressions("(role r) (role (s t)) (legal r a) (<= (legal r a) p) (<= (legal r b) (not p) (or p q)) (<= (legal (s t) a) p) (legal x y z) (role) terminal")
-        found = list(limits.figures(list(enumerate(sentences)), 7, limits.MOST))
+        found = list(limits.figures(list(enumerate(sentences)), 7))
         self.assertEqual(found, [
             ("sentences", 9, 8_192), ("atomic sentences", 10, 16_384), ("roles", 2, 16), ("moves of r", 2, 4_096), ("moves of (s t)", 1, 4_096), ("bytes", 7, 1_048_576),
             ("lists in one another", 3, 64),
         ])
-        self.assertEqual(list(limits.figures([], 0, limits.MOST)), [("sentences", 0, 8_192), ("atomic sentences", 0, 16_384), ("roles", 0, 16), ("bytes", 0, 1_048_576), ("lists in one another", 0, 64)])
+        self.assertEqual(list(limits.figures([], 0)), [("sentences", 0, 8_192), ("atomic sentences", 0, 16_384), ("roles", 0, 16), ("bytes", 0, 1_048_576), ("lists in one another", 0, 64)])
 
     def test_what_sentences_cost(self):
         written = [(3, ("p", "a")), (1, "q"), (3, ("p", "bc"))]

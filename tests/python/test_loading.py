@@ -9,6 +9,7 @@ import unittest
 from unittest import mock
 
 from ggp_tools.descriptions import loading
+from ggp_tools.instantiating.limits import LARGE_NOTE
 from ggp_tools.descriptions.loading import NoDescription, Stopped, load_described, load_description, notes_of, read_text
 from ggp_tools.referee import BadRules
 
@@ -17,14 +18,19 @@ OPEN = b"(role x) (init a) (legal x m) (<= (next ?t) (true ?t)) (goal x 1)\n"
 
 
 class Takes:
-    """A referee that takes each text, or refuses it."""
+    """A referee that takes each text, or refuses it: also by the limits for large games, or by the usual ones only."""
 
-    def __init__(self, why=None, is_large=False):
-        self.why, self.asked, self.is_large = why, [], is_large
+    def __init__(self, why=None, is_large=False, also_large=True):
+        self.why, self.asked, self.is_large, self.also_large = why, [], is_large, also_large
+
+    def taking(self, is_large):
+        found = Takes(self.why, is_large, self.also_large)
+        found.asked = self.asked
+        return found
 
     def roles(self, text, name):
         self.asked.append((text, name))
-        if self.why:
+        if self.why and (self.also_large or not self.is_large):
             raise BadRules(self.why)
         return ("x",)
 
@@ -107,19 +113,23 @@ class Loading(unittest.TestCase):
             self.assert_refused(words, self.load, text)
 
     def test_a_file_is_read_up_to_its_limit(self):
-        self.path.write_bytes(b"x" * (1 << 20))
-        self.assertEqual(len(read_text(self.path)), 1_048_576)
-        self.path.write_bytes(b"x" * ((1 << 20) + 1))
-        self.assert_refused("it has more than 1,048,576 bytes", read_text, self.path)
-        self.assertEqual(len(read_text(self.path, True)), 1_048_577)
+        self.path.write_bytes(b"x" * (4 << 20))
+        self.assertEqual(len(read_text(self.path)), 4_194_304)
         self.path.write_bytes(b"x" * ((4 << 20) + 1))
-        self.assert_refused("it has more than 4,194,304 bytes", read_text, self.path, True)
+        self.assert_refused("it has more than 4,194,304 bytes", read_text, self.path)
         self.assert_refused("it can't be read: No such file or directory", read_text, self.folder / "none")
         self.assert_refused("it can't be read: Is a directory", read_text, self.folder)
 
     def test_variables_are_words_that_begin_with_a_question_mark(self):
         for text, has in ((b"(p ?x)", True), (b"(p x?)", False), (b"; ?x\n(p a)", False), (b"(p a?b)", False), (b"?", True)):
             self.assertEqual(loading.has_variables(text), has, text)
+
+    def test_what_the_usual_limits_do_not_suffice_for_is_taken_by_those_for_large_games(self):
+        noted = b"; %s\n%s" % (LARGE_NOTE.encode(), GROUND)
+        for text, why, is_large, notes, asked in ((GROUND, None, False, (), 1), (GROUND, "too long", True, (LARGE_NOTE,), 2), (noted, None, True, (), 1)):
+            referee = Takes(why, also_large=False)
+            found = self.load(text, referee=referee)
+            self.assertEqual((found.is_large, found.notes, len(referee.asked)), (is_large, notes, asked))
 
     def test_notes_stand_at_the_head_alone(self):
         self.assertEqual((notes_of(b"; a\n; b\n(role x)\n; c\n"), notes_of(b"(role x)\n; c\n"), notes_of(b";a\n")), (("a", "b"), (), ()))
@@ -140,7 +150,7 @@ class Loading(unittest.TestCase):
     def test_the_text_for_players_has_a_limit_too(self):
         size = len(self.described(GROUND, OPEN, True).player_rules)
         self.assertGreater(size, len(GROUND))
-        with mock.patch.object(loading, "MOST_BYTES", size):
+        with mock.patch.object(loading, "MOST_BYTES_FOR_PLAYERS", size):
             self.described(GROUND, OPEN, True)
-        with mock.patch.object(loading, "MOST_BYTES", size - 1):
+        with mock.patch.object(loading, "MOST_BYTES_FOR_PLAYERS", size - 1):
             self.assert_refused(f"the text for players has more than {size - 1} bytes", self.described, GROUND, OPEN, True)

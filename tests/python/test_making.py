@@ -2,10 +2,11 @@
 
 import contextlib
 import io
+import signal
 import unittest
 from unittest import mock
 
-from ggp_tools.instantiating import limits, making
+from ggp_tools.instantiating import folding, limits, making
 from ggp_tools.instantiating.making import ALWAYS, NEVER, WHERE_NEEDED, Making, Written, text_of
 from ggp_tools.kif import Refused, expressions
 
@@ -39,12 +40,13 @@ class Figures(unittest.TestCase):
 
     def test_the_figures_of_what_is_written(self):
         sentences = expressions("(role r) (role s) (legal r a) (legal r (b (c d))) (<= (legal s a) (true x)) (<= (next x) (or (true x) (not (true y))) (does r a)) terminal")
-        for is_large, most_of_them in ((False, (8_192, 16_384, 1_048_576)), (True, (65_536, 65_536, 4_194_304))):
-            found = {name: (count, most) for name, count, most in limits.figures(list(enumerate(sentences)), 123, limits.most_of(is_large))}
-            self.assertEqual(found, {
+        usual = Written([], "(role r)", list(limits.figures(list(enumerate(sentences)), 123)), ["a"])
+        for written, size, most_of_them in ((usual, 123, (8_192, 16_384, 1_048_576)), (usual.as_large(), 98, (65_536, 65_536, 4_194_304))):
+            self.assertEqual({name: (count, most) for name, count, most in written.figures}, {
                 "sentences": (7, most_of_them[0]), "atomic sentences": (10, most_of_them[1]), "roles": (2, 16), "moves of r": (2, 4_096), "moves of s": (1, 4_096),
-                "bytes": (123, most_of_them[2]), "lists in one another": (4, 64),
+                "bytes": (size, most_of_them[2]), "lists in one another": (4, 64),
             })
+        self.assertEqual((usual.as_large().text, usual.as_large().notes), (f"; {limits.LARGE_NOTE}\n(role r)", [limits.LARGE_NOTE, "a"]))
 
 
 class Made(unittest.TestCase):
@@ -64,15 +66,29 @@ class Made(unittest.TestCase):
             with mock.patch.dict(limits.MOST, {"sentences": limit}):
                 found, _ = made(GAME, wanted)
             self.assertEqual("; folded: 12 ground sentences" in str(found), is_folded, (wanted, limit))
-        with mock.patch.dict(limits.MOST, {"sentences": 11}):
+        with mock.patch.dict(limits.MOST, {"sentences": 11}), mock.patch.dict(limits.LARGE, {"sentences": 11}):
             found, _ = made(GAME)
         self.assertTrue(str(found).startswith("nothing is written, since this is past the limit, however it is folded: sentences (at least "), found)
 
-    def test_what_is_past_the_usual_limits_alone_is_written_where_large_games_are_taken(self):
-        with mock.patch.dict(limits.MOST, {"sentences": 11}):
-            found, said = made(GAME, is_large=True)
-        self.assertEqual(found, made(GAME)[0])
-        self.assertIn("\n  sentences                   12 of    65,536\n", said)
+    def test_what_is_past_the_usual_limits_says_that_it_is_large(self):
+        # It can't be folded to within them, or that would take too much, or is not wanted.
+        for most, work, options in ((8, 400_000, {}), (11, 1, {}), (11, 400_000, {"is_large": True}), (11, 400_000, {"wanted": NEVER})):
+            with mock.patch.dict(limits.MOST, {"sentences": most}), mock.patch.object(making, "MOST_WORK", work):
+                found, said = made(GAME, **options)
+            self.assertEqual(found, f"; {limits.LARGE_NOTE}\n{made(GAME)[0]}", options)
+            self.assertIn(f"\n  {limits.LARGE_NOTE}\n", said)
+            self.assertIn("\n  sentences                   12 of    65,536\n", said)
+
+    def test_what_is_past_the_limits_for_large_games_as_it_stands_is_folded_to_within_them(self):
+        game = "(role r) (legal r m) (goal r 1) (<= terminal (true b1))" + "".join(f"(init b{k}) (<= (next b1) (true b{k}))" for k in range(10))
+        with mock.patch.dict(limits.MOST, {"sentences": 10}), mock.patch.dict(limits.LARGE, {"sentences": 20}):
+            found, _ = made(game)
+        self.assertRegex(str(found), rf"^; {limits.LARGE_NOTE}\n; folded: 24 ground sentences of \d+ bytes became 15\n")
+
+    def test_the_seconds_may_be_over_while_it_is_folded(self):
+        plain = made(GAME)[0]
+        with mock.patch.dict(limits.MOST, {"sentences": 11}), mock.patch.object(folding, "folded", lambda *_: signal.raise_signal(signal.SIGPROF)):
+            self.assertEqual(made(GAME)[0], f"; {limits.LARGE_NOTE}\n{plain}")
 
     def test_what_is_past_a_limit_is_not_written(self):
         with mock.patch.dict(limits.MOST, {"roles": 1, "moves": 2}):
@@ -83,12 +99,12 @@ class Made(unittest.TestCase):
         self.assertEqual(said.count("  dear: sentence "), 3)
 
     def test_what_costs_most_is_named_first(self):
-        with mock.patch.dict(limits.MOST, {"sentences": 3}):
+        with mock.patch.dict(limits.MOST, {"sentences": 3}), mock.patch.dict(limits.LARGE, {"sentences": 3}):
             found, said = made(GAME, NEVER)
         self.assertEqual(str(found), "nothing is written, since this is past the limit: sentences (12 of 3)")
         dear = [line for line in said.splitlines() if "dear" in line]
         self.assertEqual(dear[0], "  dear: sentence 5, line 2: (<= (legal ?p (m ?x)) (role ?p) (succ ?x ?y)): 4 ground sentences")
-        with mock.patch.dict(limits.MOST, {"bytes": 3}):
+        with mock.patch.dict(limits.MOST, {"bytes": 3}), mock.patch.dict(limits.LARGE, {"bytes": 3}):
             found, said = made(GAME, NEVER)
         self.assertRegex(str(found), r"^nothing is written, since this is past the limit: bytes \(\d+ of 3\)$")
         self.assertRegex(said, r"  dear: sentence 6, line 2: .*: 92 bytes\n")

@@ -10,7 +10,7 @@ from collections.abc import Sequence
 from typing import Any
 
 from ggp_tools.competition.competition_file import INSTANTIATING
-from ggp_tools.descriptions.loading import NoDescription, Rules, Stopped, has_variables, load_description, most_bytes, sentence_starts
+from ggp_tools.descriptions.loading import MOST_BYTES, NoDescription, Rules, Stopped, has_variables, load_description, sentence_starts
 from ggp_tools.competition.files import Refused
 from ggp_tools.descriptions.random_matches import RandomMatches, counted
 from ggp_tools.referee import Referee, Unchecked
@@ -59,22 +59,22 @@ def add_game(commands: Any) -> argparse.ArgumentParser:
     """Adds the command `game` to those of the command line, and returns it."""
     command = commands.add_parser("game", help=HELP, description=f"{HELP[0].upper()}{HELP[1:]}.", epilog=STATUS)
     command.add_argument("file", metavar="FILE", help="the description, with or without variables")
-    command.add_argument("--large", action="store_true", help="take it by the limits for large games, as `large = true` of a game does")
+    command.add_argument("--large", action="store_true", help="do not try for the usual limits of the program, but take those for large games")
     command.add_argument("--matches", type=matches, default=20, metavar="N", help="play N random matches (20)")
     command.add_argument("--seed", type=seed, default=1, metavar="S", help="the seed of the first match; each further one has the next (1)")
-    text = "the seconds in which a description with variables is instantiated (60)"
+    text = "the seconds of a processor in which a description with variables is instantiated (60)"
     command.add_argument("--instantiate", type=seconds, default=INSTANTIATING, metavar="T", help=text)
     text = "search for T seconds at most, and begin no turn after T seconds of matches (60)"
     command.add_argument("--seconds", type=seconds, default=60, metavar="T", help=text)
     return command
 
 
-def read_description(path: pathlib.Path, most: int) -> bytes:
+def read_description(path: pathlib.Path) -> bytes:
     try:
         if path.exists() and not path.is_file():
             raise Refused(f"{path} is no plain file")
         with open(path, "rb") as file:
-            return file.read(most + 1)
+            return file.read(MOST_BYTES + 1)
     except OSError as why:
         raise Refused(f"{path} can't be read: {why.strerror}") from None
 
@@ -82,7 +82,7 @@ def read_description(path: pathlib.Path, most: int) -> bytes:
 def run_game(asked: argparse.Namespace, referee: Referee) -> int:
     """Tells what there is to tell of a description, and returns the status."""
     path, reporter, referee = pathlib.Path(asked.file), Reporter(), referee.taking(asked.large)
-    text, why = read_description(path, most_bytes(asked.large)), None
+    text, why = read_description(path), None
     try:
         status = int(report_game(reporter, asked, referee, path, text))
     except Unchecked as unchecked:
@@ -100,7 +100,7 @@ def run_game(asked: argparse.Namespace, referee: Referee) -> int:
 
 def load(path: pathlib.Path, text: bytes, referee: Referee, limit: int) -> Rules:
     """Returns the rules of a description. Where it has to be instantiated, and that came to no verdict, this is no fault of its own."""
-    if len(text) <= most_bytes(referee.is_large) and has_variables(text) and not shutil.which("gringo"):
+    if len(text) <= MOST_BYTES and has_variables(text) and not shutil.which("gringo"):
         raise Unchecked(f"{path} can't be instantiated: the grounder gringo is not installed")
     try:
         return load_description(path, referee, False, limit)
@@ -143,7 +143,7 @@ def said_of_rules(text: bytes, rules: Rules) -> str:
 
 def report_suspicions(reporter: Reporter, asked: argparse.Namespace, text: bytes, ground: bytes | None) -> None:
     reporter.draw("what is suspicious")
-    found = suspicions(text, ground, asked.seconds) if len(text) <= most_bytes(asked.large) else Suspicions([], NOT_ALL)
+    found = suspicions(text, ground, asked.seconds) if len(text) <= MOST_BYTES else Suspicions([], NOT_ALL)
     for line in found.lines:
         reporter.line(f"suspicious: {line}")
     if found.cut:
@@ -157,7 +157,7 @@ def report_suspicions(reporter: Reporter, asked: argparse.Namespace, text: bytes
 
 def report_matches(reporter: Reporter, asked: argparse.Namespace, referee: Referee, rules: Rules) -> bool:
     """Plays random matches, and tells how they ended. Returns whether anything is wrong with one, or none came to its end."""
-    played = RandomMatches(rules.text, referee, asked.file, reporter, asked.seconds)
+    played = RandomMatches(rules.text, referee.taking(rules.is_large), asked.file, reporter, asked.seconds)
     played.run(asked.seed, asked.matches)
     ended, aborted = played.ended, Counter(match.cause for match in played.ended if match.cause)
     for note in played.notes:

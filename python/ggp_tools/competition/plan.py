@@ -134,7 +134,7 @@ def loaded_games(folder: Folder, competition: Competition, referee: Referee) -> 
         if game.tells_variables() and rules.player_rules is None:
             mistakes.append(Mistake(game.player_rules_line, "games.player_rules", f'{path} has no variables: "ground" is wanted'))
         if not game.aborts:
-            why, note = trial(rules.text, program, game.name)
+            why, note = trial(rules.text, program.taking(rules.is_large), game.name)
             mistakes += [Mistake(game.line, "games.file", f"{path}: {why}; with `aborts = true` it is planned all the same")] if why else []
             found[game.name] = replace(rules, notes=(*rules.notes, *([note] if note else [])))
     if mistakes:

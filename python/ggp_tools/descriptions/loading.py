@@ -12,6 +12,7 @@ from dataclasses import dataclass
 
 from ggp_tools import kif
 from ggp_tools.descriptions import kept
+from ggp_tools.instantiating.limits import LARGE, LARGE_NOTE
 from ggp_tools.instantiating.relations import Relations
 from ggp_tools.instantiating.sentences import Rule, all_rules, as_read
 from ggp_tools.instantiating.for_players import text_for_players as text_for_players
@@ -20,7 +21,8 @@ from ggp_tools.referee import BadRules, Referee
 # The folder of this package, where a process that instantiates finds it.
 FOLDER = pathlib.Path(__file__).resolve().parents[2]
 INSTANTIATE = [sys.executable, "-B", "-P", "-m", "ggp_tools.instantiating"]
-MOST_BYTES, MOST_BYTES_OF_LARGE = 1 << 20, 4 << 20
+# The most bytes of a description, and of the text for players.
+MOST_BYTES, MOST_BYTES_FOR_PLAYERS = LARGE["bytes"], 1 << 20
 SENTENCE = re.compile(r"sentence (\d+), ")
 STOPPED = re.compile(r"ggp-instantiate: stopped after ")
 
@@ -113,37 +115,37 @@ def rules_of(
     text: bytes, name: pathlib.Path | str, referee: Referee, player_rules: bytes | None = None, description_sum: str | None = None,
     notes: tuple[str, ...] = (),
 ) -> Rules:
-    """Returns the rules that a ground description says, as the referee reads it, with the text that players get. Refuses what the
-    referee refuses, in its words."""
-    try:
-        roles = referee.roles(text, name)
-    except BadRules as why:
-        raise NoDescription(str(why)) from None
-    return Rules(text, sum_of(text), roles, player_rules, description_sum, notes, referee.is_large)
+    """Returns the rules that a ground description says, as the referee reads it, with the text that players get. If the usual limits do
+    not suffice, those for large games are taken. Refuses what the referee refuses, in its words."""
+    large = referee.taking(True)
+    programs = [large] if referee.is_large or LARGE_NOTE in notes_of(text) else [referee, large]
+    for program in programs:
+        try:
+            roles = program.roles(text, name)
+        except BadRules as refused:
+            why = refused
+            continue
+        notes = notes if program is programs[0] else (LARGE_NOTE, *notes)
+        return Rules(text, sum_of(text), roles, player_rules, description_sum, notes, program.is_large)
+    raise NoDescription(str(why)) from None
 
 
-def most_bytes(is_large: bool) -> int:
-    """Returns how many bytes a description may have."""
-    return MOST_BYTES_OF_LARGE if is_large else MOST_BYTES
-
-
-def read_text(path: pathlib.Path, is_large: bool = False) -> bytes:
+def read_text(path: pathlib.Path) -> bytes:
     """Returns the bytes of a description."""
-    most = most_bytes(is_large)
     try:
         with open(path, "rb") as file:
-            text = file.read(most + 1)
+            text = file.read(MOST_BYTES + 1)
     except OSError as why:
         raise NoDescription(f"it can't be read: {why.strerror}") from None
-    if len(text) > most:
-        raise NoDescription(f"it has more than {most:,} bytes")
+    if len(text) > MOST_BYTES:
+        raise NoDescription(f"it has more than {MOST_BYTES:,} bytes")
     return text
 
 
 def load_description(path: pathlib.Path, referee: Referee, tells_variables: bool, seconds: float) -> Rules:
     """Returns the rules of the game that a file describes, with the text that its players get. If the file has no variables that is
     nothing beside the rules, whatever is asked for."""
-    text = read_text(path, referee.is_large)
+    text = read_text(path)
     starts, description_sum = sentence_starts(text), sum_of(text)
     if not has_variables(text):
         return rules_of(text, path, referee, None, description_sum)
@@ -157,7 +159,7 @@ def load_description(path: pathlib.Path, referee: Referee, tells_variables: bool
 
 def load_described(path: pathlib.Path, described: pathlib.Path, referee: Referee, tells_variables: bool) -> Rules:
     """Returns the rules that a file has, with the text that its players get, by the description with variables that stands beside it."""
-    ground, text = read_text(path, referee.is_large), read_text(described)
+    ground, text = read_text(path), read_text(described)
     if has_variables(ground):
         raise NoDescription("it has variables, and so needs no description beside it")
     sentence_starts(ground)
@@ -168,6 +170,6 @@ def load_described(path: pathlib.Path, described: pathlib.Path, referee: Referee
     if tells_variables:
         heads = [Rule(0, sentence[1] if sentence[0] == "<=" else sentence, ()) for sentence in kif.expressions(ground.decode("latin-1"))]
         player_rules = text_for_players(list(map(as_read, kif.expressions(text.decode("latin-1")))), heads).encode("ascii")
-        if len(player_rules) > MOST_BYTES:
-            raise NoDescription(f"the text for players has more than {MOST_BYTES:,} bytes")
+        if len(player_rules) > MOST_BYTES_FOR_PLAYERS:
+            raise NoDescription(f"the text for players has more than {MOST_BYTES_FOR_PLAYERS:,} bytes")
     return rules_of(ground, path, referee, player_rules, sum_of(text))

@@ -44,7 +44,7 @@ def seconds(text: str) -> float:
 
 def arguments() -> argparse.Namespace:
     words = argparse.ArgumentParser("ggp-hold-against", usage=USAGE, description=ABOUT, epilog=STATUS)
-    told = f"the seconds for each record, above 0 and up to {MOST_SECONDS:,} ({SECONDS:g})"
+    told = f"the seconds of a processor for each record, above 0 and up to {MOST_SECONDS:,} ({SECONDS:g})"
     words.add_argument("--seconds", type=seconds, default=SECONDS, metavar="N", help=told)
     words.add_argument("description", metavar="DESCRIPTION", type=argparse.FileType("rb"), help="the description as it was published")
     words.add_argument("records", metavar="RECORD", nargs="*", type=argparse.FileType("rb"), help="a file of records, one a line")
@@ -94,7 +94,7 @@ def place_of(why: BaseException) -> str:
 def hold(text: str, lines: Iterable[str], limit: float) -> Iterator[tuple[int, str]]:
     """Gives a status and words for each record, each within the seconds."""
     holding = Holding(text)
-    signal.signal(signal.SIGALRM, late)
+    signal.signal(signal.SIGPROF, late)
     for line in lines:
         yield within(limit, holding, line) or (NOT_FOLLOWED, f"not followed: its time was over, after {limit:g} s")
 
@@ -103,11 +103,11 @@ def within(limit: float, holding: Holding, line: str) -> tuple[int, str] | None:
     """What there is to say of a record; none where the seconds are over before."""
     try:
         try:
-            signal.setitimer(signal.ITIMER_REAL, limit)
+            signal.setitimer(signal.ITIMER_PROF, limit)
             return holding.held(line)
         finally:
             # The seconds may be over here too.
-            signal.setitimer(signal.ITIMER_REAL, 0)
+            signal.setitimer(signal.ITIMER_PROF, 0)
     except Late:
         return None
 

@@ -3,14 +3,14 @@
     ggp-instantiate [--seconds N] [--large] [--folded | --unfolded] [--split] [--player-rules FILE] [FILE]
 
 Reads FILE, or standard input. What was done is said on standard error, beside the limits of the program, and where more was done
-than to find the instances a comment at the head says so. N is the seconds for the whole run, above 0 and up to 1,000,000 (60 if not
+than to find the instances a comment at the head says so. N is the seconds of a processor, above 0 and up to 1,000,000 (60 if not
 given). The work is that of the grounder gringo, which has to be installed, and of the modules beside this one.
 
 A description that is past the program's limits is folded: fewer and shorter sentences for the same game. With --folded every
-description is, with --unfolded none. One that has many instances, or is past the limits all the same, has its rules split, with --split
-any: parts of them get relations of their own, so that fewer variables stand in one rule. With --large the limits are those that the
-program has with its own --large. With --player-rules the description with variables is written to this FILE for players, one sentence a
-line, with its `base` and `input`.
+description is, with --unfolded none. If folding takes too much work, or does not help, the limits are those that the program has with
+its --large; with --large they are so from the start. One that has many instances, or is past the limits all the same, has its rules
+split, with --split any: parts of them get relations of their own, so that fewer variables stand in one rule. With --player-rules the
+description with variables is written to this FILE for players, one sentence a line, with its `base` and `input`.
 
 Each sentence becomes rules without `or`, and each rule tells the grounder which of its instances there can be: those whose
 `true` sentences speak of what some `init` or `next` derives, and whose `does` sentences of what some `legal` derives, whatever
@@ -70,9 +70,9 @@ def write_player_rules(made: Making, file: str) -> None:
 def arguments() -> argparse.Namespace:
     usage = "ggp-instantiate [--seconds N] [--large] [--folded | --unfolded] [--split] [--player-rules FILE] [FILE]"
     words = argparse.ArgumentParser("ggp-instantiate", usage=usage, description=HELP, epilog="More is said in examples/games/general/README.md.")
-    told = f"the seconds for the whole run, above 0 and up to {MOST_SECONDS:,} ({SECONDS})"
+    told = f"the seconds of a processor that it may take, above 0 and up to {MOST_SECONDS:,} ({SECONDS})"
     words.add_argument("--seconds", type=seconds, default=SECONDS, metavar="N", help=told)
-    words.add_argument("--large", action="store_true", help="keep to the limits of ggp_manager --large in place of the usual ones")
+    words.add_argument("--large", action="store_true", help="do not try for the usual limits of ggp_manager: keep to those of ggp_manager --large")
     how = words.add_mutually_exclusive_group()
     told = "fold the description: fewer and shorter sentences for the same game (done where it is past the limits of ggp_manager)"
     how.add_argument("--folded", dest="folding", action="store_const", const=ALWAYS, default=WHERE_NEEDED, help=told)

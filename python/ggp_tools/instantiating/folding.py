@@ -9,8 +9,10 @@ What a sentence says never changes, and so does no state, move, goal or end. The
 one was, so the order of roles and of legal moves stays too.
 """
 
+import math
 from collections import Counter, defaultdict
-from collections.abc import Iterable, Iterator, Mapping
+from collections.abc import Callable, Iterable, Iterator, Mapping, Sequence
+from typing import NamedTuple
 
 from .formulas import FALSE, TRUE, Formulas
 from ggp_tools.kif import Expression, Refused, atoms, fresh_before_digits, relation
@@ -25,8 +27,20 @@ ROUNDS = 30
 LEAST_BYTES = 24
 
 
+# Folding costs so many times the work of the first estimate, or more.
+MORE_WORK = 1.5
+
+
 class Hopeless(Refused):
-    """What is past a limit, however it is folded."""
+    """What is past a limit, however it is folded, or costs more work than is allowed."""
+
+
+class Target(NamedTuple):
+    """How many sentences and bytes there may be, and how much work it may take. About 30,000 take a second of a processor."""
+
+    sentences: int
+    bytes: int
+    work: float = math.inf
 
 
 class Folded:
@@ -47,14 +61,23 @@ class Folded:
             head = made.atom(rule.head)
             self.sources.setdefault(head, rule.sentence)
             literals = [made.atom(literal.atom) if literal.positive else made.no(made.atom(literal.atom)) for literal in rule.body]
-            body = made.body(literals)
-            self.bodies.setdefault(head, [])
+            body, bodies = made.body(literals), self.bodies.setdefault(head, [])
             if body is not None:
-                self.bodies[head].append(body)
+                if body not in self.origins[head]:
+                    bodies.append(body)
                 self.origins[head][body][rule.sentence] += self.sentence_size(head, body)
         self.own = {head for head in self.bodies if relation(made.nodes[head][1])[0] in GAME}
         self.word = fresh_before_digits("part", {name for rule in rules for name in atoms(rule.head)})
-        self.part_count = 0
+        self.part_count, self.cache, self.most_work = 0, {}, math.inf
+
+    def of_bodies(self, head: int, make: Callable) -> object:
+        """What is made of the bodies of a head, again only if these are others."""
+        bodies, key = self.bodies[head], (head, make)
+        if key not in self.cache or self.cache[key][0] is not bodies:
+            if self.formulas.work > self.most_work:
+                raise Hopeless(f"to fold it takes more than {self.most_work:,} steps")
+            self.cache[key] = bodies, make(bodies)
+        return self.cache[key][1]
 
     # ---- What it comes to ------------------------------------------------------------------------
 
@@ -122,8 +145,8 @@ class Folded:
 
     def merge(self) -> None:
         for head, bodies in self.bodies.items():
-            if len(bodies) > 1:
-                self.bodies[head] = merged(bodies, self.formulas, self.origins[head])
+            if len(bodies) > 1 and self.cache.get((head, merged)) is not bodies:
+                self.bodies[head] = self.cache[head, merged] = merged(bodies, self.formulas, self.origins[head])
 
     def settle(self) -> None:
         """Puts what is always or never true into its place."""
@@ -141,6 +164,8 @@ class Folded:
             self.own.discard(head)
         known = {}
         for head, bodies in self.bodies.items():
+            if self.below(head).isdisjoint(by):
+                continue
             found = {}
             for body in bodies:
                 parts = [self.formulas.replaced(formula, by, known) for formula in body]
@@ -206,7 +231,10 @@ class Folded:
 
     def below(self, head: int) -> set[int]:
         """The heads that a head's sentences ask for."""
-        return self.atoms_in(formula for body in self.bodies[head] for formula in body)
+        return self.of_bodies(head, self.atoms_below)
+
+    def atoms_below(self, bodies: list[Formed]) -> set[int]:
+        return self.atoms_in(formula for body in bodies for formula in body)
 
     def atoms_in(self, formulas: Iterable[int]) -> set[int]:
         """The atomic sentences that stand in formulas."""
@@ -241,18 +269,36 @@ class Folded:
             self.merge()
             self.settle()
 
-    def must_have_room(self, most_sentences: int, most_bytes: int) -> None:
-        """Refuses what is past a limit before it is folded for long. Each sentence of the game's own relations stays, and of the others
+    def must_have_room(self, target: Target) -> None:
+        """Refuses what is past a target before it is folded for long. Each sentence of the game's own relations stays, and of the others
         those that are too many have to be put where they are asked for: now that costs so many bytes, and later it costs more."""
-        if len(self.own) > most_sentences:
-            raise Hopeless(f"sentences (at least {len(self.own):,} of {most_sentences:,})")
-        many = len(self.bodies) - most_sentences
-        costs = sorted(cost for cost, *_ in self.costs_of_placing()) if many > 0 else []
-        if len(costs) < many:
-            raise Hopeless(f"sentences (at least {len(self.bodies) - len(costs):,} of {most_sentences:,})")
-        least = sum(costs[:many]) + LEAST_BYTES * most_sentences
-        if many > 0 and least > most_bytes:
-            raise Hopeless(f"bytes (at least {least:,} of {most_bytes:,}, since {many:,} of {len(self.bodies):,} sentences have to stand in others)")
+        if len(self.own) > target.sentences:
+            raise Hopeless(f"sentences (at least {len(self.own):,} of {target.sentences:,})")
+        many = len(self.bodies) - target.sentences
+        costs = sorted(cost for cost, *_ in self.costs_of_placing()) if self.sentences() > target.sentences else []
+        if many > 0 and len(costs) < many:
+            raise Hopeless(f"sentences (at least {len(self.bodies) - len(costs):,} of {target.sentences:,})")
+        least = sum(costs[:many]) + LEAST_BYTES * target.sentences
+        if many > 0 and least > target.bytes:
+            raise Hopeless(f"bytes (at least {least:,} of {target.bytes:,}, since {many:,} of {len(self.bodies):,} sentences have to stand in others)")
+        if costs and MORE_WORK * self.formulas.work > target.work:
+            raise Hopeless(f"to fold it takes more than {target.work:,} steps")
+
+    def fold(self, target: Target) -> None:
+        """Folds the game, if possible to within the target."""
+        self.most_work = target.work
+        self.place_in(self.sentences())
+        if self.sentences() > target.sentences:
+            self.join(target.sentences)
+            self.place_in(target.sentences)
+        self.shorten()
+        self.share_bodies(target.sentences)
+        self.share(target.sentences)
+        if self.bytes() > target.bytes:
+            self.rename()
+
+    def is_within(self, target: Target) -> bool:
+        return self.sentences() <= target.sentences and self.bytes() <= target.bytes
 
     def costs_of_placing(self) -> Iterator[tuple[int, int, int, set[int]]]:
         """For each head that is only asked for, how many bytes it costs to put its formula there."""
@@ -260,7 +306,7 @@ class Folded:
         deepest = max((depths[formula] for bodies in self.bodies.values() for body in bodies for formula in body), default=0)
         for head, bodies in self.bodies.items():
             if head not in self.own:
-                formula = self.factored(bodies)
+                formula = self.of_bodies(head, self.factored)
                 if deepest + depths[formula] < MOST_DEEP:
                     gone = sum(self.sentence_size(head, body) for body in bodies)
                     yield uses[head] * (sizes[formula] - sizes[head]) - gone, head, formula, self.below(head)
@@ -407,21 +453,31 @@ def merged(bodies: list[Formed], formulas: Formulas, origins: dict[Formed, Count
             return [frozenset()]
 
 
-def folded(rules: list[Rule], most_sentences: int, most_bytes: int, refuses: bool = False) -> Folded:
-    """The game folded, if possible to at most this many sentences and bytes. Where it is to be refused if it is not, that is seen early."""
+def begun(rules: list[Rule]) -> Folded:
+    """The game with the rules of each head put together."""
     game = Folded(rules)
     game.settle()
     game.merge()
     game.settle()
-    if refuses:
-        game.must_have_room(most_sentences, most_bytes)
-    game.place_in(len(rules))
-    if game.sentences() > most_sentences:
-        game.join(most_sentences)
-        game.place_in(most_sentences)
-    game.shorten()
-    game.share_bodies(most_sentences)
-    game.share(most_sentences)
-    if game.bytes() > most_bytes:
-        game.rename()
     return game
+
+
+def folded(rules: list[Rule], targets: Sequence[Target]) -> Folded:
+    """The game folded to the first of these targets that it can be within, each larger than the one before. Refuses it if there is none."""
+    game, why = None, None
+    for target in targets:
+        game = game or begun(rules)
+        try:
+            game.must_have_room(target)
+        except Hopeless as hopeless:
+            why = hopeless
+            continue
+        try:
+            game.fold(target)
+        except Hopeless as hopeless:
+            game, why = None, hopeless
+            continue
+        if target is targets[-1] or game.is_within(targets[-1]):
+            return game
+        game = None
+    raise why

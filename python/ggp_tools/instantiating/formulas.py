@@ -12,9 +12,10 @@ TRUE, FALSE = 0, 1
 
 
 class Formulas:
-    """A node is an atomic sentence, `("not", number)` or `("or", numbers in order)`."""
+    """A node is an atomic sentence, `("not", number)` or `("or", numbers in order)`. `work` counts the members of formulas that were made."""
 
     def __init__(self) -> None:
+        self.work = 0
         self.nodes, self.numbers, self.sizes, self.depths = [("true",), ("false",)], {}, [0, 0], [0, 0]
         self.role_of, self.moves = {}, {}
 
@@ -53,6 +54,7 @@ class Formulas:
         for number in numbers:
             node = self.nodes[number]
             members.update(node[1] if node[0] == "or" else (number,))
+        self.work += len(members)
         members.discard(FALSE)
         if TRUE in members or any(self.no(member) in members for member in members if self.nodes[member][0] == "not"):
             return TRUE

@@ -1,7 +1,9 @@
 """The grounder gringo: the program that it gets, and the instances that it finds."""
 
+import math
 import re
 import resource
+import signal
 import subprocess
 import threading
 from collections import Counter
@@ -113,17 +115,21 @@ class TooMany(Refused):
     """There are more instances than are taken."""
 
 
+class TooSlow(Refused):
+    """The grounder has used its seconds."""
+
+
 class Grounder:
     """One run of gringo. It ends where it has found all, is past a limit, or an exception comes, as from the clock."""
 
-    def __init__(self, program: LogicProgram, most: int = MOST_INSTANCES) -> None:
-        self.program, self.most, self.counts, self.lists = program, most, Counter(), {}
+    def __init__(self, program: LogicProgram, most: int = MOST_INSTANCES, seconds: float = math.inf) -> None:
+        self.program, self.most, self.seconds, self.counts, self.lists = program, most, seconds, Counter(), {}
 
     def instances(self) -> list[tuple[int, list[str]]]:
         """The instances that it finds, each with the number of its rule and its terms."""
         pipes = {"stdin": subprocess.PIPE, "stdout": subprocess.PIPE, "stderr": subprocess.PIPE}
         try:
-            run = subprocess.Popen(["gringo", "--text", "--warn=none"], **pipes, text=True, preexec_fn=limit_memory)
+            run = subprocess.Popen(["gringo", "--text", "--warn=none"], **pipes, text=True, preexec_fn=lambda: limit_process(self.seconds))
         except FileNotFoundError:
             raise Refused("gringo is not installed") from None
         writer = threading.Thread(target=write, args=(run.stdin, self.program.text))
@@ -135,6 +141,8 @@ class Grounder:
             run.kill()
             writer.join()
             run.wait()
+        if status == -signal.SIGXCPU:
+            raise TooSlow(f"gringo took more than {self.seconds:g} s")
         if "bad_alloc" in said or status < 0:
             raise Refused(f"gringo took {MEMORY >> 30} GiB")
         if status:
@@ -170,8 +178,13 @@ class Grounder:
         return by_sentence.most_common(1)[0] if by_sentence else None
 
 
-def limit_memory() -> None:
+def limit_process(seconds: float) -> None:
+    """Limits the memory of this process, and the seconds of a processor that it may use."""
     resource.setrlimit(resource.RLIMIT_AS, (MEMORY, MEMORY))
+    if seconds < math.inf:
+        most = math.ceil(seconds)
+        # Past the second number it would be killed without the signal that says why.
+        resource.setrlimit(resource.RLIMIT_CPU, (most, most + 1))
 
 
 def write(stream: TextIO, text: str) -> None:

@@ -8,8 +8,10 @@ from ggp_tools.kif import MOST_LEVELS, Expression, Refused, levels, relation, sp
 from .sentences import SECRET, Rule, cited
 
 MOST = {"sentences": 8192, "atomic sentences": 16384, "roles": 16, "moves": 4096, "bytes": 1048576, "levels": MOST_LEVELS}
-# What is more with --large.
-MORE_OF_LARGE = {"sentences": 65536, "atomic sentences": 65536, "bytes": 4194304}
+# The limits of ggp_manager --large.
+LARGE = {**MOST, "sentences": 65536, "atomic sentences": 65536, "bytes": 4194304}
+# What a ground description says of itself if it is past the usual limits.
+LARGE_NOTE = "large = true: this is past the usual limits of ggp_manager, which takes it with --large"
 # One word of a command line on Linux, without the byte that ends it.
 MOST_IN_A_WORD = 131071
 # A sentence that is written, with the number of the one that it comes from; and how much there is of something, with its name and limit.
@@ -57,23 +59,18 @@ def atoms_of(expression: Expression) -> Iterator[Expression]:
         yield expression
 
 
-def most_of(is_large: bool) -> dict[str, int]:
-    """How much there may be of each thing."""
-    return {**MOST, **MORE_OF_LARGE} if is_large else MOST
-
-
-def figures(written: list[Numbered], size: int, most: dict[str, int]) -> Iterator[Figure]:
-    """What the program sets a limit to: each thing's name, how much of it there is, and how much there may be."""
+def figures(written: list[Numbered], size: int) -> Iterator[Figure]:
+    """What the program limits: each thing's name, how much of it there is, and the usual limit."""
     heads = dict.fromkeys(sentence[1] if sentence[0] == "<=" else sentence for _, sentence in written)
     moves = Counter(head[1] for head in heads if relation(head) == ("legal", 2))
     roles = [head[1] for head in heads if relation(head) == ("role", 1)]
-    yield "sentences", len(written), most["sentences"]
-    yield "atomic sentences", len({atom for _, sentence in written for atom in atoms_of(sentence)}), most["atomic sentences"]
-    yield "roles", len(roles), most["roles"]
+    yield "sentences", len(written), MOST["sentences"]
+    yield "atomic sentences", len({atom for _, sentence in written for atom in atoms_of(sentence)}), MOST["atomic sentences"]
+    yield "roles", len(roles), MOST["roles"]
     for role in roles:
-        yield f"moves of {spelled(role)}", moves[role], most["moves"]
-    yield "bytes", size, most["bytes"]
-    yield "lists in one another", max((levels(sentence) for _, sentence in written), default=0), most["levels"]
+        yield f"moves of {spelled(role)}", moves[role], MOST["moves"]
+    yield "bytes", size, MOST["bytes"]
+    yield "lists in one another", max((levels(sentence) for _, sentence in written), default=0), MOST["levels"]
 
 
 def costs_of(written: list[Numbered], is_bytes: bool) -> Counter[int]:

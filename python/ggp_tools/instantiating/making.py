@@ -1,6 +1,7 @@
 """From a description to its ground description: what is done one after the other, and what is said of it."""
 
 import contextlib
+import math
 import signal
 import sys
 import time
@@ -18,6 +19,9 @@ WHERE_NEEDED, ALWAYS, NEVER = "where needed", "always", "never"
 FOLDABLE = ("sentences", "atomic sentences", "bytes")
 # So many times a limit is far past it.
 FAR = 4
+# The work of folding a game to within the usual limits: about twenty seconds of a processor. It is counted, so a game has the same form
+# on each machine.
+MOST_WORK = 400_000
 # After so many seconds what is known is said at once.
 SOON = 2
 
@@ -32,13 +36,21 @@ def late(signal_number: int, frame: object) -> None:
 
 class Written(NamedTuple):
     """A ground description: its sentences, each with the number of the one that it comes from, and its text; of each thing that has a
-    limit how much of it there is, and how much there may be; what the text says of itself; and the game that was folded, if it was."""
+    limit how much of it there is, and how much there may be; what the text says of itself; the game that was folded, if it was; and
+    whether the limits are those for large games."""
 
     sentences: list
     text: str
     figures: list
     notes: list
     game: object = None
+    is_large: bool = False
+
+    def as_large(self) -> "Written":
+        """The same by the limits for large games, with a note that says so."""
+        text = f"; {limits.LARGE_NOTE}\n{self.text}"
+        figures = [(name, len(text) if name == "bytes" else count, limits.LARGE.get(name, most)) for name, count, most in self.figures]
+        return self._replace(text=text, figures=figures, notes=[limits.LARGE_NOTE, *self.notes], is_large=True)
 
     def past(self) -> list[limits.Figure]:
         """What is past its limit."""
@@ -50,24 +62,25 @@ class Written(NamedTuple):
 
 
 class Making:
-    """The making of one ground description, within the usual limits of the program or those for large games."""
+    """The making of one ground description, within the usual limits of the program or, if that takes too much or can't be, those for large
+    games. With `is_large` the usual limits are not tried for."""
 
     def __init__(self, text: str, seconds: int, folding_wanted: str, is_split: bool = False, is_large: bool = False) -> None:
-        self.text, self.seconds, self.wanted, self.is_split, self.most = text, seconds, folding_wanted, is_split, limits.most_of(is_large)
+        self.text, self.seconds, self.wanted, self.is_split, self.is_large = text, seconds, folding_wanted, is_split, is_large
         self.sentences, self.lines, self.rules, self.grounder, self.work = [], [], [], None, "reading it"
         self.notes, self.best, self.hopeless, self.known, self.count, self.is_unrolled = [], None, None, [], 0, False
 
     def run(self) -> str:
-        """The ground description, or why there is none, within the seconds."""
+        """The ground description, or why there is none, within the seconds of a processor. The grounder has as many beside them."""
         self.began = time.monotonic()
-        signal.signal(signal.SIGALRM, late)
+        signal.signal(signal.SIGPROF, late)
         try:
             try:
-                signal.setitimer(signal.ITIMER_REAL, self.seconds)
+                signal.setitimer(signal.ITIMER_PROF, self.seconds)
                 return self.made()
             finally:
                 # The seconds may be over here too.
-                signal.setitimer(signal.ITIMER_REAL, 0)
+                signal.setitimer(signal.ITIMER_PROF, 0)
         except Late:
             why = f"stopped after {self.seconds:g} s, {self.work}"
         return self.reported(self.best) if self.best else self.refuse(why)
@@ -136,11 +149,13 @@ class Making:
 
     def ground(self, program: gringo.LogicProgram, most: int) -> list[Rule]:
         self.work = "finding the instances"
-        self.grounder = gringo.Grounder(program, most)
+        self.grounder = gringo.Grounder(program, most, self.seconds)
         try:
             instances = self.grounder.instances()
         except gringo.TooMany:
             raise
+        except gringo.TooSlow:
+            raise Late from None
         except Refused as why:
             self.refuse(str(why))
         self.work = "putting them in order"
@@ -176,31 +191,42 @@ class Making:
     # ---- What is written, and said ---------------------------------------------------------------
 
     def written(self, rules: list[Rule]) -> Written:
-        plain = [(rule.sentence, grounding.sentence_of(rule)) for rule in rules]
-        found = self.as_written(plain)
-        is_past = any(name in FOLDABLE for name, _, _ in found.past())
-        if self.wanted == ALWAYS or (self.wanted == WHERE_NEEDED and is_past):
-            self.work = "folding it"
-            game = folding.folded(rules, self.most["sentences"], self.most["bytes"], True)
-            folded = list(game.written())
-            self.notes.append(f"folded: {len(rules):,} ground sentences of {len(found.text):,} bytes became {len(folded):,}")
-            found = self.as_written(folded)._replace(game=game)
-        return found
+        """The ground description of rules: as they stand if they are within the usual limits, else folded, or as they stand by the limits for
+        large games if they can't be folded to within the usual ones with the work that this may take."""
+        plain = self.as_written([(rule.sentence, grounding.sentence_of(rule)) for rule in rules])
+        can_stay = self.wanted == WHERE_NEEDED and not plain.past()
+        if self.wanted == NEVER or can_stay and (self.is_large or not plain.is_large) or any(name not in FOLDABLE for name, _, _ in plain.past()):
+            return plain
+        if can_stay:
+            # What is written if the seconds are over.
+            self.best = plain
+        self.work = "folding it"
+        usual, large = (folding.Target(most["sentences"], most["bytes"], work) for most, work in ((limits.MOST, MOST_WORK), (limits.LARGE, math.inf)))
+        try:
+            game = folding.folded(rules, [*([] if self.is_large else [usual]), *([] if can_stay else [large])])
+        except folding.Hopeless:
+            if can_stay:
+                return plain
+            raise
+        folded = list(game.written())
+        self.notes.append(f"folded: {len(rules):,} ground sentences of {len(plain.text):,} bytes became {len(folded):,}")
+        found = self.as_written(folded)._replace(game=game)
+        return plain if can_stay and found.past() else found
 
     def as_written(self, sentences: list[limits.Numbered]) -> Written:
         text = text_of(sentences, self.notes)
-        return Written(sentences, text, list(limits.figures(sentences, len(text), self.most)), self.notes)
+        found = Written(sentences, text, list(limits.figures(sentences, len(text))), [*self.notes])
+        return found.as_large() if any(name in FOLDABLE for name, _, _ in found.past()) else found
 
     def reported(self, written: Written) -> str:
         """Says what was made, beside the limits, and refuses what is past one. Returns its text."""
-        seconds, size = time.monotonic() - self.began, len(written.text)
-        say(f"ggp-instantiate: {len(self.sentences)} sentences gave {len(written.sentences):,} ground ones, in {seconds:.2f} s")
+        say(f"ggp-instantiate: {len(self.sentences)} sentences gave {len(written.sentences):,} ground ones, in {time.monotonic() - self.began:.2f} s")
         for note in written.notes:
             say(f"  {note}")
         wide = max(len(name) for name, _, _ in written.figures)
         for name, count, most in written.figures:
             say(f"  {name:{wide}} {count:>9,} of {most:>9,}" + (": PAST THE LIMIT" if count > most else ""))
-        if limits.MOST_IN_A_WORD < size <= self.most["bytes"]:
+        if limits.MOST_IN_A_WORD < len(written.text) and not written.past():
             say(f"  one word of a command line holds {limits.MOST_IN_A_WORD:,} bytes on Linux, and this is longer")
         if past := written.past():
             is_bytes = past[0][0] == "bytes"
