@@ -4,7 +4,7 @@ import random
 import unittest
 
 from ggp_tools.competition.command import MOST_AT_ONCE
-from ggp_tools.competition.competition_file import Host, MOST_PLAYERS, MOST_ROUNDS, MOST_SECONDS, MOST_STRIKES, Mistaken, read_competition
+from ggp_tools.competition.competition_file import Command, Host, MOST_PLAYERS, MOST_ROUNDS, MOST_SECONDS, MOST_STRIKES, Mistaken, read_competition
 from ggp_tools.competition.schedule import MOST_MATCHES
 from planning import planned
 from support import TOP, toml
@@ -72,6 +72,17 @@ MISTAKES = [
     ('"[::1]:9148"', '"fe80%eth0:9148"', [(19, "players.address", "is no HOST:PORT")]),
     ('"[::1]:9148"', '"host:65536"', [(19, "players.address", "the port 65536")]),
     ('"[::1]:9148"', '"host:0"', [(19, "players.address", "the port 0")]),
+    ('address = "[::1]:9148"', 'address = "[::1]:9148"\nmemory = "1G"', [(20, "players.memory", "only a player with a `command` has this key")]),
+    ('address = "[::1]:9148"', 'address = "[::1]:9148"\ncommand = ["x", "{port}"]', [(19, "players.address", "is started here"), (17, "players.command", "can't be reached from `hosts`")]),
+    *(('address = "[::1]:9148"', new, [(line, f"players.{key}", words), (17, "players.command", "hosts")]) for new, line, key, words in (
+        ('command = []', 19, "command", "at least one text is expected"), ('command = [""]', 19, "command", "at least one text is expected"),
+        ('command = ["x"]', 19, "command", "{port} is expected in the command or in the environment"), ('command = ["x", 5, "{port}"]', 19, "command", "a text in quotes"),
+        *((f'command = ["x", "{{port}}"]\n{more}', 20, more.split()[0], words) for more, words in (
+            ('memory = "4X"', "'4X' is not a size"), ('memory = 5', "a text in quotes"), ("processors = 4097", "is not from 0 to 4,096"), ('restart = "always"', "none of when_dead, each_match, never"),
+            ("start_seconds = 0", "is not from 1 to 3,600"), ("environment = 5", "a table of texts"), ('environment = {"A=" = "x"}', "is not a variable"), ("environment = {A = 5}", "is not a variable"),
+            ('directory = ""', "is no path of a file"),
+        )),
+    )),
     ("concurrent = 3", "concurrent = 1025", [(23, "players.concurrent", "is not from 1 to 1,024")]),
     ("concurrent = 3", "concurrent = 0", [(23, "players.concurrent", "is not from")]),
     ('"cup"', '"c p"\nplay = 0', [(1, "name", "is no name"), (2, "play", "is not from")]),
@@ -106,6 +117,16 @@ class CompetitionFile(unittest.TestCase):
         self.assertEqual((found.name, found.strikes, found.hosts), ("cup", 3, (Host("one", 0), Host("me@two", 0))))
         self.assertEqual([(player.name, player.place(), player.concurrent) for player in found.players][1:], [("bob", "bob@[::1]:9148", 1), ("cid", "cid@host.example:9149", 3)])
         self.assertEqual([(game.name, game.start, game.play) for game in found.games], [("chess", 30, 10), ("go", 30, 10)])
+
+    def test_a_player_with_a_command(self):
+        started = 'command = ["x", "--at", "{port}"]\ndirectory = "d"\nenvironment = {A = "1", B = ""}\nmemory = "512M"\nprocessors = 2\nrestart = "each_match"\nstart_seconds = 30'
+        here = GOOD.replace('hosts = ["one", "me@two"]', "")
+        found = read_competition(here.replace('address = "[::1]:9148"', started).encode()).players[1]
+        self.assertEqual((found.command, found.address), (Command(("x", "--at", "{port}"), "d", (("A", "1"), ("B", "")), 512 << 20, 2, "each_match", 30), ""))
+        plain = read_competition(here.replace('address = "[::1]:9148"', 'command = ["x"]\nenvironment = {PORT = "{port}"}').encode()).players
+        self.assertEqual((plain[0].command, plain[1].command), (None, Command(("x",), "", (("PORT", "{port}"),), 0, 0, "when_dead", 10)))
+        found = mistakes_of(here.replace('address = "[::1]:9148"', 'command = ["x", "{port}"]\nrestart = "each_match"\nconcurrent = 2').encode())
+        self.assertEqual(found, [(20, "players.restart", "'each_match' would end the other matches of the player: it needs `concurrent = 1`")])
 
     def test_a_competition_by_rounds_has_an_order_of_its_own(self):
         for kind in ('"swiss"\nrounds = 3', '"knockout"'):

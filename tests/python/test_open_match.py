@@ -15,6 +15,7 @@ from ggp_tools.competition.files import Folder
 from ggp_tools.competition.hosts import CONNECTED, Hosts
 from ggp_tools.competition.open_match import OpenMatch, Shared, leave_players
 from ggp_tools.competition.seats import Seats
+from ggp_tools.competition.started_players import StartedPlayers
 from ggp_tools.referee import Referee
 from live_support import plan_in, record_of
 
@@ -103,7 +104,8 @@ class WithMatch(unittest.TestCase):
         self.match, self.reporter, self.seats = self.plan.matches[0], Said(), Seats(self.plan.competition)
         self.hosts = Hosts(hosts, competition.tries, competition.wait, 4) if hosts else None
         self.may_begin, self.left = True, []
-        shared = Shared(self.plan, Referee("program"), self.seats, self.reporter, self.hosts, lambda match: self.may_begin, lambda: self.left.append(self.open.stage))
+        self.players = StartedPlayers(folder, competition, None, self.reporter)
+        shared = Shared(self.plan, Referee("program"), self.seats, self.reporter, self.hosts, self.players, lambda match: self.may_begin, lambda: self.left.append(self.open.stage))
         self.seats.sit(self.match)
         self.open = OpenMatch(shared, self.match, self.hosts and self.hosts.take(100.0))
         self.record = json.dumps(record_of(self.match, [["(take 2)", "noop"], ["noop", "(take 1)"]], [["", ""], ["", ""]], [0, 100])).encode() + b"\n"

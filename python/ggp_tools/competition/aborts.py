@@ -10,22 +10,27 @@ from ggp_tools.referee import Referee
 AT_ONCE = 1_024
 
 
+async def succeeds(words: list[str], seconds: float | None = None) -> bool:
+    """Returns whether a command of the referee ends with status 0, within so many seconds. It does not if this computer is short of something."""
+    try:
+        # Ctrl-C at the terminal does not reach it.
+        process = await asyncio.create_subprocess_exec(*words, stdin=DEVNULL, stdout=DEVNULL, stderr=DEVNULL, start_new_session=True)
+    except OSError:
+        return False
+    try:
+        await asyncio.wait([asyncio.create_task(process.wait())], timeout=seconds)
+        return process.returncode == 0
+    finally:
+        if process.returncode is None:
+            with contextlib.suppress(ProcessLookupError):
+                process.kill()
+            await process.wait()
+
+
 async def is_answered(referee: Referee, match: str, place: str, slots: asyncio.Semaphore) -> bool:
-    """Sends a player ABORT. Returns whether it has answered: it has not if this computer is short of something."""
+    """Sends a player ABORT. Returns whether it has answered."""
     async with slots:
-        try:
-            # Ctrl-C at the terminal does not reach it.
-            words = referee.abort_words(match, place)
-            process = await asyncio.create_subprocess_exec(*words, stdin=DEVNULL, stdout=DEVNULL, stderr=DEVNULL, start_new_session=True)
-        except OSError:
-            return False
-        try:
-            return await process.wait() == 0
-        finally:
-            if process.returncode is None:
-                with contextlib.suppress(ProcessLookupError):
-                    process.kill()
-                await process.wait()
+        return await succeeds(referee.abort_words(match, place))
 
 
 async def send_aborts(referee: Referee, places: dict[str, list[str]], seconds: float | None = None) -> dict[str, list[str]]:

@@ -73,10 +73,12 @@ def refusal(place: Place) -> str:
 
 def mistakes_of_addresses(competition: Competition) -> Iterator[Mistake]:
     """Gives each player that can't be reached at its address, whatever runs there, and each that is reached where another one is."""
-    hosts = [player.address.rpartition(":") for player in competition.players]
+    # A player that the competition starts has no address before.
+    players = [player for player in competition.players if not player.command]
+    hosts = [player.address.rpartition(":") for player in players]
     found = looked_up(host for host, _, _ in hosts)
     known: dict[Place, Player] = {}
-    for player, (host, _, port) in zip(competition.players, hosts):
+    for player, (host, _, port) in zip(players, hosts):
         places = [(address, int(port)) for address in dict.fromkeys(found[host])]
         if whys := list(filter(None, map(refusal, places))):
             yield Mistake(player.line, "players.address", f"{player.address!r}: {whys[0]}")

@@ -25,6 +25,7 @@ from ggp_tools.competition.seats import Seats
 from ggp_tools.competition.serving import add_serve, run_serve
 from ggp_tools.competition.table import tables_of
 from ggp_tools.competition.table_text import in_order, table_files, table_text
+from ggp_tools.competition.trying import try_player
 from ggp_tools.competition.why import said_of_match
 from ggp_tools.printable import printable
 from ggp_tools.reporting import Journal, Reporter, ready_streams, say
@@ -40,6 +41,7 @@ COMMANDS = {
     "publish": "writes one archive of the whole competition, with sums",
     "serve": "serves live pages of the matches, the standings and the players to browsers, read only",
     "why": "tells what happened to the players of a match, turn by turn, with the times",
+    "try": "starts one player that has a command, and plays a match with it in each role",
     "check": "checks an archive that `publish` has written, by what is in it alone",
 }
 STATUS = """status 0: all is well; of `play`, each match has a lawful record. 1: it is not. 2: the command or competition.toml is wrong. 3: the
@@ -69,6 +71,11 @@ def arguments(words: list[str]) -> argparse.Namespace:
         add_program(command, default=argparse.SUPPRESS)
         if name == "check":
             command.add_argument("archive", metavar="ARCHIVE", help="the file of the archive")
+            continue
+        if name == "try":
+            command.add_argument("file", metavar="FILE", help="competition.toml")
+            command.add_argument("player", metavar="PLAYER", help="the name of the player")
+            command.add_argument("--game", metavar="NAME", help="the game (the first one)")
             continue
         text = "the folder of the competition, with competition.toml (the present one)"
         if name == "why":
@@ -278,6 +285,10 @@ def run_why(asked: argparse.Namespace, referee: Referee) -> int:
     return 0
 
 
+def run_try(asked: argparse.Namespace, referee: Referee) -> int:
+    return try_player(asked.file, asked.player, asked.game, referee)
+
+
 def run_check(asked: argparse.Namespace, referee: Referee) -> int:
     if not os.path.exists(asked.archive):
         raise Refused(f"{asked.archive} is not there")
@@ -298,6 +309,7 @@ RUNS: dict[str, Callable[[argparse.Namespace, Referee], int]] = {
     "publish": run_publish,
     "serve": run_serve,
     "why": run_why,
+    "try": run_try,
     "check": run_check,
     "game": run_game,
 }

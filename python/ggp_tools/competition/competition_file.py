@@ -21,6 +21,12 @@ MOST_SHOWN = 10**20
 # Of matches at a time: of a player, of a host, and of all.
 MOST_AT_A_TIME = 1_024
 MOST_SECONDS, MOST_STRIKES, MOST_PLAYERS, MOST_ROUNDS, MOST_PORT = 86_400, 255, 1_000, 1_000, 65_535
+# When a player is started again that the competition starts: if it is dead, for each match, or never.
+RESTARTS = WHEN_DEAD, EACH_MATCH, NEVER = "when_dead", "each_match", "never"
+PORT = "{port}"
+MEMORY = re.compile(r"([1-9][0-9]{0,5})([KMGT])")
+COMMAND_KEYS = ("directory", "environment", "memory", "processors", "restart", "start_seconds")
+MOST_PROCESSORS, MOST_START_SECONDS = 4_096, 3_600
 # The seconds in which a description is instantiated, where no others are given, and the most of them.
 INSTANTIATING, MOST_INSTANTIATING = 60, 1_000_000
 # Those that plan each round by the results of the one before.
@@ -84,13 +90,28 @@ class Game:
 
 
 @dataclass(frozen=True)
+class Command:
+    """How the competition starts a player: `{port}` stands for its port in the command and in the environment. Of memory and processors 0 is
+    no limit."""
+
+    words: tuple[str, ...]
+    directory: str
+    environment: tuple[tuple[str, str], ...]
+    memory: int
+    processors: int
+    restart: str
+    start_seconds: int
+
+
+@dataclass(frozen=True)
 class Player:
-    """A player, where it is reached, and in how many matches it may sit at a time."""
+    """A player, and in how many matches it may play at a time. It has an address, or a command that starts it."""
 
     name: str
     address: str
     concurrent: int
     line: int
+    command: Command | None = None
 
     def place(self) -> str:
         return f"{self.name}@{self.address}"
@@ -281,16 +302,64 @@ def address_of(section: Section) -> str | None:
     return address
 
 
+def memory_of(section: Section) -> int:
+    """Returns the bytes of memory that a player may use."""
+    found = MEMORY.fullmatch(text := section.text("memory", "") or "")
+    if text and not found:
+        section.mistake("memory", f'{text!r} is not a size: a number with K, M, G or T is expected, as in "512M"')
+    return int(found[1]) << (10 * (1 + "KMGT".index(found[2]))) if found else 0
+
+
+def environment_of(section: Section) -> tuple[tuple[str, str], ...]:
+    found = section.value("environment", dict, "a table of texts", {})
+    for name, value in found.items():
+        if not name or "=" in name or "\0" in name or type(value) is not str or "\0" in value:
+            section.mistake("environment", f"{name!r} is not a variable with a text in quotes")
+            return ()
+    return tuple(found.items())
+
+
+def command_of(section: Section) -> Command | None:
+    """Returns the command that starts a player, or none if the player has an address."""
+    if "command" not in section.table:
+        for key in COMMAND_KEYS:
+            if key in section.table:
+                section.mistake(key, "only a player with a `command` has this key")
+        return None
+    words = tuple(word.text for word in section.texts("command"))
+    environment = environment_of(section)
+    if not words or not words[0] or any("\0" in word for word in words):
+        section.mistake("command", "at least one text is expected: the program, then its arguments")
+    elif not any(PORT in text for text in (*words, *(value for _, value in environment))):
+        section.mistake("command", f"the player must get its port: {PORT} is expected in the command or in the environment")
+    directory = section.path_of_file("directory") if "directory" in section.table else ""
+    processors = section.number("processors", 0, MOST_PROCESSORS, 0)
+    restart, seconds = section.word("restart", RESTARTS, WHEN_DEAD), section.number("start_seconds", 1, MOST_START_SECONDS, 10)
+    return Command(words, directory, environment, memory_of(section), processors, restart, seconds)
+
+
+def player_of(section: Section) -> Player:
+    section.refuse_others(("name", "address", "concurrent", "command", *COMMAND_KEYS))
+    name, command = section.name("name", PLAYER_NAME, 64), command_of(section)
+    if command and "address" in section.table:
+        section.mistake("address", "a player with a `command` is started here, and gets its address then")
+    address = "" if command else address_of(section)
+    concurrent = section.number("concurrent", 1, MOST_AT_A_TIME, 1)
+    if command and command.restart == EACH_MATCH and concurrent > 1:
+        section.mistake("restart", f"{EACH_MATCH!r} would end the other matches of the player: it needs `concurrent = 1`")
+    return Player(name, address, concurrent, section.first, command)
+
+
 def players_of(root: Section) -> list[Player]:
-    found, sections = [], root.sections("players")
-    for section in sections:
-        section.refuse_others(("name", "address", "concurrent"))
-        name = section.name("name", PLAYER_NAME, 64)
-        found.append(Player(name, address_of(section), section.number("concurrent", 1, MOST_AT_A_TIME, 1), section.first))
+    sections = root.sections("players")
+    found = [player_of(section) for section in sections]
     refuse_twice(sections, "name")
     refuse_twice(sections, "address")
     if len(found) > MOST_PLAYERS:
         root.mistake("players", f"there are {len(found):,} players, and at most {MOST_PLAYERS:,} are taken")
+    for player in found:
+        if player.command and "hosts" in root.table:
+            root.mistake("players.command", "a player that is started here can't be reached from `hosts`", player.line)
     return found
 
 

@@ -154,8 +154,8 @@ class Folder:
         self.rules, self.open = self.path / "rules", self.path / "open"
         self.records, self.accounts, self.logs = (self.path / name for name in ("records", "accounts", "logs"))
         self.matches, self.pages = self.path / "matches.jsonl", self.path / "pages"
-        # What `play` has done and seen, with the times.
-        self.journal = self.path / "play.log"
+        # What `play` has done and seen, with the times; and the logs of the players that it starts.
+        self.journal, self.players = self.path / "play.log", self.path / "players"
 
     def rules_of(self, game: str) -> pathlib.Path:
         return self.rules / f"{game}.kif"

@@ -17,6 +17,7 @@ from ggp_tools.competition.plan import Plan
 from ggp_tools.competition.results import fault_of_record, read_record, result_of
 from ggp_tools.competition.schedule import Match
 from ggp_tools.competition.seats import Seats
+from ggp_tools.competition.started_players import StartedPlayers
 from ggp_tools.moments import moment
 from ggp_tools.records.lengths import LONGEST_ACCOUNT, MOST_TURNS, longest_record
 from ggp_tools.referee import LAWFUL, NO_NAME, PROGRAM, Referee, is_no_answer, is_not_lawful, is_not_replayed
@@ -51,6 +52,7 @@ class Shared:
     seats: Seats
     reporter: Reporter
     hosts: Hosts | None
+    players: StartedPlayers
     may_begin: Callable[[Match], bool]
     has_left: Callable[[], None]
 
@@ -64,7 +66,7 @@ class OpenMatch:
         self.plan, self.seats, self.reporter = shared.plan, shared.seats, shared.reporter
         self.referee = self.plan.judge(shared.referee, match.game)
         self.room = self.plan.folder.open / match.id
-        self.places = [self.plan.competition.player(player).place() for player in match.players]
+        self.places: list[str] = []
         self.stage, self.seconds = "asking", 0.0
         # While its ssh is being connected it holds one of the connections of its host. Then it has reached the host.
         self.connects, self.is_reached = False, False
@@ -79,6 +81,8 @@ class OpenMatch:
         """Plays the match. If it is ended before its end while it is at play, it is broken: its players must be sent ABORT."""
         try:
             self.room.mkdir(0o700, parents=True, exist_ok=True)
+            await self.shared.players.ready(self.match.id, self.match.players)
+            self.places = [self.shared.players.place(player) for player in self.match.players]
             if await self.ask() and self.shared.may_begin(self.match) and (played := await self.play()):
                 self.leave()
                 self.stage = "checking"
@@ -94,6 +98,7 @@ class OpenMatch:
         if self.is_seated:
             self.is_seated = False
             self.seats.leave(self.match)
+            self.shared.players.leave(self.match.id, self.match.players)
             self.leave_host()
             self.shared.has_left()
 

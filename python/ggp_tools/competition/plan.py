@@ -14,6 +14,7 @@ from ggp_tools.competition.files import UNFINISHED, Folder, Refused, file_bytes,
 from ggp_tools.competition.growth import Growing, History, Misfit, grown, refuse_changes, refuse_unchanged, shape
 from ggp_tools.competition.history import competition_of_file, history_files, read_history, read_key
 from ggp_tools.competition.kept import look_at_records, most_of_record, result_in_file, size_of
+from ggp_tools.competition.player_programs import mistakes_of_programs
 from ggp_tools.competition.results import Result
 from ggp_tools.competition.rounds import Round, is_by_rounds, rounds_of
 from ggp_tools.competition.schedule import Match, id_of, matches_in, schedule_text
@@ -179,8 +180,8 @@ def make_plan(path: str, referee: Referee) -> Plan:
 
 
 def refuse_addresses(folder: Folder, competition: Competition) -> None:
-    """Refuses players that no match can reach, and two that are one."""
-    if mistakes := list(mistakes_of_addresses(competition)):
+    """Refuses players that no match can reach or start, and two that are one."""
+    if mistakes := [*mistakes_of_addresses(competition), *mistakes_of_programs(folder, competition)]:
         raise Refused(mistake_lines(folder.competition, mistakes))
 
 

@@ -23,6 +23,7 @@ from ggp_tools.competition.open_match import OpenMatch, Shared, leave_players
 from ggp_tools.competition.plan import Plan, plan_next_round, refuse_addresses, refuse_lost_results, round_words
 from ggp_tools.competition.schedule import Match
 from ggp_tools.competition.seats import Seats
+from ggp_tools.competition.started_players import StartedPlayers, end_left_players
 from ggp_tools.competition.time_left import TimeLeft
 from ggp_tools.referee import Referee
 from ggp_tools.reporting import REDRAWN, Reporter
@@ -49,7 +50,8 @@ class Playing:
         # `news` is set when matches may begin that could not before, or there is an interrupt; `ends` when there is another result.
         self.news, self.ends = asyncio.Event(), asyncio.Event()
         self.hosts = Hosts(competition.hosts, competition.tries, competition.wait, at_once, self.news.set) if competition.hosts else None
-        self.shared = Shared(plan, referee, seats, reporter, self.hosts, self.may_still_begin, self.news.set)
+        self.players = StartedPlayers(plan.folder, competition, referee, reporter)
+        self.shared = Shared(plan, referee, seats, reporter, self.hosts, self.players, self.may_still_begin, self.news.set)
         self.results, self.left, self.stopped = {}, {}, {}
         self.open: dict[OpenMatch, asyncio.Task] = {}
         self.waiting = collections.deque()
@@ -213,11 +215,14 @@ class Playing:
     async def play_rounds(self) -> None:
         """Plays the matches that wait, and round after round those that follow from them."""
         with interrupts_counted(self):
-            await self.go()
-            while self.may_go_on() and (matches := plan_next_round(self.plan, self.results)):
-                self.reporter.line(round_words(self.plan, matches))
-                self.add(matches)
+            try:
                 await self.go()
+                while self.may_go_on() and (matches := plan_next_round(self.plan, self.results)):
+                    self.reporter.line(round_words(self.plan, matches))
+                    self.add(matches)
+                    await self.go()
+            finally:
+                await self.players.end()
 
     def add(self, matches: Iterable[Match]) -> None:
         """Lets further matches wait."""
@@ -271,10 +276,10 @@ def rooms(plan: Plan) -> list[pathlib.Path]:
 
 
 def clear_open_rooms(playing: Playing) -> None:
-    """Frees the players of the matches that were open when a run before this one was killed."""
+    """Frees the players of the matches that were open when a run before this one was killed. Those that it had started are ended by now."""
     places = {}
     for room in rooms(playing.plan):
-        found = places_in(room)
+        found = [place for place in places_in(room) if place.partition("@")[0] not in playing.players.players]
         if room.name in playing.results or not found:
             shutil.rmtree(room)
         else:
@@ -306,7 +311,7 @@ def prepared(playing: Playing) -> None:
     folder.must_be_text()
     refuse_addresses(folder, plan.competition)
     try:
-        folder.make(folder.records, folder.accounts, folder.logs, folder.open)
+        folder.make(folder.records, folder.accounts, folder.logs, folder.open, *([folder.players] if playing.players.players else []))
         folder.drop_unfinished()
     except OSError as why:
         raise Refused(f"{folder.path} can't be written: {why.filename}: {os.strerror(why.errno)}") from None
@@ -323,6 +328,7 @@ def prepared(playing: Playing) -> None:
     for match, why in misfits.items():
         raise Refused(f"{folder.record(match)} is lawful, and of another match: {why}")
     set_all_aside(playing, faults)
+    end_left_players(folder, reporter.line)
     clear_open_rooms(playing)
     for planned in plan.matches:
         if planned.id not in playing.results and not planned.again:

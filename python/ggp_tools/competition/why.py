@@ -17,7 +17,7 @@ TIMED = re.compile(rf"({MOMENT}) (.*)")
 MESSAGE = re.compile(r"\S+ role (\d{1,9}) \S+ message (\d{1,9}) (.*), (\d{1,18}) ms")
 # How the lines of `play` about a match begin, where players, games and matches may have the same names; and that of its round.
 NOTED = (
-    "(?:begin|end|no record|back|absent|info|abort|no answer to abort|lost|refused|aside|missing) {match}[ :]"
+    "(?:begin|end|no record|back|absent|info|abort|no answer to abort|lost|refused|aside|missing|start|restart|died|down) {match}[ :]"
     r"|stopped \S+ is not played on, since {match} |round {round} of "
 )
 SET_BACK = "the clock was set back: the line before has {before}"
@@ -117,7 +117,7 @@ class Told:
         """Returns the role whose player alone a line is about."""
         kind, _, rest = words.partition(f" {self.match.id} ")
         player = rest.partition(": ")[0]
-        return self.match.players.index(player) if kind in ("info", "abort") and player in self.match.players else None
+        return self.match.players.index(player) if kind in ("info", "abort", "start", "restart", "died", "down") and player in self.match.players else None
 
     def log(self) -> list[str]:
         """Returns the lines of the log; of a match that is open, those that came so far."""

@@ -1,0 +1,63 @@
+"""Starts one player of a competition that has a command, and checks it with the referee."""
+
+import asyncio
+import pathlib
+import tempfile
+from dataclasses import replace
+
+from ggp_tools.competition.competition_file import Competition, Game, Player
+from ggp_tools.competition.files import Folder, Refused, held
+from ggp_tools.competition.history import competition_of_file
+from ggp_tools.competition.plan import loaded_games, read_file, refuse_addresses
+from ggp_tools.competition.started_players import StartedPlayer, end_left_players
+from ggp_tools.descriptions.loading import Rules
+from ggp_tools.referee import Referee
+from ggp_tools.reporting import Reporter
+
+# It stands in the place of a match in what is reported.
+NO_MATCH = "try"
+
+
+def found_in(competition: Competition, path: pathlib.Path, name: str, game: str | None) -> tuple[Player, Game]:
+    """Returns the player and the game of these names. Refuses a player without a command."""
+    player = next((player for player in competition.players if player.name == name), None)
+    if not player or not player.command:
+        raise Refused(f"{path}: {name} has no `command`; `ggp_manager check` tries a player that runs" if player else f"{path} has no player {name}")
+    found = next((candidate for candidate in competition.games if game in (None, candidate.name)), None)
+    if not found:
+        raise Refused(f"{path} has no game {game}")
+    return player, found
+
+
+async def checked(started: StartedPlayer, referee: Referee, game: Game, rules: Rules) -> int:
+    """Starts a player, and returns the exit status of its check: 1 if it does not come up."""
+    try:
+        await started.ready(NO_MATCH)
+        if not started.is_running():
+            return 1
+        with tempfile.TemporaryDirectory() as room:
+            file = pathlib.Path(room) / f"{game.name}.kif"
+            file.write_bytes(rules.text)
+            words = [referee.path, "check", *referee.rules_words(file), f"--start={game.start}", f"--play={game.play}"]
+            if rules.player_rules is not None:
+                (file.parent / "players").write_bytes(rules.player_rules)
+                words.append(f"--player-rules={file.parent / 'players'}")
+            process = await asyncio.create_subprocess_exec(*words, "--", started.place())
+            return await process.wait()
+    finally:
+        await started.end()
+
+
+def try_player(file: str, name: str, game_name: str | None, referee: Referee) -> int:
+    path, reporter = pathlib.Path(file), Reporter()
+    folder = Folder(path.parent)
+    competition = competition_of_file(path, read_file(path))
+    player, game = found_in(competition, path, name, game_name)
+    refuse_addresses(folder, replace(competition, players=(player,)))
+    rules = loaded_games(folder, replace(competition, games=(game,)), referee)[game.name]
+    # A `play` would start the same player.
+    with held(folder.path):
+        folder.make(folder.players)
+        end_left_players(folder, reporter.line)
+        started = StartedPlayer(folder, player, 0, referee, reporter)
+        return asyncio.run(checked(started, referee.taking(game.large), game, rules))

@@ -1,0 +1,359 @@
+"""Players that the competition starts: what they get, what becomes of them, and that nothing of them is left."""
+
+import asyncio
+import json
+import os
+import pathlib
+import signal
+import socket
+import subprocess
+import sys
+import types
+
+import pytest
+from ggp_tools.competition import player_logs, started_players
+from ggp_tools.competition.competition_file import Command, Player
+from ggp_tools.competition.files import Folder
+from ggp_tools.competition.owned_processes import VARIABLE, Owned, boot, end_owned, keep_owned, owned
+from ggp_tools.competition.player_logs import PlayerLog
+from ggp_tools.competition.started_players import StartedPlayer, StartedPlayers, end_left_players, free_port
+from support import GAMES, TOP, InFolder, command_of, program, program_but, run, start, toml
+
+ANSWERS, SILENT = ["true"], ["false"]
+
+
+class Said:
+    def __init__(self):
+        self.lines, self.notes = [], []
+        self.line, self.note = self.lines.append, self.notes.append
+
+
+def command(script, **more):
+    return Command(**{
+        "words": ("sh", "-c", script), "directory": "", "environment": (), "memory": 0, "processors": 0, "restart": "when_dead", "start_seconds": 600, **more,
+    })
+
+
+def player(room, script, info=ANSWERS, **more):
+    """Returns a player with a script, and the referee's INFO: a command that says whether it answers."""
+    folder = Folder(room)
+    folder.make(folder.players)
+    referee = types.SimpleNamespace(info_words=lambda place: info)
+    return StartedPlayer(folder, Player("ann", "", 1, 1, command(script, **more)), 0, referee, Said())
+
+
+def is_alive(process):
+    return bool(command_of(process))
+
+
+def run_for(*players_and_matches):
+    """Has a player be ready for each of these matches, and ends it. Returns its processes."""
+    async def play():
+        started, *matches = players_and_matches
+        found = []
+        for match in matches:
+            await started.ready(match)
+            found.append(started.process and started.process.pid)
+            started.matches.clear()
+        await started.end()
+        return found
+
+    return asyncio.run(play())
+
+
+def test_a_player_gets_its_port_its_directory_and_its_environment(tmp_path):
+    (tmp_path / "inside").mkdir()
+    ann = player(tmp_path, "echo {port} $X $(pwd) >&2; exec sleep 600", environment=(("X", "at {port}"),), directory="inside")
+    process, = run_for(ann, "cup-001")
+    said = (tmp_path / "players/ann.log").read_text()
+    assert said == f"{ann.port} at {ann.port} {tmp_path}/inside\n"
+    assert (ann.reporter.notes, ann.reporter.lines) == ([f"start cup-001 ann: process {process}, port {ann.port}"], [])
+    assert (tmp_path / "players/ann.log").stat().st_mode & 0o777 == 0o600
+
+
+def test_it_is_limited(tmp_path):
+    script = "import os, resource; print(resource.getrlimit(resource.RLIMIT_DATA), len(os.sched_getaffinity(0)), flush=True); os.execvp('sleep', ['sleep', '600'])"
+    ann = player(tmp_path, "", words=(sys.executable, "-c", script), memory=1 << 30, processors=1)
+    # It answers INFO once it has said this.
+    ann.referee.info_words = lambda place: ["test", "-s", str(ann.log.path)]
+    run_for(ann, "cup-001")
+    assert (tmp_path / "players/ann.log").read_text() == f"({1 << 30}, {1 << 30}) 1\n"
+
+
+def test_different_players_get_different_processors(tmp_path):
+    there = sorted(os.sched_getaffinity(0))
+    found = [StartedPlayer(Folder(tmp_path), Player("x", "", 1, 1, command("", processors=1)), number, None, Said()).processors for number in range(len(there) + 1)]
+    assert found == [[processor] for processor in (*there, there[0])]
+    assert StartedPlayer(Folder(tmp_path), Player("x", "", 1, 1, command("", processors=4_096)), 0, None, Said()).processors == there
+
+
+@pytest.mark.parametrize(("restart", "is_new"), [("when_dead", False), ("never", False), ("each_match", True)])
+def test_a_player_that_lives_is_started_again_for_each_match_only_if_it_says_so(tmp_path, restart, is_new):
+    processes = run_for(player(tmp_path, "exec sleep 600", restart=restart), "cup-001", "cup-002")
+    assert (processes[0] != processes[1]) == is_new
+    assert not any(map(is_alive, processes))
+
+
+@pytest.mark.parametrize(("restart", "comes_again"), [("when_dead", True), ("never", False), ("each_match", True)])
+def test_a_player_that_dies_is_reported_with_its_last_words(tmp_path, restart, comes_again):
+    ann = player(tmp_path, "read line < wait; echo oh no; exit 3", restart=restart)
+    os.mkfifo(tmp_path / "wait")
+
+    async def play():
+        await ann.ready("cup-001")
+        first = ann.process
+        (tmp_path / "wait").write_text("go\n")
+        await ann.watching
+        ann.matches.clear()
+        await ann.ready("cup-002")
+        is_running = ann.is_running()
+        assert is_running == comes_again
+        await ann.end()
+        return first
+
+    first = asyncio.run(play())
+    assert ann.reporter.lines[0] == "died cup-001 ann: it ended with status 3: oh no"
+    said = ann.reporter.lines[1:] + ann.reporter.notes[1:]
+    assert [line.rpartition(",")[0].rpartition(" ")[0] for line in said] == ["restart cup-002 ann: process"] * comes_again
+    assert (ann.reporter.lines[1:] == said) == (restart != "each_match")
+    assert not is_alive(first.pid)
+
+
+def test_a_player_that_does_not_come_up_is_reported_with_the_end_of_its_log(tmp_path):
+    ann = player(tmp_path, "for i in 1 2 3 4 5 6 7; do echo line $i; done; exit 7", SILENT)
+    run_for(ann, "cup-001", "cup-002")
+    assert ann.reporter.lines == [
+        f"down cup-001 ann: it ended with status 7; the end of {ann.log.path}:", *(f"down cup-001 ann: | line {number}" for number in range(3, 8)),
+        f"down cup-002 ann: it ended with status 7; {ann.log.path} ends as before",
+    ]
+    ann = player(tmp_path / "other", "exec sleep 600", SILENT, start_seconds=1)
+    process, = run_for(ann, "cup-001")
+    assert (ann.reporter.lines, process) == ([f"down cup-001 ann: it did not answer INFO within 1 s; {ann.log.path} is empty"], None)
+
+
+def test_a_program_that_can_not_be_started(tmp_path):
+    ann = player(tmp_path, "", words=("./none", "{port}"))
+    assert run_for(ann, "cup-001") == [None]
+    assert ann.reporter.lines[0].startswith("down cup-001 ann: it can't be started: ")
+    assert not list((tmp_path / "players").glob("*.process"))
+
+
+def test_an_answer_of_another_program_at_its_port_is_not_its_own(tmp_path):
+    ann = player(tmp_path, "exit 1", ["sh", "-c", "sleep 0.2"])
+    run_for(ann, "cup-001")
+    assert ann.reporter.lines == [f"down cup-001 ann: it ended with status 1; {ann.log.path} is empty"]
+
+
+def test_a_port_that_is_taken_is_left_for_another(tmp_path):
+    ann = player(tmp_path, "exec sleep 600")
+    with socket.create_server(("127.0.0.1", ann.port)) as taken:
+        run_for(ann, "cup-001")
+        assert ann.port != taken.getsockname()[1]
+    assert free_port(ann.port) == ann.port
+
+
+def test_all_that_a_player_has_started_is_ended(tmp_path):
+    # One process is in another session, one has another environment, one ignores SIGTERM.
+    script = "setsid sleep 600 & echo $!; env -i sleep 600 & echo $!; (trap '' TERM; echo $(exec sh -c 'echo $PPID'); while :; do sleep 600; done) & touch up; wait"
+    ann = player(tmp_path, script)
+    ann.referee.info_words = lambda place: ["test", "-e", str(tmp_path / "up")]
+
+    async def play():
+        await ann.ready("cup-001")
+        first = ann.process.pid
+        await ann.end()
+        return first
+
+    first = asyncio.run(play())
+    processes = [first, *map(int, (tmp_path / "players/ann.log").read_text().split())]
+    assert len(processes) == 4
+    assert [process for process in processes if is_alive(process)] == []
+    assert not list((tmp_path / "players").glob("*.process"))
+
+
+def test_only_players_with_a_command_are_started(tmp_path):
+    folder = Folder(tmp_path)
+    folder.make(folder.players)
+    competition = types.SimpleNamespace(players=[Player("ann", "", 1, 1, command("exec sleep 600")), Player("bob", "h:1", 1, 1)])
+    competition.player = lambda name: next(player for player in competition.players if player.name == name)
+    reporter = Said()
+
+    async def play():
+        players = StartedPlayers(folder, competition, types.SimpleNamespace(info_words=lambda place: ANSWERS), reporter)
+        await players.ready("cup-001", ("bob", "ann"))
+        places = [players.place(name) for name in ("ann", "bob")]
+        assert players.players["ann"].matches == {"cup-001"}
+        players.leave("cup-001", ("bob", "ann"))
+        assert not players.players["ann"].matches
+        await players.end()
+        return places, players.players["ann"].port
+
+    places, port = asyncio.run(play())
+    assert (places, len(reporter.notes)) == ([f"ann@127.0.0.1:{port}", "bob@h:1"], 1)
+
+
+# ---- players that are left
+
+@pytest.fixture
+def sleeper():
+    """A process with a token, which nobody here waits for."""
+    with subprocess.Popen(["sleep", "600"], env={VARIABLE: "token"}, start_new_session=True) as process:
+        yield process.pid
+        process.kill()
+
+
+def left(room, found):
+    folder = Folder(room)
+    folder.make(folder.players)
+    keep_owned(folder.players / "ann.process", found)
+    lines = []
+    end_left_players(folder, lines.append)
+    assert not list(folder.players.iterdir())
+    return lines
+
+
+@pytest.mark.parametrize("known", [lambda process: owned("token", process), lambda process: Owned("token", boot()), lambda process: owned("another", process)])
+def test_a_player_that_is_left_is_ended(tmp_path, sleeper, known):
+    assert left(tmp_path, known(sleeper)) == ["ended the player ann, which a play before this one had started: 1 processes"]
+    assert not is_alive(sleeper)
+
+
+@pytest.mark.parametrize("stranger", [
+    lambda process: Owned("another", boot(), process, owned("", process).started - 1), lambda process: Owned("token", "another boot", process, owned("", process).started),
+    lambda process: Owned("another", boot()), lambda process: Owned("", boot()),
+])
+def test_a_stranger_is_not_ended(tmp_path, sleeper, stranger):
+    assert left(tmp_path, stranger(sleeper)) == []
+    assert is_alive(sleeper)
+
+
+def test_a_file_of_another_form_names_no_process(tmp_path):
+    for text in ("", "5", "[]", "{}", '{"token": "x", "boot": "y", "more": 1}', "\0"):
+        (tmp_path / "x").write_text(text)
+        assert end_owned(tmp_path / "x") == []
+        assert not (tmp_path / "x").exists()
+
+
+# ---- logs
+
+def test_a_log_is_rotated(tmp_path, monkeypatch):
+    monkeypatch.setattr(player_logs, "MOST_BYTES", 100)
+    log = PlayerLog(tmp_path / "ann.log")
+    for number in range(10):
+        log.write(f"{number}".encode() * 60)
+    assert sorted(file.name for file in tmp_path.iterdir()) == ["ann.log", "ann.log.1"]
+    assert ((tmp_path / "ann.log.1").read_text(), (tmp_path / "ann.log").read_text()) == ("6" * 60 + "7" * 60, "8" * 60 + "9" * 60)
+    # Another run goes on with it.
+    PlayerLog(tmp_path / "ann.log").write(b"x")
+    assert (tmp_path / "ann.log").read_text() == "x"
+
+
+def test_a_player_that_floods_its_output_holds_nothing_up(tmp_path, monkeypatch):
+    monkeypatch.setattr(player_logs, "MOST_BYTES", 100_000)
+
+    async def play():
+        ann = player(tmp_path, "exec yes")
+        await ann.ready("cup-001")
+        while not (tmp_path / "players/ann.log.1").exists():
+            await asyncio.sleep(0.01)
+        await ann.end()
+
+    asyncio.run(play())
+    assert sum(file.stat().st_size for file in (tmp_path / "players").iterdir()) < 500_000
+
+
+def test_a_full_disk_ends_no_player(tmp_path):
+    ann = player(tmp_path, "echo one; exec sleep 600")
+    ann.log.path.symlink_to("/dev/full")
+    process, = run_for(ann, "cup-001")
+    assert process and ann.reporter.lines == []
+
+
+# ---- competitions
+
+class Started(InFolder):
+    HEAD = "start = 60\nplay = 60\nwait = 0\ninfo = 10\ntries = 2\n"
+
+    def planned(self, *more, lines=("countdown ann bob",) * 2):
+        players = "".join(f'\n[[players]]\nname = "{name}"\ncommand = ["{TOP}/examples/players/player.py", "{{port}}", "1"]\nstart_seconds = 600\n' for name in ("ann", "bob"))
+        text = toml([("ann", "h:1")], [("countdown", GAMES / "countdown.kif")], f'kind = "schedule"\nlines = {json.dumps(list(lines))}', self.HEAD)
+        text = text.replace(text[text.index("[[players]]"):], players + "\n".join(more))
+        (self.folder / "competition.toml").write_text(text)
+        status, out, said = run(self.folder, "plan")
+        self.assertEqual((status, said), (0, ""), out)
+        return [line.split("\t") for line in (self.folder / "schedule.tsv").read_text().splitlines()[1:]]
+
+    def processes(self):
+        """Returns the players that were started so far."""
+        journal = (self.folder / "play.log").read_text().splitlines()
+        return [int(line.partition("process ")[2].partition(",")[0]) for line in journal if " start " in line or " restart " in line]
+
+    def test_a_competition_of_started_players(self):
+        schedule = self.planned()
+        status, out, said = run(self.folder, "play")
+        self.assertEqual((status, said, out.splitlines()[-1]), (0, "", "2 of 2 matches have a lawful record"), out)
+        self.assert_sound(schedule)
+        self.assertEqual((len(self.processes()), [process for process in self.processes() if is_alive(process)]), (2, []))
+        self.assertEqual(sorted(file.name for file in (self.folder / "players").iterdir()), ["ann.log", "bob.log"])
+        told = run(self.folder, "why", ".", "cup-001", "ann")[1]
+        self.assertRegex(told, r"Z start cup-001 ann: process \d+, port \d+\n")
+        self.assertNotIn(" bob: process", told)
+        for words in (("publish",), ("check", "cup.tar.gz")):
+            self.assertEqual(run(self.folder, *words)[::2], (0, ""))
+
+    def ended(self, number):
+        """Plays until a match begins that does not end, and sends `play` a signal. Returns what it has printed, and its players."""
+        waiting = program_but(self.folder / "waiting", '"$1" = run', "exec sleep 3600")
+        playing = start(self.folder, "play", "--program", waiting)
+        self.assertEqual(playing.stdout.readline(), "begin cup-001 countdown ann bob\n")
+        playing.send_signal(number)
+        out, _ = playing.communicate(timeout=600)
+        return out, self.processes()
+
+    def test_they_are_ended_with_play(self):
+        self.planned()
+        out, processes = self.ended(signal.SIGTERM)
+        self.assertEqual((len(processes), [process for process in processes if is_alive(process)]), (2, []), out)
+        self.assertNotIn("no answer", out)
+
+    def test_after_a_kill_the_next_play_ends_them(self):
+        schedule = self.planned()
+        _, processes = self.ended(signal.SIGKILL)
+        self.assertEqual([is_alive(process) for process in processes], [True, True])
+        status, out, _ = run(self.folder, "play")
+        self.assertEqual((status, [line for line in out.splitlines() if "abort" in line]), (0, []), out)
+        for name in ("ann", "bob"):
+            self.assertIn(f"ended the player {name}, which a play before this one had started: ", out)
+        self.assertEqual([process for process in (*processes, *self.processes()) if is_alive(process)], [])
+        self.assert_sound(schedule)
+
+    def test_a_player_that_does_not_come_up_is_silent(self):
+        self.planned()
+        file = self.folder / "competition.toml"
+        file.write_text(file.read_text().replace('"{port}", "1"]', '"{port}", "no seed"]', 1))
+        status, out, _ = run(self.folder, "play")
+        self.assertEqual(status, 1, out)
+        self.assertRegex(out, r"down cup-001 ann: it ended with status 2; the end of players/ann.log:\ndown cup-001 ann: \| usage: ")
+        self.assertIn("missing cup-001: ann is silent\n", out)
+
+    def test_try(self):
+        self.planned()
+        status, out, said = run(self.folder, "try", "competition.toml", "ann")
+        self.assertEqual((status, said), (0, ""), out)
+        self.assertIn("START", out)
+        for words, why in ((("cid",), "competition.toml has no player cid"), (("ann", "--game", "go"), "competition.toml has no game go")):
+            self.assertEqual(run(self.folder, "try", "competition.toml", *words), (2, "", f"ggp_competition: {why}\n"))
+        file = self.folder / "competition.toml"
+        file.write_text(file.read_text().replace('"{port}", "1"]', '"{port}", "no seed"]', 1))
+        status, out, said = run(self.folder, "try", "competition.toml", "ann")
+        self.assertEqual((status, out.partition(";")[0]), (1, "down try ann: it ended with status 2"), said)
+        self.assertEqual(list((self.folder / "players").glob("*.process")), [])
+
+    def test_a_program_or_a_directory_that_is_not_there_is_refused(self):
+        self.planned()
+        file = self.folder / "competition.toml"
+        file.write_text(file.read_text().replace(f"{TOP}/examples/players/player.py", "./none", 1) + 'directory = "nowhere"\n')
+        for command_line in ("plan", "play"):
+            status, out, said = run(self.folder, command_line)
+            self.assertEqual((status, out), (2, ""))
+            self.assertRegex(said, r"competition.toml:\d+: players.command: .*none is not a program that can be run\n.*competition.toml:\d+: players.directory: nowhere is not a directory\n")
