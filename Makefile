@@ -5,7 +5,7 @@ PROGRAM := bin/ggp_manager
 # The words after `mutations`, `unit` and `check`.
 NAMED := $(if $(filter mutations unit check,$(firstword $(MAKECMDGOALS))),$(wordlist 2,$(words $(MAKECMDGOALS)),$(MAKECMDGOALS)))
 
-.PHONY: help needs demo match play season build install uninstall dist lint test unit check mutations memory budget prove gate $(NAMED)
+.PHONY: help needs demo match play season competition build install uninstall dist lint test unit check mutations memory budget prove gate $(NAMED)
 
 help:
 	@echo 'To try the program, which is compiled first and not proved:'
@@ -13,6 +13,7 @@ help:
 	@echo '  make match             a match over HTTP between two players on this computer, and its record'
 	@echo '  make play              a match of tic-tac-toe that you play in a browser'
 	@echo '  make season            a schedule of matches over HTTP on this computer'
+	@echo '  make competition       a competition of three players that it starts: 12 matches, live pages, the table, the archive'
 	@echo 'To use it:'
 	@echo '  make build             proves the program and puts it at $(PROGRAM)'
 	@echo '  make install           installs the proved program, the commands of python/ and their manual below $(PREFIX) (PREFIX=DIR)'
@@ -44,6 +45,9 @@ play: needs
 
 season: needs
 	@program=$$(tools/program) && tests/program/season-small "$$program" && tests/program/season-crowd "$$program"
+
+competition: needs
+	@program=$$(tools/program) && examples/hold-a-competition "$$program"
 
 build: needs
 	@tools/build

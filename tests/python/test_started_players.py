@@ -3,7 +3,6 @@
 import asyncio
 import json
 import os
-import pathlib
 import signal
 import socket
 import subprocess
@@ -357,3 +356,12 @@ class Started(InFolder):
             status, out, said = run(self.folder, command_line)
             self.assertEqual((status, out), (2, ""))
             self.assertRegex(said, r"competition.toml:\d+: players.command: .*none is not a program that can be run\n.*competition.toml:\d+: players.directory: nowhere is not a directory\n")
+
+    def test_the_demonstration(self):
+        # Its commands are run by the Python that runs this.
+        path = f"{os.path.dirname(sys.executable)}:{os.environ['PATH']}"
+        done = subprocess.run([TOP / "examples/hold-a-competition", program(), self.folder / "demo"], env={**os.environ, "PATH": path}, capture_output=True, text=True)
+        self.assertEqual((done.returncode, done.stderr), (0, ""), done.stdout)
+        for words in ("12 of 12 matches have a lawful record\n", "demo: 12 of 12 matches\n", "http://127.0.0.1:", "12 records and accounts, the table and the pages are right"):
+            self.assertIn(words, done.stdout)
+        self.assertEqual(sorted(file.name for file in (self.folder / "demo/players").iterdir()), ["ann.log", "bob.log", "cid.log"])
