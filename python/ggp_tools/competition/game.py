@@ -123,7 +123,7 @@ def report_game(reporter: Reporter, asked: argparse.Namespace, referee: Referee,
     except NoDescription as why:
         for line in str(why).splitlines():
             reporter.line(f"{path} is not accepted: {line}")
-        is_ground = len(text) <= most_bytes(asked.large) and not has_variables(text)
+        is_ground = len(text) <= MOST_BYTES and not has_variables(text)
         for line in why_refused(text) if is_ground else ():
             reporter.line(line)
         report_suspicions(reporter, asked, text, None)
