@@ -20,10 +20,9 @@ if TYPE_CHECKING:
 
 PROGRAM = "ggp_manager"
 LAWFUL = "lawful"
-# The last line on standard error where status 1 is a verdict, and no fault of the program's own.
-NOT_LAWFUL = "ggp_manager: records not lawful {}"
-NOT_REPLAYED = re.compile(r"ggp_manager: not replayed: .*")
-NO_ANSWER, NO_NAME = "ggp_manager: no answer", "ggp_manager: not sent: no answer from the resolver"
+# With this option status 1 means no, and any other fault has a greater one.
+WHY, NO = "--why", 1
+NO_NAME = "ggp_manager: not sent: no answer from the resolver"
 VERSION_LINE = re.compile(rb"ggp_manager [0-9]+\.[0-9]+\.[0-9]+\n")
 BAD_RULES = "ggp_manager: bad description"
 
@@ -68,17 +67,7 @@ def last_line(said: subprocess.CompletedProcess) -> str:
 
 def is_no_answer(status: int | None, line: str) -> bool:
     """Returns whether `info` ended since the player did not answer, or its name has no address, by its status and the last line that it said."""
-    return status == 1 and line in (NO_ANSWER, NO_NAME)
-
-
-def is_not_lawful(status: int | None, line: str) -> bool:
-    """Returns whether `verify --lines` ended since its one record is not lawful, by its status and the last line that it said."""
-    return status == 1 and line == NOT_LAWFUL.format(1)
-
-
-def is_not_replayed(status: int | None, line: str) -> bool:
-    """Returns whether `replay` ended since an account is wrong, by its status and the last line that it said."""
-    return status == 1 and bool(NOT_REPLAYED.fullmatch(line))
+    return status == NO or bool(status) and line == NO_NAME
 
 
 def records_replayed(output: bytes) -> list[bytes]:
@@ -159,21 +148,21 @@ class Referee:
         return [self.path, "abort", "--", match, place]
 
     def info_words(self, place: str) -> list[str]:
-        return [self.path, "info", "--", place]
+        return [self.path, "info", WHY, "--", place]
 
     def desk_words(self, rules_path: pathlib.Path | str) -> list[str]:
         return [self.path, "desk", *self.rules_words(rules_path)]
 
     def verify_words(self, rules_path: pathlib.Path | str) -> list[str]:
-        return [self.path, "verify", "--lines", *self.rules_words(rules_path)]
+        return [self.path, "verify", "--lines", WHY, *self.rules_words(rules_path)]
 
     def replay_words(self, rules_path: pathlib.Path | str) -> list[str]:
-        return [self.path, "replay", *self.rules_words(rules_path)]
+        return [self.path, "replay", WHY, *self.rules_words(rules_path)]
 
     def check_rules(self, rules_path: pathlib.Path | str, name: object = None) -> None:
         """Refuses a file that is no ground description; `name` says which one it is, where the path does not."""
-        said = self.call("verify", "--lines", *self.rules_words(rules_path))
-        if said.returncode == 1 and last_line(said) == BAD_RULES:
+        said = self.call("verify", "--lines", WHY, *self.rules_words(rules_path))
+        if last_line(said) == BAD_RULES:
             # The line before says where, and what is wrong there.
             raise BadRules(said_lines(said)[-2:][0].removeprefix("ggp_manager: "))
         if said.returncode:
@@ -181,11 +170,9 @@ class Referee:
 
     def verdicts(self, rules_path: pathlib.Path | str, records: Sequence[bytes]) -> list[str]:
         """Returns for each record what `verify` says of it. Each is one line, and begins with `{`."""
-        said = self.call("verify", "--lines", *self.rules_words(rules_path), data=b"".join(records))
+        said = self.call("verify", "--lines", WHY, *self.rules_words(rules_path), data=b"".join(records))
         found = said.stdout.decode("ascii", "replace").splitlines()
-        wrong = len(found) - found.count(LAWFUL)
-        is_told = last_line(said) == NOT_LAWFUL.format(wrong) if wrong else True
-        if len(found) != len(records) or said.returncode != (1 if wrong else 0) or not is_told:
+        if len(found) != len(records) or said.returncode != (0 if found.count(LAWFUL) == len(found) else NO):
             raise unchecked(said, rules_path)
         return found
 
@@ -195,9 +182,9 @@ class Referee:
         found = []
         while len(found) < len(accounts):
             at = len(found)
-            said = self.call("replay", *self.rules_words(rules_path), data=b"".join(b"{\n" + account for account in accounts[at:]))
+            said = self.call("replay", WHY, *self.rules_words(rules_path), data=b"".join(b"{\n" + account for account in accounts[at:]))
             replayed = records_replayed(said.stdout)
-            is_refused = is_not_replayed(said.returncode, last_line(said))
+            is_refused = said.returncode == NO
             if not is_refused and (said.returncode != 0 or len(replayed) != len(accounts) - at):
                 raise unchecked(said, rules_path)
             found += [given == record for given, record in zip(replayed, records[at:])]

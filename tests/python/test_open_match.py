@@ -139,12 +139,12 @@ class Whole(WithMatch):
         self.assertEqual(seen, {
             "info-0": ("asking", False, 0), "info-1": ("asking", False, 0), "played": ("playing", True, 0), "verified": ("checking", True, 1), "replayed": ("checking", True, 1),
         })
-        self.assertEqual(self.words_of("info-1"), ["program", "info", "--", "bob@h:2"])
+        self.assertEqual(self.words_of("info-1"), ["program", "info", "--why", "--", "bob@h:2"])
         rules = self.plan.folder.rules_of("heap")
         self.assertEqual(self.words_of("played"), [
             "program", "run", f"--rules-file={rules.absolute()}", f"--id={self.match.id}", "--start=10", "--play=10", "--strikes=0", "--history", "--log", "--", "ann@h:1", "bob@h:2",
         ])
-        self.assertEqual((self.words_of("verified"), self.words_of("replayed")), (["program", "verify", "--lines", f"--rules-file={rules}"], ["program", "replay", f"--rules-file={rules}"]))
+        self.assertEqual((self.words_of("verified"), self.words_of("replayed")), (["program", "verify", "--lines", "--why", f"--rules-file={rules}"], ["program", "replay", "--why", f"--rules-file={rules}"]))
         self.assertEqual({process.name: process.read for process in Process.begun[3:]}, {"verified": self.record, "replayed": self.account})
         folder = self.plan.folder
         self.assertEqual([folder.record(self.match.id).read_bytes(), folder.account(self.match.id).read_bytes(), folder.log(self.match.id).read_bytes()], [
@@ -259,7 +259,7 @@ class Asking(WithMatch):
         self.assertEqual(self.asked((3, b"", "x\nggp_manager: want of memory"), NO_ANSWER), (False, "ann could not be asked: ggp_manager: want of memory", []))
         self.assertEqual(self.seats.failed, {"ann": 0, "bob": 0})
         self.begin(self.HEAD)
-        self.assertEqual(self.asked(NO_ANSWER, (1, b"", "ggp_manager: other")), (False, "bob could not be asked: ggp_manager: other", []))
+        self.assertEqual(self.asked(NO_ANSWER, (2, b"", "ggp_manager: other")), (False, "bob could not be asked: ggp_manager: other", []))
 
     def test_how_long_an_answer_is_waited_for(self):
         # The referee ends INFO by itself, and has a second more to say so.
@@ -309,8 +309,8 @@ class Checking(WithMatch):
     def test_where_there_is_no_verdict_the_files_are_kept_aside(self):
         short = "ggp_manager: want of memory"
         for name, answer in (
-            ("verified", (3, b"", short)), ("verified", (0, b"lawful", short)), ("verified", (1, b"", short)), ("verified", (1, b"lawful\n", short)),
-            ("replayed", (3, b"", short)), ("replayed", (1, b"", short)), ("replayed", (2, b"", f"ggp_manager: not replayed: x\n{short}")),
+            ("verified", (3, b"", short)), ("verified", (0, b"lawful", short)), ("verified", (2, b"", short)), ("verified", (-9, b"lawful\n", short)),
+            ("replayed", (3, b"", short)), ("replayed", (2, b"", short)), ("replayed", (-9, b"", f"ggp_manager: not replayed: x\n{short}")),
         ):
             for file in self.plan.folder.path.glob("*/*.unchecked"):
                 file.unlink()

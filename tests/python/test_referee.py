@@ -10,7 +10,7 @@ from unittest import mock
 
 from ggp_tools.competition.schedule import Match
 from ggp_tools.referee import (
-    BadRules, NoReferee, Referee, Unchecked, find_program, is_no_answer, is_not_lawful, is_not_replayed, last_line, read_records, records_replayed,
+    BadRules, NoReferee, Referee, Unchecked, find_program, is_no_answer, last_line, read_records, records_replayed,
     is_text_list, rules_file,
 )
 
@@ -68,7 +68,7 @@ class Verdicts(WithStandIn):
     def test_each_record_has_its_verdict(self):
         self.answers(b"lawful\nlawful\n")
         self.assertEqual(self.verdicts(), ["lawful"] * 2)
-        self.assertEqual(self.asked(), (["verify", "--lines", "--rules-file=game.kif"], b'{"a":1}\n{"b":2}\n'))
+        self.assertEqual(self.asked(), (["verify", "--lines", "--why", "--rules-file=game.kif"], b'{"a":1}\n{"b":2}\n'))
 
     def test_records_that_are_not_lawful_have_status_1_and_their_number(self):
         self.answers(b"lawful\nnot lawful: goals\n", b"ggp_manager: records not lawful 1\n", 1)
@@ -78,9 +78,8 @@ class Verdicts(WithStandIn):
         wrong = b"lawful\nnot lawful: goals\n"
         for said, *answer in (
             ("it said nothing, status 0", b"lawful\n"), ("it said nothing, status 0", b"lawful\n" * 3), ("it said nothing, status 1", b"lawful\n" * 2, b"", 1),
-            ("records not lawful 1, status 0", wrong, b"ggp_manager: records not lawful 1\n", 0),
-            ("records not lawful 2, status 1", wrong, b"ggp_manager: records not lawful 2\n", 1),
-            ("it said nothing, status 1", wrong, b"", 1), ("want of memory, status 3", b"lawful\n", b"more\nggp_manager: want of memory\n", 3),
+            ("records not lawful 1, status 0", wrong, b"ggp_manager: records not lawful 1\n", 0), ("read fault, status 2", wrong, b"ggp_manager: read fault\n", 2),
+            ("want of memory, status 3", b"lawful\n", b"more\nggp_manager: want of memory\n", 3),
         ):
             self.assert_unchecked(f"`ggp_manager verify` came to no verdict with game.kif: {said}", self.verdicts, *answer)
 
@@ -94,7 +93,7 @@ class Replays(WithStandIn):
     def test_accounts_that_give_their_records_again(self):
         self.answers(b'replayed 1 calls\n{"a":1}\nreplayed 1 calls\n{"b":2}\nreplayed 1 calls\n{"c":3}\n')
         self.assertEqual(self.replays(), [True] * 3)
-        self.assertEqual(self.asked(), (["replay", "--rules-file=game.kif"], b"{\n0\topen a\n{\n0\topen b\n{\n0\topen c\n"))
+        self.assertEqual(self.asked(), (["replay", "--why", "--rules-file=game.kif"], b"{\n0\topen a\n{\n0\topen b\n{\n0\topen c\n"))
 
     def test_an_account_that_gives_another_record_is_none_of_its_record(self):
         self.answers(b'replayed 1 calls\n{"a":1}\nreplayed 1 calls\n{"b":3}\nreplayed 1 calls\n')
@@ -114,7 +113,7 @@ class Replays(WithStandIn):
         whole = b'replayed 1 calls\n{"a":1}\nreplayed 1 calls\n{"b":2}\nreplayed 1 calls\n{"c":3}\n'
         for said, *answer in (
             ("it said nothing, status 0", b'replayed 1 calls\n{"a":1}\n'), ("it said nothing, status 0", whole + b"replayed 1 calls\n"),
-            ("want of memory, status 3", whole, b"ggp_manager: want of memory\n", 3), ("it said nothing, status 1", whole, b"", 1),
+            ("want of memory, status 3", whole, b"ggp_manager: want of memory\n", 3), ("read fault, status 2", b"", b"ggp_manager: read fault\n", 2),
         ):
             self.assert_unchecked(f"`ggp_manager replay` came to no verdict with game.kif: {said}", self.replays, *answer)
 
@@ -132,34 +131,34 @@ class Rules(WithStandIn):
         rules = b"(<= (init (role y)) (role o)) (role X) ; (role z)\n(roles a) role (<= (role (o 1))) (role o)"
         self.assertEqual(self.referee.roles(rules, "nim"), ("x", "(o 1)", "o"))
         words, handed = self.asked()
-        self.assertEqual((words[:2], words[2].partition("=")[0], len(words), handed), (["verify", "--lines"], "--rules-file", 3, b""))
+        self.assertEqual((words[:3], words[3].partition("=")[0], len(words), handed), (["verify", "--lines", "--why"], "--rules-file", 4, b""))
 
     def test_a_bad_description_has_its_place(self):
         for ask in (lambda: self.referee.roles(b"", "nim"), lambda: self.referee.check_rules("game.kif")):
             self.begin_anew()
-            self.answers(b"", self.BAD, 1)
+            self.answers(b"", self.BAD, 2)
             with self.assertRaises(BadRules) as why:
                 ask()
             self.assertEqual(str(why.exception), "line 2, column 1: no such thing: (x)")
-        self.answers(b"", b"ggp_manager: bad description\n", 1)
+        self.answers(b"", b"ggp_manager: bad description\n", 2)
         with self.assertRaises(BadRules) as why:
             self.referee.check_rules("game.kif")
         self.assertEqual(str(why.exception), "bad description")
 
     def test_roles_that_no_answer_tells(self):
         for said, *answer in (
-            ("want of memory, status 3", b"", b"ggp_manager: want of memory\n", 3), ("bad description, status 2", b"", self.BAD, 2),
-            ("bad, status 1", b"", b"ggp_manager: bad\n", 1),
+            ("want of memory, status 3", b"", b"ggp_manager: want of memory\n", 3), ("bad, status 1", b"", b"ggp_manager: bad\n", 1),
         ):
             self.assert_unchecked(f"`ggp_manager verify` came to no verdict with nim: {said}", lambda: self.referee.roles(b"", "nim"), *answer)
 
     def test_rules_that_were_not_looked_at(self):
-        for said, *answer in (("bad description, status 2", b"", self.BAD, 2), ("no input, status 1", b"", b"ggp_manager: no input\n", 1)):
-            self.assert_unchecked(f"`ggp_manager verify` came to no verdict with game.kif: {said}", lambda: self.referee.check_rules("game.kif"), *answer)
+        answer = b"", b"ggp_manager: bad description: no such file\n", 2
+        said = "`ggp_manager verify` came to no verdict with game.kif: bad description: no such file, status 2"
+        self.assert_unchecked(said, lambda: self.referee.check_rules("game.kif"), *answer)
         self.begin_anew()
         self.answers()
         self.assertIsNone(self.referee.check_rules("game.kif"))
-        self.assertEqual(self.asked()[0], ["verify", "--lines", "--rules-file=game.kif"])
+        self.assertEqual(self.asked()[0], ["verify", "--lines", "--why", "--rules-file=game.kif"])
 
     def test_a_file_of_rules_is_there_as_long_as_it_is_needed(self):
         with rules_file(b"(role x)") as path:
@@ -174,11 +173,10 @@ class Rules(WithStandIn):
 
 
 class Lines(unittest.TestCase):
-    def test_the_last_line_tells_what_ended_a_run_with_status_1(self):
-        for asked, line in ((is_no_answer, "ggp_manager: no answer"), (is_no_answer, "ggp_manager: not sent: no answer from the resolver"), (is_not_lawful, "ggp_manager: records not lawful 1"), (is_not_replayed, "ggp_manager: not replayed: line 1 differs")):
-            self.assertTrue(asked(1, line))
-            for status, other in ((0, line), (2, line), (1, f"{line[:-1]}\n"), (1, "ggp_manager: want of memory"), (1, f"x{line}"), (1, "")):
-                self.assertFalse(asked(status, other), (status, other))
+    def test_a_player_that_does_not_answer(self):
+        no_name = "ggp_manager: not sent: no answer from the resolver"
+        for status, line, wanted in ((1, "ggp_manager: no answer", True), (2, no_name, True), (0, no_name, False), (None, no_name, False), (2, f"x{no_name}", False), (3, "", False)):
+            self.assertEqual(is_no_answer(status, line), wanted, (status, line))
 
     def test_a_run_may_say_nothing(self):
         def said(err: bytes) -> subprocess.CompletedProcess:
@@ -206,9 +204,9 @@ class Words(WithStandIn):
     def test_the_words_of_each_command(self):
         path = self.referee.path
         self.assertEqual(self.referee.abort_words("cup-1", "ann@h:1"), [path, "abort", "--", "cup-1", "ann@h:1"])
-        self.assertEqual(self.referee.info_words("ann@h:1"), [path, "info", "--", "ann@h:1"])
-        self.assertEqual(self.referee.verify_words("r"), [path, "verify", "--lines", "--rules-file=r"])
-        self.assertEqual(self.referee.replay_words("r"), [path, "replay", "--rules-file=r"])
+        self.assertEqual(self.referee.info_words("ann@h:1"), [path, "info", "--why", "--", "ann@h:1"])
+        self.assertEqual(self.referee.verify_words("r"), [path, "verify", "--lines", "--why", "--rules-file=r"])
+        self.assertEqual(self.referee.replay_words("r"), [path, "replay", "--why", "--rules-file=r"])
         options = ["--id=cup-1", "--start=10", "--play=5", "--strikes=2", "--history", "--log", "--", "ann@h:1", "bob@h:2"]
         places = ["ann@h:1", "bob@h:2"]
         self.assertEqual(self.referee.run_words("r", None, self.MATCH, 2, places), [path, "run", "--rules-file=r", *options])

@@ -20,7 +20,7 @@ from ggp_tools.competition.seats import Seats
 from ggp_tools.competition.started_players import StartedPlayers
 from ggp_tools.moments import moment
 from ggp_tools.records.lengths import LONGEST_ACCOUNT, MOST_TURNS, longest_record
-from ggp_tools.referee import LAWFUL, NO_NAME, PROGRAM, Referee, is_no_answer, is_not_lawful, is_not_replayed
+from ggp_tools.referee import LAWFUL, NO, NO_NAME, PROGRAM, Referee, is_no_answer
 from ggp_tools.reporting import Reporter
 
 # The referee ends INFO by itself after so many seconds, and soon after that it has said whether it was short of something itself.
@@ -296,9 +296,9 @@ class OpenMatch:
         """Decides by what the referee found whether the match counts, and keeps its files: record, account and log."""
         record, account, log = files
         is_lawful = verified.status == 0 and file_bytes(verified.out, MOST_OF_MESSAGE) == f"{LAWFUL}\n".encode()
-        if not is_lawful and is_not_lawful(verified.status, verified.last_words()):
+        if not is_lawful and verified.status == NO:
             self.why = verified.printed()
-        elif not is_lawful or replayed.status and not is_not_replayed(replayed.status, replayed.last_words()):
+        elif not is_lawful or replayed.status not in (0, NO):
             kept = keep(self.plan.folder, self.match.id, *files, "unchecked")
             self.why = f"it was played, but not checked, and is kept as {kept}: {(replayed if is_lawful else verified).last_words()}"
         elif replayed.status or file_bytes(replayed.out, MOST_OF_MESSAGE + len(record)).partition(b"\n")[2] != record:
