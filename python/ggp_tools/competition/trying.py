@@ -60,4 +60,4 @@ def try_player(file: str, name: str, game_name: str | None, referee: Referee) ->
         folder.make(folder.players)
         end_left_players(folder, reporter.line)
         started = StartedPlayer(folder, player, 0, referee, reporter)
-        return asyncio.run(checked(started, referee.taking(game.large), game, rules))
+        return asyncio.run(checked(started, referee.taking(rules.is_large), game, rules))
