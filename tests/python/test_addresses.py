@@ -1,5 +1,6 @@
 """The addresses of players: which the system refuses, and which are one."""
 
+import json
 import socket
 import threading
 from unittest import mock
@@ -8,10 +9,16 @@ import pytest
 from ggp_tools.competition import addresses
 from ggp_tools.competition.addresses import looked_up, mistakes_of_addresses
 from ggp_tools.competition.competition_file import read_competition
-from support import toml
+from support import call, toml
 
 BROADCAST = "the system refuses connections to it, as to a broadcast address"
 MULTICAST = "a multicast address takes no connection"
+LINK_LOCAL = "a link-local address needs its interface, as in [fe80::1%eth0]"
+# Addresses to which no system connects.
+NO_HOSTS = [
+    ("255.255.255.255", BROADCAST), ("127.255.255.255", BROADCAST), ("[::ffff:255.255.255.255]", BROADCAST), ("224.0.0.1", MULTICAST),
+    ("239.255.255.255", MULTICAST), ("[ff02::1]", MULTICAST), ("[::ffff:224.0.0.1]", MULTICAST), ("[fe80::1]", LINK_LOCAL),
+]
 
 
 def mistakes(*given):
@@ -30,15 +37,20 @@ def test_two_players_at_one_address(other):
 
 def test_addresses_of_ipv6_with_interfaces():
     assert mistakes("[::]:9147", "[0:0::1]:9147") == [(10, "'[0:0::1]:9147' and '[::]:9147', the address of p0, are one: ::1, port 9147")]
-    assert mistakes("127.0.0.1:9147", "127.0.0.2:9147", "[::1]:9148", "[fe80::1%lo]:9147", "[fe80::1]:9147") == []
+    assert mistakes("127.0.0.1:9147", "127.0.0.2:9147", "[::1]:9148", "[fe80::1%lo]:9147", "[fe80::2%lo]:9147") == []
 
 
-@pytest.mark.parametrize(("address", "why"), [
-    ("255.255.255.255:9147", BROADCAST), ("127.255.255.255:9147", BROADCAST), ("224.0.0.1:9147", MULTICAST), ("239.255.255.255:1", MULTICAST),
-    ("[ff02::1]:9147", MULTICAST), ("[::ffff:224.0.0.1]:9147", MULTICAST),
-])
-def test_an_address_that_takes_no_connection(address, why):
-    assert mistakes("127.0.0.1:1", address) == [(10, f"{address!r}: {why}")]
+@pytest.mark.parametrize(("host", "why"), NO_HOSTS)
+def test_an_address_that_takes_no_connection(host, why):
+    assert mistakes("127.0.0.1:1", f"{host}:9147") == [(10, f"'{host}:9147': {why}")]
+
+
+def test_the_program_blames_players_at_the_addresses_that_plan_refuses():
+    roles = range(len(NO_HOSTS))
+    rules = "(init over) (<= terminal (true over))" + "".join(f"(role r{at}) (goal r{at} 50) (legal r{at} go)" for at in roles)
+    players = [f"p{at}@{host}:9147" for at, (host, _) in enumerate(NO_HOSTS)]
+    record = json.loads(call("run", "--rules", rules, "--id", "m", "--start", "1", "--play", "1", *players))
+    assert (record["startMarks"], record["endMarks"]) == (["CE"] * len(NO_HOSTS), ["CE"] * len(NO_HOSTS))
 
 
 def test_names():

@@ -63,6 +63,8 @@ def refusal(place: Place) -> str:
     address = ipaddress.ip_address(place[0])
     if address.is_multicast:
         return "a multicast address takes no connection"
+    if address.version == 6 and address.is_link_local and not address.scope_id:
+        return "a link-local address needs its interface, as in [fe80::1%eth0]"
     try:
         with socket.socket(socket.AF_INET6 if address.version == 6 else socket.AF_INET, socket.SOCK_DGRAM) as probe:
             probe.connect(place)
