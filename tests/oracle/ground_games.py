@@ -15,24 +15,9 @@ import pathlib
 import sys
 from functools import lru_cache
 
+from interpreter import read as expressions
+
 GAMES = pathlib.Path(__file__).resolve().parents[2] / "examples/games"
-
-
-def expressions(text):
-    """The expressions that a text spells, in lower case: atoms as str, lists as tuples."""
-    lines = [line.partition(";")[0] for line in text.split("\n")]
-    words = " ".join(lines).lower().replace("(", " ( ").replace(")", " ) ").split()
-    levels = [[]]
-    for word in words:
-        if word == "(":
-            levels.append([])
-        elif word == ")":
-            closed = tuple(levels.pop())
-            levels[-1].append(closed)
-        else:
-            levels[-1].append(word)
-    (whole,) = levels
-    return whole
 
 
 def text_of(expression):
