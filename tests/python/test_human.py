@@ -211,6 +211,7 @@ class Pages(unittest.TestCase):
         page = self.request("GET", self.of_page())
         self.assertEqual(page.status, 200)
         self.assertIn("default-src 'none'", page.getheader("Content-Security-Policy"))
+        self.assertEqual([self.request("GET", self.of_page(name)).status for name in ("style.css", "human.js")], [200, 200])
         for path in ("/x", "/../etc/passwd", "/index.html", self.of_page("x"), self.server.page.rstrip("/")):
             self.assertEqual(self.request("GET", path).status, 404)
 

@@ -10,13 +10,16 @@ from collections.abc import Iterable
 from http.server import BaseHTTPRequestHandler, ThreadingHTTPServer
 from http import HTTPStatus
 
-from ggp_tools.human.page import PAGE, POLICY
 from ggp_tools.human.seat import Seat, Unread, read_message
+from ggp_tools.templating import source
 
 # A START carries the whole rules.
 MOST_BYTES, MOST_MOVE = 16_777_216, 65_536
 # A page that is told nothing for so many seconds gets a line that says that the player is still there.
 ALIVE = 10.0
+# The files of the page by their names below its token, and what it may load and run: only these.
+FILES = {"": ("human.html", "text/html"), "style.css": ("style.css", "text/css"), "human.js": ("human.js", "text/javascript")}
+POLICY = "default-src 'none'; style-src 'self'; script-src 'self'; connect-src 'self'; base-uri 'none'; form-action 'none'; frame-ancestors 'none'"
 
 
 def is_own_name(host: str, own: str) -> bool:
@@ -38,10 +41,11 @@ class Handler(BaseHTTPRequestHandler):
     def do_GET(self) -> None:
         if not is_own_name(self.headers["Host"] or "", self.server.server_name):
             self.send_error(HTTPStatus.FORBIDDEN)
-        elif self.path == self.server.page:
-            self.reply(HTTPStatus.OK, "text/html; charset=utf-8", PAGE)
         elif self.path == f"{self.server.page}events":
             self.send_events()
+        elif self.path.startswith(self.server.page) and (name := self.path.removeprefix(self.server.page)) in FILES:
+            file, kind = FILES[name]
+            self.reply(HTTPStatus.OK, f"{kind}; charset=utf-8", source(file).encode())
         else:
             self.send_error(HTTPStatus.NOT_FOUND)
 
