@@ -380,7 +380,8 @@ class Reader:
     def look_at_records(self) -> None:
         """Reads records that have come or are other ones, for a while, and forgets those that are gone."""
         self.list_records()
-        ends = time.monotonic() + READING
+        # The first pages do not wait long for the standings.
+        ends = time.monotonic() + (READING if self.identities else READING / 5)
         while self.unread and time.monotonic() < ends:
             self.look_at_record(self.unread.popleft())
             # What remains to be read is shown.

@@ -56,7 +56,7 @@ MATCH_HEADS = ["match", "game", "players and goals", "turns", "replaced moves", 
 def standings(found: Table, up: str) -> PageParts:
     """Returns the standings of a table, the plot of its ratings, and the crosstable; a part without content is empty. The pages of the
     players are below `up`."""
-    heads, *rows = standings_rows(found, "\u00b1")
+    heads, *rows = standings_rows(found)
     players = [line.player for line in found.standings()]
     crosstable = list(crosstable_rows(found))[1:] if len(players) <= MOST_CROSSED else []
     plot = rating_plot(found.standings()) if found.is_of_pairs() else ""

@@ -33,7 +33,7 @@ def standing_texts(found: Table) -> dict[str, str]:
     for place, line in zip(found.places(), lines):
         mean = "none" if line.mean() is None else f"{line.mean():.2f}"
         counts = f"{line.won} won, {line.drawn} drawn, {line.lost} lost; {line.replaced} of {line.moves} moves replaced"
-        rating = f"; rating {rating_text(found, line, chr(0xB1))}" if found.is_of_pairs() else ""
+        rating = f"; rating {rating_text(found, line)}" if found.is_of_pairs() else ""
         texts[line.player] = f"Place {place} of {len(lines)} in all games: {line.matches} matches, mean goal {mean}, {counts}{rating}."
     return texts
 

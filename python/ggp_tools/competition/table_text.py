@@ -56,12 +56,12 @@ def points_text(points: float) -> str:
     return f"{points:.1f}".removesuffix(".0")
 
 
-def rating_text(table: Table, line: Line, sign: str = "+-") -> str:
+def rating_text(table: Table, line: Line) -> str:
     """Returns the rating with its interval, and the group where there are more than one."""
     if not line.rating or line.rating.rating is None:
         return "none"
     several = max(line.rating.group or 0 for line in table.lines.values() if line.rating) > 1
-    return f"{round(line.rating.rating)} {sign} {round(line.rating.half)}" + (f" in {line.rating.group}" if several else "")
+    return f"{round(line.rating.rating)} +- {round(line.rating.half)}" + (f" in {line.rating.group}" if several else "")
 
 
 def goals_text(line: Line) -> str:
@@ -86,7 +86,7 @@ def order_cells(table: Table, line: Line) -> dict[str, str]:
     return {head: cell for head, cell in said.items() if cell}
 
 
-def standings_rows(table: Table, sign: str = "+-") -> Iterator[list[str]]:
+def standings_rows(table: Table) -> Iterator[list[str]]:
     """Gives the rows of the standings, the heads first."""
     forfeits, order = table.has_forfeits(), list(order_cells(table, Line("")))
     head = ["", "player", "matches", *order, "goals", "won", "drawn", "lost", *["by forfeit"] * forfeits]
@@ -96,7 +96,7 @@ def standings_rows(table: Table, sign: str = "+-") -> Iterator[list[str]]:
         row = [str(place), name, str(line.matches), *order_cells(table, line).values(), goals_text(line)]
         row += [str(line.won), str(line.drawn), str(line.lost)]
         row += [f"{line.won_by_forfeit} won, {line.lost_by_forfeit} lost"] * forfeits
-        yield [*row, f"{line.replaced} of {line.moves}", str(line.absent), str(line.retired), rating_text(table, line, sign)]
+        yield [*row, f"{line.replaced} of {line.moves}", str(line.absent), str(line.retired), rating_text(table, line)]
 
 
 def crosstable_rows(table: Table) -> Iterator[list[str]]:
