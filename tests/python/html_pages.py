@@ -1,7 +1,11 @@
 """Pages of HTML for tests: they are parsed, so that a test does not depend on how their text is laid out."""
 
+import warnings
+
 import bs4
 
+# A page may be a single word.
+warnings.filterwarnings("ignore", category=bs4.MarkupResemblesLocatorWarning)
 Page = bytes | str
 
 
