@@ -7,20 +7,31 @@ Expression = str | tuple
 # The name of a relation, and the number of its arguments: none for an atom alone.
 Relation = tuple[str, int | None]
 MOST_LEVELS = 64
+# What to do about files of other kinds, by their first bytes.
+FILE_HEADS = {
+    "\xef\xbb\xbf": "the file begins with a byte order mark: save it without one", "\x1f\x8b": "the file is packed by gzip: unpack it",
+    "\xff\xfe": "the file is UTF-16: save it as ASCII", "\xfe\xff": "the file is UTF-16: save it as ASCII",
+}
+# So much of a sentence is shown.
+MOST_SHOWN = 160
 COMMENT = re.compile(r";[^\n]*")
 TOKEN = re.compile(r"[()]|[^\s()]+")
 NO_CHARACTER = re.compile(r"[^\t\n\r\x20-\x7e]")
 
 
 class Refused(Exception):
-    """Why there is no ground description, in one line."""
+    """Why there is no ground description, in one line; the number of the sentence that shows it, if one does; and what to do about it."""
+
+    def __init__(self, words: str, sentence: int | None = None, advice: str = "") -> None:
+        super().__init__(words)
+        self.sentence, self.advice = sentence, advice
 
 
 class KifFault(Refused):
     """Why a text is no KIF, with the place where that is seen, as an index."""
 
-    def __init__(self, words: str, index: int) -> None:
-        super().__init__(words)
+    def __init__(self, words: str, index: int, advice: str = "") -> None:
+        super().__init__(words, advice=advice)
         self.index = index
 
 
@@ -29,22 +40,30 @@ def blanked(text: str) -> str:
     return COMMENT.sub(lambda comment: " " * len(comment[0]), text)
 
 
+def advice_for_bytes(text: str) -> str:
+    """What to do about a text, read as Latin-1, that has other bytes than those of KIF."""
+    for head, advice in FILE_HEADS.items():
+        if text.startswith(head):
+            return advice
+    return "write it in ASCII, or in a comment"
+
+
 def tokens(text: str) -> Iterator[tuple[str, int, int]]:
     """Gives each parenthesis and each atom of a text with its index, and the number of lists around it. Refuses what is no KIF."""
     text = blanked(text)
     if bad := NO_CHARACTER.search(text):
-        raise KifFault(f"a byte that is no character of KIF: {bad[0]!r}", bad.start())
+        raise KifFault(f"a byte that is no character of KIF: {bad[0]!r}", bad.start(), advice_for_bytes(text))
     opened = []
     for token in TOKEN.finditer(text):
         if token[0] == ")":
             if not opened:
-                raise KifFault("a `)` with no open list", token.start())
+                raise KifFault("a `)` with no open list", token.start(), "a sentence before it may have a `)` too many")
             opened.pop()
         yield token[0], token.start(), len(opened)
         if token[0] == "(":
             opened.append(token.start())
     if opened:
-        raise KifFault("a list that is not closed", opened[-1])
+        raise KifFault("a list that is not closed", opened[-1], "add a `)`")
 
 
 def expressions(text: str) -> list[Expression]:
@@ -71,6 +90,16 @@ def starts(text: str) -> list[int]:
 def place_of(text: str, index: int) -> str:
     """Returns an index of a text as its line and column."""
     return f"line {text.count(chr(10), 0, index) + 1}, column {index - text.rfind(chr(10), 0, index)}"
+
+
+def told(text: str, why: Refused) -> str:
+    """Why a text is refused, after the place and with the sentence that show it, and what to do about it."""
+    words, index = str(why), why.index if isinstance(why, KifFault) else None
+    if why.sentence is not None:
+        sentence = spelled(expressions(text)[why.sentence])
+        index, words = starts(text)[why.sentence], f"{words}: {sentence[:MOST_SHOWN]}" + (".." if len(sentence) > MOST_SHOWN else "")
+    advice = f"; {why.advice}" if why.advice else ""
+    return (f"{place_of(text, index)}: " if index is not None else "") + words + advice
 
 
 def spelled(expression: Expression) -> str:

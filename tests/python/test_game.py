@@ -203,7 +203,7 @@ class Game(InFolder):
         status, lines = self.look("(role a)\n(=> (legal a x) p)\n(<= (next x) (init x))")
         self.assertEqual((status, lines), (1, [
             "game.kif is not accepted: line 3, column 1: true or does as a head, init or next as a condition, or a role with conditions: (<= (next x) (init x))",
-            "sentence 2, (<= (next x) (init x)): (init x) is in a body",
+            "line 3, column 1: (init x) is in a body: (<= (next x) (init x)); ask for what is true in the state by `true`",
             "suspicious: line 2, column 1: `=>` is no word of GDL, and nothing of the game asks for it; is `<=` meant?: (=> (legal a x) p)",
             "the rest was not looked at",
         ]))
@@ -213,7 +213,7 @@ class Game(InFolder):
         said = ["game.kif is not accepted: it has more than 1,048,576 bytes", "the rest was not looked at"]
         self.assertEqual(self.look(" x" * (1 << 19) + "x"), (1, said))
         status, lines = self.look(SOUND + "(goal ann 200)")
-        words = "(goal ann 200) can be derived, and its goal is no number from 0 to 100: sentence 12, line 11: (goal ann 200)"
+        words = "line 11, column 1: (goal ann 200) can be derived, and its goal is no number from 0 to 100: (goal ann 200)"
         self.assertEqual((status, lines[1:]), (1, [words, "nothing else is suspicious"]), lines)
 
     def test_what_is_wrong_with_sentences_together(self):
@@ -223,9 +223,9 @@ class Game(InFolder):
                 "these depend on each other: line 4, column 1: (<= r r)",
             ]),
             ("(role a)\n(role b)\n(role A)", ["these name the same role: line 1, column 1: (role a); line 3, column 1: (role a)"]),
-            ("(role a)\n(<= terminal p)\n(<= p (does a b))", ["terminal depends on does"]),
-            ("(role a)\n(goal a 101)", ["(goal a 101) can be derived, and its goal is no number from 0 to 100: sentence 1, line 2: (goal a 101)"]),
-            ("(role a)\n(role a b)", ["sentence 1, (role a b): (role a b) is no sentence"]),
+            ("(role a)\n(<= terminal p)\n(<= p (does a b))", ["line 3, column 1: terminal depends on does, by p: (<= p (does a b)); let `next` keep what the moves did, and ask for that by `true`"]),
+            ("(role a)\n(goal a 101)", ["line 2, column 1: (goal a 101) can be derived, and its goal is no number from 0 to 100: (goal a 101)"]),
+            ("(role a)\n(role a b)", ["line 2, column 1: (role a b) is no sentence: (role a b); write (role _)"]),
             ("(role a)\n" + "".join(f"(<= p{number} p{(number + 1) % 10})\n" for number in range(10)), [
                 "these depend on each other: " + "; ".join(f"line {at + 2}, column 1: (<= p{at} p{at + 1})" for at in range(8)) + "; and 2 more"
             ]),
@@ -328,7 +328,7 @@ class Game(InFolder):
         self.assertRegex(lines[1], "^its ground rules: .*goals past 100 are left out")
         status, lines = self.look("(role a)\n(<= (legal ?r x) (not (role ?r)))")
         self.assertEqual(status, 1)
-        self.assertRegex(lines[0], r"^game.kif is not accepted: line 2, column 1: sentence 1, .*: \?r is unsafe")
+        self.assertRegex(lines[0], r"^game.kif is not accepted: line 2, column 1: \?r is unsafe")
 
     @unittest.skipUnless(shutil.which("gringo"), "gringo is not installed")
     def test_a_file_whose_name_begins_with_a_hyphen(self):

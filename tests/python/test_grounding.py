@@ -74,11 +74,11 @@ class Dependence(unittest.TestCase):
         asked = {"true": "(true a)", "does": "(does r m)"}
         wrong = {("legal", "does"), ("goal", "does"), ("terminal", "does"), ("init", "does"), ("init", "true"), ("role", "does"), ("role", "true")}
         for (name, head), (other, body) in itertools.product(heads.items(), asked.items()):
-            for text in (f"(<= {head} {body})", f"(<= {head} (not x)) (<= x {body})"):
+            for text, by, sentence in ((f"(<= {head} {body})", "", 0), (f"(<= x {body}) (<= {head} (not y)) (<= y x)", ", by y, x", 0)):
                 if (name, other) in wrong:
                     with self.assertRaises(Refused) as why:
                         Relations(rules(text)).refuse_dependence()
-                    self.assertEqual(str(why.exception), f"{name} depends on {other}")
+                    self.assertEqual((str(why.exception), why.exception.sentence), (f"{name} depends on {other}{by}", sentence))
                 else:
                     Relations(rules(text)).refuse_dependence()
 

@@ -3,7 +3,8 @@
 import unittest
 
 from ggp_tools.kif import (
-    MOST_LEVELS, KifFault, atoms, expressions, fresh, fresh_before_digits, levels, place, place_of, put, relation, spelled, starts, variables,
+    MOST_LEVELS, KifFault, Refused, atoms, expressions, fresh, fresh_before_digits, levels, place, place_of, put, relation, spelled, starts, told,
+    variables,
 )
 
 
@@ -34,6 +35,25 @@ class Texts(unittest.TestCase):
         self.assertEqual(expressions("! ~ \t\r\n"), ["!", "~"])
         for bad in "\x00\x08\x0b\x1f\x7f\xe9":
             self.assert_fault(f"(a b{bad})", f"a byte that is no character of KIF: {bad!r}", 4)
+
+    def test_refusals_have_their_place_the_sentence_and_what_to_do(self):
+        def words(text, why=None):
+            try:
+                expressions(text)
+            except KifFault as fault:
+                why = fault
+            return told(text, why)
+
+        self.assertEqual(words("(a)\n (b"), "line 2, column 2: a list that is not closed; add a `)`")
+        for text, advice in (
+            ("\xef\xbb\xbf(a)", "the file begins with a byte order mark: save it without one"), ("\x1f\x8b\x08", "the file is packed by gzip: unpack it"),
+            ("\xff\xfe(\x00", "the file is UTF-16: save it as ASCII"), ("\xe9", "write it in ASCII, or in a comment"),
+        ):
+            self.assertEqual(words(text).partition("; ")[::2], (f"line 1, column 1: a byte that is no character of KIF: {text[0]!r}", advice))
+        long = "(c " + "d" * 200 + ")"
+        self.assertEqual(words(f"(a)\n  (B  b)\n{long}", Refused("why", 1, "do this")), "line 2, column 3: why: (b b); do this")
+        self.assertEqual(words(f"(a)\n{long}", Refused("why", 1)), f"line 2, column 1: why: (c {'d' * 157}..")
+        self.assertEqual(words("(a)", Refused("why")), "why")
 
     def test_lists_stand_in_one_another_to_a_limit(self):
         self.assertEqual(MOST_LEVELS, 64)

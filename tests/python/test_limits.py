@@ -11,7 +11,7 @@ from ggp_tools.instantiating.endless import endless, fits
 from ggp_tools.instantiating.limits import atoms_of, costs_of, dearest, is_high, refuse_faults, without_high_goals
 from ggp_tools.instantiating.making import NEVER, Making
 from ggp_tools.instantiating.sentences import Literal, Rule, all_rules
-from ggp_tools.kif import Refused, expressions, put, variables
+from ggp_tools.kif import Refused, expressions, put, told, variables
 
 
 def rules(text):
@@ -41,9 +41,9 @@ class Faults(unittest.TestCase):
     def refused(self, text):
         sentences = expressions(text)
         try:
-            refuse_faults(all_rules(sentences), sentences, range(5, 99))
+            refuse_faults(all_rules(sentences))
         except Refused as why:
-            return str(why)
+            return told(text, why)
         return None
 
     def test_what_the_program_takes(self):
@@ -51,18 +51,18 @@ class Faults(unittest.TestCase):
 
     def test_goals_that_are_none(self):
         for goal in ("101", "00", "01", "1a", "x", "(f 1)", "1000"):
-            said = f"(goal r {goal}) can be derived, and its goal is no number from 0 to 100: sentence 1, line 6: "
+            said = f"line 1, column 10: (goal r {goal}) can be derived, and its goal is no number from 0 to 100: "
             self.assertEqual(self.refused(f"(role r) (goal r {goal})"), f"{said}(goal r {goal})")
             self.assertEqual(self.refused(f"(role r) (<= p (not (goal r {goal})))"), f"{said}(<= p (not (goal r {goal})))")
 
     def test_roles_that_are_none(self):
-        self.assertEqual(self.refused("(goal r 1) (roles r)"), "there is no role")
-        self.assertEqual(self.refused(""), "there is no role")
-        self.assertEqual(self.refused("(role r) (<= (role s) p)"), "(role s) is not settled before the game: sentence 1, line 6: (<= (role s) p)")
+        self.assertEqual(self.refused("(goal r 1) (roles r)"), "there is no role; write (role NAME) for each role")
+        self.assertEqual(self.refused(""), "there is no role; write (role NAME) for each role")
+        self.assertEqual(self.refused("(role r) (<= (role s) p)"), "line 1, column 10: (role s) is not settled before the game: (<= (role s) p); make it a fact")
         secret = "the role `random` is of GDL-II, games with chance or with what some can't see; here each role sees every move"
         with self.assertRaises(Refused) as why:
-            refuse_faults([Rule(0, ("role", "random"), (Literal(True, "p"),))], [("role", "random")], [3])
-        self.assertEqual(str(why.exception), f"sentence 0, line 3: (role random): {secret}")
+            refuse_faults([Rule(0, ("role", "random"), (Literal(True, "p"),))])
+        self.assertEqual((str(why.exception), why.exception.sentence), (secret, 0))
 
 
 class Figures(unittest.TestCase):

@@ -14,6 +14,7 @@ from ggp_tools.descriptions.loading import NoDescription, Stopped, load_describe
 from ggp_tools.referee import BadRules
 
 GROUND = b"; a comment\n(role x) (init a) (legal x m) (<= (next a) (true a)) (goal x 1)\n"
+DEPENDS = "legal depends on does: (<= (legal x ?m) (does x ?m)); let `next` keep what the moves did, and ask for that by `true`"
 OPEN = b"(role x) (init a) (legal x m) (<= (next ?t) (true ?t)) (goal x 1)\n"
 
 
@@ -105,11 +106,12 @@ class Loading(unittest.TestCase):
 
     def test_texts_that_are_no_descriptions(self):
         for text, words in (
-            (b"", "line 1, column 1: there is no sentence"), (b" ; (\n", "line 1, column 1: there is no sentence"), (b"(role x)\n (a", "line 2, column 2: a list that is not closed"),
-            (b"(role x)\n\xe9", "line 2, column 1: a byte that is no character of KIF: '\xe9'"), (b"(role x)\n (<= p (not (q ?x)))", None), (b"(role x)\n\n  (<= (legal x ?m) (does x ?m))", "legal depends on does"),
+            (b"", "line 1, column 1: there is no sentence"), (b" ; (\n", "line 1, column 1: there is no sentence"), (b"(role x)\n (a", "line 2, column 2: a list that is not closed; add a `)`"),
+            (b"(role x)\n\xe9", "line 2, column 1: a byte that is no character of KIF: '\xe9'; write it in ASCII, or in a comment"), (b"(role x)\n (<= p (not (q ?x)))", None), (b"(role x)\n\n  (<= (legal x ?m) (does x ?m))", f"line 3, column 3: {DEPENDS}"),
         ):
             if words is None:
-                words = "line 2, column 2: sentence 1, (<= p (not (q ?x))): ?x is unsafe: no sentence of the body that is not negated has it"
+                unsafe = "?x is unsafe: no sentence of the body that is not negated has it"
+                words = f"line 2, column 2: {unsafe}: (<= p (not (q ?x))); add a condition with ?x that is not negated"
             self.assert_refused(words, self.load, text)
 
     def test_a_file_is_read_up_to_its_limit(self):
@@ -145,7 +147,7 @@ class Loading(unittest.TestCase):
         self.assert_refused(f"{self.beside} has no variables", self.described, GROUND, GROUND)
         self.assert_refused("line 1, column 1: there is no sentence", self.described, b"", OPEN)
         self.assert_refused("line 1, column 1: there is no sentence", self.described, GROUND, b"")
-        self.assert_refused("legal depends on does", self.described, GROUND, b"(<= (legal x ?m) (does x ?m))")
+        self.assert_refused(f"line 1, column 1: {DEPENDS}", self.described, GROUND, b"(<= (legal x ?m) (does x ?m))")
 
     def test_the_text_for_players_has_a_limit_too(self):
         size = len(self.described(GROUND, OPEN, True).player_rules)

@@ -8,7 +8,7 @@ from unittest import mock
 
 from ggp_tools.instantiating import folding, limits, making
 from ggp_tools.instantiating.making import ALWAYS, NEVER, WHERE_NEEDED, Making, Written, text_of
-from ggp_tools.kif import Refused, expressions
+from ggp_tools.kif import Refused, expressions, told
 
 GAME = """(role r) (role s) (init (c 1)) (succ 1 2) (succ 2 3)
 (<= (legal ?p (m ?x)) (role ?p) (succ ?x ?y)) (<= (next (c ?y)) (true (c ?x)) (succ ?x ?y) (does r (m ?x)))
@@ -123,14 +123,15 @@ class Made(unittest.TestCase):
 
     def test_refusals_have_the_sentence(self):
         for text, words in (
-            ("(role r) (<= (legal r m) (does r m))", "legal depends on does"), ("(legal r m)", "there is no role"),
-            ("(role r)\n(<= (goal r ?x) (n ?x)) (n big)", "(goal r big) can be derived, and its goal is no number from 0 to 100: sentence 1, line 2: (<= (goal r ?x) (n ?x))"),
-            ("(role r)\n(<= (role ?x) (not (p ?x)) (q ?x)) (q s) (<= (p s) (not (role s)))", None),
+            ("(role r) (<= (legal r m) (does r m))", "line 1, column 10: legal depends on does: (<= (legal r m) (does r m))"), ("(legal r m)", "there is no role"),
+            ("(role r)\n(<= (goal r ?x) (n ?x)) (n big)", "line 2, column 1: (goal r big) can be derived, and its goal is no number from 0 to 100: (<= (goal r ?x) (n ?x))"),
+            ("(role r)\n(<= (role ?x) (not (p ?x)) (q ?x)) (q s)\n(<= (p s) (not (role s)))", None),
+            ("(role r) (init a)\n(<= p (not q) (true a))\n(<= q o) (<= o p) (<= terminal p)", "line 2, column 1: a cycle: p depends on itself, through the denial of q, with o: (<= p (not q) (true a))"),
         ):
             found, _ = made(text)
             self.assertIsInstance(found, Refused, text)
             if words:
-                self.assertEqual(str(found).partition(";")[0], words)
+                self.assertEqual(told(text, found).partition(";")[0], words)
 
     def test_without_standard_error_nothing_is_said_elsewhere(self):
         with mock.patch("sys.stderr", None), contextlib.redirect_stdout(io.StringIO()) as out:

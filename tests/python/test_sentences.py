@@ -101,8 +101,9 @@ class Reading(unittest.TestCase):
 class Refusals(unittest.TestCase):
     def assert_refused(self, text, words):
         with self.assertRaises(Refused) as why:
-            all_rules(expressions(f"(role r) {text}"), [1, 5])
-        self.assertEqual(str(why.exception), f"sentence 1, line 5: {text}: {words}")
+            all_rules(expressions(f"(role r) {text}"))
+        self.assertEqual((str(why.exception), why.exception.sentence), (words, 1))
+        return why.exception.advice
 
     def test_what_is_no_sentence(self):
         for text, words in (
@@ -116,6 +117,16 @@ class Refusals(unittest.TestCase):
             ("(<= p (init a))", "(init a) is in a body"), ("(<= p (not (next a)))", "(next a) is in a body"), ("(<= p ?x)", "?x is no sentence"),
         ):
             self.assert_refused(text, words)
+
+    def test_what_to_do(self):
+        for text, words, advice in (
+            ("(role a b)", "(role a b) is no sentence", "write (role _)"), ("(terminal a)", "(terminal a) is no sentence", "write terminal"),
+            ("(<= p (distinct a))", "(distinct a) is no sentence", "write (distinct _ _)"), ("(<= p (not))", "(not) is no sentence", "write (not _)"),
+            ("(true p)", "(true p) is a head", "`next` and `init` say what is true in a state"), ("(does r m)", "(does r m) is a head", "`legal` says which moves there are"),
+            ("(<= p (next a))", "(next a) is in a body", "ask for what is true in the state by `true`"), ("(p ())", "() is no term", ""),
+            ("(p ?x)", "?x is unsafe: no sentence of the body that is not negated has it", "add a condition with ?x that is not negated"),
+        ):
+            self.assertEqual(self.assert_refused(text, words), advice)
 
     def test_what_may_stand_where_it_does(self):
         rules("(<= (next p) (true q) (does r m) (legal r m) (role r) (goal r 1) terminal (sees r a)) (init (p a)) (sees a) (sees a b c d) (<= p (role random))")

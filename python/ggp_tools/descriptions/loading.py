@@ -23,7 +23,8 @@ FOLDER = pathlib.Path(__file__).resolve().parents[2]
 INSTANTIATE = [sys.executable, "-B", "-P", "-m", "ggp_tools.instantiating"]
 # The most bytes of a description, and of the text for players.
 MOST_BYTES, MOST_BYTES_FOR_PLAYERS = LARGE["bytes"], 1 << 20
-SENTENCE = re.compile(r"sentence (\d+), ")
+# What stands before the place of a sentence: who reports it, and the file.
+PLACED = re.compile(r"ggp-instantiate: .*?: (?=line [0-9]+, column [0-9]+: )")
 STOPPED = re.compile(r"ggp-instantiate: stopped after ")
 
 
@@ -60,20 +61,19 @@ def sentence_starts(text: bytes) -> list[int]:
     try:
         found = kif.starts(description)
     except kif.KifFault as why:
-        raise NoDescription(f"{kif.place_of(description, why.index)}: {why}") from None
+        raise NoDescription(kif.told(description, why)) from None
     if not found:
         raise NoDescription("line 1, column 1: there is no sentence")
     return found
 
 
-def look_at_sentences(text: bytes, starts: list[int]) -> None:
+def look_at_sentences(text: bytes) -> None:
     """Refuses a description with a sentence that is none, by the tests that `ggp-instantiate` has before it grounds."""
     description = text.decode("latin-1")
     try:
         Relations(all_rules(kif.expressions(description))).refuse_dependence()
     except kif.Refused as why:
-        found = SENTENCE.match(str(why))
-        raise NoDescription(f"{kif.place_of(description, starts[int(found[1])])}: {why}" if found else str(why)) from None
+        raise NoDescription(kif.told(description, why)) from None
 
 
 def has_variables(text: bytes) -> bool:
@@ -83,7 +83,7 @@ def has_variables(text: bytes) -> bool:
 def why_not(made: subprocess.CompletedProcess) -> str:
     """Returns why a run of `ggp-instantiate` made nothing: its last line, and before it which sentences cost most where it is past a limit."""
     lines = made.stderr.decode(errors="replace").strip().splitlines() or [f"ggp-instantiate ended with status {made.returncode}"]
-    return "\n".join([*(line.strip() for line in lines[:-1] if line.startswith("  dear: ")), lines[-1]])
+    return "\n".join([*(line.strip() for line in lines[:-1] if line.startswith("  dear: ")), PLACED.sub("", lines[-1])])
 
 
 def instantiated(path: pathlib.Path, text: bytes, tells_variables: bool, seconds: float, is_large: bool = False) -> tuple[bytes, bytes | None]:
@@ -146,10 +146,11 @@ def load_description(path: pathlib.Path, referee: Referee, tells_variables: bool
     """Returns the rules of the game that a file describes, with the text that its players get. If the file has no variables that is
     nothing beside the rules, whatever is asked for."""
     text = read_text(path)
-    starts, description_sum = sentence_starts(text), sum_of(text)
+    sentence_starts(text)
+    description_sum = sum_of(text)
     if not has_variables(text):
         return rules_of(text, path, referee, None, description_sum)
-    look_at_sentences(text, starts)
+    look_at_sentences(text)
     ground, player_rules = instantiated(path, text, tells_variables, seconds, referee.is_large)
     try:
         return rules_of(ground, path, referee, player_rules, description_sum, notes_of(ground))
@@ -163,7 +164,8 @@ def load_described(path: pathlib.Path, described: pathlib.Path, referee: Referee
     if has_variables(ground):
         raise NoDescription("it has variables, and so needs no description beside it")
     sentence_starts(ground)
-    look_at_sentences(text, sentence_starts(text))
+    sentence_starts(text)
+    look_at_sentences(text)
     if not has_variables(text):
         raise NoDescription(f"{described} has no variables")
     player_rules = None

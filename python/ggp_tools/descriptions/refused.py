@@ -5,8 +5,8 @@ from collections.abc import Iterator
 from ggp_tools.instantiating.limits import refuse_faults
 from ggp_tools.instantiating.relations import Relations
 from ggp_tools.instantiating.rounds import asked, circles
-from ggp_tools.instantiating.sentences import Rule, all_rules, lines_of
-from ggp_tools.kif import Expression, Refused, expressions, place_of, spelled, starts
+from ggp_tools.instantiating.sentences import Rule, all_rules
+from ggp_tools.kif import Expression, Refused, expressions, place_of, spelled, starts, told
 
 MOST_LISTED, MOST_SHOWN = 8, 80
 
@@ -46,14 +46,14 @@ def why_refused(text: bytes) -> list[str]:
         read = Sentences(text.decode("latin-1"))
         rules = all_rules(read.sentences)
     except Refused as why:
-        return [str(why)] if str(why).startswith("sentence ") else []
+        return [] if why.sentence is None else [told(text.decode("latin-1"), why)]
     if not rules:
         return []
     found = [f"these name the same role: {read.listed(numbers)}" for numbers in roles_named_again(read.sentences)]
     found += [f"these depend on each other: {read.listed(numbers)}" for numbers in cycles(rules)]
     try:
-        refuse_faults(rules, read.sentences, lines_of(read.text))
+        refuse_faults(rules)
         Relations(rules).refuse_dependence()
     except Refused as why:
-        found.append(str(why))
+        found.append(told(read.text, why))
     return found

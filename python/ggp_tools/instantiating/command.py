@@ -24,11 +24,14 @@ import argparse
 import os
 import sys
 
+from ggp_tools.descriptions.suspicious import suspicions
 from ggp_tools.instantiating.limits import MOST
 from ggp_tools.instantiating.making import ALWAYS, NEVER, WHERE_NEEDED, Making, say
-from ggp_tools.kif import Refused
+from ggp_tools.kif import KifFault, Refused, told
 
 SECONDS, MOST_SECONDS = 60, 1_000_000
+# So long it is searched for what is suspicious, and so many lines are printed.
+SECONDS_OF_SEARCH, MOST_SUSPICIONS = 5, 20
 HELP = (
     "Reads the description of a game with variables, and writes the ground description of the same game, for --rules-file of ggp_manager. "
     "What was done is said on standard error. The grounder gringo has to be installed."
@@ -88,14 +91,24 @@ def arguments() -> argparse.Namespace:
     return given
 
 
+def say_suspicions(text: bytes) -> None:
+    """Says what may be a mistake in the description."""
+    for line in suspicions(text, None, SECONDS_OF_SEARCH).lines[:MOST_SUSPICIONS]:
+        say(f"  suspicious: {line}")
+
+
 def main() -> None:
     asked = arguments()
+    given = (asked.file or sys.stdin.buffer).read()
+    made = Making(given.decode("latin-1"), asked.seconds, asked.folding, asked.split, asked.large)
     try:
-        made = Making((asked.file or sys.stdin.buffer).read().decode("latin-1"), asked.seconds, asked.folding, asked.split, asked.large)
         text = made.run()
         if asked.player_rules:
             write_player_rules(made, asked.player_rules)
         put(text)
+        say_suspicions(given)
     except Refused as why:
-        sys.exit(f"ggp-instantiate: {why}")
+        say_suspicions(given)
+        file = f"{asked.file.name if asked.file else 'standard input'}: " if why.sentence is not None or isinstance(why, KifFault) else ""
+        sys.exit(f"ggp-instantiate: {file}{told(made.text, why)}")
 

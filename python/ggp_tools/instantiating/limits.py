@@ -28,7 +28,7 @@ def without_high_goals(rules: list[Rule]) -> tuple[list[Rule], int]:
     for rule in rules:
         for literal in rule.body:
             if is_high(literal.atom):
-                raise Refused(f"{spelled(rule.head)} asks for {spelled(literal.atom)}, and a goal is a number from 0 to 100")
+                raise Refused(f"{spelled(rule.head)} asks for {spelled(literal.atom)}, and a goal is a number from 0 to 100", rule.sentence)
     return [rule for rule in rules if rule.head not in high], len(high)
 
 
@@ -36,18 +36,18 @@ def is_high(atom: Expression) -> bool:
     return relation(atom) == ("goal", 2) and isinstance(atom[2], str) and bool(PAST_GOAL.fullmatch(atom[2])) and not GOAL.fullmatch(atom[2])
 
 
-def refuse_faults(rules: list[Rule], sentences: Sequence[Expression], lines: Sequence[int]) -> None:
+def refuse_faults(rules: list[Rule]) -> None:
     """Refuses what the program refuses: goals that are none, a role that depends on its own denial, no role."""
     for rule in rules:
         for atom in (rule.head, *(literal.atom for literal in rule.body)):
             if relation(atom)[0] == "goal" and not (isinstance(atom[2], str) and GOAL.fullmatch(atom[2])):
-                raise Refused(f"{spelled(atom)} can be derived, and its goal is no number from 0 to 100: {cited(rule.sentence, sentences, lines)}")
+                raise Refused(f"{spelled(atom)} can be derived, and its goal is no number from 0 to 100", rule.sentence)
         if rule.head == ("role", "random"):
-            raise Refused(f"{cited(rule.sentence, sentences, lines)}: the role `random` {SECRET}")
+            raise Refused(f"the role `random` {SECRET}", rule.sentence)
         if relation(rule.head)[0] == "role" and rule.body:
-            raise Refused(f"{spelled(rule.head)} is not settled before the game: {cited(rule.sentence, sentences, lines)}")
+            raise Refused(f"{spelled(rule.head)} is not settled before the game", rule.sentence, "make it a fact")
     if not any(relation(rule.head)[0] == "role" for rule in rules):
-        raise Refused("there is no role")
+        raise Refused("there is no role", advice="write (role NAME) for each role")
 
 
 def atoms_of(expression: Expression) -> Iterator[Expression]:

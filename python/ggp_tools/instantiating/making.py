@@ -91,7 +91,7 @@ class Making:
     def made(self) -> str:
         self.sentences = [as_read(expression) for expression in expressions(self.text)]
         self.lines = lines_of(self.text)
-        self.rules = all_rules(self.sentences, self.lines)
+        self.rules = all_rules(self.sentences)
         relations = Relations(self.rules)
         relations.refuse_dependence()
         bearing = relations.bearing()
@@ -137,7 +137,7 @@ class Making:
             found = grounding.in_order(grounding.needed(found))
             self.note_circles([circle for circle in circles if circle[1] > 1])
             self.know(f"{len(found):,} ground sentences, since {self.notes[-1] if self.notes else 'cycles are unrolled'}")
-        limits.refuse_faults(found, self.sentences, self.lines)
+        limits.refuse_faults(found)
         self.ground_rules = found
         return found
 

@@ -18,6 +18,8 @@ from .sentences import Literal, Rule
 # The rules of each sentence.
 RulesFor = dict[Expression, list[Rule]]
 MOST_RULES = 2_000_000
+# So many sentences of a cycle are named.
+MOST_NAMED = 6
 
 
 def asked(rule: Rule) -> list[Expression]:
@@ -158,7 +160,10 @@ def refuse_denial(circle: list[Expression], rules_for: RulesFor) -> None:
         for rule in rules_for[atom]:
             for literal in rule.body:
                 if not literal.positive and literal.atom in members:
-                    raise Refused(f"a cycle: {spelled(atom)} depends on itself, through the denial of {spelled(literal.atom)}")
+                    words = f"a cycle: {spelled(atom)} depends on itself, through the denial of {spelled(literal.atom)}"
+                    if others := [spelled(other) for other in circle if other not in (atom, literal.atom)]:
+                        words += f", with {', '.join(others[:MOST_NAMED])}" + (f" and {len(others) - MOST_NAMED:,} more" if len(others) > MOST_NAMED else "")
+                    raise Refused(words, rule.sentence, "ask for one of these in the state before it, by `true`")
 
 
 def alive(circle: list[Expression], rules_for: RulesFor, last: int) -> list[set[Expression]]:

@@ -55,10 +55,17 @@ def must_be_term(expression: Expression) -> None:
             must_be_term(member)
 
 
+def form_of(name: str) -> str:
+    """How a sentence or a condition of GDL with this name looks; empty if it may look in several ways."""
+    if name in ARITIES:
+        return f"({' '.join([name] + ['_'] * ARITIES[name])})" if ARITIES[name] else name
+    return {"not": "(not _)", "distinct": "(distinct _ _)", "or": "(or _ ..) in the body of a rule", "<=": "(<= _ ..) as a whole sentence"}.get(name, "")
+
+
 def must_be_atomic(atom: Expression, is_head: bool) -> None:
     """Refuses what is no atomic sentence, or stands where it may not."""
     if isinstance(atom, str) and atom.startswith("?"):
-        raise Refused(f"{atom} is no sentence")
+        raise Refused(f"{atom} is no sentence", advice="a variable stands only in the arguments of a sentence")
     must_be_term(atom)
     name, arity = relation(atom)
     if is_head and (name, arity) in (("sees", 2), ("sees", 3)):
@@ -66,11 +73,13 @@ def must_be_atomic(atom: Expression, is_head: bool) -> None:
     if is_head and atom == ("role", "random"):
         raise Refused(f"the role `random` {SECRET}")
     if name in NO_RELATIONS or ARITIES.get(name, arity) != arity:
-        raise Refused(f"{spelled(atom)} is no sentence")
+        wanted = form_of(name)
+        raise Refused(f"{spelled(atom)} is no sentence", advice=f"write {wanted}" if wanted else "")
     if is_head and name in ("true", "does"):
-        raise Refused(f"{spelled(atom)} is a head")
+        advice = "`next` and `init` say what is true in a state" if name == "true" else "`legal` says which moves there are"
+        raise Refused(f"{spelled(atom)} is a head", advice=advice)
     if not is_head and name in ("init", "next"):
-        raise Refused(f"{spelled(atom)} is in a body")
+        raise Refused(f"{spelled(atom)} is in a body", advice="ask for what is true in the state by `true`")
 
 
 def must_be_literal(literal: Expression) -> None:
@@ -93,7 +102,7 @@ def each_of(ways: list[list[Body]]) -> list[Body]:
     for alternatives in ways:
         count *= len(alternatives)
     if count > MOST_WAYS:
-        raise Refused(f"its `or`s can hold in more than {MOST_WAYS:,} ways")
+        raise Refused(f"its `or`s can hold in more than {MOST_WAYS:,} ways", advice="give some of them a relation with rules")
     return [tuple(itertools.chain(*way)) for way in itertools.product(*ways)]
 
 
@@ -118,7 +127,8 @@ def must_be_safe(rule: Rule) -> None:
     """Refuses a rule with a variable that no sentence of its body binds."""
     for name in variables((rule.head, *(literal.atom for literal in rule.body))):
         if not is_bound(name, rule.body):
-            raise Refused(f"{name} is unsafe: no sentence of the body that is not negated has it")
+            advice = f"add a condition with {name} that is not negated"
+            raise Refused(f"{name} is unsafe: no sentence of the body that is not negated has it", advice=advice)
 
 
 def rules_of(number: int, sentence: Expression, names: Iterator[str]) -> list[Rule]:
@@ -161,13 +171,13 @@ def cited(number: int, sentences: Sequence[Expression], lines: Sequence[int] = (
     return f"sentence {number}{where}{text[:100]}" + (".." if len(text) > 100 else "")
 
 
-def all_rules(sentences: Sequence[Expression], lines: Sequence[int] = ()) -> list[Rule]:
-    """The rules of all sentences. Where one is refused it is cited."""
+def all_rules(sentences: Sequence[Expression]) -> list[Rule]:
+    """The rules of all sentences."""
     word = fresh_before_digits("either", set(atoms(tuple(sentences))))
     found, names = [], (f"{word}{count}" for count in itertools.count(1))
     for number, sentence in enumerate(sentences):
         try:
             found += rules_of(number, as_read(sentence), names)
         except Refused as why:
-            raise Refused(f"{cited(number, sentences, lines)}: {why}") from None
+            raise Refused(str(why), number, why.advice) from None
     return found
