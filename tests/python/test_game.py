@@ -7,6 +7,7 @@ import sys
 import time
 import unittest
 
+from ggp_tools.descriptions.goals import goals_said
 from ggp_tools.descriptions.suspicious import suspicions
 from support import COMMAND, GAMES, InFolder, program, program_but, run, run_into_full
 
@@ -244,8 +245,24 @@ class Game(InFolder):
         ])
         status, lines = self.look(SOUND.replace("bob 0", "ann 0"), "--matches", "1")
         self.assertEqual(status, 1)
-        self.assertEqual(lines[3], "aborted with `nogoal ann`: 1, seed 1; after turn 2 of seed 1 the state is (step 3)")
-        self.assertEqual(lines[5], "ann: goals none; most legal moves at once: 1")
+        first, second = "sentence 10, line 10: (<= (goal ann 100) over)", "sentence 11, line 10: (<= (goal ann 0) over)"
+        self.assertEqual(lines[3:5], [
+            "aborted with `nogoal ann`: 1, seed 1; after turn 2 of seed 1 the state is (step 3)", f"ann has 2 goals there: 0, by {second}; 100, by {first}",
+        ])
+        self.assertEqual(lines[6], "ann: goals none; most legal moves at once: 1")
+
+    def test_the_goals_of_a_state(self):
+        goals = "(<= (goal ann ?x) (true (won ?x)))\n(goal bob 5) (goal (o 1) 5)"
+        rule, fact = "sentence 0, line 1: (<= (goal ann ?x) (true (won ?x)))", "sentence 1, line 2: (goal bob 5)"
+        for role, state, words in (
+            ("ann", [], f"nothing gives ann a goal there; its goals are those of {rule} and {fact} and sentence 2, line 2: (goal (o 1) 5)"),
+            ("ann", ["(won 150)"], f"ann has the goal 150 (no number from 0 to 100), by {rule}"), ("bob", ["(won 1)"], f"bob has the goal 5, by {fact}"),
+            ("ann", ["(won 9)", "(won (a))", "(won 7)", "(won 8)"], f"ann has 4 goals there: (a) (no number from 0 to 100), by {rule}; 7, by {rule}; 8, by {rule}"),
+            ("(o 1)", [], "(o 1) has the goal 5, by sentence 2, line 2: (goal (o 1) 5)"),
+        ):
+            self.assertEqual(goals_said(goals, role, state), words)
+        self.assertEqual(goals_said("(role", "ann", []), "")
+        self.assertEqual(goals_said("(role ann)", "ann", []), "nothing gives ann a goal there; its goals are those of no sentence")
 
     def test_a_game_that_does_not_end(self):
         status, lines = self.look(ENDLESS, "--matches", "1")

@@ -10,6 +10,7 @@ from collections.abc import Sequence
 from typing import Any
 
 from ggp_tools.competition.competition_file import INSTANTIATING
+from ggp_tools.descriptions.goals import goals_said
 from ggp_tools.descriptions.loading import MOST_BYTES, NoDescription, Rules, Stopped, has_variables, load_description, sentence_starts
 from ggp_tools.competition.files import Refused
 from ggp_tools.descriptions.random_matches import RandomMatches, counted
@@ -132,7 +133,7 @@ def report_game(reporter: Reporter, asked: argparse.Namespace, referee: Referee,
     for note in rules.notes:
         reporter.line(f"its ground rules: {note}")
     report_suspicions(reporter, asked, text, rules.text)
-    return bool(asked.matches) and report_matches(reporter, asked, referee, rules)
+    return bool(asked.matches) and report_matches(reporter, asked, referee, text, rules)
 
 
 def said_of_rules(text: bytes, rules: Rules) -> str:
@@ -155,7 +156,7 @@ def report_suspicions(reporter: Reporter, asked: argparse.Namespace, text: bytes
 # ---- Matches -------------------------------------------------------------------------------------
 
 
-def report_matches(reporter: Reporter, asked: argparse.Namespace, referee: Referee, rules: Rules) -> bool:
+def report_matches(reporter: Reporter, asked: argparse.Namespace, referee: Referee, text: bytes, rules: Rules) -> bool:
     """Plays random matches, and tells how they ended. Returns whether anything is wrong with one, or none came to its end."""
     played = RandomMatches(rules.text, referee.taking(rules.is_large), asked.file, reporter, asked.seconds)
     played.run(asked.seed, asked.matches)
@@ -166,7 +167,11 @@ def report_matches(reporter: Reporter, asked: argparse.Namespace, referee: Refer
         seeds = f"seeds {ended[0].seed} to {ended[-1].seed}" if len(ended) > 1 else f"seed {ended[0].seed}"
         reporter.line(f"random matches, {seeds}: {len(ended) - aborted.total():,} finished, {aborted.total():,} aborted")
         for cause in aborted:
-            reporter.line(said_of_cause(cause, [match for match in ended if match.cause == cause]))
+            matches = [match for match in ended if match.cause == cause]
+            reporter.line(said_of_cause(cause, matches))
+            kind, _, role = cause.partition(" ")
+            if kind == "nogoal" and (said := goals_said(text.decode("latin-1"), role, matches[0].state)):
+                reporter.line(said)
         report_figures(reporter, rules.roles, ended)
     if played.uncompared:
         reporter.line(f"the program had not played {played.uncompared:,} of them after {asked.seconds:,} s: their records are not compared")

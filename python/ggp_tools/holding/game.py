@@ -52,8 +52,11 @@ class Game:
 
     def goals(self, position: Position, role: Term) -> list[int]:
         """The goals of a role, without those that are no numbers from 0 to 100."""
-        found = position.ask(GOAL, (True, False))(position, role)
-        return sorted({int(goal) for goal in found if isinstance(goal, str) and GOAL_NUMBER.fullmatch(goal)})
+        return sorted({int(goal) for goal in self.goal_terms(position, role) if isinstance(goal, str) and GOAL_NUMBER.fullmatch(goal)})
+
+    def goal_terms(self, position: Position, role: Term) -> list[Term]:
+        """The goals of a role, whatever they are."""
+        return position.ask(GOAL, (True, False))(position, role)
 
     def sources(self, relation: Relation, arguments: Sequence[Term], state: State, moves: Sequence[Term] = ()) -> list[int]:
         """The sentences that derive this in a state, looked up one by one."""

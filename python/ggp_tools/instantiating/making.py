@@ -160,9 +160,10 @@ class Making:
             self.refuse(str(why))
         self.work = "putting them in order"
         found = grounding.needed(grounding.ground(program.kept, instances))
+        first = next((rule.sentence for rule in found if limits.is_high(rule.head)), None)
         found, high = limits.without_high_goals(found)
         if high:
-            self.notes.append(f"goals past 100 are left out ({high:,}): {limits.WITHOUT_HIGH_GOALS}")
+            self.notes.append(f"goals past 100 are left out ({high:,}, the first by {self.cited(first)}): {limits.WITHOUT_HIGH_GOALS}")
         found = grounding.in_order(found)
         self.know(f"{len(found):,} ground sentences")
         return found

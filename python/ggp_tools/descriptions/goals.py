@@ -1,0 +1,36 @@
+"""Which goals a role has in a state, and which sentences of the description give them."""
+
+from collections.abc import Sequence
+
+from ggp_tools.holding.game import GOAL_NUMBER, Game
+from ggp_tools.holding.reading import NotFollowed, spelled, term_of
+from ggp_tools.holding.relations import GOAL
+
+MOST_NAMED = 3
+
+
+def goals_said(text: str, role: str, terms: Sequence[str]) -> str:
+    """Returns words for the goals of a role in a state, with the sentences that give each; empty if the description can't be followed."""
+    try:
+        game = Game(text)
+        state, name = frozenset(map(term_of, terms)), term_of(role)
+        position = game.position(state)
+        values = sorted(game.goal_terms(position, name), key=spelled)
+        given = [f"{spelled(value)}{past(value)}, by {named(game, game.sources(GOAL, (name, value), state))}" for value in values]
+    except (NotFollowed, RecursionError):
+        return ""
+    if len(given) > 1:
+        return f"{role} has {len(given):,} goals there: {'; '.join(given[:MOST_NAMED])}"
+    if given:
+        return f"{role} has the goal {given[0]}"
+    return f"nothing gives {role} a goal there; its goals are those of {named(game, list(game.by_sentence(GOAL))) or 'no sentence'}"
+
+
+def past(value: object) -> str:
+    return "" if isinstance(value, str) and GOAL_NUMBER.fullmatch(value) else " (no number from 0 to 100)"
+
+
+def named(game: Game, numbers: Sequence[int]) -> str:
+    """Returns some sentences with their lines."""
+    more = f" and {len(numbers) - MOST_NAMED:,} more" if len(numbers) > MOST_NAMED else ""
+    return " and ".join(game.cited(number) for number in numbers[:MOST_NAMED]) + more
