@@ -5,8 +5,9 @@ ghost use Rattle.command_faults.specs.declared.files.NamedFile.TheVariants.{Reco
 
 use command_faults::{Fault, FileFault, MAX_LINE, NamedFile, opened_regular, reading_fault};
 use desk_text::{ReplayFault, replay};
-use game_commands::push_records;
 use game_core::{Counted, Game, Lent};
+use match_desk::Manager;
+use match_record::push_record;
 use record_check::lawful_parts;
 use record_reading::VerifyFault;
 use std::alloc::{AllocError, Global};
@@ -53,24 +54,35 @@ impl RecordBlock {
     }
 }
 
+/// The records of a desk's matches, each with a line feed.
+fn records_of<G: Game>(alloc: Global, manager: &Manager<G>) -> Result<Vec<u8>, AllocError> {
+    let mut records = Vec::new(alloc);
+    for place in 0..manager.matches() {
+        let game = manager.game_of_match(place).unwrap();
+        let held = manager.match_at(place).unwrap();
+        push_record(alloc, &mut records, game, held)?;
+        records.push(b'\n')?;
+    }
+    Ok(records)
+}
+
 /// Whether the calls of an account, made again on a desk of these games, give exactly this record.
 fn gives_record<G: Game + Drop>(
     alloc: Global,
     games: Vec<G>,
     account: &[u8],
-    shown: &[u8],
+    record: &[u8],
 ) -> Result<bool, AllocError> {
     let replayed = match replay(alloc, games, account) {
         Ok(replayed) => replayed,
         Err(ReplayFault::Memory) => return Err(AllocError),
         Err(_) => return Ok(false),
     };
-    let mut given = Vec::new(alloc);
-    push_records(alloc, &replayed.manager, &mut given)?;
-    let mut wanted = Vec::new(alloc);
-    wanted.extend_from_slice(shown)?;
-    wanted.push(b'\n')?;
-    Ok(given.as_slice() == wanted.as_slice())
+    let records = records_of(alloc, &replayed.manager)?;
+    match records.split_last() {
+        Some((_, first)) => Ok(first == record),
+        None => Ok(false),
+    }
 }
 
 /// The number of calls of an account to which the reply was `over`.
