@@ -80,7 +80,7 @@ def joined(parts: Sequence["markupsafe.Markup"]) -> "markupsafe.Markup":
     """Returns parts of HTML as one."""
     import markupsafe
 
-    return markupsafe.Markup("").join(parts)
+    return markupsafe.Markup("".join(parts))
 
 
 @functools.cache

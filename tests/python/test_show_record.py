@@ -2,12 +2,13 @@
 a browser would load or run except the page's own script. What is not a record is refused with the reason."""
 
 import copy
-import html.parser
 import json
 import subprocess
 
 import pytest
 from ggp_tools.records import show
+from ggp_tools.templating import visible
+from html_pages import links_of, parsed
 from support import GAMES, TOP, program
 
 # A match with each kind of error, which ends since both roles are retired.
@@ -48,29 +49,6 @@ TAGS |= {"section", "h2", "ul", "li", "b", "i", "br", "a", "code", "script"}
 ATTRIBUTES = {"lang", "charset", "name", "http-equiv", "content", "class", "id", "style", "title", "tabindex", "href", "data-key"}
 
 
-class Pieces(html.parser.HTMLParser):
-    """The tags of a page in their order, each with its attributes and the text up to the next tag."""
-
-    def __init__(self, page):
-        super().__init__()
-        self.all = []
-        self.feed(page)
-        self.close()
-
-    def handle_starttag(self, tag, attrs):
-        self.all.append([tag, dict(attrs), ""])
-
-    def handle_endtag(self, tag):
-        self.all.append([f"/{tag}", {}, ""])
-
-    def handle_data(self, data):
-        if self.all:
-            self.all[-1][2] += data
-
-    def of(self, tag, kind=None):
-        return [(attrs, text) for at, attrs, text in self.all if at == tag and (kind is None or kind in attrs.get("class", "").split())]
-
-
 def made(record):
     """Returns the page of a record, or of these bytes; or what is wrong with them."""
     data = record if isinstance(record, bytes) else json.dumps(record).encode()
@@ -80,8 +58,10 @@ def made(record):
         return b"", str(why)
 
 
-def visible(text):
-    return "".join(character if " " <= character <= "~" else f"\\u{{{ord(character):x}}}" for character in text)
+def rows_of_text(cells: list, count: int) -> list[list[str]]:
+    """Returns the texts of cells, so many in a row."""
+    texts = [cell.text for cell in cells]
+    return [texts[at : at + count] for at in range(0, len(texts), count)]
 
 
 def texts_of(record):
@@ -95,26 +75,26 @@ def parts_of(record: dict) -> tuple[dict, dict]:
     """Returns what the page of the record has, and what it must have."""
     page, error = made(record)
     assert not error and page.isascii()
-    pieces = Pieces(page.decode())
+    shown = parsed(page)
     moves, errors, roles, players = texts_of(record)
-    cells = pieces.of("td")
-    shown_players = [text for _, text in cells[: 7 * len(roles)]]
+    players_rows = rows_of_text(shown.select("table.players td"), 7)
     # A term is on a board or in the list, so none is in both, and none in neither.
-    terms = sum(bool(text) or "title" in attrs for attrs, text in pieces.of("i")) + len(pieces.of("br")) + sum(attrs.get("class") != "gone" for attrs, _ in pieces.of("li"))
+    on_boards = sum(bool(cell.text) or cell.has_attr("title") for cell in shown("i")) + len(shown("br"))
     found = {
-        "turns": len(pieces.of("tr", "turn")),
-        "moves": [text for _, text in cells[7 * len(roles) :] if text],
-        "errors": [text for _, text in pieces.of("span", "why")],
-        "substituted moves": len(pieces.of("td", "substituted")),
-        "roles": shown_players[1::7],
-        "players": shown_players[2::7],
-        "states": [attrs["id"] for attrs, _ in pieces.of("section", "state")],
-        "terms": terms,
-        "scripts": (len(pieces.of("script")), page.count(b"<script")),
-        "numbers of turns": [text for _, text in pieces.of("a")],
+        "turns": len(shown.select("tr.turn")),
+        "moves": [cell.find(string=True, recursive=False) for cell in shown.select("tr.turn td + td")],
+        "errors": [why.text for why in shown.select("span.why")],
+        "substituted moves": len(shown.select("td.substituted")),
+        "roles": [row[1] for row in players_rows],
+        "players": [row[2] for row in players_rows],
+        "states": [state["id"] for state in shown.select("section.state")],
+        "terms": on_boards + len(shown.select("li:not(.gone)")),
+        "scripts": (len(shown("script")), page.count(b"<script")),
+        "numbers of turns": [link.text for link in shown("a")],
     }
-    assert all(tag.removeprefix("/") in TAGS and attrs.keys() <= ATTRIBUTES for tag, attrs, _ in pieces.all)
-    assert all(attrs["href"].startswith("#state-") for attrs, _ in pieces.of("a"))
+    assert {element.name for element in shown.find_all()} <= TAGS
+    assert all(element.attrs.keys() <= ATTRIBUTES for element in shown.find_all())
+    assert all(link.startswith("#state-") for link in links_of(shown))
     wanted = {
         "turns": len(record["moves"]),
         "moves": moves,
@@ -199,9 +179,9 @@ def test_older_and_hostile_records_are_shown(record: dict) -> None:
 
 def test_the_board_of_tictactoe_and_what_each_turn_changed() -> None:
     record = example("tictactoe")
-    pieces = Pieces(made(record)[0].decode())
-    assert [text for _, text in pieces.of("i")] == [SHOWN[term[-2]] for state in record["states"] for term in state if term.startswith("(cell ")]
-    assert len(pieces.of("i", "new")) == len(pieces.of("li", "new")) == len(pieces.of("li", "gone")) == len(record["moves"])
+    shown = parsed(made(record)[0])
+    assert [cell.text for cell in shown("i")] == [SHOWN[term[-2]] for state in record["states"] for term in state if term.startswith("(cell ")]
+    assert [len(shown.select(kind)) for kind in ("i.new", "li.new", "li.gone")] == [len(record["moves"])] * 3
 
 
 @pytest.mark.parametrize(("state", "count"), FORMS)

@@ -30,7 +30,7 @@ def values_of(text: str) -> dict[str, object]:
     texts = [text, text]
     numbers = dict.fromkeys(("count", "of_all", "shown", "waiting", "lost", "open", "unread", "turn", "turns", "number", "more", "mean", "moment"), 2)
     numbers |= dict.fromkeys(("x", "y", "width", "height", "radius"), 3) | {"is_ground": False, "is_held": False}
-    made = dict.fromkeys(("plot", "boards", "state", "cells"), html)
+    made = dict.fromkeys(("plot", "boards", "state"), html)
     lists = dict.fromkeys(("notes", "remarks", "lines", "left_out", "ids", "terms", "now", "gone", "heads", "games", "roles", "names", "across"), texts)
     pairs = {"missed": [(text, 1)], "replaced": [(text, 1)], "spans": [(text, text), ("other", text)], "moves": [(text, text, True)], "players": seen.players}
     others = {"seats": [(text, text, True), (text, text, False)], "marks": [Value(text=text, side=text)] * 2, "matches": [match]}

@@ -154,10 +154,10 @@ class Server:
 
     async def begin(self, address: str, port: int) -> tuple[str, int]:
         """Begins to serve, and returns the address and the port."""
-        answering = web.Server(self.answer)
-        loop = asyncio.get_running_loop()
-        self.listener = await loop.create_server(lambda: Connection(self.visitors, answering), address, port, backlog=128)
-        self.address, port, *_ = self.listener.sockets[0].getsockname()
+        answering, family = web.Server(self.answer), socket.AF_INET6 if ":" in address else socket.AF_INET
+        listening = socket.create_server((address, port), family=family, backlog=128, dualstack_ipv6=address == "::")
+        self.listener = await asyncio.get_running_loop().create_server(lambda: Connection(self.visitors, answering), sock=listening)
+        self.address, port, *_ = listening.getsockname()
         return self.address, port
 
     def end(self) -> None:
@@ -235,17 +235,18 @@ class Server:
             await response.prepare(request)
             found.viewers += 1
             try:
-                await self.send_changes(response, found, self.site.version_of(known))
+                await self.send_changes(request, response, found, self.site.version_of(known))
             finally:
                 found.viewers, found.touched = found.viewers - 1, time.monotonic()
             return response
 
-    async def send_changes(self, response: web.StreamResponse, found: OpenPage, version: int) -> None:
+    async def send_changes(self, request: web.BaseRequest, response: web.StreamResponse, found: OpenPage, version: int) -> None:
+        """Sends the changes of a page since a version, until nothing more changes; sending fails once the visitor is gone."""
         is_last = False
         while not is_last:
             with contextlib.suppress(TimeoutError):
                 async with asyncio.timeout(ALIVE):
-                    while found.version == version and not found.is_final:
+                    while found.version == version and not found.is_final and request.transport:
                         await self.looked.wait()
             texts, version, is_last = found.news(version)
             async with asyncio.timeout(PATIENCE):

@@ -34,8 +34,8 @@ VERSIONS = (1, 2)
 LONGEST_AXIS = 32
 # A page that would draw more boards, in all states together, lists their terms instead: a board is some hundred times as long as its terms.
 MOST_DRAWN = 32_768
-# So many cells are kept that were made last.
-MOST_CELLS = 16_384
+# So many cells, and openings of boards, are kept that were made last.
+MOST_CELLS, MOST_BOARDS = 16_384, 64
 
 PHASES = {
     "starting": "It is starting: not every role has its START mark.",
@@ -344,6 +344,12 @@ def cell(place: tuple[int, int], name: str, labels: tuple[str, ...], marks: tupl
     return macros("boards").cell(*place, " ".join(kinds), f"{name}: {', '.join(labels)}" if labels and is_named else "", is_ground, marks)
 
 
+@functools.lru_cache(MOST_BOARDS)
+def board_opening(across: tuple[str, ...], up: tuple[str, ...]) -> "Markup":
+    """Returns the opening of a board with these axes."""
+    return macros("boards").open_board(across, up)
+
+
 def board_page(board: Board, places: Places, before: Places | None, ground: str | None, marks: dict[str, Mark]) -> "Markup":
     """Returns a board as HTML; places where something else is than before are marked as new."""
     cells = []
@@ -352,7 +358,7 @@ def board_page(board: Board, places: Places, before: Places | None, ground: str 
         labels, is_new = tuple(map(visible, own)), before is not None and before.get(at, []) != own
         name = f"{board.across[at[0] - 1]} {board.up[at[1] - 1]}"
         cells.append(cell(at, name, labels, tuple(marks[label] for label in labels), is_new, own == [ground]))
-    return macros("boards").board(board.across, board.up, joined(cells))
+    return joined([board_opening(tuple(board.across), tuple(board.up)), *cells, "</div></div>"])
 
 
 def states_of_page(record: dict) -> Iterator[dict[str, object]]:
