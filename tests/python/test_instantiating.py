@@ -108,7 +108,8 @@ class Folding(unittest.TestCase):
         small, large = folding.Target(20, 1 << 20), folding.Target(10_000, 1 << 20)
         self.assertEqual([folding.folded(rules, targets).sentences() for targets in ([small], [large], [small, large])], [20, 42, 20])
         # What takes too much work at first or later, or has no room, has the next one.
-        for target in (small._replace(work=1), small._replace(work=folding.begun(rules).formulas.work * folding.MORE_WORK), folding.Target(3, 10)):
+        too_short = small._replace(bytes=folding.begun(rules).bytes() // 2 - 1, work=1_000_000)
+        for target in (too_short, small._replace(work=1), small._replace(work=folding.begun(rules).formulas.work * folding.MORE_WORK), folding.Target(3, 10)):
             self.assertEqual(folding.folded(rules, [target, large]).sentences(), 42, target)
         with self.assertRaises(folding.Hopeless) as why:
             folding.folded(rules, [folding.Target(3, 10), small._replace(work=1)])

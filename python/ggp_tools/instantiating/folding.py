@@ -27,8 +27,9 @@ ROUNDS = 30
 LEAST_BYTES = 24
 
 
-# Folding costs so many times the work of the first estimate, or more.
-MORE_WORK = 1.5
+# Folding costs so many times the work of the first estimate, or more. And where sentences have to stand in others, the text does not become
+# shorter than by this factor. Both are so in all games that were tried.
+MORE_WORK, SHORTER = 1.5, 2
 
 
 class Hopeless(Refused):
@@ -283,6 +284,13 @@ class Folded:
             raise Hopeless(f"bytes (at least {least:,} of {target.bytes:,}, since {many:,} of {len(self.bodies):,} sentences have to stand in others)")
         if costs and MORE_WORK * self.formulas.work > target.work:
             raise Hopeless(f"to fold it takes more than {target.work:,} steps")
+        if costs:
+            self.must_be_short(target)
+
+    def must_be_short(self, target: Target) -> None:
+        """Refuses what is expected to be past a target of limited work: this is no proof."""
+        if target.work < math.inf and self.bytes() > SHORTER * target.bytes:
+            raise Hopeless(f"bytes (about {self.bytes() // SHORTER:,} of {target.bytes:,})")
 
     def fold(self, target: Target) -> None:
         """Folds the game, if possible to within the target."""
@@ -290,6 +298,7 @@ class Folded:
         self.place_in(self.sentences())
         if self.sentences() > target.sentences:
             self.join(target.sentences)
+            self.must_be_short(target)
             self.place_in(target.sentences)
         self.shorten()
         self.share_bodies(target.sentences)

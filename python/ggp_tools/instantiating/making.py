@@ -210,7 +210,8 @@ class Making:
                 return plain
             raise
         folded = list(game.written())
-        self.notes.append(f"folded: {len(rules):,} ground sentences of {len(plain.text):,} bytes became {len(folded):,}")
+        size = sum(len(spelled(sentence)) + 1 for _, sentence in plain.sentences)
+        self.notes.append(f"folded: {len(rules):,} ground sentences of {size:,} bytes became {len(folded):,}")
         found = self.as_written(folded)._replace(game=game)
         return plain if can_stay and found.past() else found
 
