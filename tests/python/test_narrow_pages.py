@@ -20,18 +20,18 @@ class Narrow(Served):
         match, other = plan.matches[:2]
         begin(plan, match, started(match) + "".join(line(match, role, 2, f"(PLAY {match.id} NIL)", MOVE) for role in (0, 1)))
         end(plan, other, record_of(other, [[MOVE, "noop"]], [[f"IL {MOVE}", "TO"]], [0, 100]), line(other, 0, 2, f"(PLAY {other.id} NIL)", MOVE))
-        self.site.look()
+        self.look()
 
     def test_no_page_is_wider_than_the_screen(self):
         match, other = self.plan.matches[:2]
         places = ["", "matches.html", "games/heap.html", f"players/player-{NAMES[0]}.html", *(f"matches/{shown.id}.html" for shown in (match, other))]
         files = Pages(self.plan)
         files.write(list(self.site.reader.results.values()))
-        addresses = [f"http://127.0.0.1:{self.server.server_port}/{place}" for place in places]
+        addresses = [f"http://127.0.0.1:{self.port}/{place}" for place in places]
         addresses += [f"file://{files.folder}/{place}" for place in ("index.html", *places[1:4], f"matches/{other.id}.html")]
         for place in places:
             self.page(f"/{place}")
-        self.site.look()
+        self.look()
         self.assertIn(f'id="board-{match.id}"', self.page("/"), json.dumps(self.site.trouble))
         with Browser() as browser:
             page = browser.page("about:blank")
