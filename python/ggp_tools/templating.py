@@ -21,7 +21,9 @@ def end_without(missing: ImportError) -> typing.NoReturn:
     """Ends the command because a module is missing."""
     name = (missing.name or "").partition(".")[0]
     package = PACKAGES.get(name, f"python3-{name}")
-    print(f"{pathlib.Path(sys.argv[0]).name}: this command needs the Python module {name}: apt-get install {package}", file=sys.stderr)
+    # The packages of Debian are for its own Python.
+    how = "" if sys.executable.startswith("/usr/bin/") else ", and run it with /usr/bin/python3"
+    print(f"{pathlib.Path(sys.argv[0]).name}: this command needs the Python module {name}: apt-get install {package}{how}", file=sys.stderr)
     raise SystemExit(2)
 
 
