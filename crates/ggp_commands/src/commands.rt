@@ -23,14 +23,13 @@ use game_core::Counted;
 use match_log::WriterBrand;
 use match_messages::Player;
 use match_plans::{Reach, ReportsShortages};
-use network_players::Explains;
+use network_players::{Explains, Resolves};
 use player_commands::{Reasons, abort, info};
 use process_streams::LockedFiles;
 use std::alloc::{AllocError, Global};
 use std::fmt::Write as _;
 use std::io::{Read, Write};
 use std::marker::Brand;
-use std::net::Net;
 use std::rt::Files;
 use std::sync::Wait;
 use std::thread::Threads;
@@ -55,7 +54,7 @@ pub fn command<H, S, R: Read, W: Write, E: Write + Send + Drop>(
     errors: E,
 ) -> u8
 where
-    H: Net + Clock + LockedFiles + Threads + Wait + Sync,
+    H: Resolves + Clock + LockedFiles + Threads + Wait + Sync,
     S: Reach + ReportsShortages + Sync,
     S::Player: Player + Explains + Drop + Send,
 {
@@ -93,7 +92,7 @@ fn perform<H, S, R: Read, W: Write, E: Write + Send>(
     reports: &mut Reports<E>,
 ) -> Result<(), Fault>
 where
-    H: Net + Clock + LockedFiles + Threads + Wait + Sync,
+    H: Resolves + Clock + LockedFiles + Threads + Wait + Sync,
     S: Reach + ReportsShortages + Sync,
     S::Player: Player + Explains + Drop + Send,
 {
@@ -180,7 +179,7 @@ fn play<'w, N: WriterBrand, H, S, R: Read, W: Write, E: Write + Send>(
     reports: &mut Reports<E>,
 ) -> (Result<(), Fault>, &'w mut Counted<W>)
 where
-    H: Net + Clock + LockedFiles + Threads + Wait + Sync,
+    H: Resolves + Clock + LockedFiles + Threads + Wait + Sync,
     S: Reach + ReportsShortages + Sync,
     S::Player: Player + Explains + Drop + Send,
     requires picked { N.name ≡ writer.ghost_name }
@@ -224,7 +223,7 @@ fn perform_task<'w, N: WriterBrand, H, S, R: Read, W: Write, E: Write + Send>(
     reports: &mut Reports<E>,
 ) -> (Result<(), Fault>, &'w mut Counted<W>)
 where
-    H: Net + Clock + LockedFiles + Threads + Wait + Sync,
+    H: Resolves + Clock + LockedFiles + Threads + Wait + Sync,
     S: Reach + ReportsShortages + Sync,
     S::Player: Player + Explains + Drop + Send,
     requires picked { N.name ≡ writer.ghost_name }

@@ -6,11 +6,12 @@ ghost use Rattle.std.specs.Prelude.{◌<◌};
 use game_core::Counted;
 use ggp_commands::{Fault, Surroundings, Terminals, asks_why, command, report};
 use match_plans::MAX_SCHEDULED;
-use network_players::{RoundSignal, Sockets};
+use network_players::{Beside, HostQuery, RoundSignal, Sockets, make_beside};
 use process_streams::{ERRORS, FILE_SIZE, INPUT, OUTPUT, Standard, hold_closed, limit_of};
 use std::io::{ErrorKind, IsTerminal, Write};
 use std::os::fd::AsFd;
 use std::process::ExitCode;
+use std::sync::Arc;
 use std::{env, io};
 
 /// The words after the program's name.
@@ -65,8 +66,13 @@ fn main(rt: HostRuntime) -> ExitCode {
     };
     let limit = limit_of(&rt, rt.alloc(), FILE_SIZE);
     let host = &rt;
-    let reach = Sockets {
+    let network = Beside {
         rt: host,
+        host: rt,
+        begin: |rt: HostRuntime, query: Arc<HostQuery>| make_beside(rt, query),
+    };
+    let reach = Sockets {
+        rt: &network,
         signals: signals.as_slice(),
     };
     let mut reader = Counted::new(Standard::new(host, input, INPUT, None));

@@ -44,13 +44,22 @@ system_shortage WouldBlock number = Some Ports
 system_shortage NetworkDown number = Some Network
 system_shortage kind number = number_shortage number
 
--- What the referee was short of as the lookup of a host failed. It is the resolver's answer, and no shortage, only if it says that there is no
--- such name. The system's own error has a number.
-abbrev pub lookup_shortage : ErrorKind → Option ℤ → Bool → Option Shortage
-lookup_shortage OutOfMemory number is_unknown = Some Memory
-lookup_shortage kind (Some number) is_unknown = Some (unwrap_or (number_shortage (Some number)) Resolver)
-lookup_shortage kind None true = None
-lookup_shortage kind None false = Some Resolver
+-- What the referee was short of as the lookup of a host failed. The system's own error has a number. The resolver's has none: the host has no
+-- address if the resolver says that there is no such name, or if it says anything else while this computer has a network.
+abbrev pub lookup_shortage : ErrorKind → Option ℤ → Bool → Option Shortage → Option Shortage
+lookup_shortage OutOfMemory number is_unknown without_network = Some Memory
+lookup_shortage kind (Some number) is_unknown without_network = Some (unwrap_or (number_shortage (Some number)) Resolver)
+lookup_shortage kind None true without_network = None
+lookup_shortage kind None false without_network = without_network
+
+-- What this computer is short of if it finds no route: it has none if the error says nothing else.
+abbrev pub lack_by : Option Shortage → Shortage
+lack_by (Some Descriptors) = Descriptors
+lack_by (Some Memory) = Memory
+lack_by shortage = Network
+
+abbrev pub route_shortage : ErrorKind → Option ℤ → Shortage
+route_shortage kind number = lack_by (system_shortage kind number)
 
 abbrev pub short_halt : Option Shortage → Option Halt
 short_halt (Some shortage) = Some (Short shortage)

@@ -2,12 +2,11 @@
 ghost use Rattle.std.specs.Prelude.{◌≡◌, ◌-◌};
 ghost use Rattle.std.specs.Duration.{as_nanos};
 ghost use Rattle.std.specs.IoError.{error_kind, raw_os_error};
-ghost use Rattle.std.specs.Net.Addr.{is_ipv4};
-ghost use Rattle.std.specs.Net.Socket.{socket_ip};
 ghost use Rattle.network_players.specs.Contacts.{address_fault, after_try, connect_fault, fault_at_end, fault_at_refusal, fault_so_far, fault_after, fault_after_stall, halt_fault, is_of_network, outcome_of};
 
 use crate::deadline::{Deadline, Halt, TimedStream, first_limit, is_time_out};
-use crate::lookup::Lookup;
+use crate::lookup::{Lookup, Resolves};
+use crate::routes::any_address;
 use crate::shortage::{is_of_either, shortage_of};
 use desk_calls::MAX_CLOCK;
 use game_core::{Counted, Text};
@@ -17,14 +16,14 @@ use shared_text::SharedText;
 use std::alloc::Global;
 use std::error::Error;
 use std::io::ErrorKind;
-use std::net::{IpAddr, Ipv4Addr, Ipv6Addr, Net, SocketAddr, TcpStream, UdpSocket};
+use std::net::{IpAddr, Net, SocketAddr, TcpStream, UdpSocket};
 use std::time::{Clock, Duration};
 use std::{fmt, io, thread};
 
 /// Why a message brought no answer.
 #[derive(Clone, Copy, PartialEq, Eq)]
 pub enum ContactFault {
-    /// The resolver says that there is no such host.
+    /// The host has no address that this computer could use.
     NoAddress,
     /// None of the host's addresses takes a connection. The system may also have given it up before the seconds were over.
     NoConnection,
@@ -122,16 +121,6 @@ fn address_fault(error: &io::Error) -> ContactFault
             Some(shortage) => ContactFault::Shortage(shortage),
             None => ContactFault::NoConnection,
         },
-    }
-}
-
-/// The address of this computer from which one of the same family is reached.
-fn any_address(address: &SocketAddr) -> SocketAddr
-    ensures { is_ipv4 (socket_ip result) ≡ is_ipv4 (socket_ip address.now) }
-{
-    match address {
-        SocketAddr::V4(_) => SocketAddr::new(IpAddr::V4(Ipv4Addr::UNSPECIFIED), 0),
-        SocketAddr::V6(_) => SocketAddr::new(IpAddr::V6(Ipv6Addr::UNSPECIFIED), 0),
     }
 }
 
@@ -340,26 +329,16 @@ fn connect_once<N: Net + Clock>(
     Err(fault)
 }
 
-/// Looks up the player's host, unless it is known already. Its addresses count only if the message has time left for them.
-fn find_host<N: Net + Clock>(
+/// Looks up the player's host, unless it is known already, as long as the message has time.
+fn find_host<N: Resolves + Clock>(
     net: &N,
     alloc: Global,
     player: &PlayerAddress<'_>,
     lookup: &mut Lookup,
     deadline: &mut Deadline,
 ) -> Result<(), ContactFault> {
-    if lookup.is_known() {
-        return Ok(());
-    }
-    let asked = match deadline.after(net, Duration::ZERO) {
-        Ok(left) => left,
-        Err(halt) => return Err(halt_fault(halt, Received::Unconnected)),
-    };
-    if let Err(shortage) = lookup.look_up(net, alloc, player) {
-        return Err(ContactFault::Shortage(shortage));
-    }
-    match deadline.after(net, asked) {
-        Ok(_) => Ok(()),
+    match lookup.look_up(net, alloc, player, deadline) {
+        Ok(()) => Ok(()),
         Err(halt) => Err(halt_fault(halt, Received::Unconnected)),
     }
 }
@@ -416,7 +395,7 @@ fn patience_from(left: Duration) -> Duration
 
 /// Connects to the player within the time left. Tries again while the referee is short of something, and notes this in `waited`. Where the
 /// player takes no connection it is tried again for some seconds, since the message began or since such a shortage.
-fn connect<N: Net + Clock>(
+fn connect<N: Resolves + Clock>(
     net: &N,
     alloc: Global,
     player: &PlayerAddress<'_>,
@@ -492,8 +471,8 @@ fn exchange_over<N: Net + Clock>(
 }
 
 /// Hands a player a message and returns the body of its answer. Looking up the host, connecting, writing and reading have `seconds`
-/// seconds together; only the lookup is not cut off. The error says why there is no answer.
-pub fn contact_found<N: Net + Clock>(
+/// seconds together. The error says why there is no answer.
+pub fn contact_found<N: Resolves + Clock>(
     net: &N,
     alloc: Global,
     player: &PlayerAddress<'_>,
@@ -517,8 +496,8 @@ pub fn contact_found<N: Net + Clock>(
 }
 
 /// Hands a player one message and returns the body of its answer. The host is looked up for this message. All of it has `seconds`
-/// seconds; only the lookup is not cut off. The error says why there is no answer.
-pub fn contact<N: Net + Clock>(
+/// seconds. The error says why there is no answer.
+pub fn contact<N: Resolves + Clock>(
     net: &N,
     alloc: Global,
     player: &PlayerAddress<'_>,

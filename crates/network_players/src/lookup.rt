@@ -1,101 +1,162 @@
-//! The addresses of a player's host.
-ghost use Rattle.std.specs.Prelude.{◌≡◌, ◌↔◌, IfSome, IsSome, IsTrue, None, OnErr, OnOk, Some};
+//! The addresses of a player's host, which a thread looks up while the player waits as long as its message has time.
+ghost use Rattle.std.specs.Prelude.{◌≡◌, ◌*◌, min, IfErr, IfSome, IsSome, None, OnErr, OnOk, Some};
+ghost use Rattle.std.specs.Duration.{as_nanos};
+ghost use Rattle.network_players.specs.declared.deadline.Halt.TheVariants.{Late};
 
-use crate::shortage::{lookup_shortage, shortage_of};
+use crate::deadline::{Deadline, Halt};
+use crate::host_addresses::{addresses, is_address};
+use crate::routes::Routes;
+use desk_calls::MAX_CLOCK;
 use match_plans::{PlayerAddress, Shortage};
 use std::alloc::{AllocError, Global};
-use std::io;
-use std::io::ErrorKind;
-use std::net::{Ipv6Addr, Net, SocketAddr, ToSocketAddrs};
-use std::os::unix::net::UnixStream;
+use std::net::{Net, SocketAddr, TcpListener, TcpStream};
+use std::sync::{Arc, OnceLock};
+use std::thread;
+use std::thread::Threads;
+use std::time::{Clock, Duration};
 
-/// So the words of an error end if the resolver says that there is no such name, or no address of it. The error has nothing else that tells.
-const UNKNOWN: [&str; 2] = [
-    "Name or service not known",
-    "No address associated with hostname",
-];
+/// The first pause between two checks whether a lookup has ended, in milliseconds. Each further pause is twice as long.
+const FIRST_PAUSE_MILLIS: u64 = 1;
 
-/// So often in succession the resolver has to say that there is no such name. Without a descriptor it says so of every name.
-const DENIALS: u32 = 3;
+/// The limit of such a pause, in milliseconds.
+const LONGEST_PAUSE_MILLIS: u64 = 50;
+
+/// A message checks so often whether a lookup has ended. With their pauses these checks take longer than any clock.
+const MAX_CHECKS: u32 = 2_000_000;
+
+const _: () = prove!((MAX_CHECKS as u64 - 10) * LONGEST_PAUSE_MILLIS > MAX_CLOCK as u64 * 1_000);
+
+/// What comes of a lookup: the addresses, none if the host has no address, or what the referee was short of.
+pub type Found = Result<Vec<SocketAddr>, Shortage>;
+
+/// A lookup of a host's addresses. The thread that makes it shares it with the player that waits for it.
+#[derive(Drop)]
+pub struct HostQuery {
+    alloc: Global,
+    host: String,
+    port: u16,
+    found: OnceLock<Found>,
+}
+
+impl HostQuery {
+    /// A lookup that is not made yet.
+    fn new(alloc: Global, player: &PlayerAddress<'_>) -> Result<HostQuery, AllocError> {
+        Ok(HostQuery {
+            alloc,
+            host: String::from_str(alloc, player.host)?,
+            port: player.port,
+            found: OnceLock::new(),
+        })
+    }
+
+    /// Makes the lookup, which may take long, and notes what comes of it.
+    pub fn make<N: Routes>(&self, net: &N) {
+        let found = addresses(net, self.alloc, self.host.as_str(), self.port);
+        // Only the first lookup counts.
+        let _ = self.found.try_set(found);
+    }
+
+    /// What came of the lookup. `None` if it has not ended yet.
+    pub fn found(&self) -> Option<&Found> {
+        self.found.get()
+    }
+}
+
+/// A network on which hosts have names.
+pub trait Resolves: Routes {
+    /// Begins to make the lookup. The error: there is no memory or thread for it.
+    fn begin(&self, query: Arc<HostQuery>) -> Result<(), AllocError>;
+
+    /// What came of the lookup. `None` if it has not ended yet.
+    fn found<'q>(&self, query: &'q HostQuery) -> Option<&'q Found>;
+}
+
+/// Makes the lookup in a thread of its own, which nobody waits for. The error: no thread can be made. The types of the sockets are named, else
+/// nothing shows that the thread may use the network.
+pub fn make_beside<R>(rt: R, query: Arc<HostQuery>) -> Result<(), AllocError>
+where
+    R: Net<Listener = TcpListener, Stream = TcpStream> + Threads + Copy + Send + 'static,
+{
+    thread::spawn(&rt, move || query.make(&rt))?;
+    Ok(())
+}
+
+/// A runtime by itself makes the lookup while the message waits.
+impl<R: Net + Copy + Send + 'static> Resolves for R {
+    fn begin(&self, query: Arc<HostQuery>) -> Result<(), AllocError> {
+        query.make(self);
+        Ok(())
+    }
+
+    fn found<'q>(&self, query: &'q HostQuery) -> Option<&'q Found> {
+        query.found()
+    }
+}
 
 /// The addresses of a player's host, once they are looked up. A host without an address is not looked up again.
 #[derive(Drop)]
 pub struct Lookup {
     found: Option<Vec<SocketAddr>>,
+    /// The lookup that is under way.
+    query: Option<Arc<HostQuery>>,
 }
 
-/// The host in the form for a lookup: an IPv6 address with a zone loses its brackets.
-fn zoned_host(host: &str) -> &str {
-    let inner = host
-        .strip_prefix('[')
-        .and_then(|host| host.strip_suffix(']'));
-    let Some(zoned) = inner else {
-        return host;
-    };
-    match zoned.split_once('%') {
-        Some((address, _)) if address.parse::<Ipv6Addr>().is_ok() => zoned,
-        _ => host,
-    }
-}
-
-/// Whether the resolver says with this error that there is no such name. A host with a byte of 0 is no name either.
-fn is_unknown(alloc: Global, error: &io::Error) -> Result<bool, AllocError> {
-    let words = format!(in alloc; "{error}")?;
-    let is_told = UNKNOWN.iter().any(|told| words.as_str().ends_with(*told));
-    Ok(is_told || error.kind() == ErrorKind::InvalidInput)
-}
-
-/// What the referee was short of as a lookup failed so. `None` if there is no such name.
-fn failed_lookup(alloc: Global, error: &io::Error) -> Option<Shortage> {
-    match is_unknown(alloc, error) {
-        Ok(is_unknown) => lookup_shortage(error.kind(), error.raw_os_error(), is_unknown),
-        Err(_) => Some(Shortage::Memory),
-    }
-}
-
-/// Looks up the addresses of the player's host once. The list is empty if there is no such name. The error is a shortage of the referee.
-fn told_addresses<N: Net>(
+/// Begins a lookup. That of an address asks no resolver, so it is made at once.
+fn begun<N: Resolves>(
     net: &N,
     alloc: Global,
     player: &PlayerAddress<'_>,
-) -> Result<Vec<SocketAddr>, Shortage> {
-    let found = match (zoned_host(player.host), player.port).to_socket_addrs(net) {
-        Ok(found) => found,
-        Err(error) => match failed_lookup(alloc, &error) {
-            Some(shortage) => return Err(shortage),
-            None => return Ok(Vec::new(alloc)),
+) -> Result<Arc<HostQuery>, AllocError> {
+    let query = Arc::new(alloc, HostQuery::new(alloc, player)?)?;
+    if is_address(player.host) {
+        query.make(net);
+    } else {
+        net.begin(Arc::try_clone(&query)?)?;
+    }
+    Ok(query)
+}
+
+/// What came of a lookup, for the player that waited for it.
+fn copied(alloc: Global, found: &Found) -> Found {
+    match found {
+        Ok(found) => match found.iter().copied().collect(alloc) {
+            Ok(found) => Ok(found),
+            Err(_) => Err(Shortage::Memory),
         },
-    };
-    match found.collect(alloc) {
-        Ok(addresses) => Ok(addresses),
-        Err(_) => Err(Shortage::Memory),
+        Err(shortage) => Err(*shortage),
     }
 }
 
-/// The shortage for which the resolver may know no name: it has as many descriptors open at once as two pairs of sockets have.
-fn resolver_shortage<N: Net>(net: &N) -> Option<Shortage> {
-    let pairs = [UnixStream::pair(net), UnixStream::pair(net)];
-    pairs
-        .iter()
-        .find_map(|pair| pair.as_ref().err().and_then(shortage_of))
+/// The pause that follows one with this limit.
+fn pause_after(limit: Duration) -> Duration
+    ensures { as_nanos result ≡ min 50_000_000 (as_nanos limit * 2) }
+{
+    limit
+        .saturating_mul(2)
+        .min(Duration::from_millis(LONGEST_PAUSE_MILLIS))
 }
 
-/// Looks up the addresses of the player's host. The list is empty if there is no such name. The error is a shortage of the referee.
-fn addresses<N: Net>(
+/// Waits for the end of the lookup as long as the message has time. Its beginning was asked to take so long. The message sleeps between two
+/// checks: a wait for another thread may never end.
+fn wait_for<N: Resolves + Clock>(
     net: &N,
     alloc: Global,
-    player: &PlayerAddress<'_>,
-) -> Result<Vec<SocketAddr>, Shortage> {
-    for _ in 0..DENIALS {
-        let found = told_addresses(net, alloc, player)?;
-        if !found.is_empty() {
-            return Ok(found);
+    query: &HostQuery,
+    asked: Duration,
+    deadline: &mut Deadline,
+) -> Result<Found, Halt> {
+    let mut limit = Duration::from_millis(FIRST_PAUSE_MILLIS);
+    let mut left = deadline.after(net, asked)?;
+    for _ in 0..MAX_CHECKS {
+        if let Some(found) = net.found(query) {
+            return Ok(copied(alloc, found));
         }
-        if let Some(shortage) = resolver_shortage(net) {
-            return Err(shortage);
-        }
+        let pause = left.min(limit);
+        thread::sleep(net, pause);
+        left = deadline.after(net, pause)?;
+        limit = pause_after(limit);
     }
-    Ok(Vec::new(alloc))
+    Err(Halt::Late)
 }
 
 impl Lookup {
@@ -103,29 +164,47 @@ impl Lookup {
     pub const fn new() -> Lookup
         ensures { result.found ≡ None }
     {
-        Lookup { found: None }
+        Lookup {
+            found: None,
+            query: None,
+        }
     }
 
-    /// Whether the host is looked up already.
-    pub fn is_known(&self) -> bool
-        ensures { IsTrue result ↔ IsSome self.now.found }
-    {
-        self.found.is_some()
-    }
-
-    /// Looks up the addresses of the player's host, which is the same at each call. Only after a shortage is it looked up again.
-    pub fn look_up<N: Net>(
+    /// Looks up the addresses of the player's host, as long as the message has time. They are the same at each call. A lookup that takes
+    /// longer goes on for the next message. Only after a shortage there is another one.
+    pub fn look_up<N: Resolves + Clock>(
         &mut self,
         net: &N,
         alloc: Global,
         player: &PlayerAddress<'_>,
-    ) -> Result<(), Shortage>
+        deadline: &mut Deadline,
+    ) -> Result<(), Halt>
         ensures once { IfSome self.old.found (λ found. self.new.found ≡ Some found) }
         ensures found { OnOk result (IsSome self.new.found) }
-        ensures short { OnErr result (self.new.found ≡ self.old.found) }
+        ensures without { OnErr result (self.new.found ≡ self.old.found) }
+        ensures goes_on { IsSome self.old.query → IfErr result (λ halt. halt ≡ Late → IsSome self.new.query) }
     {
-        if self.found.is_none() {
-            self.found = Some(addresses(net, alloc, player)?);
+        if self.found.is_some() {
+            return Ok(());
+        }
+        let left = deadline.after(net, Duration::ZERO)?;
+        let query = match self.query.take() {
+            Some(query) => query,
+            None => match begun(net, alloc, player) {
+                Ok(query) => query,
+                Err(AllocError) => return Err(Halt::Short(Shortage::Memory)),
+            },
+        };
+        let found = match wait_for(net, alloc, &query, left, deadline) {
+            Ok(found) => found,
+            Err(halt) => {
+                self.query = Some(query);
+                return Err(halt);
+            }
+        };
+        match found {
+            Ok(found) => self.found = Some(found),
+            Err(shortage) => return Err(Halt::Short(shortage)),
         }
         Ok(())
     }

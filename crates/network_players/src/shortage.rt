@@ -65,14 +65,16 @@ pub fn shortage_of(error: &io::Error) -> Option<Shortage>
     system_shortage(error.kind(), error.raw_os_error())
 }
 
-/// What the referee was short of as the lookup of a host failed, by the error's kind and its number. `None` if the resolver says that there
-/// is no such name, `is_unknown`: this has no number. Every other failure says nothing of the host.
+/// What the referee was short of as the lookup of a host failed, by the error's kind and its number, and by what this computer is short of,
+/// so that it has no network. `None` if the host has no address. If the resolver says that there is no such name, `is_unknown`, or if it
+/// can't tell, the error has no number.
 pub(crate) fn lookup_shortage(
     kind: ErrorKind,
     number: Option<i32>,
     is_unknown: bool,
+    without_network: Option<Shortage>,
 ) -> Option<Shortage>
-    ensures { result ≡ lookup_shortage kind number is_unknown }
+    ensures { result ≡ lookup_shortage kind number is_unknown without_network }
 {
     match (kind, number) {
         (ErrorKind::OutOfMemory, _) => Some(Shortage::Memory),
@@ -81,7 +83,7 @@ pub(crate) fn lookup_shortage(
             Some(known.unwrap_or(Shortage::Resolver))
         }
         (_, None) if is_unknown => None,
-        (_, None) => Some(Shortage::Resolver),
+        (_, None) => without_network,
     }
 }
 

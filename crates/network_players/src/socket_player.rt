@@ -7,7 +7,7 @@ ghost use Rattle.network_players.specs.declared.contacting.ContactFault.TheVaria
 
 use crate::answer_budget::AnswerBudget;
 use crate::contacting::{ContactFault, Explains, contact_found};
-use crate::lookup::Lookup;
+use crate::lookup::{Lookup, Resolves};
 use crate::signal::{Pace, RoundSignal};
 use desk_calls::Answer;
 use game_core::Text;
@@ -151,7 +151,7 @@ impl<H> Explains for SocketPlayer<'_, H> {
     }
 }
 
-impl<H: Net + Clock> SocketPlayer<'_, H> {
+impl<H: Resolves + Clock> SocketPlayer<'_, H> {
     /// The answer to a message. Notes why it brought none.
     fn answer_to(&mut self, seconds: u32, message: &SharedText<'_>) -> Answer
         ensures answer { MatchOption self.new.fault (IsPaidText self.old.budget self.new.budget result) (λ fault. result ≡ contact_answer (Err fault)) }
@@ -190,7 +190,7 @@ impl<H: Net + Clock> SocketPlayer<'_, H> {
     }
 }
 
-impl<H: Net + Clock + Wait> Player for SocketPlayer<'_, H> {
+impl<H: Resolves + Clock + Wait> Player for SocketPlayer<'_, H> {
     // No contract can name what a socket carries.
     ghost handed = { λ p. None };
 

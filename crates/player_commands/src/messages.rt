@@ -13,10 +13,9 @@ use desk_calls::{Owed, is_name};
 use game_core::{Counted, Text, Texts};
 use match_messages::{Brief, Info, info_message, message, read_info};
 use match_plans::PlayerAddress;
-use network_players::contact;
+use network_players::{Resolves, contact};
 use std::alloc::{AllocError, Global};
 use std::io::Write;
-use std::net::Net;
 use std::time::Clock;
 use whole_streams::write_all;
 
@@ -24,7 +23,7 @@ use whole_streams::write_all;
 const SECONDS: u32 = 10;
 
 /// The answer of a player to a message. It is reported why there is none.
-fn answer_to<N: Net + Clock, E: Write>(
+fn answer_to<N: Resolves + Clock, E: Write>(
     rt: &N,
     alloc: Global,
     player: &PlayerAddress<'_>,
@@ -55,7 +54,7 @@ fn info_line(info: Info) -> &'static str
 }
 
 /// Asks a player whether it is free, and writes its answer.
-pub fn info<N: Net + Clock, W: Write, E: Write + Drop>(
+pub fn info<N: Resolves + Clock, W: Write, E: Write + Drop>(
     rt: &N,
     alloc: Global,
     player: &PlayerAddress<'_>,
@@ -100,7 +99,7 @@ fn abort_line(alloc: Global, name: &str, is_answered: bool) -> Result<String, Al
 }
 
 /// Sends ABORT to a player, and writes whether it answered. Where the referee is short of something, nothing is written.
-fn abort_player<N: Net + Clock, W: Write, E: Write>(
+fn abort_player<N: Resolves + Clock, W: Write, E: Write>(
     rt: &N,
     alloc: Global,
     player: &PlayerAddress<'_>,
@@ -123,7 +122,7 @@ fn abort_player<N: Net + Clock, W: Write, E: Write>(
 
 /// Sends ABORT to the players of a match, one after another, and writes for each whether it answered. A player for which the referee is
 /// short of something has no line, and the others are sent ABORT all the same.
-pub fn abort<N: Net + Clock, W: Write, E: Write + Drop>(
+pub fn abort<N: Resolves + Clock, W: Write, E: Write + Drop>(
     rt: &N,
     alloc: Global,
     id: &str,

@@ -1,0 +1,95 @@
+//! A network whose lookups are made while the players' messages go on.
+
+use crate::lookup::{Found, HostQuery, Resolves};
+use crate::routes::Routes;
+use match_plans::Shortage;
+use std::alloc::AllocError;
+use std::io;
+use std::net::{Net, SocketAddr, UdpSocket};
+use std::os::fd::OwnedFd;
+use std::os::unix::net as unix;
+use std::os::unix::net::UnixStream;
+use std::sync::{Arc, Wait};
+use std::time::{Clock, Duration};
+
+/// The network and the clock of a runtime, and a function that begins a lookup and does not wait for its end.
+///
+/// The function is made where the type of the runtime is known, as in `main`. A method that is generic over the runtime can't show that a
+/// thread may use it.
+#[derive(Drop)]
+pub struct Beside<'a, H> {
+    pub rt: &'a H,
+    pub host: HostRuntime,
+    pub begin: fn(HostRuntime, Arc<HostQuery>) -> Result<(), AllocError>,
+    ghost callable: { IsAlwaysCallable begin },
+}
+
+impl<H: Wait> Wait for Beside<'_, H> {}
+
+impl<H: Clock> Clock for Beside<'_, H> {
+    fn monotonic(&self) -> io::Result<Duration> {
+        self.rt.monotonic()
+    }
+
+    fn since_1970(&self) -> io::Result<Duration> {
+        self.rt.since_1970()
+    }
+
+    fn sleep(&self, duration: Duration) {
+        self.rt.sleep(duration);
+    }
+}
+
+impl<H: Net> Net for Beside<'_, H> {
+    type Stream = H::Stream;
+
+    type Listener = H::Listener;
+
+    fn bind(&self, addr: SocketAddr) -> io::Result<H::Listener> {
+        self.rt.bind(addr)
+    }
+
+    fn connect(&self, addr: SocketAddr) -> io::Result<H::Stream> {
+        self.rt.connect(addr)
+    }
+
+    fn connect_timeout(&self, addr: SocketAddr, timeout: Duration) -> io::Result<H::Stream> {
+        self.rt.connect_timeout(addr, timeout)
+    }
+
+    fn bind_udp(&self, addr: SocketAddr) -> io::Result<UdpSocket> {
+        self.rt.bind_udp(addr)
+    }
+
+    fn lookup_host(&self, host: &str, port: u16, found: &mut [SocketAddr]) -> io::Result<usize> {
+        self.rt.lookup_host(host, port, found)
+    }
+
+    fn connect_unix(&self, addr: &unix::SocketAddr) -> io::Result<UnixStream> {
+        self.rt.connect_unix(addr)
+    }
+
+    fn unix_pair(&self) -> io::Result<(UnixStream, UnixStream)> {
+        self.rt.unix_pair()
+    }
+
+    fn unix_socket(&self) -> io::Result<OwnedFd> {
+        self.rt.unix_socket()
+    }
+}
+
+impl<H: Routes> Routes for Beside<'_, H> {
+    fn lack_of_route(&self, address: &SocketAddr) -> Option<Shortage> {
+        self.rt.lack_of_route(address)
+    }
+}
+
+impl<H: Routes> Resolves for Beside<'_, H> {
+    fn begin(&self, query: Arc<HostQuery>) -> Result<(), AllocError> {
+        (self.begin)(self.host, query)
+    }
+
+    fn found<'q>(&self, query: &'q HostQuery) -> Option<&'q Found> {
+        query.found()
+    }
+}

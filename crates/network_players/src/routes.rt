@@ -1,0 +1,100 @@
+//! The routes of this computer. Nothing is sent.
+ghost use Rattle.std.specs.Prelude.{◌≡◌, ◌↔◌, IsTrue, None, Some};
+ghost use Rattle.std.specs.IoError.{error_kind, raw_os_error};
+ghost use Rattle.std.specs.Net.Addr.{is_ipv4};
+ghost use Rattle.std.specs.Net.Socket.{socket_ip};
+ghost use Rattle.match_plans.specs.declared.shortages.Shortage.TheVariants.{Network};
+ghost use Rattle.network_players.specs.Shortages.{route_shortage};
+
+use crate::shortage::shortage_of;
+use match_plans::Shortage;
+use std::io;
+use std::net::{IpAddr, Ipv4Addr, Ipv6Addr, Net, SocketAddr, UdpSocket};
+
+/// The address of this computer from which one of the same family is reached.
+pub(crate) fn any_address(address: &SocketAddr) -> SocketAddr
+    ensures { is_ipv4 (socket_ip result) ≡ is_ipv4 (socket_ip address.now) }
+{
+    match address {
+        SocketAddr::V4(_) => SocketAddr::new(IpAddr::V4(Ipv4Addr::UNSPECIFIED), 0),
+        SocketAddr::V6(_) => SocketAddr::new(IpAddr::V6(Ipv6Addr::UNSPECIFIED), 0),
+    }
+}
+
+/// An address of IPv4 or IPv6 that no computer has, since it is reserved for documents. Only a default route leads there.
+fn outside(is_of_ipv4: bool) -> SocketAddr
+    ensures { is_ipv4 (socket_ip result) ≡ is_of_ipv4 }
+{
+    let ip = if is_of_ipv4 {
+        IpAddr::V4(Ipv4Addr::new(203, 0, 113, 1))
+    } else {
+        IpAddr::V6(Ipv6Addr::new(0x2001, 0xdb8, 0, 0, 0, 0, 0, 1))
+    };
+    SocketAddr::new(ip, 9)
+}
+
+/// What this computer is short of if it finds no route with this error.
+fn route_shortage(error: &io::Error) -> Shortage
+    ensures { result ≡ route_shortage (error_kind error.now) (raw_os_error error.now) }
+{
+    match shortage_of(error) {
+        Some(Shortage::Descriptors) => Shortage::Descriptors,
+        Some(Shortage::Memory) => Shortage::Memory,
+        _ => Shortage::Network,
+    }
+}
+
+/// A network whose routes are known.
+pub trait Routes: Net {
+    /// What this computer is short of, so that it has no route to the address. Nothing is sent.
+    fn lack_of_route(&self, address: &SocketAddr) -> Option<Shortage>;
+}
+
+/// The network of a runtime.
+impl<R: Net + Copy + Send + 'static> Routes for R {
+    fn lack_of_route(&self, address: &SocketAddr) -> Option<Shortage> {
+        let joined = match UdpSocket::bind(self, any_address(address)) {
+            Ok(socket) => socket.connect(*address),
+            Err(error) => Err(error),
+        };
+        match joined {
+            Ok(()) => None,
+            Err(error) => Some(route_shortage(&error)),
+        }
+    }
+}
+
+/// What this computer is short of, so that it has no default route, neither of IPv4 nor of IPv6.
+pub(crate) fn lack_of_network<N: Routes>(net: &N) -> Option<Shortage> {
+    net.lack_of_route(&outside(true))?;
+    net.lack_of_route(&outside(false))
+}
+
+/// Whether this computer lacks the family of an address, by what it is short of for a route to the address, a default route of its family, and
+/// one of the other family.
+fn is_without_family(
+    to_address: Option<Shortage>,
+    by_family: Option<Shortage>,
+    by_other: Option<Shortage>,
+) -> bool
+    ensures { IsTrue result ↔ (to_address ≡ Some Network) × (by_family ≡ Some Network) × (by_other ≡ None) }
+{
+    matches!(
+        (to_address, by_family, by_other),
+        (Some(Shortage::Network), Some(Shortage::Network), None)
+    )
+}
+
+/// Whether this computer has a network, but no route to the address, nor a default route of its family.
+pub(crate) fn lacks_family<N: Routes>(net: &N, address: &SocketAddr) -> bool {
+    let to_address = net.lack_of_route(address);
+    if to_address.is_none() {
+        return false;
+    }
+    let is_of_ipv4 = address.is_ipv4();
+    is_without_family(
+        to_address,
+        net.lack_of_route(&outside(is_of_ipv4)),
+        net.lack_of_route(&outside(!is_of_ipv4)),
+    )
+}
