@@ -6,7 +6,7 @@ import os
 import sys
 
 # That of the referee with which this is delivered.
-VERSION = "0.2.0"
+VERSION = "0.3.0"
 
 if sys.version_info < (3, 11):
     sys.exit("%s: Python %d.%d runs it, and it needs 3.11 or later" % (os.path.basename(sys.argv[0]), *sys.version_info[:2]))

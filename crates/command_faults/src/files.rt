@@ -29,6 +29,8 @@ pub enum NamedFile {
     Records,
     /// The input, in place of standard input.
     Input,
+    /// The log of the messages.
+    Log,
 }
 
 impl NamedFile {
@@ -39,6 +41,7 @@ impl NamedFile {
             NamedFile::PlayerRules => "bad description for players: ",
             NamedFile::Records => "bad file of records: ",
             NamedFile::Input => "bad input: ",
+            NamedFile::Log => "bad log: ",
         }
     }
 }

@@ -164,7 +164,7 @@ fn game_options<'a>(found: &ArgMatches<'a>) -> Result<GameOptions<'a>, WrongValu
     Ok(GameOptions {
         game: game_source(found)?,
         player_rules: found.get_str("player-rules"),
-        is_logged: found.get_flag("log"),
+        log: found.get_str("log"),
     })
 }
 

@@ -12,5 +12,6 @@ mod refusals;
 mod tasks;
 
 pub use arguments::{ArgumentFault, WrongValue, read_arguments};
+pub use program::VERSION;
 pub use refusals::{asks_why, has_own_word, refusal};
 pub use tasks::{AbortPlan, GameOptions, MatchTask, RunPlan, SeasonPlan, Task};

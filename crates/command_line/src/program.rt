@@ -4,7 +4,7 @@ use clap::{Arg, ArgAction, Command};
 use std::alloc::{AllocError, Global};
 
 /// The program's version.
-const VERSION: &str = "0.2.0";
+pub const VERSION: &str = "0.3.0";
 
 /// The program's name in its usage.
 pub const PROGRAM: &str = "ggp_manager";
@@ -115,8 +115,8 @@ const PLAY: Argument = Argument {
 
 const LOG: Argument = Argument {
     name: "log",
-    form: Form::Flag,
-    help: "Log every message and its answer on standard error",
+    form: Form::Value("FILE"),
+    help: "Add every message and its answer to FILE, one JSON object a line; -: write them to standard error",
 };
 
 const WHY: Argument = Argument {

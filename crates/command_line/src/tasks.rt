@@ -28,12 +28,13 @@ pub enum MatchTask<'a> {
     Check(CheckPlan<'a>),
 }
 
-/// The game to play, the file of the rules that players get instead of the game's own, and whether messages are logged.
+/// The game to play, the file of the rules that players get instead of the game's own, and the file of the log.
 #[derive(Clone, Copy)]
 pub struct GameOptions<'a> {
     pub game: GameSource<'a>,
     pub player_rules: Option<&'a str>,
-    pub is_logged: bool,
+    /// A dash stands for standard error. Without a file there is no log.
+    pub log: Option<&'a str>,
 }
 
 /// One match, and whether its account is wanted.

@@ -16,7 +16,7 @@ use Rattle.game_commands.specs.Commands.{AnswersInput, FailsInput, HasNoGame, Ho
 use Rattle.command_faults.specs.Faults.{IsFileFault, input_fault}
 use Rattle.command_faults.specs.declared.fault.Fault.{Fault}
 use Rattle.command_faults.specs.declared.fault.Fault.TheVariants.{Memory, NoAnswer, WriteFault}
-use Rattle.command_faults.specs.declared.files.NamedFile.TheVariants.{Input}
+use Rattle.command_faults.specs.declared.files.NamedFile.TheVariants.{Input, Log}
 use Rattle.whole_streams.specs.Streams.{AppendsPart}
 use Rattle.whole_streams.specs.Streams.{InputFails}
 use Rattle.whole_streams.specs.declared.whole.InputFault.{InputFault}
@@ -64,9 +64,14 @@ HasNoInput remaining (Season season) fault reader reader' = MatchOption season.s
     (λ path. IsFileFault Input fault × (reader' ≡ reader))
 HasNoInput remaining task fault reader reader' = ⊥
 
--- Why a task was not begun: it has no game with rules for its players, or then no input.
+-- Why there is no log: only a file that is named for it can't be opened.
+abbrev pub HasNoLog : {F : Type 0} → Option F → Fault → Type 0
+HasNoLog log fault = MatchOption log ⊥ (λ file. IsFileFault Log fault)
+
+-- Why a task was not begun: it has no game with rules for its players, or then no log, or then no input.
 abbrev pub IsNotBegun : {R : Type 0} → (R → Option (List ℕ)) → GameOptions → MatchTask → Fault → Counting R → Counting R → Type 0
-IsNotBegun remaining plan task fault reader reader' = (IsNotLoadedGame plan fault × (reader' ≡ reader)) ⊎ HasNoInput remaining task fault reader reader'
+IsNotBegun remaining plan task fault reader reader' =
+    ((IsNotLoadedGame plan fault ⊎ HasNoLog plan.log fault) × (reader' ≡ reader)) ⊎ HasNoInput remaining task fault reader reader'
 
 -- The task was performed on the game of its plan and its input. The number is that of the missing matches, or of the bad answers.
 abbrev pub Plays : (H : Type 0) → {P R W : Type 0} → (RolePlace → PlayerAddress → P → Type 0) → (P → Option (List Handed)) → (R → Option (List ℕ)) → (W → Option (List ℕ)) → GameOptions → MatchTask → Counting R → Counting R → Counting W → Counting W → ℕ → Type 0

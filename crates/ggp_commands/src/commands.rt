@@ -11,6 +11,7 @@ ghost use Rattle.ggp_commands.specs.Tasks.{Fails, FailsToPlay, IsNotBegun, Perfo
 use crate::explaining::{Subject, explain};
 use crate::faults::{argument_fault, command_end, status_of, task_end};
 use crate::loaded_game::{LoadedGame, load};
+use crate::log_target::{LogTarget, log_target};
 use crate::matches::{ReadyTask, input_of, play_with_reports};
 use crate::shared_files::{refuse_shared, tell_file};
 use crate::surroundings::Surroundings;
@@ -25,7 +26,7 @@ use match_messages::Player;
 use match_plans::{Reach, ReportsShortages};
 use network_players::{Explains, Resolves};
 use player_commands::{Reasons, abort, info};
-use process_streams::LockedFiles;
+use process_streams::{LockedFiles, LogFile};
 use std::alloc::{AllocError, Global};
 use std::fmt::Write as _;
 use std::io::{Read, Write};
@@ -55,6 +56,7 @@ pub fn command<H, S, R: Read, W: Write, E: Write + Send + Drop>(
 ) -> u8
 where
     H: Resolves + Clock + LockedFiles + Threads + Wait + Sync,
+    H::File: Send,
     S: Reach + ReportsShortages + Sync,
     S::Player: Player + Explains + Drop + Send,
 {
@@ -93,6 +95,7 @@ fn perform<H, S, R: Read, W: Write, E: Write + Send>(
 ) -> Result<(), Fault>
 where
     H: Resolves + Clock + LockedFiles + Threads + Wait + Sync,
+    H::File: Send,
     S: Reach + ReportsShortages + Sync,
     S::Player: Player + Explains + Drop + Send,
 {
@@ -151,7 +154,7 @@ fn task_of<'a>(
     }
 }
 
-/// The game of a plan with the rules for its players, and the input of a task on it.
+/// The game of a plan with the rules for its players, where its log goes, and the input of a task on it.
 fn prepared<F: Files, R: Read>(
     files: &F,
     alloc: Global,
@@ -159,14 +162,15 @@ fn prepared<F: Files, R: Read>(
     task: &MatchTask<'_>,
     reader: &mut Counted<R>,
     evidence: &mut Evidence,
-) -> Result<(LoadedGame, Vec<u8>), Fault>
+) -> Result<(LoadedGame, LogTarget<LogFile<F::File>>, Vec<u8>), Fault>
     ensures playable { IfOk result (λ prepared. IsLoadedGame plan.now prepared.0.game prepared.0.rules) }
-    ensures read { IfOk result (λ prepared. ReadsInput R.remaining task.now prepared.1.items reader.old reader.new) }
+    ensures read { IfOk result (λ prepared. ReadsInput R.remaining task.now prepared.2.items reader.old reader.new) }
     ensures fault { IfErr result (λ fault. IsNotBegun R.remaining plan.now task.now fault reader.old reader.new) }
 {
     let loaded_game = load(files, alloc, *plan, evidence)?;
+    let log = log_target(files, alloc, plan.log)?;
     let input = input_of(files, alloc, task, reader)?;
-    Ok((loaded_game, input))
+    Ok((loaded_game, log, input))
 }
 
 /// Plays the matches of a task. Hands the output back, so its content is known.
@@ -180,6 +184,7 @@ fn play<'w, N: WriterBrand, H, S, R: Read, W: Write, E: Write + Send>(
 ) -> (Result<(), Fault>, &'w mut Counted<W>)
 where
     H: Resolves + Clock + LockedFiles + Threads + Wait + Sync,
+    H::File: Send,
     S: Reach + ReportsShortages + Sync,
     S::Player: Player + Explains + Drop + Send,
     requires picked { N.name ≡ writer.ghost_name }
@@ -188,7 +193,7 @@ where
     ensures at_fault { IfErr result.0 (FailsToPlay H (is_logged_reached H (S.is_reached around.now.reach.now)) (logged_handed H S.Player.handed) R.remaining W.contents plan.now task.now reader.old reader.new writer.entry.now result.1.now) }
 {
     let evidence = &mut reports.evidence;
-    let (loaded_game, input) = match prepared(
+    let (loaded_game, log, input) = match prepared(
         around.rt,
         around.alloc,
         plan,
@@ -204,10 +209,10 @@ where
         game: loaded_game.playable(),
         input: &input,
     };
-    let (held, writer) = play_with_reports::<N, H, S, W, E>(
+    let (held, writer) = play_with_reports::<N, H, S, W, E, LogFile<H::File>>(
         around,
         ready,
-        plan.is_logged,
+        log,
         writer,
         &mut reports.errors,
     );
@@ -224,6 +229,7 @@ fn perform_task<'w, N: WriterBrand, H, S, R: Read, W: Write, E: Write + Send>(
 ) -> (Result<(), Fault>, &'w mut Counted<W>)
 where
     H: Resolves + Clock + LockedFiles + Threads + Wait + Sync,
+    H::File: Send,
     S: Reach + ReportsShortages + Sync,
     S::Player: Player + Explains + Drop + Send,
     requires picked { N.name ≡ writer.ghost_name }

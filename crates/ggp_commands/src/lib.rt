@@ -13,6 +13,7 @@ mod descriptors;
 mod explaining;
 mod faults;
 mod loaded_game;
+mod log_target;
 mod matches;
 mod records_file;
 mod shared_files;

@@ -17,61 +17,78 @@ ghost use Rattle.ggp_commands.specs.Tasks.{EndsTask, HasNoInput, ReadsInput, Wri
 use crate::descriptors::allowed_form;
 use crate::explaining::{Subject, explain};
 use crate::faults::{check_fault, match_fault, season_fault};
+use crate::log_target::LogTarget;
 use crate::records_file::{mend_records, records_file, tell_state};
 use crate::surroundings::{Surroundings, Terminals};
 use command_faults::{Fault, NamedFile, file_text};
-use command_line::{MatchTask, RunPlan, SeasonPlan};
+use command_line::{MatchTask, RunPlan, SeasonPlan, VERSION};
 use game_core::{Counted, Game};
 use match_log::{
-    ClearedOutput, Logging, Notices, Progress, ReportStream, Reporting, StatusStream, WriterBrand,
+    ClearedOutput, Event, Logging, Notices, Progress, ReportStream, StatusStream, WriterBrand,
 };
 use match_messages::Player;
 use match_plans::{CheckPlan, MatchPlan, Reach, ReportsShortages, SeasonForm};
 use match_play::{PlayableGame, ended_match, prepared_match};
-use match_season::{SeasonSurroundings, play_season};
+use match_season::{ReportsMissing, SeasonSurroundings, play_season};
 use matches_to_play::{plans_of, undone};
 use network_players::Explains;
 use player_check::check_player;
 use process_streams::{LockedFiles, RecordsState};
 use std::alloc::Global;
+use std::fmt::Write as _;
 use std::io::{Read, Write};
 use std::marker::PhantomData;
 use std::rt::Files;
 use std::sync::{Mutex, Wait};
-use std::thread;
 use std::thread::Threads;
 use std::time::Clock;
-use whole_streams::{read_to_end, write_all};
+use std::{fmt, thread};
+use whole_streams::{Pieces, read_to_end, write_all};
 
 /// The reports on matches while they run.
 #[derive(Drop)]
 struct Console {
     notices: Notices,
     progress: Progress,
-    /// Whether each message is logged.
-    is_logged: bool,
-    /// Where the reports go.
+    /// Whether standard error shows the progress.
+    shows_progress: bool,
     terminals: Terminals,
 }
 
 impl Console {
-    /// The reports on messages that are wanted.
-    fn reporting(&self) -> Reporting<'_> {
-        if self.is_logged {
-            Reporting::Messages
-        } else if self.terminals.errors {
-            Reporting::Progress(&self.progress)
+    /// The progress, if it is shown.
+    fn shown_progress(&self) -> Option<&Progress> {
+        if self.shows_progress {
+            Some(&self.progress)
         } else {
-            Reporting::Nothing
+            None
         }
     }
 
     /// Reports the number of matches to play.
     fn plan<R: Wait>(&self, rt: &R, count: usize) {
         self.progress.plan(count);
-        if let Reporting::Progress(_) = self.reporting() {
+        if self.shows_progress {
             self.notices.move_on(rt);
         }
+    }
+}
+
+/// The reports of matches without a record: a line on standard error, and an object of the log.
+#[derive(Drop)]
+struct MissingRecords<'a, R> {
+    rt: &'a R,
+    notices: &'a Notices,
+    errors: ReportStream<'a, R>,
+}
+
+impl<R: Wait> ReportsMissing for MissingRecords<'_, R> {
+    fn report_missing<F: fmt::Display>(&mut self, id: &str, why: &F) {
+        self.notices.log_missing(self.rt, id, why);
+        let mut pieces = Pieces {
+            stream: &mut self.errors,
+        };
+        let _ = writeln!(pieces, "ggp_manager: {id}: {why}");
     }
 }
 
@@ -161,7 +178,11 @@ where
     console.plan(rt, plans.len());
     let mut errors = ReportStream::new(rt, &console.notices);
     let form = allowed_form(rt, alloc, form, game.game.roles(), plans.len(), &mut errors);
-    let errors = Mutex::new(errors);
+    let errors = Mutex::new(MissingRecords {
+        rt,
+        notices: &console.notices,
+        errors,
+    });
     let surroundings = SeasonSurroundings {
         rt,
         alloc,
@@ -301,7 +322,7 @@ where
     let logging = Logging {
         rt,
         reach: around.reach,
-        reporting: console.reporting(),
+        progress: console.shown_progress(),
         notices: &console.notices,
         is_alone,
         names_absent: !is_alone && console.terminals.explain(),
@@ -315,8 +336,13 @@ where
     match task {
         MatchTask::Run(plan) => {
             console.plan(rt, 1);
-            run(&logged, plan, game, writer)?;
-            Ok(0)
+            match run(&logged, plan, game, writer) {
+                Ok(()) => Ok(0),
+                Err(fault) => {
+                    console.notices.log_missing(rt, plan.plan.id, &fault);
+                    Err(fault)
+                }
+            }
         }
         MatchTask::Season(plan) => season(&logged, *plan, game, input, writer, console),
         MatchTask::Check(plan) => {
@@ -327,12 +353,13 @@ where
 }
 
 /// Performs the task while a thread writes the reports. Returns what the task returns.
-fn perform_beside_notices<H, S, W: Write, E: Write + Send>(
+fn perform_beside_notices<H, S, W: Write, E: Write + Send, L: Write + Drop + Send>(
     around: &Surroundings<'_, H, S>,
     ready: ReadyTask<'_>,
     writer: &mut Counted<W>,
     console: &Console,
     stream: &Mutex<StatusStream<&mut E>>,
+    log: Option<L>,
 ) -> Result<u64, Fault>
 where
     H: Clock + LockedFiles + Threads + Wait + Sync,
@@ -347,14 +374,14 @@ where
         thread::scope_env(),
         rt,
         move |scope| -> (Result<u64, Fault>, &mut Counted<W>)
-            requires sent { IsSync H.row × IsSend E.row }
+            requires sent { IsSync H.row × IsSend E.row × IsSend L.row }
             ensures stream { result.1.ghost_name ≡ writer.entry.ghost_name }
             ensures written { IfOk result.0 (λ count. WritesTask H (is_logged_reached H (S.is_reached around.entry.now.reach.now)) (logged_handed H S.Player.handed) ready.entry.game ready.entry.task.now ready.entry.input.now count (W.contents writer.entry.now.stream) (W.contents result.1.now.stream)) }
             ensures at_fault { IfErr result.0 (EndsTask H (is_logged_reached H (S.is_reached around.entry.now.reach.now)) (logged_handed H S.Player.handed) ready.entry.game ready.entry.task.now ready.entry.input.now (W.contents writer.entry.now.stream) (W.contents result.1.now.stream)) }
         {
             let writing = move || console
                 .notices
-                .write_until_closed(rt, &console.progress, stream);
+                .write_until_closed(rt, &console.progress, stream, log);
             if scope.spawn(writing).is_err() {
                 return (Err(Fault::Memory), writer);
             }
@@ -366,13 +393,21 @@ where
     performed
 }
 
-/// Plays matches of a game and reports on them: each message if that is wanted, otherwise the progress if `errors` is a terminal. No match
-/// waits for a reader of the reports. Returns the number of matches without a record, or of bad answers. Hands the output back, so its
-/// content is known.
-pub fn play_with_reports<'w, N: WriterBrand, H, S, W: Write, E: Write + Send>(
+/// Plays matches of a game and reports on them: each message in the log, and the progress if `errors` is a terminal without the log. No
+/// match waits for a reader of the reports. Returns the number of matches without a record, or of bad answers. Hands the output back, so
+/// its content is known.
+pub fn play_with_reports<
+    'w,
+    N: WriterBrand,
+    H,
+    S,
+    W: Write,
+    E: Write + Send,
+    L: Write + Drop + Send,
+>(
     around: &Surroundings<'_, H, S>,
     ready: ReadyTask<'_>,
-    is_logged: bool,
+    log: LogTarget<L>,
     writer: &'w mut Counted<W>,
     errors: &mut E,
 ) -> (Result<u64, Fault>, &'w mut Counted<W>)
@@ -391,21 +426,30 @@ where
         terminals,
         ..
     } = *around;
+    let (is_logged, shows_progress, log) = match log {
+        LogTarget::Nowhere => (false, terminals.errors, None),
+        LogTarget::Errors => (true, false, None),
+        LogTarget::File(file) => (true, terminals.errors, Some(file)),
+    };
     let console = Console {
-        notices: Notices::new(alloc),
+        notices: Notices::new(alloc, is_logged),
         progress: Progress::new(),
-        is_logged,
+        shows_progress,
         terminals,
     };
+    if is_logged {
+        let begun = Event::Begun(VERSION).to_string(alloc);
+        console.notices.log(rt, begun);
+    }
     let stream = Mutex::new(StatusStream::new(errors));
     let mut output = Counted::new(ClearedOutput::<'_, 'w, N, H, W, &mut E> {
         rt,
         output: writer,
         status: &stream,
-        shares_terminal: terminals.output && terminals.errors && !is_logged,
+        shares_terminal: terminals.output && shows_progress,
         brand: PhantomData,
     });
-    let performed = perform_beside_notices(around, ready, &mut output, &console, &stream);
+    let performed = perform_beside_notices(around, ready, &mut output, &console, &stream, log);
     let ClearedOutput { output, .. } = output.end();
     stream.lock(rt).clear();
     (performed, output)

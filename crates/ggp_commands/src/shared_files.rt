@@ -22,6 +22,7 @@ enum Role {
     NamedInput,
     Done,
     Records,
+    Log,
 }
 
 impl Role {
@@ -35,6 +36,7 @@ impl Role {
             Role::NamedInput => "the file of the input",
             Role::Done => "the file of --done",
             Role::Records => "the file of --records",
+            Role::Log => "the file of --log",
         }
     }
 
@@ -44,12 +46,16 @@ impl Role {
             Role::Rules => NamedFile::Rules,
             Role::PlayerRules => NamedFile::PlayerRules,
             Role::Done | Role::Records => NamedFile::Records,
+            Role::Log => NamedFile::Log,
             Role::Input | Role::Output | Role::Errors | Role::NamedInput => NamedFile::Input,
         }
     }
 
     fn is_written(self) -> bool {
-        matches!(self, Role::Output | Role::Errors | Role::Records)
+        matches!(
+            self,
+            Role::Output | Role::Errors | Role::Records | Role::Log
+        )
     }
 }
 
@@ -76,6 +82,14 @@ fn rules_file<'a>(game: GameSource<'a>) -> Option<&'a str> {
     }
 }
 
+/// The file of a log. A dash stands for standard error.
+fn log_file(log: Option<&str>) -> Option<&str> {
+    match log {
+        Some("-") => None,
+        log => log,
+    }
+}
+
 /// Adds the files and streams of a season but for those of its game.
 fn push_season<'a>(used: &mut Vec<Used<'a>>, plan: &SeasonPlan<'a>) -> Result<(), AllocError> {
     match plan.schedule {
@@ -96,10 +110,11 @@ fn used_by<'a>(alloc: Global, task: &Task<'a>) -> Result<Vec<Used<'a>>, AllocErr
             let GameOptions {
                 game,
                 player_rules,
-                ..
+                log,
             } = *options;
             push(&mut used, Role::Rules, rules_file(game))?;
             push(&mut used, Role::PlayerRules, player_rules)?;
+            push(&mut used, Role::Log, log_file(log))?;
             if let MatchTask::Season(plan) = task {
                 push_season(&mut used, plan)?;
             }
@@ -140,7 +155,8 @@ fn are_at_odds<F: Files>(files: &F, one: Used<'_>, other: Used<'_>) -> bool {
         (Role::Output, Role::Done) if !is_empty(files, other.path) => return false,
         _ => {}
     }
-    is_one_file(files, one.path, other.path)
+    // Two files with one name that are not there yet are made as one file.
+    one.path == other.path || is_one_file(files, one.path, other.path)
 }
 
 /// Reports that two uses are of one file.
@@ -192,6 +208,7 @@ pub fn tell_file<E: Write>(alloc: Global, task: &Task<'_>, fault: Fault, errors:
             Role::Rules => matches!(named, NamedFile::Rules),
             Role::PlayerRules => matches!(named, NamedFile::PlayerRules),
             Role::NamedInput => matches!(named, NamedFile::Input),
+            Role::Log => matches!(named, NamedFile::Log),
             _ => false,
         };
         if is_it {

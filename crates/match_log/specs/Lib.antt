@@ -1,3 +1,5 @@
 pub mod ShownTexts
+pub mod LogLines
+pub mod LogMessages
 pub mod WaitingLines
 pub mod LoggedPlayers

@@ -1,9 +1,6 @@
 -- How a line shows a text of any bytes.
-use Rattle.std.specs.Prelude.{ℕ, ◌==◌, ◌&&◌, Bool, nat_le, nat_lt, List, [], ◌++◌, length, take, map, codes, if◌then◌else◌, Option, Some, None}
+use Rattle.std.specs.Prelude.{ℕ, ◌==◌, ◌&&◌, Bool, nat_le, nat_lt, List, [], ◌++◌, length, take, map, codes, if◌then◌else◌}
 use Rattle.game_core.specs.Bytes.{line_feed}
-use Rattle.desk_calls.specs.declared.answer.Answer.{Answer}
-use Rattle.desk_calls.specs.declared.answer.Answer.TheVariants.{Text, Silent, Broken}
-use Rattle.network_players.specs.declared.contacting.ContactFault.{ContactFault}
 
 -- a byte from the space to the tilde
 abbrev pub is_visible : ℕ → Bool
@@ -27,10 +24,3 @@ further text = if nat_lt max_shown (length text) then codes ".." else []
 
 abbrev pub shown_text : List ℕ → List ℕ
 shown_text text = map shown_byte (take max_shown text) ++ further text
-
--- an answer for which no fault is known; the words of a fault are not said here
-abbrev pub shown_answer : Answer → Option ContactFault → Option (List ℕ)
-shown_answer (Text text) None = Some (shown_text text)
-shown_answer Silent None = Some (codes "TO")
-shown_answer Broken None = Some (codes "CE")
-shown_answer answer (Some fault) = None

@@ -5,17 +5,17 @@ use Rattle.match_log.specs.declared.notices.Waiting.{Waiting}
 
 -- nothing waits, and the reports end there or go on
 abbrev pub IsNothing : Waiting → Bool → Type 0
-IsNothing waiting closed =
-    (waiting.lines.items ≡ []) × (waiting.left_out ≡ 0) × (waiting.has_moved ≡ false) × (waiting.is_closed ≡ closed)
+IsNothing waiting closed = (waiting.reports.items ≡ []) × (waiting.log.items ≡ []) × (waiting.left_out ≡ 0)
+    × (waiting.has_moved ≡ false) × (waiting.is_closed ≡ closed)
 
 -- the limit of the bytes that wait with a new line of the log
 abbrev pub max_waiting : ℕ
-max_waiting = 1048576
+max_waiting = 8388608
 
 -- the line waits behind the others
 abbrev pub Waits : Waiting → Waiting → List ℕ → Type 0
-Waits old new line = (new.lines.items ≡ old.lines.items ++ line) × (length new.lines.items ≤ max_waiting) × (new.left_out ≡ old.left_out)
+Waits old new line = (new.log.items ≡ old.log.items ++ line) × (length new.log.items ≤ max_waiting) × (new.left_out ≡ old.left_out)
 
 -- no byte of the line waits, and it is counted
 abbrev pub IsLeftOut : Waiting → Waiting → Type 0
-IsLeftOut old new = (new.lines.items ≡ old.lines.items) × (new.left_out ≡ one_more old.left_out)
+IsLeftOut old new = (new.log.items ≡ old.log.items) × (new.left_out ≡ one_more old.left_out)

@@ -4,12 +4,14 @@
 //! match waits for a reader. `StatusStream` is a stream of messages with a status line below them.
 #![tactic(auto)]
 
+mod events;
 mod logging;
 mod notices;
 mod shown_text;
 mod status;
 
-pub use logging::{LoggedPlayer, Logging, Reporting};
+pub use events::{Event, Json};
+pub use logging::{LoggedPlayer, Logging};
 pub use notices::{Notices, ReportStream};
 pub use shown_text::Shown;
 pub use status::{ClearedOutput, Progress, StatusStream, WriterBrand};

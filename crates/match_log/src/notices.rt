@@ -1,25 +1,30 @@
 //! Reports that wait to be written. No match waits for their reader.
-ghost use Rattle.std.specs.Prelude.{◌↔◌, ◌⊎◌, false, IsTrue};
+ghost use Rattle.std.specs.Prelude.{◌↔◌, ◌⊎◌, false, IfOk, IsTrue, OnErr, string_bytes};
 ghost use Rattle.match_log.specs.WaitingLines.{IsLeftOut, IsNothing, Waits};
 
+use crate::events::{Event, Json};
 use crate::shown_text::reported_byte;
 use crate::status::{Progress, StatusStream};
 use game_core::Counted;
-use std::alloc::Global;
+use std::alloc::{AllocError, Global};
 use std::fmt::Write as _;
 use std::io::{ErrorKind, Write};
 use std::sync::{Condvar, CondvarTimeouts, Mutex, Wait};
 use std::time::{Clock, Duration};
-use std::{io, mem};
+use std::{fmt, io, mem};
 use whole_streams::{Pieces, write_all};
 
-/// The limit of the bytes that wait, with a new line of the log: 1 MiB.
-const MAX_WAITING: usize = 1_048_576;
+/// The limit of the bytes of the log that wait, with a new line: 8 MiB. One line fits if nothing waits: a message has at most 131,072 bytes
+/// of moves, an answer 65,536 bytes, and each of them takes at most six.
+const MAX_WAITING: usize = 8_388_608;
 
 /// The reports that wait to be written.
 #[derive(Drop)]
 struct Waiting {
-    lines: Vec<u8>,
+    /// Lines for standard error.
+    reports: Vec<u8>,
+    /// Lines of the log.
+    log: Vec<u8>,
     /// The number of lines of the log that are left out after those.
     left_out: u64,
     /// Whether the matches have gone on since the status line was written.
@@ -32,7 +37,8 @@ impl Waiting {
         ensures { IsNothing result is_closed }
     {
         Waiting {
-            lines: Vec::new(alloc),
+            reports: Vec::new(alloc),
+            log: Vec::new(alloc),
             left_out: 0,
             has_moved: false,
             is_closed,
@@ -43,28 +49,81 @@ impl Waiting {
     fn is_idle(&self) -> bool
         ensures { IsTrue result ↔ IsNothing self.now false }
     {
-        self.lines.is_empty() && self.left_out == 0 && !self.has_moved && !self.is_closed
+        let is_empty = self.reports.is_empty() && self.log.is_empty() && self.left_out == 0;
+        is_empty && !self.has_moved && !self.is_closed
     }
 
-    /// Appends a line of the log, or counts it as left out if there is no room or no memory for it.
-    fn log(&mut self, line: &[u8])
-        ensures { Waits self.old self.new line.now ⊎ IsLeftOut self.old self.new }
+    /// Appends a line of the log. Counts it as left out if too much waits, or if there was or is no memory for it.
+    fn log(&mut self, line: Result<String, AllocError>)
+        ensures line { IfOk line (λ line. Waits self.old self.new (string_bytes line) ⊎ IsLeftOut self.old self.new) }
+        ensures none { OnErr line (IsLeftOut self.old self.new) }
     {
-        let size = self.lines.len().saturating_add(line.len());
-        if size > MAX_WAITING || self.lines.extend_from_slice(line).is_err() {
-            self.left_out = self.left_out.saturating_add(1);
+        if let Ok(line) = line {
+            let size = self.log.len().saturating_add(line.len());
+            if size <= MAX_WAITING && self.log.extend_from_slice(line.as_bytes()).is_ok() {
+                return;
+            }
+        }
+        self.left_out = self.left_out.saturating_add(1);
+    }
+}
+
+/// The number of lines that end in a text.
+fn lines_in(text: &[u8]) -> u64 {
+    text.iter().filter(|byte| **byte == b'\n').count() as u64
+}
+
+/// Writes whole lines, as far as the stream takes them. Returns the number of lines that were not written whole.
+fn unwritten<W: Write>(stream: &mut W, lines: &[u8]) -> u64 {
+    let mut rest = lines;
+    while !rest.is_empty() {
+        match stream.write(rest) {
+            Ok(count) if count > 0 => rest = &rest[count..],
+            _ => return lines_in(rest),
+        }
+    }
+    0
+}
+
+/// What the log lacks. After a failed write nothing more is written to it.
+#[derive(Drop)]
+struct LogState {
+    /// The number of objects that are left out, which the log does not have yet.
+    left_out: u64,
+    /// The number of lines that were not written.
+    missing: u64,
+}
+
+impl LogState {
+    /// Writes lines to the log.
+    fn write_lines<W: Write>(&mut self, stream: &mut W, lines: &[u8]) {
+        self.missing = if self.missing > 0 {
+            self.missing.saturating_add(lines_in(lines))
+        } else {
+            unwritten(stream, lines)
+        };
+    }
+
+    /// Writes the waiting lines to the log, and the number of those that are left out.
+    fn write<W: Write>(&mut self, alloc: Global, waiting: &Waiting, stream: &mut W) {
+        self.write_lines(stream, &waiting.log);
+        self.left_out = self.left_out.saturating_add(waiting.left_out);
+        if self.left_out > 0 {
+            if let Ok(line) = Event::LeftOut(self.left_out).to_string(alloc) {
+                self.left_out = 0;
+                self.write_lines(stream, line.as_bytes());
+            }
         }
     }
 
-    /// Writes the waiting lines, and the number of those that were left out. A failed write is skipped.
-    fn write_to<E: Write>(&self, stream: &mut E) {
-        let _ = write_all(&mut Counted::new(&mut *stream), &self.lines);
-        if self.left_out > 0 {
-            let mut pieces = Pieces { stream };
+    /// Reports what the log lacks. A failed write is skipped.
+    fn end<E: Write>(&self, errors: &mut E) {
+        let missing = self.missing.saturating_add(self.left_out);
+        if missing > 0 {
+            let mut pieces = Pieces { stream: errors };
             let _ = writeln!(
                 pieces,
-                "ggp_manager: lines left out of the log: {}",
-                self.left_out
+                "ggp_manager: the log could not be written: {missing} lines are missing"
             );
         }
     }
@@ -75,24 +134,46 @@ impl Waiting {
 #[derive(Drop)]
 pub struct Notices {
     alloc: Global,
+    /// Whether there is a log.
+    pub(crate) is_logged: bool,
     waiting: Mutex<Waiting>,
     changed: Condvar,
 }
 
 impl Notices {
     /// No reports yet.
-    pub fn new(alloc: Global) -> Notices {
+    pub fn new(alloc: Global, is_logged: bool) -> Notices {
         Notices {
             alloc,
+            is_logged,
             waiting: Mutex::new(Waiting::nothing(alloc, false)),
             changed: Condvar::new(),
         }
     }
 
-    /// Reports a line of the log. It is left out, and counted, if too much waits already.
-    pub(crate) fn log<R: Wait>(&self, rt: &R, line: &[u8]) {
+    /// Adds a line to the log. It is left out, and counted, if it has no memory, or too much waits already.
+    pub fn log<R: Wait>(&self, rt: &R, line: Result<String, AllocError>) {
         self.waiting.lock(rt).log(line);
         self.changed.notify_one();
+    }
+
+    /// Adds to the log, if there is one, that the match of this id has no record.
+    pub fn log_missing<R: Wait, F: fmt::Display>(&self, rt: &R, id: &str, why: &F) {
+        if self.is_logged {
+            self.log(rt, missing_line(self.alloc, id, why));
+        }
+    }
+
+    /// Reports a line on standard error, however many wait there. Returns whether there was memory for it.
+    pub(crate) fn report<R: Wait>(&self, rt: &R, line: &[u8]) -> bool {
+        let is_taken = self
+            .waiting
+            .lock(rt)
+            .reports
+            .extend_from_slice(line)
+            .is_ok();
+        self.changed.notify_one();
+        is_taken
     }
 
     /// Reports that the matches have gone on, so that the status line is rewritten.
@@ -124,21 +205,34 @@ impl Notices {
         mem::replace(&mut *waiting, nothing)
     }
 
-    /// Writes the reports until they end. Rewrites the status line whenever the matches have gone on: at once, or as soon as the line
-    /// has stood for a moment.
-    pub fn write_until_closed<H: Clock + Wait, E: Write>(
+    /// Writes the reports and the log until they end. Without a stream of its own, the log goes to the stream of the reports. Rewrites the
+    /// status line whenever the matches have gone on: at once, or as soon as the line has stood for a moment.
+    pub fn write_until_closed<H: Clock + Wait, E: Write, L: Write + Drop>(
         &self,
         rt: &H,
         progress: &Progress,
         stream: &Mutex<StatusStream<E>>,
+        log: Option<L>,
     ) {
+        let mut log = log;
+        let mut state = LogState {
+            left_out: 0,
+            missing: 0,
+        };
         // How long the status line has to wait, if it is behind the matches.
         let mut behind = None;
         for _ in rt.forever() {
             let waiting = self.take(rt, behind);
+            if let Some(log) = &mut log {
+                state.write(self.alloc, &waiting, log);
+            }
             let mut stream = stream.lock(rt);
-            waiting.write_to(&mut *stream);
+            let _ = write_all(&mut Counted::new(&mut *stream), &waiting.reports);
+            if log.is_none() {
+                state.write(self.alloc, &waiting, &mut *stream);
+            }
             if waiting.is_closed {
+                state.end(&mut *stream);
                 return;
             }
             if waiting.has_moved || behind.is_some() {
@@ -169,14 +263,7 @@ impl<'a, R: Wait> ReportStream<'a, R> {
 
     /// Appends the line to what waits. Returns whether there was memory for it.
     fn end_line(&mut self) -> bool {
-        let is_taken = self
-            .notices
-            .waiting
-            .lock(self.rt)
-            .lines
-            .extend_from_slice(&self.line)
-            .is_ok();
-        self.notices.changed.notify_one();
+        let is_taken = self.notices.report(self.rt, &self.line);
         self.line.clear();
         is_taken
     }
@@ -203,4 +290,11 @@ impl<R: Wait> Write for ReportStream<'_, R> {
     fn flush(&mut self) -> io::Result<()> {
         Ok(())
     }
+}
+
+/// The line of a match without a record.
+fn missing_line<F: fmt::Display>(alloc: Global, id: &str, why: &F) -> Result<String, AllocError> {
+    let reason = why.to_string(alloc)?;
+    let event = Event::NoRecord(Json::Text(id.as_bytes()), Json::Text(reason.as_bytes()));
+    event.to_string(alloc)
 }

@@ -14,4 +14,4 @@ mod season_output;
 mod written;
 
 pub use season::{SeasonSurroundings, play_season};
-pub use season_output::SeasonFault;
+pub use season_output::{ReportsMissing, SeasonFault};

@@ -10,7 +10,7 @@ ghost use Rattle.match_season.specs.Seasons.{WritesAllBut, WritesUpTo, faults_af
 use crate::queue::MatchQueue;
 use crate::results::{MatchResult, OutputBrand, Results};
 use crate::scheduler::{AfterMatch, Scheduler};
-use crate::season_output::{Reports, SeasonFault, write_season};
+use crate::season_output::{Reports, ReportsMissing, SeasonFault, write_season};
 use crate::written::Written;
 use crossbeam_channel::{Receiver, Sender, bounded};
 use game_core::Counted;
@@ -114,7 +114,7 @@ where
 
     /// Writes the results of the season's matches. If a write fails, no further match begins. The missing records are reported. Returns
     /// the number of missing records.
-    fn write_played<R: Wait, W: Write, E: Write>(
+    fn write_played<R: Wait, W: Write, E: ReportsMissing>(
         &self,
         around: &SeasonSurroundings<'_, '_, R, S, E>,
         has_thread: bool,
@@ -176,7 +176,7 @@ fn threads_for(form: SeasonForm, matches: usize) -> usize
 }
 
 /// Plays the matches of a season in threads, and writes their results.
-fn play_in_threads<N, R, S, W: Write, E: Write + Send>(
+fn play_in_threads<N, R, S, W: Write, E: ReportsMissing + Send>(
     around: &SeasonSurroundings<'_, '_, R, S, E>,
     season: &Season<'_, '_, S, N>,
     sender: &Sender<MatchResult<N>>,
@@ -226,7 +226,7 @@ where
 }
 
 /// Plays the matches of a season whose outputs are picked.
-fn play_named<'f, 'a, N, R, S, W: Write, E: Write + Send>(
+fn play_named<'f, 'a, N, R, S, W: Write, E: ReportsMissing + Send>(
     around: &SeasonSurroundings<'f, '_, R, S, E>,
     game: PlayableGame<'f>,
     plans: &'f [MatchPlan<'a>],
@@ -269,7 +269,7 @@ where
 /// If there is no room to count the records, or not a single thread can be made, the result is out of memory, and no match was begun.
 /// Otherwise each match without a record is reported. After a failed write no further match begins, and the output ends with a part, maybe
 /// none or all, of the output of one match. Whenever the result is out of memory, nothing was written.
-pub fn play_season<'f, 'a, R, S, W: Write, E: Write + Send>(
+pub fn play_season<'f, 'a, R, S, W: Write, E: ReportsMissing + Send>(
     around: &SeasonSurroundings<'f, '_, R, S, E>,
     game: PlayableGame<'f>,
     plans: &'f [MatchPlan<'a>],

@@ -14,10 +14,9 @@ use match_plans::{MatchPlan, RecordOrder};
 use match_play::EndedMatch;
 use std::alloc::{AllocError, Global};
 use std::fmt;
-use std::fmt::Write as _;
 use std::io::Write;
 use std::sync::{Mutex, Wait};
-use whole_streams::{Pieces, WriteFault, write_all};
+use whole_streams::{WriteFault, write_all};
 
 /// Why a season was not played, or not to its end.
 #[derive(Clone, Copy)]
@@ -50,6 +49,12 @@ impl From<AllocError> for SeasonFault {
     }
 }
 
+/// Reports the matches that have no record.
+pub trait ReportsMissing {
+    /// Reports why the match of this id has no record.
+    fn report_missing<F: fmt::Display>(&mut self, id: &str, why: &F);
+}
+
 /// The reports of matches without a record.
 #[derive(Drop)]
 pub struct Reports<'r, 'p, 'a, 'e, R, E> {
@@ -58,18 +63,12 @@ pub struct Reports<'r, 'p, 'a, 'e, R, E> {
     pub errors: &'e Mutex<E>,
 }
 
-impl<R: Wait, E: Write> Reports<'_, '_, '_, '_, R, E> {
-    /// Reports in a line why the match at this place has no record. A failed write is skipped.
+impl<R: Wait, E: ReportsMissing> Reports<'_, '_, '_, '_, R, E> {
+    /// Reports why the match at this place has no record.
     fn report<F: fmt::Display>(&self, place: usize, why: &F) {
-        let Some(plan) = self.plans.get(place) else {
-            return;
-        };
-        let id = plan.id;
-        let mut stream = self.errors.lock(self.rt);
-        let mut pieces = Pieces {
-            stream: &mut *stream,
-        };
-        let _ = writeln!(pieces, "ggp_manager: {id}: {why}");
+        if let Some(plan) = self.plans.get(place) {
+            self.errors.lock(self.rt).report_missing(plan.id, why);
+        }
     }
 
     /// Reports `no record` for each match that was neither written nor reported.
@@ -105,7 +104,7 @@ fn write_ended<W: Write>(
 }
 
 /// Writes the record of a match, or reports why it has none.
-fn write_outcome<N: OutputBrand, R: Wait, W: Write, E: Write>(
+fn write_outcome<N: OutputBrand, R: Wait, W: Write, E: ReportsMissing>(
     reports: &Reports<'_, '_, '_, '_, R, E>,
     over: MatchResult<N>,
     written: &mut Written,
@@ -133,7 +132,7 @@ fn write_outcome<N: OutputBrand, R: Wait, W: Write, E: Write>(
 }
 
 /// Writes the kept results from this place on, up to the first match that is not over. Returns the place of that match.
-fn write_waiting<N: OutputBrand, R: Wait, W: Write, E: Write>(
+fn write_waiting<N: OutputBrand, R: Wait, W: Write, E: ReportsMissing>(
     reports: &Reports<'_, '_, '_, '_, R, E>,
     waiting: &mut [Option<MatchResult<N>>],
     next: usize,
@@ -195,7 +194,7 @@ fn first_to_write(order: RecordOrder, next: usize, place: usize) -> usize
 }
 
 /// Writes the records of the matches in this order, each followed by its account if that is asked for.
-pub fn write_season<N: OutputBrand, R: Wait, W: Write, E: Write>(
+pub fn write_season<N: OutputBrand, R: Wait, W: Write, E: ReportsMissing>(
     alloc: Global,
     order: RecordOrder,
     reports: &Reports<'_, '_, '_, '_, R, E>,

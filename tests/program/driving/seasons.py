@@ -70,6 +70,12 @@ def cut_off(folder):
     subprocess.run(["bash", "-c", CUT_OFF], cwd=folder, check=True)
 
 
+def events_in(log, event="message"):
+    """Returns the objects of this event in a log, among other lines."""
+    objects = [json.loads(line) for line in log.splitlines() if line.startswith('{"event":')]
+    return [found for found in objects if found["event"] == event]
+
+
 def records_in(lines):
     """Returns the records among these lines; lines of accounts begin with a digit."""
     return [json.loads(line) for line in lines if not line[:1].isdigit()]

@@ -7,7 +7,7 @@ import unittest
 
 TOP = os.path.dirname(os.path.dirname(os.path.dirname(os.path.dirname(os.path.realpath(__file__)))))
 FILES = {
-    "crates/command_line/src/program.rt": 'const VERSION: &str = "{}";\n',
+    "crates/command_line/src/program.rt": 'pub const VERSION: &str = "{}";\n',
     "CHANGELOG.md": "# Changes\n\n## v{}\n\n## v0.0.1\n",
     "package/__init__.py": 'VERSION = "{}"\n',
     "README.md": "    ggp_manager {}\n",

@@ -1,0 +1,40 @@
+//! Where the log goes.
+ghost use Rattle.std.specs.Prelude.{IfErr};
+ghost use Rattle.ggp_commands.specs.Tasks.{HasNoLog};
+
+use command_faults::{Fault, FileFault, NamedFile};
+use process_streams::{FILE_SIZE, LogFile, limit_of, open_log};
+use std::alloc::Global;
+use std::io::ErrorKind;
+use std::rt::Files;
+
+/// Where the log goes.
+#[derive(Drop)]
+pub enum LogTarget<L> {
+    Nowhere,
+    /// Standard error.
+    Errors,
+    File(L),
+}
+
+/// Opens the file that is named for the log. A dash stands for standard error.
+pub fn log_target<F: Files>(
+    files: &F,
+    alloc: Global,
+    log: Option<&str>,
+) -> Result<LogTarget<LogFile<F::File>>, Fault>
+    ensures { IfErr result (HasNoLog log.entry) }
+{
+    let path = match log {
+        None => return Ok(LogTarget::Nowhere),
+        Some("-") => return Ok(LogTarget::Errors),
+        Some(path) => path,
+    };
+    match open_log(files, path, limit_of(files, alloc, FILE_SIZE)) {
+        Ok(file) => Ok(LogTarget::File(file)),
+        Err(error) => match error.kind() {
+            ErrorKind::OutOfMemory => Err(Fault::Memory),
+            _ => Err(Fault::File(NamedFile::Log, FileFault::Unopened)),
+        },
+    }
+}

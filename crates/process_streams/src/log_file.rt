@@ -1,0 +1,74 @@
+//! The file that the log is added to.
+ghost use Rattle.std.specs.Prelude.{None, IfOk, take};
+ghost use Rattle.std.specs.Io.{WritesAtMost};
+ghost use Rattle.std.specs.Io.KnownBytes.{Appends, WriteAppends};
+
+use std::fs::{File, OpenFile, OpenOptions};
+use std::io;
+use std::io::{Error, ErrorKind, Read, Seek, SeekFrom, Write};
+use std::rt::Files;
+
+/// A file that the log is added to.
+#[derive(Drop)]
+pub struct LogFile<F> {
+    file: F,
+    /// The limit of the file's size in bytes.
+    limit: Option<u64>,
+}
+
+impl<F: OpenFile> LogFile<F> {
+    /// Whether the file is as large as the limit. One more byte would end the process by a signal.
+    fn is_full(&self) -> bool {
+        let Some(limit) = self.limit else {
+            return false;
+        };
+        match self.file.metadata() {
+            Ok(found) => found.is_file() && found.len() >= limit,
+            Err(_) => false,
+        }
+    }
+}
+
+impl<F: Write + OpenFile> Write for LogFile<F> {
+    ghost contents = { λ log. F.contents log.file };
+
+    fn write(&mut self, bytes: &[u8]) -> io::Result<usize> {
+        if self.is_full() {
+            return Err(Error::from(ErrorKind::FileTooLarge));
+        }
+        self.file.write(bytes)
+    }
+
+    fn flush(&mut self) -> io::Result<()> {
+        self.file.flush()
+    }
+}
+
+/// Whether the last line of the file at this path has no line feed: a program that wrote it was interrupted.
+fn is_torn<F: Files>(files: &F, path: &str, length: u64) -> io::Result<bool> {
+    if length == 0 {
+        return Ok(false);
+    }
+    let mut file = File::open(files, path)?;
+    file.seek(SeekFrom::Start(length - 1))?;
+    let mut last = [0u8; 1];
+    file.read_exact(&mut last)?;
+    Ok(last[0] != b'\n')
+}
+
+/// Opens the file at this path to add the log to it, and makes it if it is not there. Ends its last line if that is torn.
+pub fn open_log<R: Files>(
+    files: &R,
+    path: &str,
+    limit: Option<u64>,
+) -> io::Result<LogFile<R::File>> {
+    let mut options = OpenOptions::new();
+    options.append(true).create(true);
+    let file = options.open(files, path)?;
+    let found = file.metadata()?;
+    let mut log = LogFile { file, limit };
+    if found.is_file() && is_torn(files, path, found.len()).unwrap_or(false) {
+        let _ = log.write(b"\n");
+    }
+    Ok(log)
+}
