@@ -24,7 +24,11 @@ LAWFUL = "lawful"
 WHY, NO = "--why", 1
 NO_NAME = "ggp_manager: not sent: no answer from the resolver"
 VERSION_LINE = re.compile(rb"ggp_manager [0-9]+\.[0-9]+\.[0-9]+\n")
+# Before this version logs were not JSON.
+FIRST_WITH_EVENTS = 0, 3, 0
 BAD_RULES = "ggp_manager: bad description"
+# A script of the desk has no more bytes, and an answer with more of them is no move.
+MOST_OF_SCRIPT, MOST_OF_MOVE = 1 << 20, 4_096
 
 
 class NoReferee(Exception):
@@ -54,6 +58,11 @@ def find_program(given: str | None) -> str:
             return str(file)
     looked = ", ".join(map(str, folders))
     raise NoReferee(f"{PROGRAM} is not in {looked}, nor on the path of the shell (PATH); `--program FILE` names it")
+
+
+def has_events(version: bytes) -> bool:
+    """Returns whether a version of the program, as `--version` prints it, writes logs as this one does."""
+    return tuple(map(int, version.split()[1].split(b"."))) >= FIRST_WITH_EVENTS
 
 
 def said_lines(said: subprocess.CompletedProcess) -> list[str]:
@@ -137,11 +146,12 @@ class Referee:
         return tuple(spelled(fact[1]) for fact in facts if fact[0] == "role")
 
     def run_words(
-        self, rules_path: pathlib.Path | str, player_rules_path: pathlib.Path | str | None, match: "Match", strikes: int, places: list[str]
+        self, rules_path: pathlib.Path | str, player_rules_path: pathlib.Path | str | None, match: "Match", strikes: int, places: list[str], log: object = "-"
     ) -> list[str]:
-        """Returns the command that plays a match; START carries the rules of the second path where there is one."""
+        """Returns the command that plays a match; START carries the rules of the second path where there is one. The log goes to a file, or
+        to standard error."""
         player_rules = [] if player_rules_path is None else [f"--player-rules={player_rules_path}"]
-        options = f"--id={match.id}", f"--start={match.start}", f"--play={match.play}", f"--strikes={strikes}", "--history", "--log"
+        options = f"--id={match.id}", f"--start={match.start}", f"--play={match.play}", f"--strikes={strikes}", "--history", f"--log={log}"
         return [self.path, "run", *self.rules_words(rules_path), *player_rules, *options, "--", *places]
 
     def abort_words(self, match: str, place: str) -> list[str]:
@@ -158,6 +168,14 @@ class Referee:
 
     def replay_words(self, rules_path: pathlib.Path | str) -> list[str]:
         return [self.path, "replay", WHY, *self.rules_words(rules_path)]
+
+    def desk(self, rules_path: pathlib.Path | str, script: bytes) -> tuple[list[str], dict]:
+        """Returns what the desk replies to a script of one match, and the record of the match so far."""
+        said = self.call("desk", *self.rules_words(rules_path), data=script)
+        records = read_records(said)
+        if said.returncode or not records:
+            raise unchecked(said, rules_path)
+        return [line.decode("ascii", "replace") for line in said.stdout.splitlines() if not line.startswith(b"{")], records[0]
 
     def check_rules(self, rules_path: pathlib.Path | str, name: object = None) -> None:
         """Refuses a file that is no ground description; `name` says which one it is, where the path does not."""

@@ -136,7 +136,7 @@ class Machines(InFolder):
 class Hosts(Machines):
     def hosts(self):
         """Returns the host on which each match was played to its end."""
-        return [re.findall(r"(?m)^host (.*)$", file.read_text())[-1] for file in sorted((self.folder / "logs").iterdir())]
+        return [re.findall(r'"event":"host",.*"host":"(.*)"}', file.read_text())[-1] for file in sorted((self.folder / "logs").iterdir())]
 
     def planned(self, count=4, game=("countdown", GAMES / "countdown.kif")):
         self.players = [TestPlayer(f"p{number}", "slow", number, at=PLAYERS_AT) for number in range(count)]
@@ -205,7 +205,7 @@ class Hosts(Machines):
 PLAYS_ON = """#!/bin/sh
 case $1 in
 info) echo available ;;
-run) echo "cup-1 role 0 p0 message 1" >&2; exec sleep 3000 ;;
+run) echo '{{"event":"open","match":"cup-1","time":1}}' >&2; exec sleep 3000 ;;
 abort) ;;
 *) exec {program} "$@" ;;
 esac

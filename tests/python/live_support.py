@@ -7,6 +7,7 @@ from ggp_tools.competition.competition_file import read_competition
 from ggp_tools.competition.files import Folder
 from ggp_tools.competition.plan import Plan
 from ggp_tools.descriptions.loading import Rules
+from ggp_tools.match_log import End, Message, Open, line_of
 from planning import planned
 from support import toml
 
@@ -24,15 +25,22 @@ RULES = b"""
 (<= terminal (true (heap 0)))
 (<= (goal red 100) (true (turn blue))) (<= (goal red 0) (true (turn red))) (<= (goal blue 100) (true (turn red))) (<= (goal blue 0) (true (turn blue)))
 """
-# What the log has of a player that did not answer.
-SILENT = "TO (no answer in time: nothing received)"
-BEGAN, ENDED = b"began 2026-01-02T03:04:05.000Z\n", b"ended 2026-01-02T03:04:07.500Z\n"
+# 2026-01-02T03:04:05Z and 2.5 seconds later, in milliseconds.
+BEGAN, ENDED = 1_767_323_045_000, 1_767_323_047_500
+
+
+class Missed(str):
+    """What a log has in the place of an answer, as text: the error, and the reason in parentheses."""
+
+
+SILENT = Missed("TO (no answer in time: nothing received)")
 
 
 def plan_in(room: str, names: list[str], rounds: int = 1, head: str = "", rules: bytes = RULES, roles: tuple[str, ...] = ("red", "blue")) -> Plan:
     """Returns the plan of a round robin of these players in a folder, without its files."""
     folder = Folder(pathlib.Path(room))
-    folder.make(folder.records, folder.logs, folder.open)
+    folder.make(folder.records, folder.logs, folder.open, folder.rules)
+    folder.rules_of("heap").write_bytes(rules)
     players = [(name, f"h:{count + 1}") for count, name in enumerate(names)]
     competition = read_competition(toml(players, [("heap", "f")], f'kind = "round_robin"\nrounds = {rounds}', head).encode())
     plan = Plan(folder, competition, {"heap": Rules(rules, "0" * 64, roles, None)}, [])
@@ -40,8 +48,19 @@ def plan_in(room: str, names: list[str], rounds: int = 1, head: str = "", rules:
     return plan
 
 
-def line(match: object, role: int, number: int, message: str, answer: str, milliseconds: int = 5) -> str:
-    return f"{match.id} role {role} {match.players[role]} message {number} {message}: {answer}, {milliseconds} ms\n"
+def line(match: object, role: int, number: int, message: str, answer: str | Missed, milliseconds: int = 5, time: int | None = None) -> str:
+    """Returns the line of a message, which says its kind."""
+    error, _, reason = answer.removesuffix(")").partition(" (") if isinstance(answer, Missed) else (None, "", None)
+    kind = message.partition(" ")[0].strip("()")
+    turns = number - 2 if kind == "PLAY" else None
+    answer = None if error else answer
+    event = Message(match.id, role, match.players[role], number, kind, turns, time, milliseconds, message, answer, error, reason or None)
+    return line_of(event).decode("ascii")
+
+
+def opened(match: object, time: int | None = None) -> str:
+    """Returns the line with which a match begins."""
+    return line_of(Open(match.id, time)).decode("ascii")
 
 
 def begin(plan: Plan, match: object, log: str = "") -> pathlib.Path:
@@ -50,14 +69,14 @@ def begin(plan: Plan, match: object, log: str = "") -> pathlib.Path:
     room.mkdir(parents=True, exist_ok=True)
     for name in ("info-0", "players", "played"):
         (room / name).touch()
-    (room / "played.said").write_text(log)
-    return room / "played.said"
+    plan.folder.room_log(match.id).write_text(log)
+    return plan.folder.room_log(match.id)
 
 
-def started(match: object) -> str:
-    """Returns the log of a match of which both players have answered START, whose message is cut."""
-    texts = [f"(START {match.id} {name} ((role red) ".ljust(200, "x") for name in ("red", "blue")]
-    return "".join(line(match, role, 1, f"{text}..", "ready", 20) for role, text in enumerate(texts))
+def started(match: object, time: int | None = None) -> str:
+    """Returns the log of a match of which both players have answered START."""
+    texts = [f"(START {match.id} {name} ... {match.start} {match.play})" for name in ("red", "blue")]
+    return opened(match, time) + "".join(line(match, role, 1, text, "ready", 20, time) for role, text in enumerate(texts))
 
 
 def record_of(match: object, moves: list, errors: list, goals: list[int]) -> dict:
@@ -71,7 +90,8 @@ def record_of(match: object, moves: list, errors: list, goals: list[int]) -> dic
 
 def end(plan: Plan, match: object, record: dict, log: str = "") -> None:
     """Has a match be over, with this record and this log."""
-    plan.folder.log(match.id).write_bytes(BEGAN + log.encode() + ENDED)
+    ended = line_of(End(match.id, ENDED, "STOP")).decode("ascii")
+    plan.folder.log(match.id).write_text((log or opened(match, BEGAN)) + ended)
     plan.folder.record(match.id).write_text(json.dumps(record) + "\n")
     room = plan.folder.open / match.id
     for file in room.iterdir() if room.is_dir() else ():

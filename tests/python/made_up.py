@@ -3,11 +3,13 @@
     PYTHONPATH=python python3 tests/python/made_up.py FOLDER COUNT"""
 
 import pathlib
+import re
 import subprocess
 import sys
 
 from ggp_tools.referee import Referee
 from ggp_tools.competition.schedule import Match
+from live_support import BEGAN
 from players import TestPlayer
 from support import GAMES, program, run, toml
 
@@ -47,12 +49,13 @@ def make_up(folder: pathlib.Path, count: int) -> None:
     status, out, said = run(folder, "plan")
     assert (status, said) == (0, ""), f"{out}{said}"
     texts = dict(zip(("records", "accounts", "logs"), played()))
-    texts["logs"] = f"began 2026-01-01T00:00:00.000Z\n{texts['logs']}ended 2026-01-01T00:00:01.000Z\n"
+    texts["logs"] = re.sub('"ms":[0-9]+', '"ms":1000', re.sub('"time":[0-9]+', f'"time":{BEGAN}', texts["logs"]))
+    endings = {"records": "json", "accounts": "txt", "logs": "jsonl"}
     for kind, text in texts.items():
         (folder / kind).mkdir()
         for line in (folder / "schedule.tsv").read_text().splitlines()[1:]:
             match = line.partition("\t")[0]
-            (folder / kind / f"{match}.{'json' if kind == 'records' else 'txt'}").write_text(text.replace(FIRST, match))
+            (folder / kind / f"{match}.{endings[kind]}").write_text(text.replace(FIRST, match))
 
 
 if __name__ == "__main__":

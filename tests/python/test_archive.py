@@ -144,12 +144,12 @@ SPOILINGS = {
     "an account has a line that replay skips": (
         changed("cup/accounts/cup-003.txt", lambda text: b'{"goalValues":[100,0]}\n' + text), 'cup-003: line 1 of its account does not open a match: {"goalValues":[100,0]}',
     ),
-    "a match is missing": (without("cup/records/cup-003.json", "cup/accounts/cup-003.txt", "cup/logs/cup-003.txt"), "cup-003: it has no record"),
+    "a match is missing": (without("cup/records/cup-003.json", "cup/accounts/cup-003.txt", "cup/logs/cup-003.jsonl"), "cup-003: it has no record"),
     "an account is missing": (without("cup/accounts/cup-004.txt"), "cup-004: its account is missing"),
-    "a log tells of another answer": (changed("cup/logs/cup-001.txt", lambda text: re.sub(rb"(PLAY [^:]*: )[^,]*,", rb"\1(take 7),", text, count=1)), "of its log is not what its account says"),
-    "a log tells of another player": (changed("cup/logs/cup-001.txt", lambda text: text.replace(b" ann ", b" cid ").replace(b" bob ", b" ann ")), "line 2 of its log is not what its account says"),
-    "two logs are exchanged": (swapped("cup/logs/cup-001.txt", "cup/logs/cup-002.txt"), "cup-002: line 2 of its log is not what its account says"),
-    "a log is missing": (without("cup/logs/cup-004.txt"), "cup-004: its log is missing"),
+    "a log tells of another answer": (changed("cup/logs/cup-001.jsonl", lambda text: re.sub(rb'("kind":"PLAY".*?"answer":)[^,]*,', rb'\1"(take 7)",', text, count=1)), "of its log is not what its account says"),
+    "a log tells of another player": (changed("cup/logs/cup-001.jsonl", lambda text: text.replace(b'"ann"', b'"cid"').replace(b'"bob"', b'"ann"')), "line 2 of its log is not what its account says"),
+    "two logs are exchanged": (swapped("cup/logs/cup-001.jsonl", "cup/logs/cup-002.jsonl"), "cup-002: line 1 of its log is not a line that is published"),
+    "a log is missing": (without("cup/logs/cup-004.jsonl"), "cup-004: its log is missing"),
     "the rules are others": (changed("cup/rules/countdown.kif", lambda text: text.replace(b"100", b"90")), "rules/countdown.kif is not what"),
     "a description is another": (changed("cup/games/odd.kif", lambda _: b"(role nonsense)\n"), "games/odd.kif is not the description that the rules of odd were made from"),
     "a description and its sum are others": (nonsense, "games/odd.kif has no variables, and is not the rules of odd"),
@@ -247,7 +247,7 @@ class Archive(unittest.TestCase):
         sums = files["cup/SHA256SUMS"] + b"0" * 64 + b"  records/x\x1b[2J\x1b[31mn\xc3\xa9\n"
         yield "a name in the sums is no plain text", packed({**files, "cup/SHA256SUMS": sums}, fits=False)
         both = dict(files)
-        for kind in ("records/cup-00{}.json", "accounts/cup-00{}.txt", "logs/cup-00{}.txt"):
+        for kind in ("records/cup-00{}.json", "accounts/cup-00{}.txt", "logs/cup-00{}.jsonl"):
             first, second = (f"cup/{kind.format(number)}" for number in (1, 2))
             both[first], both[second] = files[second], files[first]
         yield "two whole matches are exchanged", packed(both)
@@ -345,8 +345,8 @@ class Archive(unittest.TestCase):
         for change, words in (
             (without("cup/GAPS.tsv"), "cup-003: it has no record"),
             (changed("cup/GAPS.tsv", lambda text: text.replace(b"cup-003", b"cup-004")), "GAPS.tsv does not follow from the records"),
-            (without(*(f"cup/{name}" for name in ("records/cup-004.json", "accounts/cup-004.txt", "logs/cup-004.txt"))), "GAPS.tsv does not follow from the records"),
-            (without("cup/logs/cup-004.txt"), "cup-004: its log is missing"),
+            (without(*(f"cup/{name}" for name in ("records/cup-004.json", "accounts/cup-004.txt", "logs/cup-004.jsonl"))), "GAPS.tsv does not follow from the records"),
+            (without("cup/logs/cup-004.jsonl"), "cup-004: its log is missing"),
             (changed("cup/records/cup-002.json", better), "cup-002: not lawful: goals"),
         ):
             (self.other / "spoilt.tar.gz").write_bytes(change(dict(files)))

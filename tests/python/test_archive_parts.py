@@ -15,10 +15,12 @@ from unittest import mock
 
 from ggp_tools.competition import archive, command
 from ggp_tools.competition.archive import SUMS, Spoilt, TooLarge, check_archive, files_below, publish, unpacked
+from ggp_tools.competition.files import Refused
 from ggp_tools.competition.kept import look_at_records
 from ggp_tools.competition.known import Known
-from ggp_tools.competition.plan import make_plan
+from ggp_tools.competition.plan import make_plan, read_plan
 from ggp_tools.competition.table_text import in_order
+from ggp_tools.match_log import End, line_of
 from ggp_tools.referee import Unchecked
 from live_support import BEGAN, ENDED, RULES, record_of, started
 from support import InFolder, toml
@@ -76,8 +78,9 @@ class Made(unittest.TestCase):
         folder = self.plan.folder
         folder.record(match.id).write_text(json.dumps(record_of(match, [["(take 2)", "noop"], ["noop", "(take 1)"]], [["", ""], ["", ""]], goals)) + "\n")
         calls = "".join(f"{at + 1}\tnext {match.id} {at}\towe 0 start\n{at + 1}\tsubmit {match.id} {at} 0 ready\ttaken\n" for at in (0, 1))
+        calls += f"1\tnext {match.id} 0\towe 3 stop (noop (take 1))\n1\tsubmit {match.id} 0 3 done\ttaken\n"
         folder.account(match.id).write_text(f"0\topen {match.id} 0 5 5\topened\n{calls}")
-        folder.log(match.id).write_bytes(BEGAN + started(match).encode() + ENDED)
+        folder.log(match.id).write_bytes(started(match, BEGAN).encode() + line_of(End(match.id, ENDED, "STOP")))
 
     def results(self):
         found, faults, misfits = look_at_records(self.plan, self.referee)
@@ -119,17 +122,19 @@ class Checked(Made):
             (lambda files: packed({**files, "cup/GAPS.tsv": b""}), "GAPS.tsv is nothing of this competition"),
             (lambda files: packed({**files, "cup/games/other.kif": b"a"}), "games/other.kif is nothing of this competition"),
             (lambda files: packed({**files, "cup/rules/other.kif": b"a"}), "rules/other.kif is nothing of this competition"),
-            (lambda files: packed({**files, "cup/logs/other.txt": b"a"}), "logs/other.txt is nothing of this competition"),
+            (lambda files: packed({**files, "cup/logs/other.jsonl": b"a"}), "logs/other.jsonl is nothing of this competition"),
             (lambda files: packed({**files, "cup/accounts/cup-004.txt": b"a"}), "accounts/cup-004.txt is nothing of this competition"),
             (lambda files: packed({**files, "cup/records/cup-004.json": b"a"}), "records/cup-004.json: it is of no match of the schedule"),
             (lambda files: packed({**files, "cup/play.log": b"2026\n"}), None),
             (changed("cup/CHECK.txt", more), "CHECK.txt is not what `publish` writes"),
-            (without("cup/logs/cup-002.txt"), "cup-002: its log is missing"),
+            (without("cup/logs/cup-002.jsonl"), "cup-002: its log is missing"),
             (without("cup/records/cup-002.json"), "cup-002: it has no record"),
             (without("cup/accounts/cup-002.txt"), "cup-002: its account is missing"),
             (changed("cup/accounts/cup-001.txt", lambda data: data.replace(b"0 ready", b"0 go")), "cup-001: line 2 of its log is not what its account says"),
             (changed("cup/games/heap.kif", more), "games/heap.kif is not the description that the rules of heap were made from"),
             (changed("cup/VERSION", lambda _: b"ggp_manager 9.9.9\n"), None),
+            (changed("cup/VERSION", lambda _: b"ggp_manager 0.10.0\n"), None),
+            (changed("cup/VERSION", lambda _: b"ggp_manager 0.2.0\n"), "it was published with ggp_manager 0.2.0: check it with that version, since its logs are not JSON"),
         ):
             faults, said = self.check(spoil(dict(files)))
             self.assertEqual([fault for fault in faults if fault == words], [words] if words else [], (faults, words))
@@ -160,6 +165,12 @@ class Checked(Made):
             self.check()
         self.assertEqual(str(why.exception), "`ggp_manager verify` came to no verdict with cup/rules/heap.kif: it said nothing, status 3")
 
+    def test_a_competition_with_logs_of_an_earlier_version_is_refused(self):
+        read_plan(str(self.folder), self.referee)
+        (self.plan.folder.logs / "cup-001.txt").write_text("began")
+        with self.assertRaisesRegex(Refused, "cup-001.txt is a log of ggp_manager 0.2.0: use that version for this competition"):
+            read_plan(str(self.folder), self.referee)
+
     def test_gaps_are_named(self):
         folder = self.plan.folder
         for file in (folder.record("cup-002"), folder.account("cup-002"), folder.log("cup-002")):
@@ -170,7 +181,7 @@ class Checked(Made):
         files = files_of(self.path)
         self.assertEqual(files["cup/GAPS.tsv"], b"id\tgame\tstart\tplay\tplayers\ncup-002\theap\t5\t5\tbob ann\n")
         self.assertEqual(self.check(without("cup/GAPS.tsv")(dict(files)))[0], ["cup-002: it has no record", "cup-002: its log is missing"])
-        self.assertEqual(self.check(without("cup/logs/cup-001.txt")(dict(files)))[0], ["cup-001: its log is missing"])
+        self.assertEqual(self.check(without("cup/logs/cup-001.jsonl")(dict(files)))[0], ["cup-001: its log is missing"])
         self.assertEqual(self.check(changed("cup/GAPS.tsv", lambda data: data.replace(b"-002", b"-001"))(dict(files)))[0], ["GAPS.tsv does not follow from the records"])
 
     def test_the_archive_is_the_same_for_the_same_files(self):
@@ -219,7 +230,7 @@ class Checked(Made):
             self.assertEqual((archive.matches_text(self.plan, results, Known(self.folder)), made.called), (text, False))
         # A line is known of the same log alone: an archive with that of another one would be refused.
         file = self.plan.folder.log(self.plan.matches[0].id)
-        file.write_bytes(file.read_bytes().replace(ENDED, b""))
+        file.write_bytes(b"".join(file.read_bytes().splitlines(keepends=True)[:-1]))
         text = archive.matches_text(self.plan, results)
         self.assertEqual((archive.matches_text(self.plan, results, Known(self.folder)), json.loads(text.splitlines()[0])["end"]), (text, None))
         digest = "0" * 64
@@ -323,7 +334,7 @@ class Parts(InFolder):
             file.write_bytes(data)
 
     def test_places_of_files(self):
-        right = "competition.toml", "rules/a.kif", "games/a.kif", "records/a.json", "accounts/a.txt", "logs/a.txt", "earlier/3.toml", "pages/index.html", "pages/matches/a.html", "pages/games/a.html", "pages/players/a.html"
+        right = "competition.toml", "rules/a.kif", "games/a.kif", "records/a.json", "accounts/a.txt", "logs/a.jsonl", "earlier/3.toml", "pages/index.html", "pages/matches/a.html", "pages/games/a.html", "pages/players/a.html"
         wrong = "a/b", "rules", "pages", "earlier", "rules/a/b", "pages/other/a.html", "pages/matches/a/b", "xpages/index.html", "records/a/b"
         self.assertEqual(([bool(archive.PLACE.fullmatch(name)) for name in right], [bool(archive.PLACE.fullmatch(name)) for name in wrong]), ([True] * len(right), [False] * len(wrong)))
 

@@ -6,7 +6,7 @@ import sys
 
 import pytest
 from ggp_tools.competition import children
-from ggp_tools.competition.children import Child, Limits, TimedChild
+from ggp_tools.competition.children import Child, Limits, RemoteChild
 
 MOST = 600
 WIDE = Limits(100_000, 50_000, MOST)
@@ -15,10 +15,10 @@ ENDLESS = "import sys\nsys.stderr.write('connected\\n')\nsys.stderr.flush()\nwhi
 CLEAR = "bad \x1b]0;title\x07 words \x9b31m"
 
 
-def ran(room, script, limits=None, heard=lambda line: None):
+def ran(room, script, limits=WIDE, heard=lambda line: None):
     """Runs a Python script to its end."""
     async def run():
-        child = TimedChild(room, "played", limits, heard)
+        child = RemoteChild(room, "played", room / "log", limits, heard)
         await child.run([sys.executable, "-c", script])
         return child
 
@@ -51,15 +51,14 @@ def test_a_process_that_prints_without_end_is_ended(tmp_path, stream, words):
     child = ran(tmp_path, ENDLESS.format(stream=stream), WIDE)
     assert (child.passed, child.last_words()) == (words, words)
     assert (tmp_path / "played").stat().st_size <= 100_000
-    # Each line has its time, too.
-    assert (tmp_path / "played.said").stat().st_size <= 2 * 50_000
+    assert (tmp_path / "played.said").stat().st_size <= 50_000
 
 
 def test_a_process_that_is_silent_for_too_long_is_ended(tmp_path):
     said = "import sys, time\nsys.stderr.write('connected\\n')\nsys.stderr.flush()\nsys.stdin.read()"
     child = ran(tmp_path, said, Limits(100_000, 50_000, 2))
     assert child.last_words() == "nothing was heard of it for 2 s"
-    assert child.timed_bytes().endswith(b"connected\n") or not child.timed_bytes()
+    assert child.said_end() in (b"connected\n", b"")
     # It heard that nothing comes any more, and ended by itself.
     assert (child.status, child.goes_on) == (0, False)
 
@@ -76,11 +75,11 @@ def test_all_lines_are_heard(tmp_path):
     assert (heard, child.status, child.said_end(), child.last_words()) == ([b"one", b"two"], 0, b"one\ntwo\n", "two")
 
 
-def test_a_process_with_limits_gets_a_byte_now_and_then(tmp_path, monkeypatch):
+def test_a_process_on_another_machine_gets_a_byte_now_and_then(tmp_path, monkeypatch):
     monkeypatch.setattr(children, "BEAT", 0.01)
     assert ran(tmp_path, "import os; print(len(os.read(0, 1) + os.read(0, 1) + os.read(0, 1)))", WIDE).printed() == "3"
-    # Without limits its standard input is empty.
-    assert ran(tmp_path, "import os; print(len(os.read(0, 1)))").printed() == "0"
+    # The standard input of another one is empty.
+    assert printed(tmp_path, sys.executable, "-c", "import os; print(len(os.read(0, 1)))").printed() == "0"
 
 
 def test_a_reader_that_takes_no_byte_holds_nothing_up(tmp_path, monkeypatch):
@@ -96,19 +95,19 @@ def test_what_a_process_leaves_behind_is_not_waited_for(tmp_path):
         os.kill(int(child.printed()), 9)
 
 
-@pytest.mark.parametrize(("limits", "hears", "goes_on"), [(None, False, False), (WIDE, True, False), (WIDE, False, True)])
-def test_a_process_that_is_cancelled_is_ended_with_what_it_has_started(tmp_path, monkeypatch, limits, hears, goes_on):
+@pytest.mark.parametrize("hears", [True, False])
+def test_a_process_that_is_cancelled_is_ended_with_what_it_has_started(tmp_path, monkeypatch, hears):
     monkeypatch.setattr(children, "HANG_UP_SECONDS", MOST if hears else 0.2)
     found = []
 
     async def run():
         is_up = asyncio.Event()
-        child = TimedChild(tmp_path, "played", limits, lambda line: found.append(int(line)) or is_up.set())
+        child = RemoteChild(tmp_path, "played", tmp_path / "log", WIDE, lambda line: found.append(int(line)) or is_up.set())
         await cancelled(child, ["bash", "-c", f"sleep 600 & echo $! >&2; {'cat; kill $!' if hears else 'wait'}"], is_up)
         return child
 
     child = asyncio.run(run())
-    assert (child.goes_on, child.status) == (goes_on, 0 if hears else -9)
+    assert (child.goes_on, child.status) == (not hears, 0 if hears else -9)
     while is_alive(found[0]):
         pass
 
@@ -126,10 +125,10 @@ def test_nothing_is_started_whose_file_can_not_be_written(tmp_path):
     assert not (tmp_path / "begun").exists()
 
 
-def test_the_error_of_a_file_is_raised_once_it_is_read(tmp_path):
+def test_the_error_of_a_file_is_raised(tmp_path):
     (tmp_path / "played.said").symlink_to("/dev/full")
     with pytest.raises(OSError, match="No space left on device"):
-        ran(tmp_path, "import os; os.write(2, b'one\\n')").timed_bytes()
+        ran(tmp_path, "import os; os.write(2, b'one\\n')")
 
 
 def test_the_last_words_are_printable_and_short(tmp_path):

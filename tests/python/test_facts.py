@@ -5,16 +5,19 @@ import io
 import json
 import os
 import pathlib
+import re
 import subprocess
 import sys
 import tempfile
 import threading
 import unittest
 
-from ggp_tools.competition.log_faults import shown
+from ggp_tools.competition.schedule import Match
+from ggp_tools.match_log import End, Host, Open, events, line_of
 from ggp_tools.records.collection import Judged, KnownGame, Line
-from ggp_tools.records.facts import TWO_LOGS, TWO_RECORDS, Exchanges, Facts, description_sums, record_sum, version_beside
-from ggp_tools.records.match_logs import LONGEST_LINE, MatchLogs, Part, beginnings, files_of, lines_of
+from ggp_tools.records.facts import TWO_LOGS, TWO_RECORDS, Facts, description_sums, record_sum, version_beside
+from ggp_tools.records.match_logs import Beginning, MatchLogs, beginnings, files_of, logged
+from live_support import Missed, line
 from players import TestPlayer
 from support import GAMES, TOP, InFolder, program, run
 
@@ -23,29 +26,47 @@ RECORD = json.loads(RECORD_BYTES)
 FAULTY = (TOP / "examples/records/countdown-3-another_state.record").read_bytes()
 # In this one no connection was made to blue for START, nor for the first PLAY.
 BROKEN = {**RECORD, "startMarks": ["", "CE"], "errors": [["", "CE"], ["", ""]]}
-LOG = """began 2026-11-28T06:00:00.900Z
-2026-11-28T06:00:01.250Z m1 role 0 ann message 1 (START m1 red ((role red)) 10 10): ready, 200 ms
-2026-11-28T06:00:01.300Z m1 role 1 bob message 1 (START m1 blue ((role red)) 10 10): CE (no connection), 300 ms
-2026-11-28T06:00:02.000Z m1 role 1 bob message 2 (PLAY m1 NIL): CE (no host), 5 ms
-2026-11-28T06:00:02.500Z m1 role 0 ann message 2 (PLAY m1 NIL): (take 1), 505 ms
-2026-11-28T06:00:03.000Z m1 role 0 ann message 3 (PLAY m1 ((take 1) noop)): noop, 9 ms
-2026-11-28T06:00:04.000Z m1 role 1 bob message 3 (PLAY m1 ((take 1) noop)): (take 2), 8 ms
-2026-11-28T06:00:05.000Z m1 role 1 bob message 4 (STOP m1 (noop (take 2))): done, 3 ms
-2026-11-28T06:00:05.001Z m1 role 0 ann message 4 (STOP m1 (noop (take 2))): done, 4 ms
-ended 2026-11-28T06:00:05.500Z
-held against the description: the same
-"""
+M1 = Match("m1", "countdown", 10, 10, ("ann", "bob"))
+# 2026-11-28T06:00:00Z
+SIX = 1_795_845_600_000
+
+
+def message(role: int, number: int, text: str, answer: str, ms: int, time: int) -> str:
+    """Returns the line of a message that was answered so many milliseconds after six."""
+    return line(M1, role, number, text, answer, ms, SIX + time - ms)
+
+
+OPEN, END = line_of(Open("m1", SIX + 900)).decode(), line_of(End("m1", SIX + 5_000, "STOP")).decode()
+MIDDLE = [
+    message(0, 1, "(START m1 red ... 10 10)", "ready", 200, 1_250),
+    message(1, 1, "(START m1 blue ... 10 10)", Missed("CE (no connection)"), 300, 1_300),
+    message(1, 2, "(PLAY m1 NIL)", Missed("CE (no host)"), 5, 2_000),
+    message(0, 2, "(PLAY m1 NIL)", "(take 1)", 505, 2_500),
+    message(0, 3, "(PLAY m1 ((take 1) noop))", "noop", 9, 3_000),
+    message(1, 3, "(PLAY m1 ((take 1) noop))", "(take 2)", 8, 4_000),
+    message(1, 4, "(STOP m1 (noop (take 2)))", "done", 3, 5_000),
+]
+LAST = message(0, 4, "(STOP m1 (noop (take 2)))", "done", 4, 5_001)
+LINES = [OPEN, *MIDDLE, END, LAST]
+LOG = "".join(LINES)
 MESSAGES = [
     [["start", 200], ["play", 505], ["play", 9], ["stop", 4]],
     [["start", 300], ["play", 5], ["play", 8], ["stop", 3]],
 ]
 WHY = [{"role": 1, "message": 1, "why": "no connection"}, {"role": 1, "message": 2, "why": "no host"}]
-UNTIMED = "".join(line.partition("Z ")[2] for line in LOG.splitlines(keepends=True)[1:-2])
-STARTED = UNTIMED.splitlines(keepends=True)[:3]
+BEGUN = "".join(LINES[:4])
 
 
-def lines(*texts: str) -> list[str]:
-    return "".join(texts).splitlines()
+def read(log: str) -> list[tuple[str, Beginning]]:
+    return list(beginnings(events(io.BytesIO(log.encode()))))
+
+
+def logs_of(*logs: str) -> MatchLogs:
+    """Returns what these logs say, each a file."""
+    with tempfile.TemporaryDirectory() as folder:
+        for at, log in enumerate(logs):
+            pathlib.Path(folder, f"{at}").write_text(log)
+        return MatchLogs([folder])
 
 
 def said(text: dict) -> bytes:
@@ -54,101 +75,82 @@ def said(text: dict) -> bytes:
 
 
 class Logs(unittest.TestCase):
-    def times(self, *texts: str) -> list[tuple]:
-        return [found.times() for _, found in beginnings(lines(*texts))]
+    def times(self, log: str) -> list[tuple]:
+        return [found.times() for _, found in read(log)]
 
-    def logs(self, *logs: str) -> MatchLogs:
-        """Returns what these logs say, each a file."""
-        found = MatchLogs([])
-        for log in logs:
-            for match_id, beginning in beginnings(lines(log)):
-                found.add(match_id, beginning)
-        return found
+    def test_a_log_has_times_and_may_have_a_host(self):
+        times = "2026-11-28T06:00:00.900Z", "2026-11-28T06:00:05.001Z"
+        self.assertEqual(self.times(LOG), [(*times, None)])
+        self.assertEqual(self.times(line_of(Host("m1", "me@there")).decode() + LOG), [(*times, "me@there")])
+        self.assertEqual(self.times("".join(LINES[:-1])), [(times[0], "2026-11-28T06:00:05.000Z", None)])
 
-    def test_a_log_of_a_competition_has_times_and_a_host(self):
-        self.assertEqual(self.times(LOG), [("2026-11-28T06:00:00.900Z", "2026-11-28T06:00:05.500Z", None)])
-        self.assertEqual(self.times(LOG.replace("900Z\n", "900Z\nhost me@there\n", 1))[0][2], "me@there")
+    def test_a_log_without_times_has_none(self):
+        self.assertEqual(self.times(re.sub('"time":[0-9]+', '"time":null', LOG)), [(None, None, None)])
 
-    def test_one_with_times_before_its_lines_alone_has_them_from_the_first_start_and_the_last_end(self):
-        self.assertEqual(self.times(*LOG.splitlines(keepends=True)[1:-2]), [("2026-11-28T06:00:01.000Z", "2026-11-28T06:00:05.001Z", None)])
+    def test_several_matches_have_their_own_times(self):
+        other = LOG.replace('"m1"', '"m2"').replace(str(SIX)[:6], str(SIX + 10_000_000)[:6])
+        mixed = "".join(text for pair in zip(LINES, other.splitlines(keepends=True)) for text in pair)
+        for log in (LOG + other, mixed):
+            self.assertEqual([begin[11:13] for begin, _, _ in self.times(log)], ["06", "08"])
 
-    def test_one_without_times_has_none(self):
-        self.assertEqual(self.times(UNTIMED), [(None, None, None)])
+    def test_a_clock_was_set_back_if_a_message_was_sent_before_the_one_before(self):
+        def was_set_back(*sent: tuple[int, int | None]) -> bool:
+            lines = [line(M1, role, number, "(PLAY m1 NIL)", "x", 9, time) for number, (role, time) in enumerate(sent, 2)]
+            return logged(found for found in events(io.BytesIO("".join(lines).encode()))).is_set_back
 
-    def test_times_that_no_calendar_has_are_none(self):
-        self.assertEqual(self.times(LOG.replace("-11-28T", "-11-31T")), [(None, None, None)])
-        self.assertEqual(self.times(*LOG.replace("200 ms", "999999999999999999 ms").replace("300 ms", f"{10**17} ms").splitlines(keepends=True)[1:-2])[0][0], None)
+        for sent in ((), ((0, 5), (0, 6)), ((0, 5), (1, 4)), ((0, 6), (1, 5), (0, 6), (1, 6)), ((0, 5), (0, None), (0, 5))):
+            self.assertFalse(was_set_back(*sent), sent)
+        for sent in (((0, 5), (0, 4)), ((0, 5), (1, 5), (1, 6), (0, 4)), ((0, 5), (0, None), (0, 4))):
+            self.assertTrue(was_set_back(*sent), sent)
 
-    def test_logs_of_several_matches_one_behind_another_have_their_own_times(self):
-        other = LOG.replace("m1", "m2").replace("T06:", "T07:")
-        self.assertEqual([begin[11:13] for begin, _, _ in self.times(LOG, other)], ["06", "07"])
-
-    def test_a_beginning_of_several_matches_is_that_of_none(self):
-        both = LOG.replace("ended", UNTIMED.replace("m1", "m2") + "ended")
-        self.assertEqual(self.times(both), [("2026-11-28T06:00:01.000Z", "2026-11-28T06:00:05.001Z", None), (None, None, None)])
+    def test_the_messages_of_each_role(self):
+        ((_, found),) = read(LOG)
+        self.assertEqual((found.by_role(2), found.by_role(1)), (MESSAGES, MESSAGES[:1]))
+        self.assertEqual((logged([]).times(), logged([]).by_role(1)), ((None, None, None), [[]]))
 
     def test_a_match_that_begins_again_is_the_later_one(self):
-        early = "".join(LOG.splitlines(keepends=True)[:5]).replace("T06:", "T05:")
-        for lost in (f"{early}lost 2026-11-28T05:09:00.000Z ssh: gone\n", early):
-            (found,) = self.logs(lost + LOG).of("m1")
+        for early in (BEGUN, OPEN, "".join(LINES[:2])):
+            (found,) = logs_of(early.replace(str(SIX)[:6], "100000") + LOG).of("m1")
             self.assertEqual((found.times()[0], len(list(found.messages()))), ("2026-11-28T06:00:00.900Z", 8))
-        (found,) = self.logs("".join(STARTED) + UNTIMED).of("m1")
-        self.assertEqual(len(list(found.messages())), 8)
 
     def test_what_is_not_over_gives_way_to_what_is(self):
-        for logs in ((UNTIMED, "".join(STARTED)), ("".join(STARTED), UNTIMED), (UNTIMED + "".join(STARTED),)):
-            (found,) = self.logs(*logs).of("m1")
+        for logs in ((LOG, BEGUN), (BEGUN, LOG), (LOG + BEGUN,)):
+            (found,) = logs_of(*logs).of("m1")
             self.assertEqual(len(list(found.messages())), 8)
-        self.assertEqual(len(self.logs("".join(STARTED), "".join(STARTED[:2])).of("m1")), 2)
+        self.assertEqual(len(logs_of(BEGUN, "".join(LINES[:3])).of("m1")), 2)
 
     def test_a_match_in_which_the_referee_was_short_of_something_has_no_record(self):
-        short = UNTIMED.replace("noop, 9 ms", "lost (out of ports), 9 ms")
-        (found,) = self.logs(short + UNTIMED, short).of("m1")
+        short = "".join([*LINES[:5], message(0, 3, "(PLAY m1 ((take 1) noop))", Missed("lost (out of ports)"), 9, 3_000), *LINES[6:]])
+        (found,) = logs_of(short + LOG, short).of("m1")
         self.assertFalse(found.is_short)
 
     def test_two_that_are_over_are_several_and_a_copy_is_not(self):
-        other = UNTIMED.replace("505", "506")
-        for logs in ((UNTIMED, other), (UNTIMED + other,), (UNTIMED, other, UNTIMED.replace("505", "507"))):
-            self.assertEqual(len(self.logs(*logs).of("m1")), 2)
-        self.assertEqual(len(self.logs(UNTIMED, UNTIMED).of("m1")), 1)
-        self.assertEqual(self.logs(UNTIMED).of("m2"), [])
+        other = LOG.replace('"ms":505', '"ms":506')
+        for logs in ((LOG, other), (LOG + other,), (LOG, other, LOG.replace('"ms":505', '"ms":507'))):
+            self.assertEqual(len(logs_of(*logs).of("m1")), 2)
+        self.assertEqual(len(logs_of(LOG, LOG).of("m1")), 1)
+        self.assertEqual(logs_of(LOG).of("m2"), [])
 
     def test_of_a_folder_no_log_is_read_that_was_set_aside(self):
         with tempfile.TemporaryDirectory() as folder:
-            names = ("cup-001.txt", "cup-001.txt.2", "refused", "x.differs.txt")
-            for name in (*names, "cup-001.txt.refused", "cup-001.txt.refused.12", "cup-002.txt.unchecked", "cup-003.txt.differs.2"):
+            names = ("cup-001.jsonl", "cup-001.jsonl.2", "refused", "x.differs.txt")
+            for name in (*names, "cup-001.jsonl.refused", "cup-001.jsonl.refused.12", "cup-002.jsonl.unchecked", "cup-003.jsonl.differs.2"):
                 pathlib.Path(folder, name).touch()
             pathlib.Path(folder, "link").symlink_to("nowhere")
             self.assertEqual([file.name for file in files_of(folder)], list(names))
-            self.assertEqual([file.name for file in files_of(f"{folder}/cup-001.txt.refused")], ["cup-001.txt.refused"])
-
-    def test_lines_have_ends_and_one_that_is_too_long_is_left_out(self):
-        data = b"a\r\nb\xff\x1b\x0bc\n" + b"x" * (LONGEST_LINE - 1) + b"\n" + b"x" * 3 * LONGEST_LINE + b"\nlast"
-        self.assertEqual([len(text) for text in lines_of(io.BytesIO(data))], [1, 5, LONGEST_LINE - 1, 4])
+            self.assertEqual([file.name for file in files_of(f"{folder}/cup-001.jsonl.refused")], ["cup-001.jsonl.refused"])
 
     def test_a_line_that_was_cut_and_the_one_behind_it_say_nothing(self):
-        whole = UNTIMED.splitlines(keepends=True)
-        for cut in (12, 40, len(whole[4]) - 14, len(whole[4]) - 4, len(whole[4]) - 1):
-            ((_, found),) = beginnings(lines(*whole[:4], whole[4][:cut] + whole[5], *whole[6:]))
+        for cut in (12, 40, len(LINES[5]) - 14, len(LINES[5]) - 1):
+            ((_, found),) = read("".join([*LINES[:5], LINES[5][:cut] + LINES[6], *LINES[7:]]))
             self.assertEqual([(role, number) for role, number, *_ in found.messages() if number > 2 or role], [(1, 1), (1, 2), (1, 4), (0, 4)])
-
-    def test_other_lines_say_nothing(self):
-        odd = "m1 role 0 ann message 1 (INFO): available, 3 ms\n\tx\nm1 role -1 a message 1 (START m1 r): x, 1 ms\nm1\trole 0\n(\nhost\nended soon\n"
-        self.assertEqual(self.times(odd), [])
-        part = Part(beginnings=1)
-        part.take("ended 2026-13-28T06:00:05.500Z")
-        self.assertIsNone(part.of_match().end)
 
 
 class Lines(unittest.TestCase):
     """The lines of records that are taken as lawful."""
 
     def facts(self, *logs: str, descriptions: dict[str, str] | None = None) -> Facts:
-        found = MatchLogs([])
-        for log in logs:
-            for match_id, beginning in beginnings(log.split("\n")):
-                found.add(match_id, beginning)
-        return Facts("ggp_manager 1.2.3", "ggp_manager 1.0.0", descriptions or {}, found)
+        return Facts("ggp_manager 1.2.3", "ggp_manager 1.0.0", descriptions or {}, logs_of(*logs))
 
     def judged(self, record: dict) -> Judged:
         game = KnownGame("countdown", "", "5" * 64, None, tuple(record["roles"]), ())
@@ -170,53 +172,46 @@ class Lines(unittest.TestCase):
     def test_all_that_is_known_of_a_match(self):
         self.assertEqual(self.of(BROKEN, LOG), {
             "id": "m1", "record": hashlib.sha256(said(BROKEN)).hexdigest(), "game": "countdown", "rules": "5" * 64, "description": None,
-            "program": "ggp_manager 1.0.0", "checkedBy": "ggp_manager 1.2.3", "players": ["ann", "bob"], "begin": "2026-11-28T06:00:00.900Z", "end": "2026-11-28T06:00:05.500Z",
+            "program": "ggp_manager 1.0.0", "checkedBy": "ggp_manager 1.2.3", "players": ["ann", "bob"], "begin": "2026-11-28T06:00:00.900Z", "end": "2026-11-28T06:00:05.001Z",
             "host": None, "messages": MESSAGES, "broken": WHY,
         })
         self.assertEqual(self.made.faults, {})
 
     def test_without_a_log_what_it_would_say_is_null(self):
-        for logs in ((), (LOG.replace("m1", "m2"),)):
+        for logs in ((), (LOG.replace('"m1"', '"m2"'),)):
             found = self.of(BROKEN, *logs)
             self.assertEqual([found[key] for key in ("begin", "end", "host", "messages")], [None] * 4)
             self.assertEqual(found["broken"], [{**answer, "why": None} for answer in WHY])
             self.assertEqual(self.made.faults, {})
 
     def test_a_line_that_is_missing_leaves_its_message_null(self):
-        whole = LOG.splitlines(keepends=True)
-        for at, (role, number) in {2: (1, 0), 5: (0, 2), 8: (0, 3)}.items():
-            found = self.of(BROKEN, "".join(whole[:at] + whole[at + 1 :]))
+        for at, (role, number) in {2: (1, 0), 5: (0, 2), 9: (0, 3)}.items():
+            found = self.of(BROKEN, "".join(LINES[:at] + LINES[at + 1 :]))
             wanted = [[None if (row, place) == (role, number) else message for place, message in enumerate(messages)] for row, messages in enumerate(MESSAGES)]
             self.assertEqual(found["messages"], wanted)
             self.assertEqual(found["broken"][0]["why"], None if at == 2 else "no connection")
 
-    def test_a_time_that_follows_from_a_line_that_may_be_missing_is_null(self):
-        timed = LOG.splitlines(keepends=True)[1:-2]
-        begin, end = "2026-11-28T06:00:01.000Z", "2026-11-28T06:00:05.001Z"
-        for known, wanted in ((timed, (begin, end)), (timed[1:], (None, end)), (timed[:-1], (begin, None))):
-            found = self.of(BROKEN, "".join(known))
-            self.assertEqual((found["begin"], found["end"]), wanted)
-
     def test_a_log_of_another_match_is_not_taken(self):
         others = (
-            LOG.replace("bob", "cid"), LOG.replace("role 1 bob", "role 2 bob"), LOG.replace("(take 1) noop", "(take 2) noop"),
-            LOG.replace("STOP m1 (noop (take 2))", "ABORT m1"), LOG.replace("message 4", "message 999999999"),
-            LOG.replace("message 4 (STOP", "message 4 (PLAY"), LOG.replace("message 1 (START", "message 0 (START"), LOG.replace("PLAY m1 NIL", "PLAY m2 NIL"),
+            ("bob", "cid"), ('"role":1', '"role":2'), ("(take 1) noop", "(take 2) noop"), ("(STOP m1 (noop (take 2)))", "(ABORT m1)"),
+            ('"number":4', '"number":999999999'), ('"number":4,"kind":"STOP","round":null', '"number":4,"kind":"PLAY","round":2'), ("PLAY m1 NIL", "PLAY m2 NIL"),
         )
-        for other in others:
-            self.assert_unknown("its log is that of another match: role ", BROKEN, other)
-        self.assert_unknown("has an answer where the record has CE: role 1, message 2", BROKEN, LOG.replace("CE (no host)", "noop"))
+        for old, new in others:
+            self.assertIn(old, LOG)
+            self.assert_unknown("its log is that of another match: role ", BROKEN, LOG.replace(old, new))
+        answered = LOG.replace('"answer":null,"error":"CE","reason":"no host"', '"answer":"noop","error":null,"reason":null')
+        self.assert_unknown("has an answer where the record has CE: role 1, message 2", BROKEN, answered)
 
-    def test_words_of_silence_that_a_player_answers_are_no_reason(self):
+    def test_reasons_of_silence_where_the_record_has_an_answer_are_left_out(self):
         found = self.of(RECORD, LOG)
         self.assertEqual((found["messages"], found["broken"]), (MESSAGES, []))
 
     def test_words_are_kept_as_they_are_and_none_are_null(self):
-        for answer, why in (("CE (a\tb \x1b[2J\") (x)", "a\tb \x1b[2J\") (x"), ("CE ()", None), ("CE", None)):
-            self.assertEqual(self.of(BROKEN, LOG.replace("CE (no host)", answer))["broken"][1]["why"], why)
+        for reason, why in ((r'"a\u0009b \u001b[2J\") (x"', 'a\tb \x1b[2J") (x'), ('""', None), ("null", None)):
+            self.assertEqual(self.of(BROKEN, LOG.replace('"no host"', reason))["broken"][1]["why"], why)
 
     def test_several_matches_of_one_id_have_nothing_of_a_log(self):
-        self.assert_unknown(TWO_LOGS, BROKEN, UNTIMED, LOG)
+        self.assert_unknown(TWO_LOGS, BROKEN, LOG.replace('"ms":505', '"ms":506'), LOG)
         facts, other = self.facts(LOG), {**BROKEN, "playClock": 6}
         data = [json.dumps(facts.of(self.judged(record))).encode() for record in (BROKEN, BROKEN, other)]
         self.assertEqual(facts.faults, {"m1": TWO_RECORDS})
@@ -230,13 +225,12 @@ class Lines(unittest.TestCase):
 
     def test_a_role_that_is_retired_is_asked_no_more(self):
         record = {**BROKEN, "strikes": 1, "errors": [["", "CE"], ["", "RT"]]}
-        dropped = [line.replace("bob message 4", "bob message 3") for line in LOG.splitlines(keepends=True) if "bob message 3" not in line]
+        dropped = [*LINES[:6], LINES[7].replace('"number":4', '"number":3'), *LINES[8:]]
         self.assertEqual(self.of(record, "".join(dropped))["messages"], [MESSAGES[0], [["start", 300], ["play", 5], ["stop", 3]]])
 
     def test_an_end_without_a_turn_carries_no_moves(self):
         record = {**RECORD, "moves": [], "errors": [], "states": RECORD["states"][:1], "endMarks": ["", "CE"]}
-        log = "".join([*STARTED[:2], "m1 role 1 bob message 2 (STOP m1 NIL): CE (gone), 3 ms\n"])
-        found = self.of(record, log)
+        found = self.of(record, "".join([*LINES[:3], message(1, 2, "(STOP m1 NIL)", Missed("CE (gone)"), 3, 2_000)]))
         self.assertEqual(found["messages"], [[["start", 200], None], [["start", 300], ["stop", 3]]])
         self.assertEqual(found["broken"], [{"role": 1, "message": 2, "why": "gone"}])
 
@@ -246,15 +240,14 @@ class Lines(unittest.TestCase):
 
     def test_a_match_that_is_not_over_has_no_end(self):
         record = {**RECORD, "phase": "playing", "moves": [["(take 1)", "noop"]], "errors": [["", ""]], "endMarks": [None, None], "goalValues": []}
-        self.assertEqual(self.of(record, "".join(UNTIMED.splitlines(keepends=True)[:4]))["messages"], [messages[:2] for messages in MESSAGES])
-        self.assert_unknown("role 0, message 3", record, UNTIMED)
+        self.assertEqual(self.of(record, "".join(LINES[:5]))["messages"], [messages[:2] for messages in MESSAGES])
+        self.assert_unknown("role 0, message 3", record, LOG)
 
-    def test_long_moves_are_compared_as_far_as_a_log_shows_them(self):
+    def test_long_moves_are_compared_whole(self):
         long = "a" * 300
         record = {**RECORD, "moves": [[long, "noop"], ["noop", "(take 2)"]]}
-        self.assertEqual(Exchanges(record).plays[1], shown(f"(PLAY m1 ({long} noop))"))
-        log = UNTIMED.replace("(PLAY m1 ((take 1) noop))", shown(f"(PLAY m1 ({long} noop))"))
-        self.assertEqual(self.of(record, log)["messages"], MESSAGES)
+        self.assertEqual(self.of(record, LOG.replace("((take 1) noop)", f"({long} noop)"))["messages"], MESSAGES)
+        self.assert_unknown("its log is that of another match", record, LOG.replace("((take 1) noop)", f"({long}a noop)"))
 
 
 class Files(unittest.TestCase):

@@ -1,29 +1,45 @@
 """Records as ggp-base has its matches, read as ggp-base's own reader (`Match` of `org.ggp.base.util.match`) reads them."""
 
+import io
 import json
 import pathlib
+import re
 import subprocess
 import sys
 import tempfile
 import unittest
 
-from ggp_tools.competition.log_lines import log_line
+from ggp_tools.competition.schedule import Match
 from ggp_tools.kif import expressions
-from ggp_tools.records.ggp_base import Times, spaced, times_of
+from ggp_tools.match_log import Open, events, line_of
+from ggp_tools.records.ggp_base import spaced, times_of
+from ggp_tools.records.match_logs import beginnings
+from live_support import SILENT, line
 from support import GAMES, TOP, program
 
 RECORDS = TOP / "examples/records"
 WHOLE, FAULTY = "countdown-3-second_version", "countdown-3-another_state"
-LOG = """2026-11-28T06:00:01.250Z m1 role 0 ann message 1 (START m1 red ((role red)) 10 10): ready, 200 ms
-2026-11-28T06:00:01.300Z m1 role 1 bob message 1 (START m1 blue ((role red)) 10 10): ready, 300 ms
-2026-11-28T06:00:02.000Z m1 role 1 bob message 2 (PLAY m1 NIL): noop, 5 ms
-2026-11-28T06:00:02.500Z m1 role 0 ann message 2 (PLAY m1 NIL): (take 1), 505 ms
-2026-11-28T06:00:03.000Z m1 role 0 ann message 3 (PLAY m1 ((take 1) noop)): noop, 9 ms
-2026-11-28T06:00:04.000Z m1 role 1 bob message 3 (PLAY m1 ((take 1) noop)): TO, 1000 ms
-2026-11-28T06:00:05.000Z m1 role 1 bob message 4 (STOP m1 (noop (take 2))): done, 3 ms
-"""
+M1 = Match("m1", "countdown", 10, 10, ("ann", "bob"))
 # 2026-11-28T06:00:01Z
 BEGAN = 1_795_845_601_000
+
+
+def message(role: int, number: int, text: str, answer: str, ms: int, came: int) -> str:
+    """Returns the line of a message whose answer came so many milliseconds after the first START was sent."""
+    return line(M1, role, number, text, answer, ms, BEGAN + came - ms)
+
+
+LINES = [
+    line_of(Open("m1", BEGAN)).decode(),
+    message(0, 1, "(START m1 red ... 10 10)", "ready", 250, 250),
+    message(1, 1, "(START m1 blue ... 10 10)", "ready", 300, 300),
+    message(1, 2, "(PLAY m1 NIL)", "noop", 5, 1_000),
+    message(0, 2, "(PLAY m1 NIL)", "(take 1)", 505, 1_500),
+    message(0, 3, "(PLAY m1 ((take 1) noop))", "noop", 9, 2_000),
+    message(1, 3, "(PLAY m1 ((take 1) noop))", SILENT, 1_000, 3_000),
+    message(1, 4, "(STOP m1 (noop (take 2)))", "done", 3, 4_000),
+]
+LOG = "".join(LINES)
 
 
 def record(name: str) -> str:
@@ -50,24 +66,20 @@ def read_match(text: str) -> dict[str, object]:
 
 
 class TimesOfLogs(unittest.TestCase):
-    def test_a_match_begins_with_its_first_start_and_a_turn_ends_with_its_last_answer(self):
-        found: dict[str, Times] = {}
-        times_of(LOG.splitlines(keepends=True), found)
-        self.assertEqual(found["m1"].of_states(2), [BEGAN, BEGAN + 1_500, BEGAN + 3_000])
+    def times(self, turns: int, *logs: str) -> tuple[int, list[int]]:
+        return times_of([found for log in logs for _, found in beginnings(events(io.BytesIO(log.encode())))], turns)
 
-    def test_the_lines_are_those_of_a_competition(self):
-        self.assertTrue(all(map(log_line, LOG.splitlines())))
+    def test_a_match_begins_and_a_turn_ends_with_its_last_answer(self):
+        self.assertEqual(self.times(2, LOG), (BEGAN, [BEGAN, BEGAN + 1_500, BEGAN + 3_000]))
+        self.assertEqual(self.times(3, LOG), (BEGAN, []))
 
     def test_a_match_that_begins_again_has_its_new_times(self):
-        found: dict[str, Times] = {}
-        times_of([*LOG.splitlines(), *LOG.replace("T06:", "T07:").splitlines()[:3]], found)
-        self.assertEqual((found["m1"].began, found["m1"].of_states(2)), (BEGAN + 3_600_000, []))
-        self.assertEqual(found["m1"].of_states(1), [BEGAN + 3_600_000, BEGAN + 3_601_000])
+        early = "".join(LINES[:5]).replace(str(BEGAN)[:6], str(BEGAN - 10_000_000)[:6])
+        self.assertEqual(self.times(1, early + LOG), (BEGAN, [BEGAN, BEGAN + 1_500]))
 
-    def test_a_line_without_a_time_or_with_none_of_a_calendar_says_nothing(self):
-        found: dict[str, Times] = {}
-        times_of([LOG.splitlines()[0].partition(" ")[2], LOG.splitlines()[0].replace("-11-", "-13-"), "\x00"], found)
-        self.assertEqual(found, {})
+    def test_what_is_not_known(self):
+        self.assertEqual(self.times(0, re.sub('"time":[0-9]+', '"time":null', LOG) + "\x00\n"), (0, []))
+        self.assertEqual((self.times(0), self.times(0, LOG, LOG)), ((0, []),) * 2)
 
 
 class Files(unittest.TestCase):
@@ -101,7 +113,7 @@ class Files(unittest.TestCase):
 
     def test_times_and_the_address_of_the_game_are_those_that_are_named(self):
         (self.folder / "logs").mkdir()
-        (self.folder / "logs/m1.txt").write_text(LOG, encoding="ascii")
+        (self.folder / "logs/m1.jsonl").write_text(LOG, encoding="ascii")
         self.assertEqual(self.converted(record(WHOLE), "--log", str(self.folder / "logs"), "--games", "http://games/base/").returncode, 0)
         found = json.loads((self.folder / "out/000001-m1.json").read_text(encoding="ascii"))
         self.assertEqual((found["startTime"], found["stateTimes"]), (BEGAN, [BEGAN, BEGAN + 1_500, BEGAN + 3_000]))

@@ -19,7 +19,7 @@ def without_round_2(files):
     """Takes the last round away, but for what follows from the records."""
     files = dict(files)
     files["cup/schedule.tsv"] = b"".join(files["cup/schedule.tsv"].splitlines(keepends=True)[:3])
-    return without(*(f"cup/{kind}" for match in ("cup-003", "cup-004") for kind in (f"records/{match}.json", f"accounts/{match}.txt", f"logs/{match}.txt")))(files)
+    return without(*(f"cup/{kind}" for match in ("cup-003", "cup-004") for kind in (f"records/{match}.json", f"accounts/{match}.txt", f"logs/{match}.jsonl")))(files)
 
 
 GROWN = {

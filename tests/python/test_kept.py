@@ -410,7 +410,7 @@ class Files(InFolder):
             file = keep(folder, "m", b"record", b"account", b"log", word)
             self.assertEqual((file, file.read_bytes()), (folder.records / name, b"record"))
             ending = name.removeprefix("m.json")
-            self.assertEqual([(kind / f"m.txt{ending}").read_bytes() for kind in (folder.accounts, folder.logs)], [b"account", b"log"])
+            self.assertEqual([(folder.accounts / f"m.txt{ending}").read_bytes(), (folder.logs / f"m.jsonl{ending}").read_bytes()], [b"account", b"log"])
 
     def test_each_file_is_on_the_disk_before_the_next_one_is_written(self):
         folder, steps = Folder(self.folder), []
@@ -429,7 +429,7 @@ class Files(InFolder):
             keep(folder, "m", b"record", b"account", b"log")
         wanted = []
         # Where the machine is lost at any moment, what has a record has the others.
-        for place, name, data in (("logs", "m.txt", b"log"), ("accounts", "m.txt", b"account"), ("records", "m.json", b"record")):
+        for place, name, data in (("logs", "m.jsonl", b"log"), ("accounts", "m.txt", b"account"), ("records", "m.json", b"record")):
             wanted += [("on the disk", name, data), ("renamed", name), ("on the disk", place, None)]
         self.assertEqual(steps, wanted)
 

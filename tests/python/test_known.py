@@ -17,7 +17,7 @@ from ggp_tools.competition.results import Retirement, result_of, result_of_value
 from ggp_tools.competition.table_text import in_order
 from ggp_tools.referee import Referee
 from html_pages import parsed, rows_of
-from live_support import plan_in, record_of
+from live_support import BEGAN, plan_in, record_of
 from made_up import make_up
 from support import InFolder, program, run
 
@@ -214,7 +214,7 @@ class Files(InCache):
                 first = found
             self.assertEqual(found, first)
         log = self.plan.folder.log(self.plan.matches[0].id)
-        log.write_bytes(log.read_bytes().replace(b"00:00:00.000Z", b"00:00:00.100Z"))
+        log.write_bytes(log.read_bytes().replace(b"%d" % BEGAN, b"%d" % (BEGAN + 100), 1))
         Pages(self.plan, known=Known(self.folder)).write(results)
         self.assertEqual(rows_of(parsed((self.plan.folder.pages / "matches.html").read_bytes()))[1][-1], "0.9")
 

@@ -1,19 +1,20 @@
-"""What is read of the log of a match while it is open, held against the whole log and the record: matches of players that answer in
-whatever way, line by line."""
+"""What the live pages know of a match while it is open, compared with its record: matches of players that answer in whatever way, line by
+line of the log."""
 
 import json
+import math
 import random
 import socket
 import subprocess
 import threading
 
-from ggp_tools.competition.live import Seen
-from ggp_tools.competition.live_board import LiveBoard
-from ggp_tools.competition.log_lines import log_line
+import pytest
+
+from ggp_tools.competition.live import Room, Seen
+from ggp_tools.competition.live_board import Labels, LiveBoard
 from ggp_tools.competition.schedule import Match
 from ggp_tools.competition.tail import Tail
-from ggp_tools.ground_games import Game
-from ggp_tools.kif import expressions
+from ggp_tools.match_log import ENDS, Message, event_of
 from ggp_tools.referee import Referee
 from players import message_of
 from support import InFolder, program
@@ -21,13 +22,14 @@ from support import InFolder, program
 # Seven turns, and moves with the names of errors.
 STEPS = "".join(f"(<= (next (step {step + 1})) (true (step {step})))" for step in range(1, 8))
 RULES = f"(role a) (role b) (init (step 1)) {STEPS} (<= terminal (true (step 8))) (goal a 100) (goal b 0)"
-RULES += "".join(f"(legal {role} {move})" for role, move in (("a", "to"), ("a", "lost"), ("a", "noop"), ("b", "noop"), ("b", "to")))
+RULES += "".join(f"(legal {role} {move}) (<= (next (did {role} {move})) (does {role} {move}))" for role, move in (
+    ("a", "to"), ("a", "lost"), ("a", "noop"), ("b", "noop"), ("b", "to"),
+))
 # None: the connection is closed without an answer.
 LEGAL = b"noop", b"NOOP\n", b" to ", b"noop\r\n", b"TO", b"to\t", b"; mine\nto", b"; a\n;b\r\nnoop ; c\n", b" " * 250 + b"to", b"to ;" + b"x" * 250
-ILLEGAL = b"bad", b"(noop)", b"noop noop", b"", b"bad\n", None, b"no\xe9op", b"ce", b"CE"
-# The log shows these as it shows legal moves, and as what the referee writes after a shortage of its own.
-MISLEADING = b"to\xc2\xa0", b"noop\0", b"to\f", b"?to", b"; to", b"; a?to", b"to ?", b"x" * 250, b" " * 250 + b"bad", b"lost (out of memory)"
-SEEDS, END = range(24), 1 << 30
+LEGAL += b";" + b"\xff" * 4_000 + b"\nto", b"\n" * 4_094 + b"to"
+ILLEGAL = b"bad", b"(noop)", b"noop noop", b"", b"bad\n", None, b"no\xe9op", b"ce", b"CE", b"to\n; more\n(to", b"noop;\n;" + b"x" * 4_096, b"x" * 65_536
+MISLEADING = b"to\xc2\xa0", b"noop\0", b"to\f", b"?to", b"; to", b"; a?to", b"to ?", b"x" * 250, b" " * 250 + b"bad", b"lost (out of memory)", b'"to\\'
 
 
 class Saying(threading.Thread):
@@ -51,74 +53,89 @@ class Saying(threading.Thread):
                     connection.sendall(b"HTTP/1.0 200 OK\r\nContent-Length: %d\r\n\r\n%s" % (len(answer), answer))
 
 
-def round_of(line) -> int:
-    return END if line.kind in ("STOP", "ABORT") else line.turn()
+class Counting(Referee):
+    """The referee, and how often its desk was asked."""
+
+    asked = 0
+
+    def desk(self, *words: object) -> tuple[list[str], dict]:
+        self.asked += 1
+        return super().desk(*words)
 
 
-def asked_after(lines, count: int) -> tuple[set[int], int]:
-    """Returns the roles whose answers are awaited once so many lines are there, and in which round, by the lines that follow."""
-    now = max(map(round_of, lines[:count]))
-    left = {line.role for line in lines[count:] if round_of(line) == now}
-    following = now if left else min(map(round_of, lines[count:]))
-    return left or {line.role for line in lines[count:] if round_of(line) == following}, following
+def round_of(message: Message) -> float:
+    return math.inf if message.kind in ENDS else message.turn()
 
 
 class Matches(InFolder):
-    def played(self, strikes: int, answers: list[list[bytes | None]]) -> tuple[list[str], dict]:
+    def setUp(self) -> None:
+        super().setUp()
+        (self.folder / "rules").write_text(RULES)
+        self.match = Match("m", "g", 20, 20, ("ann", "bob"))
+
+    def played(self, seed: int) -> tuple[list[bytes], dict]:
         """Returns the lines of a match's log, and its record."""
-        players = [Saying(said) for said in answers]
+        choice = random.Random(seed)
+        badness = choice.choice((0.2, 0.5, 0.8))
+        answers = [[choice.choice(ILLEGAL + MISLEADING if choice.random() < badness else LEGAL) for _ in range(9)] for _ in range(2)]
+        players, log = [Saying(said) for said in answers], self.folder / f"{seed}.jsonl"
         places = [f"{name}@{player.place}" for name, player in zip(self.match.players, players)]
-        words = Referee(program()).run_words(self.folder / "rules", None, self.match, strikes, places)
-        done = subprocess.run(words, capture_output=True, text=True, check=True)
+        words = Referee(program()).run_words(self.folder / "rules", None, self.match, seed % 4, places, log)
+        done = subprocess.run(words, capture_output=True, check=True)
         for player in players:
             player.socket.shutdown(socket.SHUT_RDWR)
             player.join()
             player.socket.close()
-        return [line for line in done.stderr.splitlines() if log_line(line)], json.loads(done.stdout.partition("\n")[0])
+        return log.read_bytes().splitlines(keepends=True), json.loads(done.stdout.partition(b"\n")[0])
 
-    def test_line_by_line(self):
-        (self.folder / "rules").write_text(RULES)
-        self.match = Match("m", "g", 20, 20, ("ann", "bob"))
+    def compare(self, seeds: range) -> None:
         retired = 0
-        for seed in SEEDS:
-            choice = random.Random(seed)
-            strikes, badness = seed % 4, choice.choice((0.2, 0.5, 0.8))
-            answers = [[choice.choice(ILLEGAL + MISLEADING if choice.random() < badness else LEGAL) for _ in range(9)] for _ in range(2)]
-            texts, record = self.played(strikes, answers)
-            with self.subTest(seed=seed, strikes=strikes):
-                self.look_at(texts, record, strikes)
+        for seed in seeds:
+            lines, record = self.played(seed)
+            with self.subTest(seed=seed):
+                self.follow(lines, record)
             retired += any("RT" in turn for turn in record["errors"])
         self.assertGreater(retired, 2)
 
-    def look_at(self, texts: list[str], record: dict, strikes: int) -> None:
-        lines, log = list(map(log_line, texts)), self.folder / "log"
-        log.write_text("")
-        board = LiveBoard(Game(expressions(RULES)), self.match, Tail(str(log)), strikes)
-        seen = Seen(self.match, Tail(str(log)), 2, strikes)
-        for count, (text, line) in enumerate(zip(texts, lines), 1):
-            with open(log, "a") as file:
-                file.write(f"{text}\n")
-            self.assertTrue(board.follow(float("inf")))
-            seen.take(line, 0.0)
-            self.assertEqual(board.trouble, "", texts[:count])
-            if not board.doubt():
-                self.assertEqual(board.states[-1], record["states"][board.turn], texts[:count])
-            if count < len(lines):
-                awaited, turn = asked_after(lines, count)
-                found, unsure = seen.awaited()
-                if turn == END or set(found) <= unsure:
-                    # That all roles may be retired, or the game be over, follows from the rules.
-                    continue
-                self.assertTrue(awaited <= set(found) and set(found) - unsure <= awaited, (texts[:count], found, unsure))
-        # An ABORT carries no moves.
-        known = len(record["moves"]) - (record["phase"] == "aborted" and bool(board.presumed or board.waits_for))
-        self.assertGreaterEqual(len(board.turns), known)
-        for turn, moves, errors in zip(list(board.turns)[:known], record["moves"], record["errors"]):
-            self.assertEqual(list(turn.moves), moves, texts)
-            for found, error, is_open in zip(turn.errors, errors, turn.doubts):
-                self.assertTrue(is_open or found.partition(" ")[0] == error.partition(" ")[0], (turn, errors, texts))
-        # What is said to be replaced was.
-        for move in seen.replaced:
-            self.assertTrue(move.turn > known or record["errors"][move.turn - 1][self.match.players.index(move.player)], (move, texts))
-        count = sum(bool(error) for errors in record["errors"] for error in errors)
-        self.assertLessEqual(seen.replaced_count, count + 2 * (record["phase"] == "aborted"), texts)
+    def follow(self, lines: list[bytes], record: dict) -> None:
+        log, referee, count = self.folder / "log", Counting(program()), 0
+        log.write_bytes(b"")
+        board = LiveBoard(self.match, record["strikes"], self.folder / "rules", Labels(RULES.encode()))
+        seen = Seen(self.match, Tail(str(log), event_of), board)
+        messages = [event for event in map(event_of, lines) if isinstance(event, Message)]
+        for line in lines:
+            with open(log, "ab") as file:
+                file.write(line)
+            seen.look(Room("playing", 0.0), 0.0)
+            count += isinstance(event_of(line), Message)
+            if board.is_due():
+                seen.judge(referee)
+            self.assertFalse(board.is_due())
+            self.assert_shown(seen, messages[:count], messages[count:], record)
+        self.assertEqual((board.position.moves, board.position.errors, board.position.states), (record["moves"], record["errors"], record["states"]))
+        self.assertEqual(seen.replaced_count, sum(bool(error) for errors in record["errors"] for error in errors))
+        # The first state, START and each turn.
+        self.assertEqual(referee.asked, 2 + len(record["moves"]))
+
+    def assert_shown(self, seen: Seen, before: list[Message], after: list[Message], record: dict) -> None:
+        """Checks what is shown, once so many messages are answered, by those that follow."""
+        position, left = seen.board.position, set(map(round_of, after))
+        turns = [turn for turn in range(1, len(record["moves"]) + 1) if turn not in left and 0 not in left]
+        self.assertEqual(seen.board.trouble, "")
+        self.assertEqual(position.moves, record["moves"][: len(turns)])
+        self.assertEqual(position.errors, record["errors"][: len(turns)])
+        self.assertEqual(position.states, record["states"][: len(turns) + 1])
+        self.assertTrue(all(round_of(message) not in left for message in seen.last.values()))
+        if after:
+            now = min(left)
+            self.assertEqual(seen.awaited(), sorted({message.role for message in after if round_of(message) == now}))
+            self.assertEqual((seen.is_ending(), seen.turn()), (math.isinf(now), len(turns) + 1 if math.isinf(now) else now))
+        missed = [message for message in before if message.error and round_of(message) not in left]
+        self.assertEqual(sum(seen.missed.values()), len(missed))
+
+    def test_at_each_line_a_match_is_as_its_record_has_it(self):
+        self.compare(range(20))
+
+    @pytest.mark.gate
+    def test_at_each_line_many_matches_are_as_their_records_have_them(self):
+        self.compare(range(20, 220))

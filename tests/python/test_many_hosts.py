@@ -17,7 +17,7 @@ from ggp_tools.competition import hosts
 from ggp_tools.competition.competition_file import Host
 from ggp_tools.competition.hosts import Hosts, destination, remote_words
 from ggp_tools.competition.children import HANG_UP_SECONDS
-from ggp_tools.moments import MOMENT
+from ggp_tools.moments import MOMENT, moment_at
 from fake_ssh import calls, deafen, lose, write_ssh
 from players import TestPlayer
 from support import GAMES, TOP, InFolder, command_of, program, program_but, run, start
@@ -141,7 +141,7 @@ class ManyHosts(InFolder):
         return subprocess.Popen(words, cwd=self.folder, env=self.environment, text=True, stdout=subprocess.PIPE, stderr=subprocess.PIPE)
 
     def hosts_of_logs(self):
-        return [re.search(r"(?m)^host (.*)$", file.read_text())[1] for file in sorted((self.folder / "logs").iterdir())]
+        return [re.findall(r'"event":"host",.*"host":"(.*)"}', file.read_text())[-1] for file in sorted((self.folder / "logs").iterdir())]
 
     def test_matches_go_where_room_is(self):
         self.planned('["a", {name = "b", matches = 4}, {name = "c", matches = 4}, {name = "d", matches = 2}]', 12)
@@ -200,12 +200,11 @@ class ManyHosts(InFolder):
         self.assertEqual((playing.returncode, said, len(lines(out, "end"))), (0, "", 1), out)
         self.assertEqual([player.begun for player in self.players], [["cup-001"] * 2] * 2)
         self.assertEqual([(player.aborted, player.clashes) for player in self.players], [(["cup-001"], [])] * 2)
-        log = (self.folder / "logs/cup-001.txt").read_text()
-        form = rf"{MOMENT} welcome to a\nbegan {MOMENT}\nhost a\n(?:{MOMENT} .*\n)+lost {MOMENT} ssh: .*\n{MOMENT} welcome to b\nbegan {MOMENT}\nhost b\n(?:{MOMENT} .*\n)+ended {MOMENT}\n"
-        self.assertRegex(log, rf"\A{form}\Z")
-        began = re.findall(r"(?m)^began (.*)$", log)
+        log = [json.loads(text) for text in (self.folder / "logs/cup-001.jsonl").read_text().splitlines()]
+        self.assertRegex(" ".join(event["event"] for event in log), r"\Ahost log open (message )*lost host log open (message )+(end message|message end)\Z")
+        first, second = (event["time"] for event in log if event["event"] == "open")
         match = json.loads((self.folder / "matches.jsonl").read_text())
-        self.assertEqual((match["host"], match["begin"], began[0] < began[1]), ("b", began[1], True))
+        self.assertEqual((match["host"], match["begin"], first < second), ("b", moment_at(second / 1_000), True))
         self.assertEqual(len(match["messages"][0]), match["turns"] + 2)
         told = run(self.folder, "why", ".", "cup-001", "p1")[1]
         for words in ("begin cup-001 countdown p0 p1 on a", "lost cup-001 on a: ssh: ", "abort cup-001 p1: answered", "begin cup-001 countdown p0 p1 on b"):

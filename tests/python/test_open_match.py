@@ -14,14 +14,19 @@ from ggp_tools.competition.competition_file import Host
 from ggp_tools.competition.files import Folder
 from ggp_tools.competition.hosts import CONNECTED, Hosts
 from ggp_tools.competition.open_match import OpenMatch, Shared, leave_players
+from ggp_tools.competition.schedule import Match
 from ggp_tools.competition.seats import Seats
 from ggp_tools.competition.started_players import StartedPlayers
 from ggp_tools.referee import Referee
-from live_support import plan_in, record_of
+from live_support import line, plan_in, record_of
 
 NO_ANSWER = (1, b"", "ggp_manager: no answer")
 READY = (0, b"available\n", "")
 LAWFUL = (0, b"lawful\n", "")
+OPENED = '{"event":"open","match":"cup-001","time":1}\n'
+NEAR = '{"event":"host","match":"cup-001","host":"near"}\n'
+LOST_EVENT = '{{"event":"lost","match":"cup-001","time":9500,"reason":"{}"}}\n'
+MESSAGE = line(Match("cup-001", "heap", 10, 10, ("ann", "bob")), 0, 1, "(START cup-001 red ... 10 10)", "ready")
 
 
 class Process:
@@ -32,10 +37,10 @@ class Process:
     begun: list = []
     meanwhile = staticmethod(lambda process: None)
 
-    def __init__(self, room, name, limits=None, heard=None):
-        self.name, self.room, self.limits, self.heard = name, room, limits, heard
+    def __init__(self, room, name, log=None, limits=None, heard=None):
+        self.name, self.room, self.log, self.limits, self.heard = name, room, log, limits, heard
         self.out, self.said = room / name, room / f"{name}.said"
-        self.began_at, self.began, self.goes_on, self.passed = "2026-01-02T03:04:05.000Z", 100.0, False, ""
+        self.began, self.goes_on, self.passed = 100.0, False, ""
 
     async def run(self, words, given="/dev/null", seconds=None):
         self.words, self.given, self.given_seconds = words, given, seconds
@@ -47,9 +52,12 @@ class Process:
         self.seconds = more[0] if more else 0.0
         self.said.write_text(self.text)
         self.out.write_bytes(output)
+        for log in [self.log, *(word.removeprefix("--log=") for word in words if word.startswith("--log=/"))]:
+            if log:
+                with open(log, "a") as file:
+                    file.writelines(line for line in self.text.splitlines(keepends=True) if line.startswith("{"))
         for line in self.text.splitlines():
-            # It comes without the time that its file has.
-            self.heard and self.heard(line.partition("Z ")[2].encode() or line.encode())
+            self.heard and self.heard(line.encode())
         Process.meanwhile(self)
         await asyncio.sleep(0)
         if isinstance(self.status, type):
@@ -57,9 +65,6 @@ class Process:
 
     def printed(self):
         return (self.out.read_text().splitlines() or [""])[-1]
-
-    def timed_bytes(self):
-        return self.said.read_bytes()
 
     def last_words(self, is_word=lambda line: True):
         return self.passed or ([line for line in self.text.splitlines() if is_word(line)] or [f"status {self.status}"])[-1]
@@ -87,9 +92,9 @@ class WithMatch(unittest.TestCase):
     def setUp(self):
         self.folder = pathlib.Path(self.enterContext(tempfile.TemporaryDirectory()))
         Process.laid_down, Process.begun, Process.meanwhile = {"info-0": [READY], "info-1": [READY]}, [], staticmethod(lambda process: None)
-        for name in ("Child", "TimedChild"):
+        for name in ("Child", "RemoteChild"):
             self.enterContext(mock.patch.object(open_match, name, Process))
-        self.enterContext(mock.patch.object(open_match, "moment", lambda: "2026-01-02T03:04:09.000Z"))
+        self.enterContext(mock.patch("time.time", lambda: 9.5))
         self.description = (None, None)
         self.described = []
         self.enterContext(mock.patch.object(open_match.described, "description_of", lambda plan, game: self.described.append((plan, game.name)) or self.description))
@@ -110,7 +115,7 @@ class WithMatch(unittest.TestCase):
         self.open = OpenMatch(shared, self.match, self.hosts and self.hosts.take(100.0))
         self.record = json.dumps(record_of(self.match, [["(take 2)", "noop"], ["noop", "(take 1)"]], [["", ""], ["", ""]], [0, 100])).encode() + b"\n"
         self.account = f"0\topen {self.match.id} 0 10 10 ann bob\topened\n".encode()
-        Process.laid_down |= {"played": [(0, self.record + self.account, "a line\n")], "verified": [LAWFUL], "replayed": [(0, b"replayed 1 calls\n" + self.record, "")]}
+        Process.laid_down |= {"played": [(0, self.record + self.account, OPENED)], "verified": [LAWFUL], "replayed": [(0, b"replayed 1 calls\n" + self.record, "")]}
 
     def go(self):
         """Has the match go on until it is over. As `play` does, it frees what is not free then."""
@@ -142,13 +147,13 @@ class Whole(WithMatch):
         self.assertEqual(self.words_of("info-1"), ["program", "info", "--why", "--", "bob@h:2"])
         rules = self.plan.folder.rules_of("heap")
         self.assertEqual(self.words_of("played"), [
-            "program", "run", f"--rules-file={rules.absolute()}", f"--id={self.match.id}", "--start=10", "--play=10", "--strikes=0", "--history", "--log", "--", "ann@h:1", "bob@h:2",
+            "program", "run", f"--rules-file={rules.absolute()}", f"--id={self.match.id}", "--start=10", "--play=10", "--strikes=0", "--history", f"--log={self.open.room.absolute()}/log.jsonl", "--", "ann@h:1", "bob@h:2",
         ])
         self.assertEqual((self.words_of("verified"), self.words_of("replayed")), (["program", "verify", "--lines", "--why", f"--rules-file={rules}"], ["program", "replay", "--why", f"--rules-file={rules}"]))
         self.assertEqual({process.name: process.read for process in Process.begun[3:]}, {"verified": self.record, "replayed": self.account})
         folder = self.plan.folder
         self.assertEqual([folder.record(self.match.id).read_bytes(), folder.account(self.match.id).read_bytes(), folder.log(self.match.id).read_bytes()], [
-            self.record, self.account, b"began 2026-01-02T03:04:05.000Z\na line\nended 2026-01-02T03:04:09.000Z\n",
+            self.record, self.account, OPENED.encode(),
         ])
         self.assertEqual((self.open.result.goals, self.open.why, self.open.is_broken, self.open.stops_game, self.open.room.exists()), ((0, 100), None, False, False, False))
         self.assertEqual((self.seats.free, self.left, self.reporter.begun, self.reporter.lines), ({"ann": 1, "bob": 1}, ["playing"], [(self.match.id, None)], []))
@@ -172,7 +177,7 @@ class Whole(WithMatch):
         self.assertEqual([word[:16] for word in self.words_of("played") if word.startswith("--player-rules=")], ["--player-rules=/"])
 
     def test_a_match_that_the_referee_did_not_end(self):
-        Process.laid_down["played"] = [(3, b"", "a b role 1\nggp_manager: want of memory\nanother line\n")]
+        Process.laid_down["played"] = [(3, b"", "a line\nggp_manager: want of memory\n")]
         self.go()
         self.assertEqual((self.open.result, self.open.why, self.open.is_broken), (None, "ggp_manager: want of memory", True))
         self.assertEqual((self.files(), self.seats.free, self.names()[-1]), ([], {"ann": 1, "bob": 1}, "played"))
@@ -292,10 +297,10 @@ class Checking(WithMatch):
         """Looks that each file that is kept has what it is to have."""
         for name in self.files():
             data = (self.plan.folder.path / name).read_bytes()
-            self.assertEqual(data if name[0] != "l" else data[:6], {"r": self.record, "a": self.account, "l": b"began "}[name[0]], name)
+            self.assertEqual(data, {"r": self.record, "a": self.account, "l": OPENED.encode()}[name[0]], name)
 
     def kept(self, ending=""):
-        return [f"accounts/cup-001.txt{ending}", f"logs/cup-001.txt{ending}", f"records/cup-001.json{ending}"]
+        return [f"accounts/cup-001.txt{ending}", f"logs/cup-001.jsonl{ending}", f"records/cup-001.json{ending}"]
 
     def test_what_is_not_lawful(self):
         self.assertEqual(self.checked(verified=(1, b"not lawful: goals\n", "ggp_manager: records not lawful 1")), ("not lawful: goals", []))
@@ -329,33 +334,34 @@ class Checking(WithMatch):
         self.assertEqual(self.checked(played=(0, self.record + self.account + other, "")), ("line 2 of its account is of another match: 0 open cup-002 0 10 10 ann bob opened", []))
 
     def log(self):
-        return self.plan.folder.log("cup-001").read_bytes().splitlines()[-1]
+        return self.plan.folder.log("cup-001").read_text().removeprefix(OPENED)
 
     def test_held_against_its_description(self):
         self.description = b"(p ?x)", None
         games = self.plan.competition.games
         self.plan.competition = dataclasses.replace(self.plan.competition, games=(dataclasses.replace(games[0], name="other"), *games))
         self.checked(held=(0, b"the same: 2 turns\n", ""))
-        self.assertEqual(self.log(), b"held against the description: the same")
+        self.assertEqual(self.log(), '{"event":"held","match":"cup-001","reason":null}\n')
         held = next(process for process in Process.begun if process.name == "held")
         self.assertEqual((held.words[-1], held.given), (str(self.open.room / "description.kif"), self.open.room / "record"))
         self.assertEqual((held.read, self.described), (self.record + b"(p ?x)", [(self.plan, "heap")]))
         for answer, words in (
-            ((3, b"not followed: its time was over\n", ""), b"its time was over"), ((2, b"", "ggp-hold-against: x"), b"ggp-hold-against: x"), ((-9, b"", ""), b"status -9"),
+            ((3, b"not followed: its time was over\n", ""), "its time was over"), ((2, b"", "ggp-hold-against: x"), "ggp-hold-against: x"), ((-9, b"", ""), "status -9"),
         ):
             self.begin(self.HEAD)
             self.checked(held=answer)
-            self.assertEqual(self.log(), b"not held against the description: " + words)
+            self.assertEqual(self.log(), f'{{"event":"held","match":"cup-001","reason":"{words}"}}\n')
             self.assertIsNotNone(self.open.result)
 
     def test_without_a_description_the_log_says_why(self):
-        self.description = None, "f can't be read: x"
+        self.description = None, "f\u0100 can't be read: x"
         self.checked()
-        self.assertEqual((self.log(), "held" in self.names()), (b"not held against the description: f can't be read: x", False))
+        said = '{"event":"held","match":"cup-001","reason":"f? can\'t be read: x"}\n'
+        self.assertEqual((self.log(), "held" in self.names()), (said, False))
         self.description = None, None
         self.begin(self.HEAD)
         self.checked()
-        self.assertEqual(self.log(), b"ended 2026-01-02T03:04:09.000Z")
+        self.assertEqual(self.log(), "")
 
     def test_one_that_is_none_of_its_description_stops_the_game(self):
         self.description = b"(p ?x)", None
@@ -378,7 +384,7 @@ class Checking(WithMatch):
 
 
 class OnHosts(WithMatch):
-    SAID = f"2026-01-02T03:04:05.100Z hello\n2026-01-02T03:04:06.000Z {CONNECTED}\n2026-01-02T03:04:07.000Z cup-001 role 0 ann message 1 (START\n"
+    SAID = f"hello\n{CONNECTED}\n{OPENED}{MESSAGE}"
     ALONE = (Host("near", 2),)
 
     def setUp(self):
@@ -402,13 +408,14 @@ class OnHosts(WithMatch):
         self.assertEqual(self.play(self.whole()), ["near"])
         played = next(process for process in Process.begun if process.name == "played")
         self.assertEqual((played.words[0], played.limits.silence), ("ssh", 130))
-        self.assertEqual(self.plan.folder.log("cup-001").read_bytes(), b"2026-01-02T03:04:05.100Z hello\nbegan 2026-01-02T03:04:06.000Z\nhost near\n2026-01-02T03:04:07.000Z cup-001 role 0 ann message 1 (START\nended 2026-01-02T03:04:09.000Z\n")
+        self.assertIn("--log=-", played.words[-1])
+        self.assertEqual(self.plan.folder.log("cup-001").read_text(), f"{NEAR}{OPENED}{MESSAGE}")
         self.assertEqual((self.reporter.begun, self.open.host, self.hosts.failed["near"], self.slept.count(20)), ([("cup-001", "near")], None, 0, 0))
 
     def test_a_host_that_plays_nothing_is_not_there(self):
         self.hosts.failed["near"] = 1
         self.play((0, self.record + self.account, f"x {CONNECTED}\n"))
-        self.assertEqual((self.hosts.failed["near"], self.plan.folder.log("cup-001").read_bytes()), (1, b"began x\nhost near\nended 2026-01-02T03:04:09.000Z\n"))
+        self.assertEqual((self.hosts.failed["near"], self.plan.folder.log("cup-001").read_text()), (1, NEAR))
 
     def test_only_so_many_connections_are_made_at_a_time(self):
         free = []
@@ -427,20 +434,20 @@ class OnHosts(WithMatch):
     def test_a_match_that_is_lost_with_its_host_begins_again_on_another(self):
         order = []
         Process.meanwhile = lambda process: order.append((process.name, self.open.host, self.slept.count(20)))
-        self.assertEqual(self.play((255, b"", f"{self.SAID}2026-01-02T03:04:08.000Z Connection closed\n"), self.whole()), ["near", "far"])
+        self.assertEqual(self.play((255, b"", f"{self.SAID}Connection closed\n"), self.whole()), ["near", "far"])
         # Until the host has heard nothing for so long the match may go on there; then its players are sent ABORT.
         self.assertEqual(order[2:6], [("played", "near", 0), ("abort-0", None, 1), ("abort-1", None, 1), ("played", "far", 1)])
-        self.assertEqual(self.reporter.lines, ["lost cup-001 on near: 2026-01-02T03:04:08.000Z Connection closed; no match goes there for 7 s"])
+        self.assertEqual(self.reporter.lines, ["lost cup-001 on near: Connection closed; no match goes there for 7 s"])
         self.assertEqual(self.reporter.notes[2:], ["abort cup-001 ann: answered", "abort cup-001 bob: no answer"])
         self.assertEqual({process.given_seconds for process in Process.begun if process.name.startswith("abort")}, {5})
-        log = self.plan.folder.log("cup-001").read_bytes()
-        self.assertEqual((log.count(b"began "), b"lost 2026-01-02T03:04:09.000Z 2026-01-02T03:04:08.000Z Connection closed\n" in log, b"host far\n" in log), (2, True, True))
+        lost = LOST_EVENT.format("Connection closed")
+        self.assertEqual(self.plan.folder.log("cup-001").read_text(), f"{NEAR}{OPENED}{MESSAGE}{lost}{NEAR.replace('near', 'far')}{OPENED}{MESSAGE}")
         self.assertEqual((self.open.result.goals, self.open.why), ((0, 100), None))
 
     def test_a_host_that_was_not_reached_is_not_waited_for(self):
-        self.play((255, b"", "2026-01-02T03:04:08.000Z No route\n"), self.whole())
+        self.play((255, b"", "No route\n"), self.whole())
         self.assertEqual(([name for name in self.names() if name.startswith(("played", "abort"))], self.slept.count(20)), (["played", "played"], 0))
-        self.assertTrue(self.plan.folder.log("cup-001").read_bytes().startswith(b"2026-01-02T03:04:08.000Z No route\nlost 2026-01-02T03:04:09.000Z 2026-01-02T03:04:08.000Z No route\n"))
+        self.assertTrue(self.plan.folder.log("cup-001").read_text().startswith(NEAR + LOST_EVENT.format("No route")))
 
     def test_it_is_begun_as_often_as_there_are_tries(self):
         self.assertEqual(self.play((255, b"", "No route\n")), ["near", "far"])
@@ -462,8 +469,7 @@ class OnHosts(WithMatch):
             self.play((status, b"", said))
             self.assertEqual((bool(self.reporter.lines), self.open.is_broken, self.open.result), (is_lost, True, None), (status, said))
 
-    def test_the_message_of_a_referee_is_not_a_line_of_its_log(self):
-        lines = ["cup-001 role 0 ann", "ggp_manager: x", f"{CONNECTED}", "another"]
-        self.assertEqual([self.open.is_word(line) for line in lines], [False, True, False, True])
-        self.plan.competition = dataclasses.replace(self.plan.competition, hosts=())
-        self.assertEqual([self.open.is_word(line) for line in lines], [False, True, False, False])
+    def test_that_a_host_was_reached_is_no_reason(self):
+        self.begin("tries = 1\n", self.ALONE)
+        self.play((1, b"", f"ggp_manager: x\n{CONNECTED}\n"))
+        self.assertEqual(self.open.why, "ggp_manager: x")

@@ -19,13 +19,20 @@ from ggp_tools.competition.files import Folder
 from ggp_tools.competition.pages import Pages, made_side_by_side, seconds_between, spelt
 from ggp_tools.competition.plan import Plan
 from ggp_tools.competition.results import result_of
+from ggp_tools.match_log import End, line_of
 from ggp_tools.referee import Unchecked
 from html_pages import links_of, parsed, rows_of, text_of
+from live_support import BEGAN, ENDED, line, opened
 from planning import planned
 from support import toml
 
-BEGAN, ENDED = "began 2026-01-02T03:04:05.000Z\n", "ended 2026-01-02T03:04:07.500Z\n"
-LOG = f"{BEGAN}m role 0 ann message 1 (START m a (..: ready, 7 ms\n{ENDED}".encode()
+HOUR = 3_600_000
+
+
+def log_of(match, *lines):
+    """Returns the log of a match with these lines."""
+    start = line(match, 0, 1, f"(START {match.id} a ... 10 10)", "ready", 7)
+    return "".join([opened(match, BEGAN), start, *lines, line_of(End(match.id, ENDED, "STOP")).decode()])
 
 
 def record_of(match, number):
@@ -84,7 +91,7 @@ class PagesOfMany(unittest.TestCase):
         for number, match in enumerate(self.plan.matches):
             record = record_of(match, number)
             folder.record(match.id).write_text(json.dumps(record))
-            folder.log(match.id).write_bytes(LOG)
+            folder.log(match.id).write_text(log_of(match))
             self.results.append(result_of(record, match))
 
     def page(self, pages: Pages, name: str) -> bs4.BeautifulSoup:
@@ -136,8 +143,8 @@ class PagesOfMany(unittest.TestCase):
             self.assertIn("And 170 more, which GAPS.tsv names.", text_of(self.page(gaps, "index.html")))
 
     def test_what_a_log_says_is_text(self):
-        for match, log in zip(self.plan.matches, (b"began <plaintext>\n" + LOG, LOG + b"began <plaintext>\nended <plaintext>\n")):
-            self.plan.folder.log(match.id).write_bytes(log)
+        for match in self.plan.matches:
+            self.plan.folder.log(match.id).write_text(f"<plaintext>\n{log_of(match)}".replace('"ready"', '"<plaintext>"').replace(f"{ENDED}", '"<plaintext>"'))
         pages = Pages(self.plan)
         pages.write(self.results[:3])
         for name in ("index.html", "games/one.html"):
@@ -146,10 +153,9 @@ class PagesOfMany(unittest.TestCase):
 
     def test_the_page_of_a_player(self):
         match, player = self.plan.matches[0], self.plan.matches[0].players[1]
-        lines = [b"%s role 1 %s message 2 (PLAY %s NIL): <script>, 1500 ms" % (match.id.encode(), player.encode(), match.id.encode())]
         # What was said before the match began anew on another host does not count.
-        before = b"%s role 1 %s message 2 (PLAY %s NIL): lost, 9000 ms\n" % (match.id.encode(), player.encode(), match.id.encode())
-        self.plan.folder.log(match.id).write_bytes(before + LOG + b"\n".join(lines) + b"\n")
+        before, said = (line(match, 1, 2, f"(PLAY {match.id} NIL)", answer, ms) for answer, ms in (("lost", 9_000), ("<script>", 1_500)))
+        self.plan.folder.log(match.id).write_text(before + log_of(match, said))
         pages = Pages(self.plan)
         pages.write(self.results[:1])
         page = self.page(pages, f"players/player-{player}.html")
@@ -175,22 +181,21 @@ class PagesOfMany(unittest.TestCase):
 
     def test_a_clock_that_is_set_back(self):
         match = self.plan.matches[0]
-        times = ["10:00:00", "10:00:01", "09:00:02", "09:00:03"]
-        for ended in ("09:00:03", "10:30:00"):
-            began, *said, last = [f"2026-01-02T{time}.000Z" for time in (*times[:3], ended)]
-            lines = "".join(f"{time} m role 0 ann message {number} (PLAY m NIL): noop, 1 ms\n" for number, time in enumerate(said, 2))
-            self.plan.folder.log(match.id).write_text(f"began {began}\n{lines}ended {last}\n")
+        for times in ((1, -HOUR, -HOUR + 1), (1, -HOUR, HOUR)):
+            lines = [line(match, 0, number, f"(PLAY {match.id} NIL)", "noop", 1, BEGAN + time) for number, time in enumerate(times, 2)]
+            self.plan.folder.log(match.id).write_text(log_of(match, *lines))
             pages = Pages(self.plan)
             pages.write(self.results[:1])
-            self.assertEqual(self.last_match(pages)[-2:], ["2026-01-02 10:00:00", "the clock was set back"])
+            self.assertEqual(self.last_match(pages)[-2:], ["2026-01-02 03:04:05", "the clock was set back"])
 
     def test_of_a_log_that_is_too_long_the_first_lines_are_read(self):
         match = self.plan.matches[0]
-        line = f"{match.id} role 1 {match.players[1]} message {{}} (PLAY {match.id} NIL): <script>, {{}} ms\n"
-        log = BEGAN + "".join(line.format(number, 10 * number) for number in range(2, 300)) + line.format(300, 77_777) + ENDED
+        lines = [line(match, 1, number, f"(PLAY {match.id} NIL)", "<script>", 10 * number if number < 300 else 77_777) for number in range(2, 301)]
+        log = log_of(match, *lines)
+        end = len(log.splitlines(keepends=True)[-1])
         self.plan.folder.log(match.id).write_text(log)
         name = f"players/player-{match.players[1]}.html"
-        for most, longest, is_cut in ((len(log), "77,777 ms", False), (len(log) - len(ENDED) - 1, "2,990 ms", True), (log.index("message 5"), "40 ms", True)):
+        for most, longest, is_cut in ((len(log), "77,777 ms", False), (len(log) - end - 1, "2,990 ms", True), (log.index('"number":5,'), "40 ms", True)):
             pages = Pages(self.plan)
             with patch.object(pages_module, "MOST_OF_LOG", most):
                 pages.write(self.results[:1])
@@ -207,8 +212,8 @@ class PagesOfMany(unittest.TestCase):
         new = self.plan.matches[48] = replace(new, instead_of=old.id)
         player = old.players[1]
         for match in (old, new):
-            line = f"{match.id} role 1 {player} message 2 (PLAY {match.id} NIL): <script>, {9_000 if match is old else 1_500} ms\n"
-            self.plan.folder.log(match.id).write_bytes(LOG + line.encode())
+            said = line(match, 1, 2, f"(PLAY {match.id} NIL)", "<script>", 9_000 if match is old else 1_500)
+            self.plan.folder.log(match.id).write_text(log_of(match, said))
         results = [result_of(record_of(match, number), match) for number, match in enumerate((old, new))]
         pages = Pages(self.plan)
         pages.write(results)

@@ -110,12 +110,11 @@ class Play(InFolder):
         self.assertEqual((status, lines(out, "begin")), (1, []))
         self.assertEqual({line.split(": ")[1] for line in lines(out, "missing")}, {"p1 is silent"})
 
-    def test_a_line_of_the_log_is_no_word_of_why_there_is_no_record(self):
+    def test_a_referee_that_ends_without_a_word(self):
         self.planned(["good", "good"])
-        log = "echo 'cup-001 role 0 p0 message 1 (PLAY cup-001 nil): x, 3 ms' >&2; printf 'cup-001 role 1 p1 mes' >&2"
         # Status 1 without a word is that of a full disk, also where the log was written before.
         for done, words, count in (("kill -9 $$", UNSAID.format(-9), 2), ("exit 1", UNSAID.format(1), 1)):
-            faulty = program_but(self.folder / "faulty", '"$1" = run', f"{log}; {done}")
+            faulty = program_but(self.folder / "faulty", '"$1" = run', f"for word; do case $word in --log=*) echo cut >> ${{word#--log=}};; esac; done; {done}")
             status, out, _ = run(self.folder, "play", "--at-once", "1", "--program", faulty)
             self.assertEqual((status, lines(out, "no record")), (1, [f"no record {planned[0]}: {words}" for planned in self.schedule[:count]]), out)
 
@@ -495,7 +494,7 @@ class Play(InFolder):
     def test_a_match_that_was_played_and_not_checked_is_kept_aside(self):
         self.planned(["good", "good"])
         short = "echo 'ggp_manager: want of memory' >&2; exit 3"
-        played = ("records/cup-001.json", "accounts/cup-001.txt", "logs/cup-001.txt")
+        played = ("records/cup-001.json", "accounts/cup-001.txt", "logs/cup-001.jsonl")
         # With an empty input `verify` only says whether the rules are accepted, as the plan is read.
         record = '"$1" = verify && -s /dev/stdin'
         shortages = [(record, short, "want of memory"), (record, "kill -9 $$", "status -9"), ('"$1" = replay', short, "want of memory")]
@@ -630,7 +629,7 @@ class Play(InFolder):
         self.planned(["good", "good"])
         run(self.folder, "play")
         before = self.files()
-        (self.folder / "logs/cup-001.txt").unlink()
+        (self.folder / "logs/cup-001.jsonl").unlink()
         said = "ggp_competition: cup-001 counts without its times: its log is missing\n"
         self.assertEqual(run(self.folder, "play"), (0, "2 of 2 matches have a lawful record\n", said))
         found = json.loads((self.folder / "matches.jsonl").read_text().splitlines()[0])
@@ -639,7 +638,7 @@ class Play(InFolder):
         self.assertEqual(run(self.folder, "pages")[::2], (0, ""))
         self.assertEqual(run(self.folder, "publish")[::2], (0, said))
         self.assertEqual(run(self.folder, "check", "cup.tar.gz")[::2], (0, ""))
-        self.assertEqual(self.files(), {name: data for name, data in before.items() if name != "logs/cup-001.txt"})
+        self.assertEqual(self.files(), {name: data for name, data in before.items() if name != "logs/cup-001.jsonl"})
 
     def test_streams_that_are_closed(self):
         self.planned(["good", "good"])

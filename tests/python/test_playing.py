@@ -375,7 +375,7 @@ class Before(WithMatches):
             "refused cup-001: not lawful: goals; its files are set aside, and it is played again",
             "aside cup-002: it has no record; its other files are set aside, and it is played",
         ])
-        self.assertEqual(sorted(file.name for kind in (folder.records, folder.accounts, folder.logs) for file in kind.iterdir()), ["cup-001.json.refused", "cup-002.txt.refused", "cup-003.txt"])
+        self.assertEqual(sorted(file.name for kind in (folder.records, folder.accounts, folder.logs) for file in kind.iterdir()), ["cup-001.json.refused", "cup-002.txt.refused", "cup-003.jsonl"])
 
     def test_what_another_was_ordered_for_is_not_played_again(self):
         folder = self.plan.folder

@@ -10,7 +10,7 @@ from unittest import mock
 
 from ggp_tools.competition.schedule import Match
 from ggp_tools.referee import (
-    BadRules, NoReferee, Referee, Unchecked, find_program, is_no_answer, last_line, read_records, records_replayed,
+    BadRules, NoReferee, Referee, Unchecked, find_program, has_events, is_no_answer, last_line, read_records, records_replayed,
     is_text_list, rules_file,
 )
 
@@ -178,6 +178,10 @@ class Lines(unittest.TestCase):
         for status, line, wanted in ((1, "ggp_manager: no answer", True), (2, no_name, True), (0, no_name, False), (None, no_name, False), (2, f"x{no_name}", False), (3, "", False)):
             self.assertEqual(is_no_answer(status, line), wanted, (status, line))
 
+    def test_which_versions_write_events(self):
+        versions = b"ggp_manager 0.2.9\n", b"ggp_manager 0.3.0\n", b"ggp_manager 0.10.0\n", b"ggp_manager 1.0.0\n"
+        self.assertEqual(list(map(has_events, versions)), [False, True, True, True])
+
     def test_a_run_may_say_nothing(self):
         def said(err: bytes) -> subprocess.CompletedProcess:
             return subprocess.CompletedProcess(["x"], 0, b"", err)
@@ -207,9 +211,10 @@ class Words(WithStandIn):
         self.assertEqual(self.referee.info_words("ann@h:1"), [path, "info", "--why", "--", "ann@h:1"])
         self.assertEqual(self.referee.verify_words("r"), [path, "verify", "--lines", "--why", "--rules-file=r"])
         self.assertEqual(self.referee.replay_words("r"), [path, "replay", "--why", "--rules-file=r"])
-        options = ["--id=cup-1", "--start=10", "--play=5", "--strikes=2", "--history", "--log", "--", "ann@h:1", "bob@h:2"]
+        options = ["--id=cup-1", "--start=10", "--play=5", "--strikes=2", "--history", "--log=-", "--", "ann@h:1", "bob@h:2"]
         places = ["ann@h:1", "bob@h:2"]
         self.assertEqual(self.referee.run_words("r", None, self.MATCH, 2, places), [path, "run", "--rules-file=r", *options])
+        self.assertIn("--log=some/log", self.referee.run_words("r", None, self.MATCH, 2, places, "some/log"))
         self.assertEqual(self.referee.run_words("r", "t", self.MATCH, 2, places), [path, "run", "--rules-file=r", "--player-rules=t", *options])
 
     def test_a_large_game_is_said_to_be_one(self):

@@ -4,12 +4,14 @@ import json
 import unittest
 from dataclasses import replace
 
-from ggp_tools.competition.log_lines import reasons
 from ggp_tools.competition.results import (
-    Result, Sums, fault_of_record, forfeit_words, is_set_back, kind_of, match_line, remarks, result_of, result_of_values, retirement_of, times_of,
-    values_of, winner_words,
+    Result, Sums, fault_of_record, forfeit_words, kind_of, match_line, remarks, result_of, result_of_values, retirement_of, values_of,
+    winner_words,
 )
 from ggp_tools.competition.schedule import Match
+from ggp_tools.match_log import event_of
+from ggp_tools.records.match_logs import Beginning, logged
+from live_support import line
 
 MATCH = Match("cup-001", "nim", 10, 5, ("ann", "bob"))
 RECORD = {
@@ -78,28 +80,12 @@ class Results(unittest.TestCase):
         self.assertFalse(absent())
 
 
-class Times(unittest.TestCase):
-    LOG = (
-        b"began 2026-11-27T20:44:17.690Z\nhost 10.0.0.1\ncup-001 role 0 ann message 1 (START cup-001 x () 10 5): ready, 3 ms\n"
-        b"cup-001 role 1 bob message 1 (START cup-001 o () 10 5): ready, 4 ms\ncup-001 role 2 eve message 1 (START cup-001 o () 10 5): ready, 9 ms\n"
-        b"cup-001 role 0 ann message 2 (PLAY cup-001 NIL): TO (no answer in time), 5001 ms\nended 2026-11-27T20:44:42.148Z\n"
-    )
+LOGGED = logged([event_of(line(MATCH, role, 1, "(START cup-001 o ... 10 5)", "ready", 3 + role).encode()) for role in (0, 1)])
 
-    def test_a_log_has_the_times_of_each_roles_messages(self):
-        found = times_of(self.LOG, 2)
-        self.assertEqual((found["begin"], found["end"], found["host"]), ("2026-11-27T20:44:17.690Z", "2026-11-27T20:44:42.148Z", "10.0.0.1"))
-        self.assertEqual(found["messages"], [[["start", 3], ["play", 5001]], [["start", 4]]])
 
-    def test_a_log_has_the_reasons_of_broken_answers_since_the_match_began_last(self):
-        line = "cup-001 role {} message 2 (PLAY cup-001 NIL): {}, 5 ms\n"
-        rows = [("0 ann", "CE (gone)"), ("1 bob", "TO (late)"), ("1 bob", "CE"), ("1 eve", "CE (other)"), ("2 bob", "CE (none)")]
-        log = "".join(line.format(*row) for row in rows).encode()
-        self.assertEqual(reasons(log, MATCH), {(0, 2): "gone"})
-        again = b"began 2026-11-27T20:44:17.690Z\n" + line.format("1 bob", "CE ()").encode()
-        self.assertEqual(reasons(log + again, MATCH), {(1, 2): ""})
-
+class Lines(unittest.TestCase):
     def test_the_line_of_a_match_says_all_of_it(self):
-        line = match_line(result_of(RECORD, MATCH), SUMS, self.LOG, BROKEN)
+        line = match_line(result_of(RECORD, MATCH), SUMS, LOGGED, BROKEN)
         self.assertEqual(line[-1:], b"\n")
         said = json.loads(line)
         self.assertEqual(said["errors"], [{"CE": 1, "IL": 1}, {"IL": 1, "TO": 1}])
@@ -115,7 +101,7 @@ class Forfeits(unittest.TestCase):
     def test_a_forfeit_says_who_why_and_what_counts(self):
         found = result_of(RECORD, MATCH, True)
         self.assertEqual(forfeit_words(found), "forfeit: ann (CE, IL in turns 2 to 3), counts as ann 0, bob 100")
-        said = json.loads(match_line(found, SUMS, b"", []))
+        said = json.loads(match_line(found, SUMS, Beginning(), []))
         self.assertEqual((said["goals"], said["counted"]), ([100, 0], [0, 100]))
         self.assertEqual(said["forfeit"], [{"player": "ann", "errors": ["CE", "IL"], "turn": 3}])
         self.assertEqual((forfeit_words(result_of(RECORD, MATCH)), result_of(RECORD, MATCH).counted()), ("", (100, 0)))
@@ -179,9 +165,9 @@ class Remarks(unittest.TestCase):
 
     def test_the_line_of_a_match_says_its_round_and_its_orders(self):
         match = replace(MATCH, round=2, again="cup-009", reason="late", instead_of="cup-000")
-        said = json.loads(match_line(result_of(RECORD, match), SUMS, b"", []))
+        said = json.loads(match_line(result_of(RECORD, match), SUMS, Beginning(), []))
         self.assertEqual([said[key] for key in ("round", "again", "reason", "insteadOf")], [2, "cup-009", "late", "cup-000"])
-        said = json.loads(match_line(result_of(RECORD, MATCH), SUMS, b"", []))
+        said = json.loads(match_line(result_of(RECORD, MATCH), SUMS, Beginning(), []))
         self.assertFalse({"round", "again", "reason", "insteadOf"} & said.keys())
         self.assertEqual([said[key] for key in ("begin", "end", "host")], [None] * 3)
 
@@ -196,34 +182,3 @@ class Values(unittest.TestCase):
         found = result_of(RECORD, MATCH)
         self.assertEqual(Result(MATCH, found.goals, found.turns, found.errors, found.retirements, "finished", None).forfeits(), {})
 
-
-class Began(unittest.TestCase):
-    def test_only_the_last_time_that_a_match_began_counts(self):
-        log = b"began 2025-01-01T00:00:00.000Z\nhost 10.0.0.9\ncup-001 role 0 ann message 1 (START cup-001 x () 10 5): ready, 77 ms\n" + Times.LOG
-        self.assertEqual(times_of(log, 2), times_of(Times.LOG, 2))
-        time = "2027-01-01T00:00:00.000Z"
-        self.assertEqual(times_of(Times.LOG + f"began {time}\n".encode(), 2), {"begin": time, "end": None, "host": None, "messages": [[], []]})
-
-    def test_a_log_without_lines_has_no_messages(self):
-        self.assertEqual(times_of(b"", 2), {"begin": None, "end": None, "host": None, "messages": [[], []]})
-
-    def test_a_competition_may_be_named_like_that(self):
-        log = Times.LOG.replace(b"cup-001", b"began-001")
-        self.assertEqual(times_of(log, 2), times_of(Times.LOG, 2))
-
-    def test_lines_that_have_a_time_before_them(self):
-        lines = [b"2026-11-27T20:44:17.700Z " * line.startswith(b"cup") + line for line in Times.LOG.splitlines(keepends=True)]
-        self.assertEqual(times_of(b"".join(lines) + b"no line\n", 2), times_of(Times.LOG, 2))
-
-    def test_a_clock_was_set_back_where_a_line_has_an_earlier_time_than_the_one_before(self):
-        first, second, third = (f"2026-11-27T20:44:1{second}.700Z" for second in (1, 2, 3))
-        for lines, wanted in (
-            ([], False), ([f"began {second}", f"{second} x", f"ended {third}"], False), ([f"began {second}", f"{first} x"], True),
-            ([f"began {first}", f"{third} x", f"{second} y", f"ended {third}"], True), ([f"began {first}", f"{second} x", f"ended {first}"], True),
-            # What was before the match began again is another run.
-            ([f"began {second}", f"{first} x", f"began {second}", f"ended {third}"], False),
-            ([f"began {first}", f"began {third}", f"{second} x", f"began {second}", f"ended {third}"], False),
-            ([f"began {third}", f"{third} x", f"began {second}", f"{first} x"], True),
-            ([f"began {second}", f"x {first}", "host one"], False),
-        ):
-            self.assertEqual(is_set_back("".join(f"{line}\n" for line in lines).encode()), wanted, lines)

@@ -19,22 +19,16 @@ import unittest
 import urllib.request
 from unittest.mock import Mock, patch
 
-from ggp_tools.competition import files, http_server, live, pages
+from ggp_tools.competition import files, http_server, live, live_site, pages
 from ggp_tools.competition.live_site import LiveSite
 from ggp_tools.competition.page_changes import changes
 from ggp_tools.competition.page_parts import Items, Part
-from ggp_tools.moments import moment_at
-from ggp_tools.referee import NoReferee
+from ggp_tools.referee import NoReferee, Referee
 from html_pages import links_of, parsed, rows_of, text_of
-from live_support import SILENT, begin, end, line, plan_in, record_of, started
-from support import GAMES, InFolder, run, start
+from live_support import SILENT, Missed, begin, end, line, plan_in, record_of, started
+from support import GAMES, InFolder, program, run, start
 
 HOSTILE = ["<script>alert(1)</script>", "\"'><img src=x onerror=alert(1)>", "</tbody></table><b>", "&lt;&#65;", "<!--"]
-
-
-def setUpModule():
-    """On a busy computer a look at the records may take long. Here none waits for that."""
-    unittest.enterModuleContext(patch.object(live, "SHARE", 0))
 
 
 class Served(unittest.TestCase):
@@ -44,8 +38,11 @@ class Served(unittest.TestCase):
     STRIKES = ""
 
     def setUp(self):
+        # On a busy computer a look at the records, and the referee, may take long. Here nothing waits for that.
+        for module, name, value in ((live, "SHARE", 0), (live, "JUDGING_SHARE", 0), (live_site, "FOLLOW", 1e9)):
+            self.enterContext(patch.object(module, name, value))
         self.plan = plan_in(self.enterContext(tempfile.TemporaryDirectory()), ["ann", "bob", "cid"], head=self.STRIKES)
-        self.site = LiveSite(self.plan, lambda: self.plan)
+        self.site = LiveSite(self.plan, Referee(program()), lambda: self.plan)
         self.site.look()
         begun = queue.Queue()
         thread = threading.Thread(target=lambda: asyncio.run(self.serve(begun)), daemon=True)
@@ -99,8 +96,8 @@ class Served(unittest.TestCase):
             self.assertNotEqual(said, b"")
         return json.loads(said.removeprefix(b"data: "))
 
-    def play(self, match, number, moves, answers):
-        return "".join(line(match, role, number, f"(PLAY {match.id} {moves})", answer) for role, answer in enumerate(answers))
+    def play(self, match, number, moves, answers, time=None):
+        return "".join(line(match, role, number, f"(PLAY {match.id} {moves})", answer, 5, time) for role, answer in enumerate(answers))
 
     def say(self, log, text):
         with open(log, "a") as file:
@@ -218,7 +215,7 @@ class Pages(Served):
             with self.subTest(said=said):
                 end(self.plan, match, good | wrong)
                 # `serve` begins with it, too.
-                self.site = self.server.site = LiveSite(self.plan, lambda: self.plan)
+                self.site = self.server.site = LiveSite(self.plan, Referee(program()), lambda: self.plan)
                 self.site.look()
                 first = self.page("/")
                 self.assertIn("1 of 6 matches are over.", first)
@@ -226,7 +223,7 @@ class Pages(Served):
                 self.assertLess(len(first), 100_000)
                 self.assertIn("does not count", self.page(f"/matches/{match.id}.html"))
         end(self.plan, match, good)
-        self.site = self.server.site = LiveSite(self.plan, lambda: self.plan)
+        self.site = self.server.site = LiveSite(self.plan, Referee(program()), lambda: self.plan)
         self.look()
         self.assertIn("2 of 6 matches are over.", self.page("/"))
 
@@ -312,7 +309,7 @@ class Delayed(Served):
         self.moment = time.time()
         self.enterContext(patch.object(time, "time", lambda: self.moment))
         self.enterContext(patch.object(live, "LOOK_AGAIN", 0))
-        self.site = self.server.site = LiveSite(self.plan, lambda: self.plan, delay=60)
+        self.site = self.server.site = LiveSite(self.plan, Referee(program()), lambda: self.plan, delay=60)
         self.look()
 
     def look_at(self, seconds):
@@ -323,16 +320,15 @@ class Delayed(Served):
         return re.search("[0-9]+ match(es are| is) open", first)[0], re.search("[0-9]+ of 6", first)[0]
 
     def now(self):
-        return moment_at(self.moment) + " "
+        return int(self.moment * 1_000)
 
     def test_everything_is_shown_late(self):
         match = self.plan.matches[0]
-        lines = started(match) + self.play(match, 2, "NIL", ["(take 2)", "noop"])
-        log = begin(self.plan, match, "".join(f"{self.now()}{text}\n" for text in lines.splitlines()))
+        log = begin(self.plan, match, started(match, self.now()) + self.play(match, 2, "NIL", ["(take 2)", "noop"], self.now()))
         self.assertEqual(self.look_at(1), ("0 matches are open", "0 of 6"))
         self.assertEqual(self.look_at(58), ("0 matches are open", "0 of 6"))
         # It is over before anything of it is shown.
-        lines = "".join(f"{self.now()}{text}\n" for text in self.play(match, 3, "((take 2) noop)", ["noop", "(take 1)"]).splitlines())
+        lines = self.play(match, 3, "((take 2) noop)", ["noop", "(take 1)"], self.now())
         end(self.plan, match, record_of(match, [["(take 2)", "noop"], ["noop", "(take 1)"]], [["", ""]] * 2, [0, 100]), log.read_text() + lines)
         os.utime(self.plan.folder.record(match.id), (self.moment, self.moment))
         self.assertEqual(self.look_at(3), ("1 match is open", "0 of 6"))
@@ -543,15 +539,16 @@ class Events(Served):
         self.assertIs(self.site.pages["/index.html"].parts, made)
         self.site.pages["/index.html"].touched -= 100
         self.look()
-        self.assertEqual((dict(self.site.pages), self.site.boards), ({}, {}))
+        self.assertEqual((dict(self.site.pages), self.site.followed), ({}, {}))
 
 
 class Hostile(Served):
     def test_what_players_say_is_text(self):
         match, other = self.plan.matches[:2]
         log = started(match)
-        for number, text in enumerate(HOSTILE, 2):
-            log += line(match, 0, number, f"(PLAY m {text})", text) + line(match, 1, number, f"(PLAY m {text})", f"CE ({text})")
+        # After three turns the match is over.
+        for number, text in enumerate((HOSTILE[4], HOSTILE[2], HOSTILE[0]), 2):
+            log += line(match, 0, number, f"(PLAY m {text})", text) + line(match, 1, number, f"(PLAY m {text})", Missed(f"CE ({text})"))
         begin(self.plan, match, log + "".join(f"{text}\n" for text in HOSTILE))
         moves, errors = [[text, "noop"] for text in HOSTILE], [[f"IL {text}", text] for text in HOSTILE]
         record = record_of(other, moves, errors, [0, 100]) | {"roles": HOSTILE[:2]}
@@ -567,7 +564,7 @@ class Hostile(Served):
             self.assertLessEqual(len(found("script")), 1, path)
             self.assertEqual([word for word in HOSTILE if word in text], [], path)
         own = self.page(f"/matches/{match.id}.html")
-        self.assertEqual((len(parsed(own).select("#turns tr")), own.count("IL &lt;!--"), own.count("&lt;!--")), (len(HOSTILE), 1, 6))
+        self.assertEqual((len(parsed(own).select("#turns tr")), own.count("IL &lt;!--"), own.count("CE (&lt;!--")), (3, 1, 1))
         self.assertIn("&lt;script&gt;alert(1)&lt;/script&gt;", self.page(f"/players/player-{other.players[0]}.html"))
 
 

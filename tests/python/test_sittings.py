@@ -7,6 +7,8 @@ from ggp_tools.competition.plots import BARS, bar_of
 from ggp_tools.competition.results import result_of
 from ggp_tools.competition.schedule import Match
 from ggp_tools.competition.sittings import MOST_ERRORS, Fault, sitting_of_values, sittings_of, values_of
+from ggp_tools.match_log import Event, Open, event_of
+from live_support import Missed, line
 
 MATCH = Match("cup-001", "nim", 10, 5, ("ann", "bob"))
 
@@ -17,22 +19,23 @@ def record(*errors: list[str]) -> dict:
     return {"roles": ["x", "o"], "goalValues": [100, 0], "moves": moves, "errors": list(errors), "strikes": 2, "phase": "finished", "cause": None}
 
 
-def line(role: int, number: int, message: str, answer: str, milliseconds: int) -> str:
-    return f"cup-001 role {role} {MATCH.players[role]} message {number} {message}: {answer}, {milliseconds} ms\n"
+def lines(*messages: tuple) -> list[Event]:
+    """Returns messages of the match: role, number, text, answer and milliseconds of each."""
+    return [event_of(line(MATCH, *message).encode()) for message in messages]
 
 
-LOG = (
-    "began 2026-01-01T00:00:00.000Z\n" + line(0, 1, "(START cup-001 x () 10 5)", "ready", 40) + line(1, 1, "(START cup-001 o () 10 5)", "ready", 50)
-    + line(0, 2, "(PLAY cup-001 NIL)", "a1", 7) + line(1, 2, "(PLAY cup-001 NIL)", "TO (no answer in time)", 5_001)
-    + line(0, 3, "(PLAY cup-001 (a1 b1))", "wrong", 300) + line(1, 3, "(PLAY cup-001 (a1 b1))", "CE (no connection)", 2)
-    + line(0, 4, "(PLAY cup-001 (a2 b2))", "a3", 9) + line(0, 5, "(STOP cup-001 (a3 b3))", "done", 9_999) + "ended 2026-01-01T00:00:09.000Z\n"
+LOG = lines(
+    (0, 1, "(START cup-001 x ... 10 5)", "ready", 40), (1, 1, "(START cup-001 o ... 10 5)", "ready", 50),
+    (0, 2, "(PLAY cup-001 NIL)", "a1", 7), (1, 2, "(PLAY cup-001 NIL)", Missed("TO (no answer in time)"), 5_001),
+    (0, 3, "(PLAY cup-001 (a1 b1))", "wrong", 300), (1, 3, "(PLAY cup-001 (a1 b1))", Missed("CE (no connection)"), 2),
+    (0, 4, "(PLAY cup-001 (a2 b2))", "a3", 9), (0, 5, "(STOP cup-001 (a3 b3))", "done", 9_999),
 )
 RECORD = record(["", "TO"], ["IL wrong", "CE"], ["", "RT"])
 
 
 class Sittings(unittest.TestCase):
     def sittings(self, said=RECORD, log=LOG, ended="2026-01-01T00:00:09.000Z"):
-        return sittings_of(result_of(said, MATCH), said, log.encode(), ended)
+        return sittings_of(result_of(said, MATCH), said, log, ended)
 
     def test_each_role_has_its_own(self):
         ann, bob = self.sittings()
@@ -55,31 +58,24 @@ class Sittings(unittest.TestCase):
         ))
 
     def test_a_retired_role_was_asked_for_nothing_whatever_a_log_says(self):
-        log = LOG + line(1, 4, "(PLAY cup-001 (a2 b2))", "b3", 1)
+        log = LOG + lines((1, 4, "(PLAY cup-001 (a2 b2))", "b3", 1))
         self.assertEqual(self.sittings(log=log)[1].faults[-1], Fault(3, "RT", "b3"))
 
     def test_without_lines_there_are_no_times(self):
-        ann, bob = self.sittings(log="", ended=None)
+        ann, bob = self.sittings(log=[], ended=None)
         self.assertEqual((ann.start, ann.longest, ann.times, ann.ended), (None, None, (0,) * BARS, ""))
         self.assertEqual(bob.faults[0], Fault(1, "TO", "b1"))
 
-    def test_a_match_that_began_again_has_the_lines_of_its_last_time_alone(self):
-        before = "began 2025-01-01T00:00:00.000Z\n" + line(0, 1, "(START cup-001 x () 10 5)", "ready", 1) + line(0, 2, "(PLAY cup-001 NIL)", "a1", 8_000)
-        self.assertEqual(self.sittings(log=before + LOG), self.sittings())
-
-    def test_a_competition_may_be_named_like_the_word_for_that(self):
-        match = replace(MATCH, id="began-001")
-        found = sittings_of(result_of(RECORD, match), RECORD, LOG.replace("cup-001", "began-001").encode(), None)
-        self.assertEqual([sitting.times for sitting in found], [sitting.times for sitting in self.sittings()])
-
     def test_lines_of_no_role_are_left_out(self):
-        self.assertEqual(self.sittings(log=LOG + "cup-001 role 2 eve message 2 (PLAY cup-001 NIL): x, 1 ms\nno line\n"), self.sittings())
+        three = replace(MATCH, players=("ann", "bob", "eve"))
+        log = [*LOG, event_of(line(three, 2, 2, "(PLAY cup-001 NIL)", "x", 1).encode()), Open("cup-001", 1)]
+        self.assertEqual(self.sittings(log=log), self.sittings())
 
     def test_of_many_errors_the_last_ten_are_shown(self):
         self.assertEqual(MOST_ERRORS, 10)
         for count, before in ((10, 0), (12, 2)):
             said = record(["", ""], *[["TO", ""]] * count)
-            ann, bob = self.sittings({**said, "strikes": 0}, "")
+            ann, bob = self.sittings({**said, "strikes": 0}, [])
             self.assertEqual(([fault.turn for fault in ann.faults], bob.faults), (list(range(2 + before, 2 + count)), ()))
 
     def test_a_match_in_whose_place_another_was_ordered_has_no_goal(self):

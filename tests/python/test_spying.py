@@ -8,22 +8,30 @@ import tempfile
 import threading
 
 from ggp_tools.competition.live_site import LiveSite
-from live_support import SILENT, begin, line, plan_in
+from ggp_tools.referee import Referee
+from live_support import SILENT, Missed, begin, line, plan_in
 from players import TestPlayer
-from support import GAMES, InFolder, start
+from support import GAMES, InFolder, program, start
 from test_serving import Served
 
-# What may come back: of a move its own words, which come nowhere else.
-ANSWERS = (
-    "(say zq{0}x{1})", "(bad zq{0}x{1})", "zq{0}x{1} ((", "(say zq{0}x{1})?", SILENT, "CE (no connection)", "lost (zq{0}x{1})",
-    "zq{0}x{1}".ljust(200, "y") + "..",
-)
+# What may come back: of a move its own words, which come nowhere else. After each that is replaced a legal one comes, so that nobody is
+# retired.
+LEGAL = "(say zq{0}x{1})"
+ILLEGAL = ("(bad zq{0}x{1})", "zq{0}x{1} ((", "(say zq{0}x{1})?", SILENT, Missed("CE (no connection)"), "lost (zq{0}x{1})", "zq{0}x{1}".ljust(400, "y"))
+ANSWERS = (LEGAL, "; zq{0}x{1}\n(say zq{0}x{1})", *(answer for illegal in ILLEGAL for answer in (illegal, LEGAL)))
+
+
+def filled(answer: str, turn: int, role: int) -> str:
+    """Returns an answer with the words of a turn and a role."""
+    return answer if isinstance(answer, Missed) else answer.format(turn, role)
+
+
 NAMES = ["ann", "bob", "cid"]
 
 
 def rules_of(roles: tuple[str, ...]) -> bytes:
     """Returns a game in which all roles say something at once; what was said is shown."""
-    legal = "".join(f"(legal {role} (say zq{turn}x{at}))" for at, role in enumerate(roles) for turn in range(1, 10))
+    legal = "".join(f"(legal {role} (say zq{turn}x{at}))" for at, role in enumerate(roles) for turn in range(1, 20))
     said = "".join(f"(role {role}) (<= (next (said {role})) (does {role} (say zq1x0))) (goal {role} 50)" for role in roles)
     return f"(init (step 1)) {said} {legal}".encode()
 
@@ -37,7 +45,7 @@ class Spying(Served):
         self.addCleanup(room.cleanup)
         named = tuple(f"r{at}" for at in range(roles))
         self.plan = plan_in(room.name, NAMES, head=self.STRIKES, rules=rules_of(named), roles=named)
-        self.site = self.server.site = LiveSite(self.plan, lambda: self.plan)
+        self.site = self.server.site = LiveSite(self.plan, Referee(program()), lambda: self.plan)
         self.match = self.plan.matches[0]
         self.log = begin(self.plan, self.match)
         self.site.look()
@@ -73,8 +81,7 @@ class Spying(Served):
         return after
 
     def start(self):
-        """Returns the message of START as the log shows it."""
-        return f"(START {self.match.id} ".ljust(200, "x") + ".."
+        return f"(START {self.match.id} ... 10 5)"
 
     def test_nothing_of_an_open_round_is_served(self):
         for roles in (2, 3):
@@ -83,39 +90,23 @@ class Spying(Served):
             moves = "NIL"
             for turn, answer in enumerate(ANSWERS, 1):
                 with self.subTest(roles=roles, answer=answer):
-                    answers = [text.format(turn, role) for role, text in enumerate([*[answer] * (roles - 1), ANSWERS[0]])]
+                    answers = [filled(text, turn, role) for role, text in enumerate([*[answer] * (roles - 1), LEGAL])]
                     after = self.assert_nothing_is_shown_before_the_last(self.lines(turn + 1, f"(PLAY {self.match.id} {moves})", answers))
                     self.assertIn(f"zq{turn}x{roles - 1}", after[f"/matches/{self.match.id}.html"])
-                first = [f"(say zq1x{role})" for role in range(roles)]
-                moves = f"({' '.join(text.rstrip('?') if text.startswith('(say') else first[role] for role, text in enumerate(answers))})"
+                moves = f"({' '.join(f'(say zq{turn}x{role})' for role in range(roles))})"
 
     def test_late_in_a_turn_it_is_named_who_is_awaited_and_nothing_else(self):
         shown = set()
-        for answer in ANSWERS:
+        for answer in (*ILLEGAL, *ANSWERS[:2]):
             self.begin_with(3)
             self.say(self.log, "".join(self.lines(1, self.start(), ["ready"] * 3)))
-            self.say(self.log, self.lines(2, f"(PLAY {self.match.id} NIL)", [answer.format(1, 0)])[0])
+            self.say(self.log, self.lines(2, f"(PLAY {self.match.id} NIL)", [filled(answer, 1, 0)])[0])
             self.site.reader.open[self.match.id].since = 1_000.0
             self.site.look()
             pages = self.all_pages()
             self.assertIn(f"{self.match.players[1]}</a>, <a", pages[f"/matches/{self.match.id}.html"])
             shown.add(re.sub("after=[^\"]*|zq1x0|cid</a>|, [0-9] ms", "", str(pages)).replace("zq1", ""))
         self.assertEqual(len(shown), 1)
-
-    def test_a_state_that_may_be_another_one_ends_no_turn(self):
-        """By a state that is not the match's own, an answer looks illegal that is legal, so that its role would be retired by it."""
-        self.begin_with(2)
-        self.say(self.log, "".join(self.lines(1, self.start(), ["ready"] * 2)))
-        self.all_pages()
-        self.site.look()
-        cut = f"(PLAY {self.match.id} ".ljust(200, "x") + ".."
-        self.say(self.log, "".join(self.lines(2, f"(PLAY {self.match.id} NIL)", ["(say zq2x0)?", "(say zq1x1)"])))
-        for number in (3, 4):
-            self.say(self.log, "".join(self.lines(number, cut, ["(say other)", "(say zq2x1)"])))
-        self.site.look()
-        before = self.all_pages()
-        self.say(self.log, self.lines(5, cut, ["", "(say zq9x1)"])[1])
-        self.assertEqual(self.all_pages(), before)
 
 
 class Files(InFolder):
@@ -141,7 +132,7 @@ class Files(InFolder):
         finally:
             os.umask(before)
         self.assertTrue(held.is_set())
-        self.assertIn("played.said", {os.path.basename(path) for path in found})
+        self.assertIn("log.jsonl", {os.path.basename(path) for path in found})
         # The addresses of the players are no answers, and a match whose record is checked is over.
         others = [path for path, status in found.items() if status.st_mode & (stat.S_IRWXG | stat.S_IRWXO)]
         self.assertLessEqual({os.path.basename(path) for path in others}, {"players", "record", "account"})

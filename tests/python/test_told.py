@@ -5,6 +5,7 @@ import tarfile
 import unittest
 
 from ggp_tools.descriptions.loading import sum_of
+from ggp_tools.match_log import Other, line_of
 from players import TestPlayer, example, has_variables
 from support import GAMES, InFolder, run, toml
 from test_archive import changed, files_of, packed, without
@@ -124,18 +125,18 @@ class Told(InFolder):
         with tarfile.open(report) as archive:
             self.assertEqual(sorted(archive.getnames()), [f"{first}/{name}" for name in names])
         self.assertEqual(sorted(self.records()), sorted(planned[0] for planned in self.schedule if planned[1] != "nim"))
-        self.assertTrue(all(b"\nheld against" not in file.read_bytes() for file in (self.folder / "logs").glob("countdown*.txt")))
+        self.assertTrue(all(b'"held"' not in file.read_bytes() for file in (self.folder / "logs").glob("countdown*.jsonl")))
 
     def look_at_archive(self):
         status, out, said = run(self.folder, "check", "cup.tar.gz")
         self.assertEqual((status, said), (0, ""), out)
         self.assertIn("; 4 matches are those of descriptions with variables; ", out)
         files = files_of(self.folder / "cup.tar.gz")
-        logs = {match: (self.folder / f"logs/{match}.txt").read_bytes() for match, *_ in self.schedule}
-        held = [match for match, log in logs.items() if log.endswith(b"\nheld against the description: the same\n")]
+        logs = {match: (self.folder / f"logs/{match}.jsonl").read_bytes() for match, *_ in self.schedule}
+        held = [match for match, log in logs.items() if log.endswith(line_of(Other("held", {"match": match, "reason": None})))]
         self.assertEqual(held, [match for match, game, *_ in self.schedule if game != "countdown"])
         # No call confirms that line, so `publish` leaves it out, and `check` holds the matches against their descriptions again.
-        self.assertEqual([name for name, data in files.items() if name.startswith("cup/logs/") and b"held against" in data], [])
+        self.assertEqual([name for name, data in files.items() if name.startswith("cup/logs/") and b'"held"' in data], [])
         self.assertEqual(files["cup/rules/nim.players"], self.rules("nim.players"))
         for name, (spoil, words) in SPOILINGS.items():
             with self.subTest(name):

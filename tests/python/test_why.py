@@ -1,15 +1,14 @@
 """What `why` tells of a match: of its record, its log and the journal of `play`; and the times in these."""
 
-import json
 import re
 import shutil
 import time
 from dataclasses import replace
 
-from ggp_tools.competition.results import times_of
-from ggp_tools.competition.why import Told, parts_of
+from ggp_tools.competition.why import Told
+from ggp_tools.match_log import last_run, messages
 from ggp_tools.moments import MOMENT
-from live_support import SILENT, end, line, plan_in, record_of
+from live_support import BEGAN, SILENT, Missed, end, line, opened, plan_in, record_of
 from players import TestPlayer
 from support import GAMES, InFolder, run
 
@@ -55,11 +54,11 @@ class Why(InFolder):
 
     def answers_after_its_lines(self, player):
         """Has a player answer each message of the match some milliseconds after the line of the one before was written."""
-        answer, log, answered = player.answer, self.folder / "open/cup-001/played.said", []
+        answer, log, answered = player.answer, self.folder / "open/cup-001/log.jsonl", []
 
         def lines():
             try:
-                return log.read_text().count(f" {player.name} message ")
+                return log.read_text().count(f'"player":"{player.name}"')
             except FileNotFoundError:
                 return 0
 
@@ -76,18 +75,20 @@ class Why(InFolder):
         self.planned("good", "good", head=HEAD.replace("start = 5\nplay = 5", "start = 60\nplay = 60"))
         self.answers_after_its_lines(self.players[1])
         self.assertEqual(run(self.folder, "play")[0], 0)
-        log = (self.folder / "logs/cup-001.txt").read_text().splitlines()
-        times = [line.partition(" ")[0] for line in log if " role 1 p1 message " in line]
+        with open(self.folder / "logs/cup-001.jsonl", "rb") as log:
+            logged = last_run(log, "cup-001")
+        times = [message.moment() for message in messages(logged) if message.role == 1]
         self.assertEqual((len(times), times), (len(self.records()["cup-001"]["moves"]) + 2, sorted(set(times))))
-        self.assertRegex(log[0], rf"^began {MOMENT}$")
-        self.assertTrue(all(log[0].split()[1] <= time <= log[-1].split()[1] for time in times), log)
+        self.assertTrue(all(logged[0].moment() <= time for time in times), logged)
 
     def test_nothing_that_a_terminal_obeys_is_printed(self):
         self.planned("good", "good")
         self.assertEqual(run(self.folder, "play")[0], 0)
-        for file in (self.folder / "play.log", self.folder / "logs/cup-001.txt"):
-            file.write_bytes(file.read_bytes().replace(b"countdown p0 p1", b"countdown p0 p1\x1b[2J").replace(b"(PLAY cup-001", b"(PLAY\x1b[2J cup-001"))
-        self.assertNotIn("\x1b", self.why("cup-001"))
+        journal, log = self.folder / "play.log", self.folder / "logs/cup-001.jsonl"
+        journal.write_bytes(journal.read_bytes().replace(b"countdown p0 p1", b"countdown p0 p1\x1b[2J"))
+        log.write_bytes(log.read_bytes().replace(b"(PLAY cup-001", b"(PLAY\\u001b[2J cup-001"))
+        said = self.why("cup-001")
+        self.assertEqual(("\x1b" in said, "(PLAY?[2J cup-001" in said), (False, True))
 
     def test_a_match_that_was_not_played(self):
         self.planned("good", "good", head=HEAD.replace("info = 5", "info = 4"))
@@ -123,33 +124,22 @@ class Why(InFolder):
         shutil.unpack_archive(self.folder / "cup.tar.gz", self.folder / "there")
         told = self.why("cup-001")
         self.assertEqual(run(self.folder, "why", "there/cup", "cup-001"), (0, told, ""))
-        # So a log was written before there were times, and before there was a journal.
+        # A referee that could not read the clock, and a folder without a journal.
         (self.folder / "play.log").unlink()
-        log = self.folder / "logs/cup-001.txt"
-        log.write_text(re.sub(rf"(?m)^{MOMENT} ", "", log.read_text()))
+        log = self.folder / "logs/cup-001.jsonl"
+        log.write_text(re.sub('"time":[0-9]+', '"time":null', log.read_text()))
         self.assertEqual([run(self.folder, *words)[0] for words in (("publish",), ("check", "cup.tar.gz"))], [0, 0])
         self.assertRegex(self.why("cup-001"), r"(?m)^\(no time\) turn 1: PLAY was answered ")
-        self.assertRegex(self.why("cup-001"), rf"(?m)^{MOMENT} began {MOMENT}$")
 
     def test_what_is_no_match_and_who_is_no_player(self):
         self.planned("good", "good")
         self.assertEqual(run(self.folder, "why", ".", "cup-9")[::2], (2, "ggp_competition: cup-9 is no match of schedule.tsv\n"))
         self.assertEqual(run(self.folder, "why", ".", "cup-001", "p9")[::2], (2, "ggp_competition: p9 is no player of cup-001: p0, p1\n"))
 
-    def test_a_message_is_told_from_its_answer(self):
-        long = f"(START {'x' * 193}.."
-        for said, parts in (
-            ("(PLAY m ((a: b) c)): (d: e)", ("(PLAY m ((a: b) c))", "(d: e)")),
-            ("(PLAY m NIL): CE (no connection)", ("(PLAY m NIL)", "CE (no connection)")),
-            (f"{long}: ready", (long, "ready")),
-            ("(PLAY m NIL): ", ("(PLAY m NIL)", "")),
-        ):
-            self.assertEqual(parts_of(said), parts)
-
     def test_moves_with_the_names_of_errors(self):
         plan = plan_in(str(self.folder), ["ann", "bob"])
         match = plan.matches[0]
-        answers = [("TO", "noop"), ("lost", "CE"), (SILENT, "CE (no connection)"), ("IL", SILENT)]
+        answers = [("TO", "noop"), ("lost", "CE"), (SILENT, Missed("CE (no connection)")), ("IL", str(SILENT))]
         log = "".join(line(match, role, number, f"(PLAY {match.id} NIL)", answer) for number, pair in enumerate(answers, 2) for role, answer in enumerate(pair))
         errors = [["", ""], ["", ""], ["TO", "CE"], ["", "IL ?"]]
         end(plan, match, record_of(match, [["to", "noop"], ["lost", "ce"], ["noop", "noop"], ["il", "noop"]], errors, [0, 100]), log)
@@ -202,47 +192,42 @@ class Why(InFolder):
         of_round = Told(plan, replace(plan.matches[0], round=1))
         self.assertEqual([note.words for note in of_round.noted()], [lines[at] for at in (0, 3, 5, 6, 7)])
 
-    def test_a_clock_that_is_set_back(self):
+    def said_of(self, notes: str, log: str) -> str:
+        """Returns what is said of a player by a journal and a log. `MATCH` in the notes is the match."""
         plan = plan_in(str(self.folder), ["ann", "bob"])
         match = plan.matches[0]
-        texts = [line(match, 0, 1, f"(START {match.id})", "ready"), *(line(match, 0, number, f"(PLAY {match.id} NIL)", "noop") for number in (2, 3, 4))]
-        times = [f"2026-01-01T{time}.000Z" for time in ("10:00:01", "10:00:02", "09:00:03", "09:00:04")]
-        log = "began 2026-01-01T10:00:00.000Z\n" + "".join(f"{time} {text}" for time, text in zip(times, texts)) + "ended 2026-01-01T09:00:05.000Z\n"
+        plan.folder.journal.write_text(notes.replace("MATCH", match.id))
+        plan.folder.log(match.id).write_text(log)
+        return "\n".join(Told(plan, match).lines(["ann"]))
+
+    def message(self, number: int, answer: str, time: int | None) -> str:
+        """Returns the line of a message that was sent so many seconds after the match began."""
+        match = plan_in(str(self.folder), ["ann", "bob"]).matches[0]
+        return line(match, 0, number, f"({'START' if number == 1 else 'PLAY'} {match.id} NIL)", answer, 0, None if time is None else BEGAN + 1_000 * time)
+
+    def test_a_clock_that_is_set_back(self):
+        log = "".join(self.message(number, "noop", time) for number, time in ((1, 1), (2, 2), (3, -3_600), (4, -3_599)))
         for begun in (1, 2):
             with self.subTest(begun):
-                notes = ["10:00:00.001Z begin", *["10:00:00.001Z begin"] * (begun - 1), "09:00:06.000Z end"]
-                plan.folder.journal.write_text("".join(f"2026-01-01T{time} {kind} {match.id} heap\n" for time, kind in (note.split() for note in notes)))
-                plan.folder.log(match.id).write_text(log)
-                said = "\n".join(Told(plan, match).lines(["ann"]))
+                notes = ["03:04:05.001Z begin", *["03:04:05.001Z begin"] * (begun - 1), "02:05:06.000Z end"]
+                said = self.said_of("".join(f"2026-01-02T{time} {kind} MATCH heap\n" for time, kind in (note.split() for note in notes)), log)
                 found = re.findall(r"begin|START was|turn \d|the clock was set back|end ", said)
                 self.assertEqual(found, [*["begin"] * begun, "START was", "turn 1", "the clock was set back", "turn 2", "turn 3", "end "])
 
     def test_a_clock_that_is_set_back_while_no_line_has_a_time(self):
-        plan = plan_in(str(self.folder), ["ann", "bob"])
-        match = plan.matches[0]
-        start = line(match, 0, 1, f"(START {match.id})", "ready")
-        plan.folder.log(match.id).write_text(f"began 2026-01-01T10:00:00.000Z\n{start}ended 2026-01-01T09:00:05.000Z\n")
-        said = "\n".join(Told(plan, match).lines(["ann"]))
-        words = "(no time) START was", "the clock was set back: the line before has 2026-01-01T10:00:00.000Z", "ended "
+        said = self.said_of("2026-01-02T10:00:00.000Z begin MATCH heap\n2026-01-02T09:00:05.000Z end MATCH heap\n", self.message(1, "ready", None))
+        words = "begin ", "(no time) START was", "the clock was set back: the line before has 2026-01-02T10:00:00.000Z", "end "
         self.assertEqual(re.findall("|".join(map(re.escape, words)), said), list(words))
 
     def test_each_beginning_in_the_log_is_told_however_many_were_noted(self):
-        plan = plan_in(str(self.folder), ["ann", "bob"])
-        match = plan.matches[0]
-        times = [f"2026-01-01T10:0{minute}:00.000Z" for minute in range(4)]
-        starts = (line(match, 0, 1, f"(START {match.id})", answer) for answer in ("one", "two", "three"))
-        plan.folder.log(match.id).write_text("".join(f"began {time}\n{time} {start}" for time, start in zip(times, starts)) + f"ended {times[3]}\n")
+        match, began = plan_in(str(self.folder), ["ann", "bob"]).matches[0], "2026-01-02T03:04:05.000Z"
+        log = "".join(opened(match, BEGAN) + self.message(1, answer, at) for at, answer in enumerate(("one", "two", "three")))
         for count, wanted in enumerate((
             "one two three", "begin one two three", "begin one two begin three", "begin one begin two begin three", "begin begin one begin two begin three",
         )):
-            plan.folder.journal.write_text("".join(f"{times[0]} {word} {match.id} heap\n" for word in ("info", *["begin"] * count, "end")))
-            said = "\n".join(Told(plan, match).lines(["ann"]))
+            said = self.said_of("".join(f"{began} {word} MATCH heap\n" for word in ("info", *["begin"] * count, "end")), log)
             self.assertEqual(re.findall(r"info|begin|(?<=answered `)\w+|end ", said), ["info", *wanted.split(), "end "] if count else ["info", "end ", *wanted.split()], count)
 
-    def test_a_match_begun_again_has_the_times_of_its_last_beginning(self):
-        message = "m role 0 a message {} (START m a (x)): ready, {} ms\n"
-        times = [f"2026-01-01T00:00:0{second}.000Z" for second in range(6)]
-        log = f"began {times[0]}\nhost one\n{times[1]} {message.format(1, 5)}lost {times[2]} why\nbegan {times[3]}\nhost two\n"
-        log += f"{times[4]} {message.format(1, 7)}ended {times[5]}\n"
-        wanted = {"begin": times[3], "end": times[5], "host": "two", "messages": [[["start", 7]]]}
-        self.assertEqual(json.dumps(times_of(log.encode(), 1)), json.dumps(wanted))
+    def test_an_answer_is_told_whole_but_not_without_end(self):
+        log = self.message(1, "x" * 900, 1) + self.message(2, "y" * 60_000, 2)
+        self.assertEqual([len(found) for found in re.findall("(?<=answered `)[xy.]+", self.said_of("", log))], [900, 1_002])

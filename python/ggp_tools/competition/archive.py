@@ -23,18 +23,19 @@ from ggp_tools.competition.history import history_files
 from ggp_tools.competition.kept import PROCESSORS, look_at_records, strangers
 from ggp_tools.competition.known import Known, sum_of_file, sum_or_none
 from ggp_tools.competition.log_faults import faults_of_logs
-from ggp_tools.competition.log_lines import reasons
 from ggp_tools.competition.pages import MOST_LISTED, made_anew
 from ggp_tools.competition.plan import Plan, faults_of_descriptions, key_files, read_plan, read_sums, rounds_left, sums_of, sums_text
 from ggp_tools.descriptions.loading import has_variables
+from ggp_tools.match_log import last_run
 from ggp_tools.printable import printable
-from ggp_tools.referee import VERSION_LINE, Referee, Unchecked
+from ggp_tools.referee import VERSION_LINE, Referee, Unchecked, has_events
 from ggp_tools.competition.results import Result, Sums, match_line, read_record
 from ggp_tools.competition.schedule import MOST_MATCHES, schedule_text
 from ggp_tools.competition.table import tables_of
 from ggp_tools.competition.table_text import TABLE_FILES, in_order, table_files, without_record
 from ggp_tools.competition.tar_members import Member, NoTar, copied, members
 from ggp_tools.records.facts import Exchanges, broken_answers, record_sum
+from ggp_tools.records.match_logs import logged
 
 SUMS, VERSION, HOW, GAPS = "SHA256SUMS", "VERSION", "CHECK.txt", "GAPS.tsv"
 NAME = re.compile(r"[A-Za-z0-9_.-]+(/[A-Za-z0-9_.-]+){1,3}")
@@ -98,8 +99,9 @@ def how_to(plan: Plan) -> bytes:
 
 def line_of(result: Result, sums: Sums, record: bytes, log: bytes) -> str:
     """Returns the line of a match in matches.jsonl."""
-    broken = broken_answers(Exchanges(read_record(record)), reasons(log, result.match))
-    return match_line(result, sums, log, broken).decode("ascii")
+    found = logged(last_run(io.BytesIO(log), result.match.id))
+    broken = broken_answers(Exchanges(read_record(record)), found.broken)
+    return match_line(result, sums, found, broken).decode("ascii")
 
 
 def matches_text(plan: Plan, results: Iterable[Result], known: Known | None = None) -> bytes:
@@ -341,7 +343,7 @@ def faults_of_files(folder: pathlib.Path, plan: Plan, results: list[Result], wan
     for game in plan.competition.games:
         known |= {f"games/{game.name}.kif", *(f"rules/{file.name}" for file in plan.folder.rule_files(game))}
     for result in results:
-        known |= {f"records/{result.match.id}.json", f"accounts/{result.match.id}.txt", f"logs/{result.match.id}.txt"}
+        known |= {f"records/{result.match.id}.json", f"accounts/{result.match.id}.txt", f"logs/{result.match.id}.jsonl"}
     for name in files_below(folder):
         if name not in known and not name.startswith("pages/"):
             yield f"{name} is nothing of this competition"
@@ -376,6 +378,13 @@ def faults_of_words(folder: pathlib.Path) -> Iterator[str]:
         yield f"{VERSION} is missing"
     elif not VERSION_LINE.fullmatch((folder / VERSION).read_bytes()):
         yield f"{VERSION} is not one line `ggp_manager N.N.N`"
+
+
+def refuse_old(folder: pathlib.Path) -> None:
+    """Refuses an archive whose logs only an earlier version reads."""
+    version = (folder / VERSION).read_bytes() if (folder / VERSION).is_file() else b""
+    if VERSION_LINE.fullmatch(version) and not has_events(version):
+        raise Spoilt(f"it was published with {version.decode('ascii').strip()}: check it with that version, since its logs are not JSON")
 
 
 def check_archive(path: pathlib.Path, referee: Referee) -> tuple[list[str], str]:
@@ -419,6 +428,7 @@ def looked_at(path: pathlib.Path, referee: Referee) -> tuple[list[str], str]:
     with tempfile.TemporaryDirectory() as room:
         try:
             folder = unpacked(path, pathlib.Path(room))
+            refuse_old(folder)
             faults = [*faults_of_sums(folder), *faults_of_words(folder), *faults_of_places(folder)]
             if faults:
                 return faults, ""

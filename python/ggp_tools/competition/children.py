@@ -3,7 +3,6 @@
 import asyncio
 import contextlib
 import ctypes
-import math
 import os
 import pathlib
 import resource
@@ -15,8 +14,7 @@ from dataclasses import dataclass
 from typing import IO, Any
 
 from ggp_tools.competition.files import new_file
-from ggp_tools.competition.timed_lines import MOST_OF_LINE, TimedLines, untimed
-from ggp_tools.moments import moment
+from ggp_tools.competition.said_lines import SaidLines
 from ggp_tools.printable import MOST_READ, message_lines
 
 END_WITH_PARENT = 1
@@ -25,6 +23,8 @@ UNSAID = "it ended with status {} and no word, as where it is killed or the disk
 # Which limit a process has passed.
 PRINTED, SAID = "it printed more than {:,} bytes, which no match has", "it said more than {:,} bytes, which no match has"
 SILENT = "nothing was heard of it for {:.0f} s"
+# Of what a process says so many bytes are read at a time.
+MOST_AT_ONCE = 1 << 16
 # What a process said is read for at most so many seconds after its end: a process that it left behind may hold the pipe.
 MOST_UNREAD = 2
 # A process that plays a match on another machine gets a byte every `BEAT` seconds, and so many seconds to end there.
@@ -82,6 +82,9 @@ class Child:
     """A process that writes into files of a directory: NAME what it prints, and NAME.said what it says on standard error. Its status is
     None if it did not end by itself."""
 
+    # Which limit it has passed, and whether it may go on somewhere else.
+    passed, goes_on = "", False
+
     def __init__(self, room: pathlib.Path, name: str) -> None:
         self.out, self.said = room / name, room / f"{name}.said"
         self.status: int | None = None
@@ -113,23 +116,23 @@ class Child:
         return lines[-1] if lines else UNSAID.format(self.status)
 
 
-class TimedChild(Child):
-    """A process that plays a match. The file NAME.said has the times of its lines, too. With limits it plays on another machine: then it gets
-    a byte on standard input every few seconds, and is ended when it passes a limit."""
+class RemoteChild(Child):
+    """A process that plays a match on another machine. What it says on standard error are the events of a log, and other lines. It gets a
+    byte on standard input every few seconds, and is ended when it passes a limit."""
 
-    def __init__(self, room: pathlib.Path, name: str, limits: Limits | None = None, heard: Callable[[bytes], None] = lambda line: None) -> None:
+    def __init__(self, room: pathlib.Path, name: str, log: pathlib.Path, limits: Limits, heard: Callable[[bytes], None]) -> None:
         super().__init__(room, name)
-        self.limits, self.passed, self.goes_on = limits, "", False
-        self.lines = TimedLines(self.said, limits.said if limits else math.inf, heard)
-        self.began, self.began_at, self.heard_at = time.monotonic(), moment(), time.monotonic()
+        self.limits = limits
+        self.lines = SaidLines(self.said, log, limits.said, heard)
+        self.began = self.heard_at = time.monotonic()
         self.was_read = asyncio.Event()
 
     async def run(self, words: list[str]) -> None:
         """Runs the process to its end, or until it passes a limit."""
         said, beaten = os.pipe(), os.pipe()
-        with open(said[0], "rb", buffering=0) as heard, open(beaten[1], "wb", buffering=0) as beats, self.lines.file:
+        with open(said[0], "rb", buffering=0) as heard, open(beaten[1], "wb", buffering=0) as beats, self.lines.said, self.lines.log:
             with open(said[1], "wb") as theirs, open(beaten[0], "rb") as given, new_file(self.out) as out:
-                process = await started(words, self.limits, stdin=given if self.limits else asyncio.subprocess.DEVNULL, stdout=out, stderr=theirs)
+                process = await started(words, self.limits, stdin=given, stdout=out, stderr=theirs)
             beating = asyncio.create_task(self.beat(beats))
             asyncio.get_running_loop().add_reader(heard, self.hear, heard, process)
             try:
@@ -139,12 +142,14 @@ class TimedChild(Child):
                 await self.end(process, beats)
                 asyncio.get_running_loop().remove_reader(heard)
                 self.status, self.seconds = process.returncode, time.monotonic() - self.began
-        if self.limits and self.out.stat().st_size >= self.limits.printed:
+        if self.out.stat().st_size >= self.limits.printed:
             self.passed = PRINTED.format(self.limits.printed)
+        if self.lines.error:
+            raise self.lines.error
 
     def hear(self, said: IO[bytes], process: asyncio.subprocess.Process) -> None:
         """Takes what the process has said."""
-        data = said.read(MOST_OF_LINE)
+        data = said.read(MOST_AT_ONCE)
         self.heard_at = time.monotonic()
         self.lines.take(data)
         if not data:
@@ -158,7 +163,7 @@ class TimedChild(Child):
     async def beat(self, beats: IO[bytes]) -> None:
         """Shows the other end that this process is there. A pipe that is full, or has no reader any more, is no error."""
         os.set_blocking(beats.fileno(), False)
-        while self.limits:
+        while True:
             with contextlib.suppress(OSError):
                 beats.write(b"\n")
             await asyncio.sleep(BEAT)
@@ -169,7 +174,7 @@ class TimedChild(Child):
         while True:
             heard_at = self.heard_at
             try:
-                async with asyncio.timeout_at(heard_at + self.limits.silence if self.limits else None):
+                async with asyncio.timeout_at(heard_at + self.limits.silence):
                     await process.wait()
                 break
             except TimeoutError:
@@ -183,9 +188,9 @@ class TimedChild(Child):
                 await self.was_read.wait()
 
     async def end(self, process: asyncio.subprocess.Process, beats: IO[bytes]) -> None:
-        """Ends the process. One that plays on another machine can first end the match there, which may go on if this one is killed."""
+        """Ends the process. It can first end the match on the other machine, which may go on if this one is killed."""
         beats.close()
-        if self.limits and process.returncode is None:
+        if process.returncode is None:
             # Before Python 3.12, `asyncio.timeout` does not work in a task that is being cancelled.
             _, late = await asyncio.wait([asyncio.create_task(process.wait())], timeout=HANG_UP_SECONDS)
             self.goes_on = bool(late)
@@ -193,12 +198,3 @@ class TimedChild(Child):
 
     def last_words(self, is_word: Callable[[str], bool] = lambda line: True) -> str:
         return self.passed or super().last_words(is_word)
-
-    def timed_bytes(self) -> bytes:
-        """Returns what it said, with the times. Raises what kept it from being written."""
-        if self.lines.error:
-            raise self.lines.error
-        return self.said.read_bytes()
-
-    def said_end(self) -> bytes:
-        return untimed(end_of(self.said))

@@ -20,8 +20,6 @@ HOLD = [sys.executable, "-B", str(FOLDER / "ggp-hold-against"), f"--seconds={SEC
 SAME, DIFFERENT, NOT_FOLLOWED = 0, 1, 3
 # How a line begins that says of a record what came of it.
 IS_SAME, DIFFERS, IS_NOT_FOLLOWED = "the same: ", "differs: ", "not followed: "
-# The lines of a log.
-HELD, NOT_HELD = b"held against the description: the same\n", "not held against the description: {}\n"
 REPORT = "report-{}.tar.gz"
 
 
@@ -43,11 +41,6 @@ def description_of(plan: Plan, game: Game) -> tuple[bytes | None, str | None]:
 def words_of(path: pathlib.Path) -> list[str]:
     """Returns the command that holds the records of its standard input against a description."""
     return [*HOLD, str(path)]
-
-
-def log_line(why: str | None) -> bytes:
-    """Returns the line of a match's log: it was followed, or why not."""
-    return NOT_HELD.format(why).encode("ascii", "replace") if why else HELD
 
 
 def held_records(path: pathlib.Path, records: Sequence[bytes]) -> list[str]:

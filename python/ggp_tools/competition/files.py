@@ -3,13 +3,14 @@
 import contextlib
 import errno
 import fcntl
+import io
 import os
 import pathlib
 import stat
 from collections.abc import Iterator
 from typing import TYPE_CHECKING, BinaryIO
 
-from ggp_tools.competition.log_lines import published
+from ggp_tools.match_log import Event, last_run, published
 
 if TYPE_CHECKING:
     from ggp_tools.competition.competition_file import Game
@@ -17,8 +18,6 @@ if TYPE_CHECKING:
 UNFINISHED = ".unfinished-"
 # The file of an open match's room that names the players who are sent ABORT where no referee plays the match any more.
 PLAYERS = "players"
-# In so many bytes at its end a log has when its match ended.
-END_OF_LOG = 4_096
 
 
 class Refused(Exception):
@@ -190,7 +189,11 @@ class Folder:
         return self.accounts / f"{match}.txt"
 
     def log(self, match: str) -> pathlib.Path:
-        return self.logs / f"{match}.txt"
+        return self.logs / f"{match}.jsonl"
+
+    def room_log(self, match: str) -> pathlib.Path:
+        """The log of an open match."""
+        return self.open / match / "log.jsonl"
 
     def has_log(self, match: str) -> bool:
         return self.log(match).is_file()
@@ -201,16 +204,23 @@ class Folder:
 
     def read_log(self, match: str) -> bytes:
         """Returns the log of a match as it is published."""
-        return published(self.whole_log(match))
+        return published(self.whole_log(match), match)
 
-    def read_lines_of_log(self, match: str, most: int) -> tuple[bytes, bool]:
-        """Returns so many bytes of a match's log at most, as whole lines, and whether there is more. When it ended is told all the same:
-        that stands at the end."""
+    def run_of(self, match: str) -> list[Event]:
+        """Returns the events of a match since it began last."""
+        return last_run(io.BytesIO(self.whole_log(match)), match)
+
+    def part_of_log(self, match: str, most: int) -> tuple[bytes, bool]:
+        """Returns at most so many bytes of a match's log, as whole lines, and whether there is more. The end is always there."""
         data = self.read_log(match)
         if len(data) <= most:
             return data, False
-        last = [line for line in data[-END_OF_LOG:].splitlines(keepends=True)[1:] if line.startswith(b"ended ")]
-        return data[: data.rfind(b"\n", 0, most) + 1] + b"".join(last), True
+        return data[: data.rfind(b"\n", 0, most) + 1] + data[data.rfind(b"\n", 0, -1) + 1 :], True
+
+    def refuse_old_logs(self) -> None:
+        """Refuses a competition that was played with a version whose logs were not JSON."""
+        if old := next(self.logs.glob("*.txt"), None):
+            raise Refused(f"{old} is a log of ggp_manager 0.2.0", "use that version for this competition")
 
     def must_be_text(self) -> None:
         """Refuses a folder whose path the referee would not take as a word."""

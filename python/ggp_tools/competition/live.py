@@ -1,34 +1,34 @@
-"""Reads from the folder of a competition how its matches go: which are open, whom each waits for, and which are over. It starts nothing and
-writes nothing, and reads each file on from where it was.
+"""Reads from the folder of a competition how its matches go: which are open, whom each waits for, and which are over. It writes nothing,
+starts nothing but the referee's desk, and reads each file on from where it was.
 
 A player of an open match can read the pages too. So nothing that a round was answered with is shown before all of its roles have answered,
 or were passed over. A round is START, a turn, or the end."""
 
 import contextlib
-import itertools
+import datetime
 import math
 import os
 import pathlib
 import re
 import time
 from collections import Counter, deque
-from collections.abc import Iterator
-from dataclasses import dataclass, field
+from collections.abc import Container
+from dataclasses import dataclass
 from typing import NamedTuple
 
 from ggp_tools.competition.files import PLAYERS, Folder, lock_place
-from ggp_tools.competition.log_lines import LogLine, log_line
-from ggp_tools.competition.logged_moves import error_of, moves_of, was_replaced
+from ggp_tools.competition.live_board import Labels, LiveBoard
 from ggp_tools.competition.plan import Plan
 from ggp_tools.competition.playing import NOT_BEGUN
-from ggp_tools.competition.replaced import MOST_OF_MATCH, Replaced, moments_of_turns, newest
+from ggp_tools.competition.replaced import MOST_OF_MATCH, Replaced, newest, replaced_moves
 from ggp_tools.competition.results import Result, fault_of_record, result_of
-from ggp_tools.competition.retiring import Retiring
 from ggp_tools.competition.schedule import Match
 from ggp_tools.competition.tail import Tail
-from ggp_tools.kif import Expression, spelled
+from ggp_tools.match_log import ENDS, SHORTAGE, Event, Message, Other, Runs, event_of
 from ggp_tools.moments import MOMENT
+from ggp_tools.records.match_logs import logged
 from ggp_tools.records.show import NoRecord, read_record
+from ggp_tools.referee import Referee
 
 # All records are listed for at most so small a part of the time, and read for so many seconds in a look. The record of a match that was open
 # is read at once.
@@ -43,7 +43,10 @@ TICK = 0.1
 WAITING = "waiting"
 FAULT = "these pages have a fault, so what they show of it may be wrong: {!r}"
 # The lines of the journal of `play` by which a match is given up, or is open again.
-GIVEN_UP = re.compile(rf"{MOMENT} (?:(?:no record|missing) (\S+): (?!{NOT_BEGUN}$)(.*)|(?:info|begin) (\S+) .*)")
+NOTED = re.compile(rf"({MOMENT}) (.*)\n")
+GIVEN_UP = re.compile(rf"(?:no record|missing) (\S+): (?!{NOT_BEGUN}$)(.*)|(?:info|begin) (\S+) .*")
+# The referee is asked what came of answers for at most so small a part of the time.
+JUDGING_SHARE = 3
 # What stands before the name of a file that is named by its whole path.
 WHOLE_PATH = re.compile(r"(?<![\w./-])/(?:[^\s/]+/)*(?=[^\s/])")
 # The last moment that a page can show.
@@ -65,6 +68,24 @@ class Sight(NamedTuple):
     is_held: bool
 
 
+class Note(NamedTuple):
+    """A line of the journal."""
+
+    time: str
+    words: str
+
+    def moment(self) -> float | None:
+        try:
+            return datetime.datetime.fromisoformat(self.time.replace("Z", "+00:00")).timestamp()
+        except ValueError:
+            return None
+
+
+def note_of(line: bytes) -> Note | None:
+    found = NOTED.fullmatch(line.decode("ascii", "replace"))
+    return Note(found[1], found[2]) if found else None
+
+
 @dataclass
 class Seen:
     """A match that is open, as its room and its log show it: whose answers are awaited, and since when. Its version counts what has
@@ -72,164 +93,124 @@ class Seen:
     clock is over."""
 
     match: Match
-    tail: Tail
-    roles: int
-    strikes: int
-    # Numbers what is replaced, over all matches.
-    numbers: Iterator[int] = field(default_factory=itertools.count)
+    tail: Tail[Event]
+    board: LiveBoard
     stage: str = ""
     version: int = 0
     since: float = 0.0
+    # When the referee was asked last.
+    judged: float = 0.0
 
     def __post_init__(self) -> None:
-        # Who may have answered START either before the match began again or since then.
-        self.unsure: set[int] = set()
+        self.runs = Runs()
         self.forget()
 
     def forget(self) -> None:
         """Begins again: the match does, on another host."""
-        self.started: set[int] = set()
-        # Who has answered STOP or ABORT.
+        if self.board.has_begun():
+            self.board.begin()
+        # The last round that has an answer: 0 for START, then the turns, and the end.
+        self.round = 0.0
+        # Who has answered STOP or ABORT, the answers of the open round, and the last answers of the rounds before.
         self.ended: set[int] = set()
-        # The greatest number of a message that was answered.
-        self.number = 0.0
-        self.retiring = Retiring(self.roles, self.strikes)
-        # The answers of the open round, and what is known by them to be replaced.
-        self.held: dict[int, LogLine] = {}
-        self.noted: list[Replaced] = []
+        self.held: dict[int, Message] = {}
+        self.last: dict[int, Message] = {}
         self.is_late = False
-        self.last: dict[int, LogLine] = {}
-        # When the answers of the turn that was asked for last were there.
+        # When the last answer of each turn was there.
         self.moments: dict[int, float] = {}
-        # The first line that was passed over, since it is damaged.
-        self.damaged = ""
         self.missed: dict[int, int] = {}
-        self.replaced: deque[Replaced] = deque(maxlen=MOST_OF_MATCH)
+        self.replaced: list[Replaced] = []
         self.replaced_count = 0
+        self.version += 1
 
     def turn(self) -> int:
         """Returns the turn that is asked for: 0 is START."""
-        return self.retiring.turn + self.have_all_answered()
+        return max(self.board.position.round(), 0 if math.isinf(self.round) else int(self.round))
 
-    def awaited(self) -> tuple[list[int], set[int]]:
-        """Returns the roles whose answers are waited for, and those of them of which the log leaves open whether they are. All are where
-        the match is given up, since all are retired."""
-        everyone = list(range(self.roles))
-        if self.ended:
-            return [role for role in everyone if role not in self.ended], set()
-        if not self.retiring.turn and not self.have_all_answered():
-            return [role for role in everyone if role not in self.started], self.unsure - self.started
-        found, unsure = self.retiring.left()
-        return found or everyone, unsure
+    def awaited(self) -> list[int] | None:
+        """Returns the roles whose answers are waited for. None if it is not known."""
+        position, everyone = self.board.position, range(len(self.match.players))
+        if self.ended or position.is_ending():
+            return [role for role in everyone if role not in self.ended]
+        if position.round() < self.round or self.board.judged is None:
+            return None
+        return sorted(position.owing - self.held.keys())
 
     def is_ending(self) -> bool:
-        """Returns whether STOP or ABORT are what is answered: to the first of them, or since all roles are retired."""
-        return bool(self.ended) or not self.retiring.left()[0]
+        """Returns whether STOP or ABORT are what is answered."""
+        return bool(self.ended) or self.board.position.is_ending()
 
-    def take(self, line: LogLine, moment: float) -> None:
-        """Takes a line that came at this time. One that is of another match, or of another player, says nothing of this one."""
-        if not line.is_of(self.match):
+    def take_event(self, event: Event) -> None:
+        """Takes an event of the match. A message to another player says nothing of this one."""
+        if isinstance(event, Message) and (event.kind is None or self.match.players[event.role : event.role + 1] != (event.player,)):
             return
-        if line.kind == "START":
-            self.take_start(line.role)
-        # The last message of a role that is retired has a smaller number than those of others.
-        number = math.inf if line.kind in ("STOP", "ABORT") else line.number
-        if number > self.number:
-            # Whoever has not answered the round before was not asked in it.
-            if self.held:
-                self.show_round(moment - line.milliseconds / 1_000)
-            self.number = number
-        self.held[line.role] = line
+        if self.runs.is_next(event):
+            self.forget()
+        if isinstance(event, Message):
+            self.take(event)
+
+    def take(self, message: Message) -> None:
+        match, role = self.match, message.role
+        moment = message.moment() or self.tail.changed
+        number = math.inf if message.kind in ENDS else message.turn()
+        if number > self.round:
+            self.show_round(moment - message.ms / 1_000)
+            self.round = number
+        self.held[role] = message
         self.version += self.is_late
-        if line.kind == "PLAY":
-            self.take_play(line, moment)
-        elif number == math.inf:
-            # ABORT tells of no turn that it was played.
-            if line.kind == "STOP" and not self.ended:
-                self.note_turn(line)
-            self.ended.add(line.role)
-        if self.have_all_answered():
-            self.show_round(moment)
+        if message.kind in ENDS:
+            self.ended.add(role)
+            if len(self.ended) == len(match.players):
+                self.show_round(moment)
+            return
+        self.moments[message.turn()] = max(moment, self.moments.get(message.turn(), 0.0))
+        # After a shortage of the referee the match is given up, and its open turn is dropped.
+        if message.error != SHORTAGE:
+            self.board.take(message)
+
+    def judge(self, referee: Referee) -> None:
+        """Asks the referee what came of the answers."""
+        before = self.board.version
+        self.board.judge(referee)
+        self.judged = time.monotonic()
+        position = self.board.position
+        if self.board.version != before:
+            found = replaced_moves(self.match, zip(position.moves, position.errors), self.moments, self.since)
+            self.replaced_count, self.replaced = len(found), found[-MOST_OF_MATCH:]
+            self.version += 1
+        if position.round() > self.round:
+            self.show_round(self.moments.get(int(self.round), self.since))
 
     def show_round(self, moment: float) -> None:
         """Shows what a round was answered with, once it is over, at this moment."""
-        for role, line in self.held.items():
-            self.last[role] = line
-            if line.is_no_answer() and not line.is_shortage():
+        for role, message in self.held.items():
+            self.last[role] = message
+            if message.error and message.error != SHORTAGE:
                 self.missed[role] = self.missed.get(role, 0) + 1
-        self.replaced.extend(self.noted)
-        self.replaced_count += len(self.noted)
-        self.held, self.noted, self.is_late = {}, [], False
-        self.version += 1
-        self.set_since(moment)
+        if self.held:
+            self.held, self.is_late = {}, False
+            self.version += 1
+            self.set_since(moment)
 
     def set_since(self, moment: float) -> None:
         """Notes since when the match is as it is. A file may have any time."""
         self.since = min(max(moment, 0.0), LAST_MOMENT)
-
-    def have_all_answered(self) -> bool:
-        """Returns whether each role that was asked has answered."""
-        if self.ended or not self.retiring.turn:
-            return len(self.ended or self.started) == self.roles
-        return not self.retiring.missing()
-
-    def take_start(self, role: int) -> None:
-        """Takes the answer to a START. Where the match has begun again the players may have answered in another order than before."""
-        if self.retiring.turn or self.ended or role in self.started:
-            self.unsure = set() if self.retiring.turn or self.ended else self.started - {role}
-            self.forget()
-        self.started.add(role)
-
-    def take_play(self, line: LogLine, moment: float) -> None:
-        if line.turn() > self.retiring.turn:
-            self.note_turn(line)
-            self.moments = {}
-        self.retiring.take(line)
-        self.moments[line.role] = moment
-        if is_known_at_once(line):
-            self.note(line.role, line.turn(), error_of(line), None)
-
-    def note_turn(self, line: LogLine) -> None:
-        """Notes what was replaced in the turn that was asked for last: a line of the next message tells the moves that were played."""
-        turn = self.retiring.turn
-        moves = moves_of(line.message, self.roles) if line.turn() <= turn + 1 else None
-        for role in range(self.roles if turn else 0):
-            answer, played = self.retiring.answers.get(role), moves[role] if moves else None
-            if answer is None:
-                # Of who may be retired, and was not asked, a line is not missing.
-                is_retired = self.retiring.is_enough(self.retiring.rows[role][1])
-                self.note(role, turn, "RT", played) if is_retired else None
-            elif not is_known_at_once(answer) and was_replaced(answer, played):
-                # After a shortage of the referee there would be no next message: it was the player's own word.
-                self.note(role, turn, f"IL {answer.answer}", played)
-
-    def note(self, role: int, turn: int, error: str, played: Expression | None) -> None:
-        moment = self.moments.get(role, max(self.moments.values(), default=0.0))
-        move = "" if played is None else spelled(played)
-        self.noted.append(Replaced(self.match, self.match.players[role], turn, error, move, moment, next(self.numbers)))
 
     def look(self, room: Room, now: float) -> None:
         """Reads what has come."""
         if room.stage != self.stage:
             self.stage, self.version = room.stage, self.version + 1
             self.set_since(room.since)
-        texts, is_other = self.tail.lines()
+        found, is_other = self.tail.added()
         if is_other:
             self.forget()
-        for line in filter(None, map(log_line, texts)):
-            if line.is_damaged():
-                self.damaged = self.damaged or f"of its log a line is passed over, which has no time that can be: {line.time}"
-            else:
-                self.take(line, line.moment() or self.tail.changed)
+        for event in found:
+            if not isinstance(event, Other) and event.match == self.match.id:
+                self.take_event(event)
         clock = self.match.play if self.turn() or self.ended else self.match.start
         is_late = now - self.since > clock / 2
-        self.version += is_other or is_late != self.is_late
+        self.version += is_late != self.is_late
         self.is_late = is_late
-
-
-def is_known_at_once(line: LogLine) -> bool:
-    """Returns whether an answer tells that the move was replaced, whatever was played."""
-    return not line.is_shortage() and was_replaced(line, None) is True
 
 
 def stage_of(names: set[str]) -> str:
@@ -276,8 +257,9 @@ class Reader:
     """What the folder of a competition shows, or showed so many seconds ago. `version` counts what changes of open matches, and
     `results_version` the results."""
 
-    def __init__(self, plan: Plan, delay: float = 0.0, sights: deque[Sight] | None = None) -> None:
-        self.plan, self.known, self.delay = plan, {match.id: match for match in plan.matches}, delay
+    def __init__(self, plan: Plan, referee: Referee, delay: float = 0.0, sights: deque[Sight] | None = None) -> None:
+        self.plan, self.referee, self.known, self.delay = plan, referee, {match.id: match for match in plan.matches}, delay
+        self.labels = {game: Labels(rules.text) for game, rules in plan.rules.items()}
         self.place = {match.id: at for at, match in enumerate(plan.matches)}
         self.open: dict[str, Seen] = {}
         self.results: dict[str, Result] = {}
@@ -290,11 +272,10 @@ class Reader:
         # The last replaced moves of matches that are over, and of these matches how many there were.
         self.replaced: list[Replaced] = []
         self.replaced_counts: dict[str, int] = {}
-        self.numbers = itertools.count()
         self.version, self.results_version, self.is_held = 0, 0, False
-        self.next, self.next_again, self.records_time = 0.0, 0.0, None
+        self.next, self.next_again, self.records_time, self.next_judging = 0.0, 0.0, None, 0.0
         # Why `play` has given matches up.
-        self.journal, self.given_up = Tail(str(plan.folder.journal), delay), {}
+        self.journal, self.given_up = Tail(str(plan.folder.journal), note_of, delay), {}
         self.sights = sights or deque()
 
     def now(self) -> float:
@@ -341,8 +322,10 @@ class Reader:
             self.troubles.pop(name, None)
         for name in sorted(rooms.keys() - self.open.keys() - self.results.keys(), key=self.place.__getitem__):
             self.faults.pop(name, None)
-            tail = Tail(f"{folder.open}/{name}/played.said", self.delay, str(folder.log(name)))
-            self.open[name] = Seen(self.known[name], tail, len(self.known[name].players), strikes, self.numbers)
+            match = self.known[name]
+            tail = Tail(str(folder.room_log(name)), event_of, self.delay, str(folder.log(name)))
+            board = LiveBoard(match, strikes, folder.rules_of(match.game), self.labels[match.game])
+            self.open[name] = Seen(match, tail, board)
         self.version += len(gone) + sum(self.look_at_room(name, seen, rooms[name]) for name, seen in self.open.items())
         return gone
 
@@ -351,8 +334,8 @@ class Reader:
         before = dict(self.given_up)
         if has_begun:
             self.given_up.clear()
-        while texts := self.journal.lines()[0]:
-            for found in filter(None, map(GIVEN_UP.fullmatch, texts)):
+        while notes := self.journal.added()[0]:
+            for found in filter(None, (GIVEN_UP.fullmatch(note.words) for note in notes)):
                 if found[2] is None:
                     self.given_up.pop(found[3], None)
                 elif found[1] in self.known:
@@ -368,10 +351,32 @@ class Reader:
             pass
         except Exception as why:
             trouble = FAULT.format(why)
-        trouble = trouble or seen.damaged
         is_other = trouble != self.troubles.get(name, "")
         self.troubles[name] = trouble
         return seen.version - before + is_other
+
+    def judge(self, until: float, first: Container[str] = ()) -> None:
+        """Asks the referee what came of the answers of open matches, until a moment: first of some of them."""
+        began = time.monotonic()
+        if began < self.next_judging:
+            return
+        due = [seen for seen in self.open.values() if seen.board.is_due()]
+        for seen in sorted(due, key=lambda seen: (seen.match.id not in first, seen.judged)):
+            if time.monotonic() >= until:
+                break
+            self.version += self.judge_match(seen)
+        ended = time.monotonic()
+        self.next_judging = ended + JUDGING_SHARE * (ended - began)
+
+    def judge_match(self, seen: Seen) -> int:
+        """Asks the referee what came of the answers of a match. Returns how much has changed; a fault here stops no other match."""
+        before = seen.version
+        try:
+            seen.judge(self.plan.judge(self.referee, seen.match.game))
+        except Exception as why:
+            self.troubles[seen.match.id] = FAULT.format(why)
+            return 1
+        return seen.version - before
 
     def troubles_of_matches(self) -> list[str]:
         """Returns what went wrong with open matches."""
@@ -464,18 +469,17 @@ class Reader:
 
     def note_replaced(self, match: Match, record: dict, written: float) -> None:
         """Keeps the last replaced moves of a match that is over."""
-        found = [(turn, role, error) for turn, errors in enumerate(record["errors"], 1) for role, error in enumerate(errors) if error]
-        self.replaced_counts[match.id] = len(found)
         kept = [move for move in self.replaced if move.match.id != match.id]
-        if last := found[-MOST_OF_MATCH:]:
+        turns = list(zip(record["moves"], record["errors"]))
+        if found := replaced_moves(match, turns, {}, written):
             try:
-                log = self.plan.folder.read_log(match.id)
+                run = self.plan.folder.run_of(match.id)
             except OSError:
-                log = b""
-            moments = moments_of_turns(log, {turn for turn, _, _ in last}, written)
-            for turn, role, error in last:
-                move = record["moves"][turn - 1][role]
-                kept.append(Replaced(match, match.players[role], turn, error, move, moments[turn], next(self.numbers)))
+                run = []
+            known = logged(run)
+            moments = {turn: came / 1_000 for turn, came in known.turns.items()}
+            kept += replaced_moves(match, turns, moments, known.ended / 1_000 or written)[-MOST_OF_MATCH:]
+        self.replaced_counts[match.id] = len(found)
         self.replaced = newest(kept)
 
     def last_replaced(self) -> list[tuple[Replaced, int]]:

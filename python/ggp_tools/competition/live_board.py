@@ -1,258 +1,182 @@
-"""Follows a match that is open by the rules of its game: the state after the last turn, and what was replaced. It goes by the match's log
-alone, through an interpreter of its own, and says where the log is not enough."""
+"""Follows a match that is open, as the referee judges it: the answers of its log go to a desk of the program, which says what was played,
+what was replaced, and whose answers are due."""
 
-import copy
-import time
-from collections import deque
-from dataclasses import dataclass
-from typing import NamedTuple
+import re
+from collections.abc import Iterator
+from dataclasses import dataclass, field
+from pathlib import Path
 
-from ggp_tools.competition.log_lines import LogLine, log_line
-from ggp_tools.competition.logged_moves import error_of, is_left_open, may_be, moves_of
-from ggp_tools.competition.retiring import Row, after_turn, row_of_asked
 from ggp_tools.competition.schedule import Match
-from ggp_tools.competition.tail import Tail
-from ggp_tools.ground_games import Game, State, text_of, texts_of
-from ggp_tools.kif import Expression
+from ggp_tools.ground_games import text_of
+from ggp_tools.kif import expressions
+from ggp_tools.match_log import NO_TIME, START, Message
 from ggp_tools.records.marks import Mark, marks_of
 from ggp_tools.records.show import Board, visible, words_of
+from ggp_tools.referee import MOST_OF_MOVE, MOST_OF_SCRIPT, Referee, Unchecked
 
 # Boards are formed from so many of the last states, and so many of the last turns are listed.
 MOST_STATES, MOST_TURNS = 30, 50
-TOO_DEEP = "the rules are too deep for the interpreter of the pages, so the state is not known"
-NO_LINE = "its line is not in the log"
-CUT_OFF = "the log shows too little of a long move, so the state is not known from here on"
-FAULT = "these pages have a fault, so the state is not known: {!r}"
-OTHER_MOVES = "the log tells other moves of turn {}, so the state is not known from here on"
-
-
-class Lost(Exception):
-    """Why a match can't be followed any further."""
+ENDING = "stopping", "aborting", "finished", "aborted"
+NO_LINE = "the log lacks a line, so the state is not known from here on"
+TOO_LONG = "the answers are too long for a script of the referee, so the state is not known from here on"
+NO_VERDICT = "the referee came to no verdict, so the state may be an earlier one"
+COMMENT = re.compile(rb";[^\n]*")
+# An answer that is too long to be a move goes to the desk as one that is not an expression.
+NO_MOVE = b")"
 
 
 @dataclass(frozen=True)
 class Turn:
-    """A turn from 1 on: the moves by roles, the errors beside them, and whether the log leaves open that there is one."""
+    """A turn, counted from 1: the moves by roles, and the errors beside them."""
 
     number: int
     moves: tuple[str, ...]
     errors: tuple[str, ...]
-    doubts: tuple[bool, ...]
 
 
-class Judged(NamedTuple):
-    """The move of a role, the error beside it, whether the log leaves open that it was replaced, and whether this is another move."""
-
-    move: Expression
-    error: str
-    is_open: bool = False
-    is_presumed: bool = False
-
-    def is_replaced(self) -> bool | None:
-        """Returns whether the move was replaced: none where nobody knows. That a line is missing is no strike."""
-        return None if self.is_open else self.error not in ("", NO_LINE)
+def round_of(phase: str, moves: list) -> int:
+    """Returns the round that is open: 0 for START, else the number of the turn."""
+    return 0 if phase == "starting" else len(moves) + 1
 
 
-class Presumed(NamedTuple):
-    """What the last turn was closed from where the log leaves open what an answer was, and whose moves are presumed."""
+@dataclass(frozen=True)
+class Position:
+    """How far a match is: the phase, the roles that owe an answer in the round that is open, and what is recorded. Of the states it has the
+    first and the last ones."""
 
-    state: State
-    answers: dict[int, LogLine]
-    rows: list[Row]
-    roles: list[int]
+    phase: str = "starting"
+    owing: frozenset[int] = frozenset()
+    states: list[list[str]] = field(default_factory=list)
+    moves: list[list[str]] = field(default_factory=list)
+    errors: list[list[str]] = field(default_factory=list)
+
+    def round(self) -> int:
+        return round_of(self.phase, self.moves)
+
+    def is_ending(self) -> bool:
+        return self.phase in ENDING
+
+
+class Labels:
+    """The labels that may be on the boards of a game in any state, so that each looks the same in all of them."""
+
+    def __init__(self, rules: bytes) -> None:
+        self.rules, self.known = rules, {}
+
+    def words(self) -> Iterator[list[str]]:
+        """Gives the words of each term that a state may have."""
+        for sentence in expressions(self.rules.decode("latin-1")):
+            head = sentence[1] if sentence[0] == "<=" else sentence
+            if head[0] in ("init", "next") and (found := words_of(text_of(head[1]))):
+                yield found
+
+    def marks(self, board: Board) -> dict[str, Mark]:
+        """Returns what a board shows of each label."""
+        forms = tuple(sorted((form, tuple(labels)) for form, (_, labels) in board.forms.items()))
+        if forms not in self.known:
+            own = dict(forms)
+            found = ([words[at] for at in own[words[0], len(words)]] for words in self.words() if (words[0], len(words)) in own)
+            self.known[forms] = marks_of(visible(" ".join(label)) for label in found)
+        return self.known[forms]
+
+
+def text_in_line(answer: str) -> bytes:
+    """Returns an answer as one line of a script: the same expressions, without comments and line ends."""
+    data = answer.encode("latin-1")
+    return COMMENT.sub(b"", data).replace(b"\n", b" ") if len(data) <= MOST_OF_MOVE else NO_MOVE
 
 
 class LiveBoard:
-    """The states of a match, as far as its log says. `version` counts the turns that were followed."""
+    """The turns of a match, as far as its log says. `version` counts how often the position or the trouble has changed."""
 
-    def __init__(self, game: Game, match: Match, tail: Tail, strikes: int) -> None:
-        self.game, self.match, self.tail, self.strikes = game, match, tail, strikes
-        self.lines: deque[LogLine] = deque()
-        self.version, self.known_marks = 0, {}
+    def __init__(self, match: Match, strikes: int, rules: Path, labels: Labels) -> None:
+        self.match, self.strikes, self.rules, self.labels = match, strikes, rules, labels
+        self.version = 0
         self.begin()
 
-    def marks(self, board: Board) -> dict[str, Mark]:
-        """Returns what a board shows of each label that may stand on it in whatever state, so that a label looks the same in all."""
-        forms = tuple(sorted((form, tuple(labels)) for form, (_, labels) in board.forms.items()))
-        if forms not in self.known_marks:
-            known = dict(forms)
-            words = filter(None, (words_of(text_of(head[1])) for name in ("init", "next") for head in self.game.heads.get((name, 1), ())))
-            found = ([term[at] for at in known[term[0], len(term)]] for term in words if (term[0], len(term)) in known)
-            self.known_marks[forms] = marks_of(visible(" ".join(label)) for label in found)
-        return self.known_marks[forms]
-
     def begin(self) -> None:
-        """Begins with the first state, also where the match begins again on another host."""
-        self.trouble = ""
-        try:
-            self.state: State = self.game.initial()
-        except RecursionError:
-            self.state, self.trouble = frozenset(), TOO_DEEP
-        self.first = texts_of(self.state)
-        self.states = deque([self.first], maxlen=MOST_STATES)
-        self.turns: deque[Turn] = deque(maxlen=MOST_TURNS)
-        self.turn = 0
-        self.answers: dict[int, LogLine] = {}
-        self.started: set[int] = set()
-        self.rows: list[Row] = [(0, 0)] * len(self.game.roles)
-        self.presumed: Presumed | None = None
-        # What the log left open of a turn before the last one; and what keeps the present turn from being closed.
-        self.lasting_doubt, self.waits_for = "", ""
+        """Begins with the first state, also when the match begins again on another host."""
+        self.position, self.trouble = Position(), ""
+        # The answers that are not recorded yet, by rounds and roles; and why players did not answer, by turns and roles.
+        self.answers: dict[int, dict[int, Message]] = {}
+        self.reasons: dict[tuple[int, int], str] = {}
+        self.judged: tuple[int, bool] | None = None
         self.version += 1
-        self.settle()
 
-    def settle(self) -> None:
-        """Keeps as `settled` what may be shown: how far the match was followed before the first answer of the turn that is open."""
-        if not self.answers:
-            self.settled = None
-            settled = copy.copy(self)
-            settled.states, settled.turns = self.states.copy(), self.turns.copy()
-            self.settled = settled
+    def has_begun(self) -> bool:
+        """Returns whether a message was answered."""
+        return bool(self.answers) or self.position.round() > 0
 
-    def doubt(self) -> str:
-        """Returns what the log leaves open of the state, as sentences. Empty where it is certain."""
-        presumed = self.doubt_of(self.presumed.roles) if self.presumed and self.presumed.roles else ""
-        return " ".join(filter(None, (self.lasting_doubt or presumed, self.waits_for)))
+    def take(self, message: Message) -> None:
+        """Takes the answer to a START or a PLAY."""
+        self.answers.setdefault(message.turn(), {})[message.role] = message
+        if message.reason:
+            self.reasons[message.turn(), message.role] = message.reason
 
-    def doubt_of(self, roles: list[int]) -> str:
-        """Returns what is said of a turn in which the moves of some roles are presumed."""
-        players = ", ".join(self.match.players[role] for role in roles)
-        return f"The log leaves open what {players} answered in turn {self.turn}, so the state may be another one."
+    def stamp(self) -> tuple[int, bool]:
+        """Returns the last round with an answer, and whether it is the one that is open and all that are due have come."""
+        last = max(self.answers, default=0)
+        return last, last == self.position.round() and bool(self.answers) and self.position.owing <= self.answers[last].keys()
 
-    def follow(self, until: float) -> bool:
-        """Goes on until all lines are followed, or until a moment. Returns whether all are."""
-        texts, is_other = self.tail.lines()
-        if is_other:
-            self.begin()
-        self.lines.extend(line for line in map(log_line, texts) if line and line.is_of(self.match) and line.role < len(self.game.roles))
-        while self.lines and time.monotonic() < until:
-            line = self.lines.popleft()
+    def is_due(self) -> bool:
+        """Returns whether the referee would say something new."""
+        last, is_complete = stamp = self.stamp()
+        return stamp != self.judged and (self.judged is None or is_complete or last > self.position.round())
+
+    def judge(self, referee: Referee) -> None:
+        """Asks the referee what came of the answers so far."""
+        stamp, script, before = self.stamp(), self.script(), (self.position, self.trouble)
+        if len(script) > MOST_OF_SCRIPT:
+            self.trouble, self.judged = TOO_LONG, stamp
+        else:
             try:
-                self.take(line)
-            except Lost as why:
-                self.trouble, self.version = str(why), self.version + 1
-            except (RecursionError, ValueError, IndexError):
-                self.trouble, self.version = TOO_DEEP, self.version + 1
-            except Exception as why:
-                self.trouble, self.version = FAULT.format(why), self.version + 1
-            if self.version != self.settled.version:
-                self.settle()
-        return not self.lines
+                replies, record = referee.desk(self.rules, script)
+                self.take_verdict(replies, record)
+                self.judged = stamp
+            except Unchecked:
+                self.trouble = NO_VERDICT
+        self.version += (self.position, self.trouble) != before
 
-    def take(self, line: LogLine) -> None:
-        """Takes a line. The first one of a turn carries the moves of the turn before it."""
-        if line.kind == "START":
-            if self.turn or self.answers or line.role in self.started:
-                self.begin()
-            self.started.add(line.role)
-        if self.trouble or line.kind == "START":
-            return
-        moves = moves_of(line.message, len(self.game.roles))
-        if line.kind in ("STOP", "ABORT") or line.kind == "PLAY" and line.turn() == self.turn + 2:
-            self.end_turn(moves, line.kind == "ABORT")
-        if line.kind == "PLAY" and line.turn() != self.turn + 1:
-            raise Lost("the log lacks a line, so the state is not known from here on")
-        if not self.answers:
-            self.compare(moves)
-        if line.kind == "PLAY":
-            self.answer(line)
+    def take_verdict(self, replies: list[str], record: dict) -> None:
+        """Takes what the desk has replied to a script, and the record of the match so far."""
+        roles, known = len(self.match.players), self.position.errors
+        calls, due = replies[:-roles], replies[-roles:]
+        self.trouble = "" if set(calls) <= {"opened", "taken"} else NO_LINE
+        errors = [*known, *record["errors"][len(known) :]]
+        now = round_of(record["phase"], record["moves"])
+        self.answers = {at: found for at, found in self.answers.items() if at >= now}
+        owing = {role for role, reply in enumerate(due) if reply.startswith("owe ")} | self.answers.get(now, {}).keys()
+        first, *states = record["states"]
+        self.position = Position(record["phase"], frozenset(owing), [first, *states[-MOST_STATES:]], record["moves"], errors)
 
-    def answer(self, line: LogLine) -> None:
-        """Takes the answer to a PLAY of the turn that is asked for. Who is asked is not retired, whatever followed from the log before."""
-        self.answers[line.role] = line
-        self.rows[line.role] = row_of_asked(self.rows[line.role], self.strikes)
-        if self.have_all_answered():
-            self.close(None)
+    def script(self) -> bytes:
+        """Returns the calls so far: of a recorded turn the moves that were played, and whose were replaced."""
+        match, position = self.match, self.position
+        found = [f"strict {match.id} 0 {match.start} {match.play} {self.strikes} {' '.join(match.players)}".encode()]
+        if position.round():
+            found += [b"submit %b %d 0" % (match.id.encode(), role) for role in range(len(match.players))]
+        for turn, (moves, errors) in enumerate(zip(position.moves, position.errors), 1):
+            for role, (move, error) in enumerate(zip(moves, errors)):
+                if error != "RT":
+                    found.append(self.call(role, turn, None if error else move, "silent"))
+        for at, answers in sorted(self.answers.items()):
+            for role, message in answers.items():
+                text = "" if message.kind == START else message.answer
+                found.append(self.call(role, at, None if message.error else text, "silent" if message.error == NO_TIME else "broken"))
+        found += [f"next {match.id} {role}".encode() for role in range(len(match.players))]
+        return b"".join(line + b"\n" for line in found)
 
-    def is_enough(self, count: int) -> bool:
-        return 0 < self.strikes <= count
+    def call(self, role: int, at: int, answer: str | None, missed: str) -> bytes:
+        """Returns the line by which a role answers a round, or does not."""
+        where = f"{self.match.id} {role} {at} ".encode()
+        return b"miss " + where + missed.encode() if answer is None else b"submit " + where + text_in_line(answer)
 
-    def have_all_answered(self) -> bool:
-        """Returns whether each role has answered that is not known to be retired. By a state that may be another one it is not known: a
-        turn that is open must not be shown."""
-        return all(role in self.answers or self.is_enough(least) and not self.doubt() for role, (least, _) in enumerate(self.rows))
+    def turns(self) -> list[Turn]:
+        """Returns the last turns, with the reasons of missed answers as the log has them."""
+        recorded = list(enumerate(zip(self.position.moves, self.position.errors), 1))[-MOST_TURNS:]
+        return [Turn(turn, tuple(moves), tuple(self.with_reasons(turn, errors))) for turn, (moves, errors) in recorded]
 
-    def compare(self, moves: list[Expression] | None) -> None:
-        """Looks that the moves that a message carries are those of the last turn. Where the log left open what an answer was, they tell."""
-        if not moves or not self.turns:
-            return
-        if self.presumed:
-            self.state, self.answers, self.rows, _ = self.presumed
-            self.presumed = None
-            self.turn -= 1
-            self.states.pop()
-            self.turns.pop()
-            self.close(moves)
-        if tuple(map(text_of, moves)) != self.turns[-1].moves:
-            raise Lost(OTHER_MOVES.format(self.turn))
-
-    def end_turn(self, moves: list[Expression] | None, is_given_up: bool) -> None:
-        """Ends the turn of which not all answers are in the log, if there is one: a player's answer was lost, or the match is given up."""
-        are_all_there = all(role in self.answers or self.is_enough(most) for role, (_, most) in enumerate(self.rows))
-        if self.answers and (moves or are_all_there):
-            self.close(moves)
-            if self.answers and not is_given_up:
-                raise Lost(CUT_OFF)
-
-    def close(self, moves: list[Expression] | None) -> None:
-        """Ends the turn that is asked for, with the moves that the next message carries, or with those that follow from the answers. It
-        stays where nothing follows from one."""
-        found = [self.judge(role, moves[role] if moves else None) for role in range(len(self.game.roles))]
-        unknown = [self.match.players[role] for role, judged in enumerate(found) if judged is None]
-        self.version += 1
-        self.waits_for = ""
-        if unknown:
-            said = f"What {', '.join(unknown)} answered in turn {self.turn + 1} does not tell the move"
-            self.waits_for = f"{said}: the state after it is shown once the next message tells the moves."
-            return
-        if self.presumed and self.presumed.roles:
-            self.lasting_doubt = self.lasting_doubt or self.doubt_of(self.presumed.roles)
-        roles = [role for role, judged in enumerate(found) if judged.is_presumed]
-        is_open = not moves and any(judged.is_open for judged in found)
-        self.presumed = Presumed(self.state, self.answers, self.rows, roles) if is_open else None
-        self.go_on(found)
-
-    def go_on(self, found: list[Judged]) -> None:
-        """Goes on to the state after a turn."""
-        self.state = self.game.next(self.state, {role: judged.move for role, judged in zip(self.game.roles, found)})
-        self.turn += 1
-        self.states.append(texts_of(self.state))
-        moves, errors, doubts, _ = zip(*found)
-        self.turns.append(Turn(self.turn, tuple(map(text_of, moves)), errors, doubts))
-        self.rows = [after_turn(row, judged.is_replaced()) for row, judged in zip(self.rows, found)]
-        self.answers = {}
-
-    def judge(self, role: int, played: Expression | None) -> Judged | None:
-        """Returns what became of the answer of a role: its move is the one that was played where that is known. None where nothing follows
-        from the answer alone."""
-        line = self.answers.get(role)
-        legal = self.game.legal(self.state, self.game.roles[role])
-        if not legal:
-            raise Lost(f"the role {text_of(self.game.roles[role])} has no legal move")
-        if played is not None and played not in legal:
-            raise Lost(f"the log tells a move of turn {self.turn + 1} that is not legal, so the state is not known from here on")
-        if played not in (None, legal[0]):
-            # A move that is not the first legal one is the player's own.
-            if line and not may_be(line.answer, played):
-                raise Lost(OTHER_MOVES.format(self.turn + 1))
-            return Judged(played, "")
-        if line is None:
-            return Judged(legal[0], "RT" if self.is_enough(self.rows[role][1]) else NO_LINE)
-        return self.judge_answer(line, legal, played is not None)
-
-    def judge_answer(self, line: LogLine, legal: list[Expression], is_first: bool) -> Judged | None:
-        """Returns what became of an answer, by the legal moves, of which the first one may be known to have been played."""
-        if line.is_shortage():
-            # After a shortage of the referee no message would follow that carries the moves.
-            return Judged(legal[0], f"IL {line.answer}") if is_first else None
-        if line.is_no_answer():
-            return Judged(legal[0], error_of(line))
-        own = [move for move in legal if may_be(line.answer, move)]
-        if not own or is_first and legal[0] not in own:
-            if own and not is_left_open(line.answer):
-                raise Lost(OTHER_MOVES.format(self.turn + 1))
-            return Judged(legal[0], error_of(line))
-        if is_first or len(own) == 1:
-            is_open = is_left_open(line.answer)
-            return Judged(legal[0] if is_first else own[0], "", is_open, is_open and not is_first and own[0] != legal[0])
-        return None
+    def with_reasons(self, turn: int, errors: list[str]) -> Iterator[str]:
+        for role, error in enumerate(errors):
+            reason = self.reasons.get((turn, role)) if error in ("TO", "CE") else None
+            yield f"{error} ({reason})" if reason else error

@@ -6,12 +6,13 @@ import typing
 
 from ggp_tools.competition.competition_file import Competition
 from ggp_tools.competition.live import Reader, Seen
-from ggp_tools.competition.live_board import LiveBoard, Turn
+from ggp_tools.competition.live_board import MOST_STATES, LiveBoard, Turn
 from ggp_tools.competition.page_parts import Item, Items, PageParts, Part, html_of, rows_part
 from ggp_tools.competition.player_pages import reason_of
 from ggp_tools.competition.replaced import MOST_OF_MATCH, MOST_REPLACED, Replaced
 from ggp_tools.competition.round_pages import round_text
 from ggp_tools.competition.schedule import Match
+from ggp_tools.match_log import shown
 from ggp_tools.records.show import board_page, board_places, boards_of, ground_of, is_on_board
 from ggp_tools.templating import joined
 
@@ -29,13 +30,13 @@ REPLACED = f"The last {MOST_REPLACED}, and of a match the last {MOST_OF_MATCH}."
 
 @dataclasses.dataclass(frozen=True)
 class Status:
-    """What an open match waits for, and since when. Only once half of the clock is over it names the players, with what is not known of
-    them: how fast a player answers may tell what."""
+    """What an open match waits for, and since when. Only once half of the clock is over it names the players: how fast a player answers
+    may tell what."""
 
     text: str
     since: float
     is_of_players: bool = False
-    players: tuple[tuple[str, str], ...] = ()
+    players: tuple[str, ...] = ()
 
     @property
     def clock(self) -> str:
@@ -50,14 +51,13 @@ def live_part(name: str, macro: str = "", /, **values: object) -> Part:
 def status_of(seen: Seen) -> Status:
     if seen.stage in STAGES:
         return Status(STAGES[seen.stage], seen.since)
-    found, unsure = seen.awaited()
+    found = seen.awaited()
     what = "the end" if seen.is_ending() else f"turn {seen.turn()}" if seen.turn() else "START"
-    if not found:
+    if found == []:
         return Status("all have answered", seen.since)
-    if not seen.is_late:
+    if found is None or not seen.is_late:
         return Status(f"the answers to {what}", seen.since, True)
-    doubt = " (if it is not retired)" if seen.turn() else " (if it has not answered)"
-    return Status(what, seen.since, True, tuple((seen.match.players[role], doubt if role in unsure else "") for role in found))
+    return Status(what, seen.since, True, tuple(seen.match.players[role] for role in found))
 
 
 def awaited_text(seen: Seen, up: str) -> "Markup":
@@ -75,18 +75,20 @@ def open_row(seen: Seen) -> Item:
 
 def board_html(board: LiveBoard) -> "Markup":
     """Returns the state after the last turn that was followed: its boards, and the terms that none shows."""
-    states = list(board.states)
-    boards = boards_of([board.first, *states])
+    notes = [board.trouble] if board.trouble else []
+    if not board.position.states:
+        return html_of("live", "state", boards="", terms=[], more=0, notes=notes)
+    first, states = board.position.states[0], board.position.states[-MOST_STATES:]
+    boards = boards_of([first, *states])
     drawn, on_boards = [], {form for drawing in boards for form in drawing.forms}
     for drawing in boards:
         places = [board_places(drawing, state) for state in states[-2:]]
         before = places[0] if len(places) > 1 else None
         # What an empty place shows is what is at most places at first.
-        ground = ground_of(drawing, board_places(drawing, board.first))
-        drawn.append(board_page(drawing, places[-1], before, ground, board.marks(drawing)))
+        ground = ground_of(drawing, board_places(drawing, first))
+        drawn.append(board_page(drawing, places[-1], before, ground, board.labels.marks(drawing)))
     terms = [term for term in states[-1] if not is_on_board(term, on_boards)]
-    told = {"terms": terms[:MOST_TERMS], "more": max(0, len(terms) - MOST_TERMS), "notes": [text for text in (board.doubt(), board.trouble) if text]}
-    return html_of("live", "state", boards=joined(drawn), **told)
+    return html_of("live", "state", boards=joined(drawn), terms=terms[:MOST_TERMS], more=max(0, len(terms) - MOST_TERMS), notes=notes)
 
 
 def board_item(seen: Seen, state: "Markup", turn: int, roles: tuple[str, ...]) -> Item:
@@ -146,12 +148,12 @@ def match_head(match: Match, competition: Competition, roles: tuple[str, ...]) -
 
 def turn_row(turn: Turn) -> Item:
     """Returns the row of a turn: the moves, and why one was replaced."""
-    return f"turn-{turn.number}", html_of("live", "turn_row", number=turn.number, moves=list(zip(turn.moves, turn.errors, turn.doubts)))
+    return f"turn-{turn.number}", html_of("live", "turn_row", number=turn.number, moves=list(zip(turn.moves, turn.errors)))
 
 
 def answers_part(seen: Seen) -> Part:
     """Returns the last answer of each role in a round that is over."""
-    rows = [(seen.match.players[role], line) for role, line in sorted(seen.last.items())]
+    rows = [(seen.match.players[role], shown(said.message), shown(said.came()), said.ms) for role, said in sorted(seen.last.items())]
     return live_part("answers", rows=rows) if rows else Part("answers", "")
 
 

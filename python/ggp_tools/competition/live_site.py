@@ -8,12 +8,12 @@ import time
 import typing
 from collections import OrderedDict
 from collections.abc import Callable
-from dataclasses import dataclass, field
+from dataclasses import dataclass
 
 from ggp_tools.competition import live_pages
 from ggp_tools.competition.files import Folder, Refused
 from ggp_tools.competition.live import Reader, Seen, for_visitors
-from ggp_tools.competition.live_board import LiveBoard, Turn
+from ggp_tools.competition.live_board import Turn
 from ggp_tools.competition.page_changes import changes, event_text
 from ggp_tools.competition.page_parts import PageParts
 from ggp_tools.competition.pages import Site, by_game, by_player, pages_of_all, titled
@@ -22,10 +22,8 @@ from ggp_tools.competition.player_pages import page_name, standing_of, standing_
 from ggp_tools.competition.results import Result
 from ggp_tools.competition.table import Table, tables_of
 from ggp_tools.competition.table_text import in_order
-from ggp_tools.ground_games import Game
-from ggp_tools.kif import expressions
 from ggp_tools.records.show import NoRecord
-from ggp_tools.referee import NoReferee, Unchecked
+from ggp_tools.referee import NoReferee, Referee, Unchecked
 from ggp_tools.templating import page
 
 if typing.TYPE_CHECKING:
@@ -102,8 +100,8 @@ class OpenPage:
 class LiveSite:
     """The pages, and the matches that they show."""
 
-    def __init__(self, plan: Plan, read_plan: Callable[[], Plan], stamp: tuple | None = None, delay: float = 0.0) -> None:
-        self.read_plan, self.delay, self.reader = read_plan, delay, None
+    def __init__(self, plan: Plan, referee: Referee, read_plan: Callable[[], Plan], stamp: tuple | None = None, delay: float = 0.0) -> None:
+        self.referee, self.read_plan, self.delay, self.reader = referee, read_plan, delay, None
         self.kept: OrderedDict[str, tuple[Result, bytes]] = OrderedDict()
         # Versions of pages of another run, or of another plan, are none of this one's.
         self.token = f"{time.time_ns():x}"
@@ -113,11 +111,9 @@ class LiveSite:
     def begin(self, plan: Plan, stamp: tuple) -> None:
         """Begins with a plan, and with the stamp that its files had before they were read: what was written since then is read again."""
         self.plan, self.trouble, self.fault, self.plan_stamp = plan, "", "", stamp
-        self.reader = Reader(plan, self.delay, self.reader and self.reader.sights)
+        self.reader = Reader(plan, self.referee, self.delay, self.reader and self.reader.sights)
         self.site = Site(plan, written=lambda result: self.reader.identities[result.match.id][2])
         self.names = {player.name for player in plan.competition.players}
-        self.games: dict[str, Game] = {}
-        self.boards: dict[str, LiveBoard] = {}
         self.followed: dict[str, Followed] = {}
         self.rows: dict[str, tuple[int, tuple[str, str]]] = {}
         self.tables: list[Table] = []
@@ -195,38 +191,24 @@ class LiveSite:
         self.next_tables = ended + SHARE * (ended - began)
 
     def wanted_boards(self) -> list[Seen]:
-        """Returns the open matches whose boards somebody looks at; the others are followed no more."""
+        """Returns the open matches whose boards somebody looks at; those of the others are not made any more."""
         now = time.monotonic()
         looked = {path for path, found in self.pages.items() if found.viewers or now - found.touched < IDLE}
         shown = self.reader.open_matches()[: live_pages.BOARDS] if "/index.html" in looked else []
         names = {seen.match.id for seen in shown}
         matches = (PATH.fullmatch(path) for path in looked)
         names |= {found[3] for found in matches if found and found[2] == "matches" and found[3] in self.reader.open}
-        for name in self.boards.keys() - names:
-            del self.boards[name]
-            self.followed.pop(name, None)
+        self.followed = {name: found for name, found in self.followed.items() if name in names}
         self.rows = {name: found for name, found in self.rows.items() if name in self.reader.open}
         return [self.reader.open[name] for name in names]
 
     def follow(self, wanted: list[Seen]) -> None:
-        """Follows matches by their rules, each for its share of the time."""
-        ends = time.monotonic() + FOLLOW
-        for at, seen in enumerate(wanted):
-            name, left = seen.match.id, max(0.0, ends - time.monotonic())
-            board = self.boards.get(name) or self.begin_board(seen)
-            board.follow(time.monotonic() + left / (len(wanted) - at))
-            # What a message of an open turn tells of the turn before it is shown with that turn.
-            settled = board.settled
-            if name not in self.followed or self.followed[name].version != settled.version:
-                self.followed[name] = Followed(settled.version, live_pages.board_html(settled), settled.turn, tuple(settled.turns))
-
-    def begin_board(self, seen: Seen) -> LiveBoard:
-        game = self.games.get(seen.match.game)
-        if not game:
-            text = self.plan.rules[seen.match.game].text.decode("latin-1")
-            game = self.games[seen.match.game] = Game(expressions(text))
-        board = self.boards[seen.match.id] = LiveBoard(game, seen.match, seen.tail.anew(), self.plan.competition.strikes)
-        return board
+        """Follows the open matches for a while, and shows those that are wanted."""
+        self.reader.judge(time.monotonic() + FOLLOW, {seen.match.id for seen in wanted})
+        for seen in wanted:
+            name, board = seen.match.id, seen.board
+            if name not in self.followed or self.followed[name].version != board.version:
+                self.followed[name] = Followed(board.version, live_pages.board_html(board), len(board.position.moves), tuple(board.turns()))
 
     # ---- pages
 

@@ -9,8 +9,8 @@ from collections.abc import Callable
 from dataclasses import dataclass
 
 from ggp_tools.competition import described
-from ggp_tools.competition.children import Child, Limits, TimedChild
-from ggp_tools.competition.files import PLAYERS, file_bytes, write_whole
+from ggp_tools.competition.children import Child, Limits, RemoteChild
+from ggp_tools.competition.files import PLAYERS, file_bytes, new_file, write_whole
 from ggp_tools.competition.hosts import CONNECTED, LOST, SILENCE, Hosts, remote_words
 from ggp_tools.competition.kept import fault_of_files, keep, most_of_record, size_of
 from ggp_tools.competition.plan import Plan
@@ -18,15 +18,16 @@ from ggp_tools.competition.results import fault_of_record, read_record, result_o
 from ggp_tools.competition.schedule import Match
 from ggp_tools.competition.seats import Seats
 from ggp_tools.competition.started_players import StartedPlayers
-from ggp_tools.moments import moment
+from ggp_tools.match_log import Event, Host, Message, Other, event_of, line_of
+from ggp_tools.printable import printable
 from ggp_tools.records.lengths import LONGEST_ACCOUNT, MOST_TURNS, longest_record
-from ggp_tools.referee import LAWFUL, NO, NO_NAME, PROGRAM, Referee, is_no_answer
+from ggp_tools.referee import LAWFUL, NO, NO_NAME, Referee, is_no_answer
 from ggp_tools.reporting import Reporter
 
 # The referee ends INFO by itself after so many seconds, and soon after that it has said whether it was short of something itself.
 WHOLE, SOON = 10, 1
 THERE = ("available", "ready", "unknown")
-# A referee on a host says at most so many bytes before the match, and of each message the log has at most so many.
+# A referee on a host says at most so many bytes before the match, and of each message the log has at most so many besides its texts.
 MOST_BEFORE, MOST_OF_MESSAGE = 1 << 20, 1 << 10
 # A match on a host counts as lost if nothing was heard of it for so many seconds beyond its longest clock.
 MOST_SILENCE = 120
@@ -40,6 +41,12 @@ def leave_players(room: pathlib.Path) -> None:
         for file in room.iterdir():
             if file.name != PLAYERS:
                 file.unlink()
+
+
+def add_event(log: pathlib.Path, event: Event) -> None:
+    """Adds an event to the log of a match that nobody plays now."""
+    with open(log, "ab") as file:
+        file.write(line_of(event))
 
 
 @dataclass
@@ -171,38 +178,41 @@ class OpenMatch:
         return f"{child.last_words() if child.status else child.printed()}, {child.seconds:.1f} s"
 
     async def play(self) -> tuple[pathlib.Path, bytes] | None:
-        """Plays the match; if its host is lost, again on another one. Returns the file that the referee wrote, and the log of what it said
-        and when. If there is no record, it returns none, and the match is broken."""
+        """Plays the match; if its host is lost, again on another one. Returns the file that the referee wrote, and the log. If there is no
+        record, it returns none, and the match is broken."""
         write_whole(self.room / PLAYERS, "".join(f"{place}\n" for place in self.places).encode())
-        self.stage, log = "playing", b""
+        log = self.plan.folder.room_log(self.match.id)
+        new_file(log).close()
+        self.stage = "playing"
         for times_left in reversed(range(self.plan.competition.tries)):
             host, child = self.host, await self.run()
             self.seconds = child.seconds
-            log += self.log_of(child, host)
             if not child.status:
-                return child.out, log + f"ended {moment()}\n".encode()
+                return child.out, file_bytes(log)
             if not host or not child.passed and self.is_reached and child.status not in LOST:
                 if host and child.status < 0:
                     # The ssh was killed, and not the referee, which may go on until it notices that.
                     await asyncio.sleep(SILENCE)
                 break
-            log += f"lost {moment()} {child.last_words()}\n".encode("ascii", "replace")
+            add_event(log, Other("lost", {"match": self.match.id, "time": int(time.time() * 1_000), "reason": child.last_words()}))
             if not await self.move_on(child, times_left):
                 break
-        self.why, self.is_broken = self.why or child.last_words(self.is_word), True
+        self.why, self.is_broken = self.why or child.last_words(lambda line: line != CONNECTED), True
         return None
 
-    async def run(self) -> TimedChild:
+    async def run(self) -> Child:
         """Has the referee play the match, and returns its process once that is over."""
-        competition, match, self.is_reached = self.plan.competition, self.match, False
-        rules, player_rules = self.plan.folder.rules_of(match.game).absolute(), self.plan.player_rules_path(match.game)
-        words = self.referee.run_words(rules, player_rules and player_rules.absolute(), match, competition.strikes, self.places)
-        if self.host:
-            await self.shared.hosts.connecting[self.host].acquire()
-            self.connects, words = True, remote_words(self.host, words)
-        else:
+        match, folder, self.is_reached = self.match, self.plan.folder, False
+        log, player_rules = folder.room_log(match.id), self.plan.player_rules_path(match.game)
+        strikes, player_rules = self.plan.competition.strikes, player_rules and player_rules.absolute()
+        given = folder.rules_of(match.game).absolute(), player_rules, match, strikes, self.places
+        if not self.host:
             self.reporter.begins(match)
-        child = TimedChild(self.room, "played", self.limits() if self.host else None, self.heard)
+            return await self.child(self.referee.run_words(*given, log.absolute()), "played")
+        await self.shared.hosts.connecting[self.host].acquire()
+        self.connects, words = True, remote_words(self.host, self.referee.run_words(*given, "-"))
+        add_event(log, Host(match.id, self.host))
+        child = RemoteChild(self.room, "played", log, self.limits(), self.heard)
         try:
             await child.run(words)
         finally:
@@ -212,17 +222,19 @@ class OpenMatch:
 
     def limits(self) -> Limits:
         """Returns what a host may send of the match: no more than its referee can write, and not after too long a silence."""
-        said = MOST_BEFORE + MOST_OF_MESSAGE * len(self.places) * (MOST_TURNS + 2)
-        printed = longest_record(self.plan.rules[self.match.game].text) + LONGEST_ACCOUNT
+        record = longest_record(self.plan.rules[self.match.game].text)
+        # Each player is sent all moves, and a byte of an answer may take six.
+        said = MOST_BEFORE + len(self.places) * (MOST_OF_MESSAGE * (MOST_TURNS + 2) + 6 * record)
+        printed = record + LONGEST_ACCOUNT
         return Limits(printed, said, max(self.match.start, self.match.play) + MOST_SILENCE)
 
     def heard(self, line: bytes) -> None:
-        """Takes a line that the referee has said. Only on a host does it matter."""
-        if self.host and not self.is_reached and line.endswith(CONNECTED.encode()):
+        """Takes a line that was said on its host."""
+        if not self.is_reached and line.endswith(CONNECTED.encode()):
             self.is_reached = True
             self.end_connecting()
             self.reporter.begins(self.match, self.host)
-        elif self.is_reached and f" {self.match.id} role ".encode() in b" " + line:
+        elif self.is_reached and isinstance(event_of(line), Message):
             self.shared.hosts.was_there(self.host)
 
     def end_connecting(self) -> None:
@@ -230,20 +242,7 @@ class OpenMatch:
             self.shared.hosts.connecting[self.host].release()
         self.connects = False
 
-    def log_of(self, child: TimedChild, host: str | None) -> bytes:
-        """Returns what a process that played the match has said, with the times, and when the match began. On a host it begins when that
-        is reached."""
-        timed = child.timed_bytes()
-        if not host:
-            return f"began {child.began_at}\n".encode() + timed
-        lines = timed.splitlines(keepends=True)
-        at = next((at for at, line in enumerate(lines) if line.endswith(f"{CONNECTED}\n".encode())), None)
-        if at is None:
-            return timed
-        began = b"began %s\nhost %s\n" % (lines[at].split(b" ")[0], host.encode())
-        return b"".join([*lines[:at], began, *lines[at + 1 :]])
-
-    async def move_on(self, child: TimedChild, times_left: int) -> bool:
+    async def move_on(self, child: RemoteChild, times_left: int) -> bool:
         """Leaves a host that is lost. Returns whether the match has another one, on which it can begin."""
         hosts, lost = self.shared.hosts, self.host
         follows = hosts.was_lost(lost, child.began)
@@ -267,12 +266,6 @@ class OpenMatch:
     async def free(self, at: int, player: str) -> None:
         child = await self.child(self.referee.abort_words(self.match.id, self.places[at]), f"abort-{at}", seconds=ABORT_SECONDS)
         self.reporter.note(f"abort {self.match.id} {player}: {'answered' if child.status == 0 else 'no answer'}")
-
-    def is_word(self, line: str) -> bool:
-        """Returns whether a line of the referee's standard error says more than its log, which may be cut off."""
-        if self.plan.competition.hosts:
-            return not line.startswith((f"{self.match.id} role ", CONNECTED))
-        return line.startswith(f"{PROGRAM}: ")
 
     async def check(self, played: pathlib.Path, log: bytes) -> None:
         """Has the record verified and the account replayed, and only then puts the files of the match where they count. If the referee
@@ -308,7 +301,8 @@ class OpenMatch:
         else:
             if held and held.status:
                 why_not = held.printed().removeprefix(described.IS_NOT_FOLLOWED) or held.last_words()
-            self.count(record, account, log + (described.log_line(why_not) if held or why_not else b""))
+            said = Other("held", {"match": self.match.id, "reason": why_not and printable(why_not)})
+            self.count(record, account, log + (line_of(said) if held or why_not else b""))
 
     async def hold(self) -> tuple[Child | None, str | None]:
         """Has the record held against the description of its game. Returns the process, or why there is none; neither if the game was

@@ -5,6 +5,7 @@ import contextlib
 import datetime
 import hashlib
 import heapq
+import io
 import itertools
 import multiprocessing
 import os
@@ -25,13 +26,15 @@ from ggp_tools.competition.page_parts import Item, Items, PageParts, Part, html_
 from ggp_tools.competition.plan import Plan
 from ggp_tools.competition.player_pages import page_name, player_parts, standing_of, standing_texts
 from ggp_tools.competition.plots import rating_plot
-from ggp_tools.competition.results import WON, Result, is_set_back, remarks, times_of, winner_words
+from ggp_tools.competition.results import WON, Result, remarks, winner_words
 from ggp_tools.competition.round_pages import count_of_all, round_text, rounds_part, rounds_words
 from ggp_tools.competition.sittings import Sitting, sitting_of_values, sittings_of, values_of
 from ggp_tools.competition.table import Table, tables_of
 from ggp_tools.competition.table_text import FORFEIT, METHOD, crosstable_rows, notes, standings_rows, without_record
 from ggp_tools.descriptions.loading import Rules, sum_of
+from ggp_tools.match_log import last_run
 from ggp_tools.referee import Unchecked
+from ggp_tools.records.match_logs import logged
 from ggp_tools.records.show import NoRecord, page_of, read_record
 from ggp_tools.templating import environment, page
 
@@ -152,16 +155,18 @@ class Site:
         is known to be told of the same files is not looked for again."""
         match, folder = result.match, self.plan.folder
         data = self.plan.read_record(match)
-        log, is_cut = folder.read_lines_of_log(match.id, MOST_OF_LOG)
+        log, is_cut = folder.part_of_log(match.id, MOST_OF_LOG)
         key = known.key(repr(result).encode(), data, log, b"%d" % is_cut) if known else ""
         values = known.get("told", key) if known else None
         if values:
             *told, sittings = values
             self.told[match.id] = Told(result, *told[:2], *map(tuple, told[2:]), [sitting_of_values(said, result) for said in sittings], is_cut)
             return data
-        times = times_of(log, len(match.players)) | {"isSetBack": is_set_back(log)}
+        run = last_run(io.BytesIO(log), match.id)
+        found = logged(run)
+        times = {**dict(zip(("begin", "end"), found.times())), "isSetBack": found.is_set_back}
         rows = match_row(result, times, ""), match_row(result, times, "../")
-        sittings = sittings_of(result, read_record(data), log, times["end"])
+        sittings = sittings_of(result, read_record(data), run, times["end"])
         self.told[match.id] = Told(result, times["begin"], times["end"], *rows, sittings, is_cut)
         if known:
             known.put("told", key, [times["begin"], times["end"], *rows, list(map(values_of, sittings))])

@@ -309,6 +309,7 @@ def read_rules(folder: Folder, competition: Competition, referee: Referee) -> di
 def read_plan(path: str, referee: Referee) -> Plan:
     """Returns the competition that was planned in a folder. Refuses one whose rules or schedule are not those of the plan."""
     folder = Folder(path)
+    folder.refuse_old_logs()
     competition, text = competition_of(folder)
     schedule, rules, history = read_planned(folder.schedule), read_rules(folder, competition, referee), read_history(folder)
     key = read_key(folder, competition)

@@ -63,8 +63,6 @@ def longest_text(times: list[int | None]) -> str:
 
 def reason_of(error: str) -> str:
     """Returns what an error means; that of a log may have a reason of its own behind it."""
-    if error.startswith("lost "):
-        return "no legal move came, or the referee was short of something: the log does not tell which"
     return why_of(error if error.startswith("IL ") else error.partition(" ")[0])
 
 

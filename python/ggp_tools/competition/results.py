@@ -1,23 +1,14 @@
 """What came of a match, as its record says, and its times, as its log says."""
 
-import itertools
 import json
-import re
 from collections import Counter
 from collections.abc import Iterator
 from dataclasses import dataclass
 from typing import NamedTuple
 
 from ggp_tools.competition.schedule import Match
-from ggp_tools.moments import MOMENT
 from ggp_tools.records.lengths import without_states
-
-# No number is longer, so that a log of an archive can't be one that Python refuses to read.
-LOG_LINE = re.compile(rf"(?:{MOMENT} )?(\S+) role (\d{{1,9}}) (\S+) message (\d{{1,9}}) \((\w+) .*, (\d{{1,18}}) ms")
-TIME_LINE = re.compile(rf"(began|ended) ({MOMENT})")
-OWN_TIMES = re.compile(rf"(?m)^(?:(?:began|ended) )?({MOMENT})".encode("ascii"))
-HOST_LINE = re.compile(r"(host) (\S+)")
-
+from ggp_tools.records.match_logs import Beginning
 
 WON, DRAWN, LOST = "won", "drawn", "lost"
 # What a player that is left alone by a forfeit gets, and several that are left share.
@@ -187,26 +178,6 @@ def read_record(data: bytes) -> dict:
     return json.loads(without_states(data))
 
 
-def times_of(log: bytes, roles: int) -> dict[str, object]:
-    """Returns when a match began and ended, on which host, and of each role's messages the kind and the milliseconds. A match that was lost
-    with its host has begun again, and what was before that does not count."""
-    found, messages = {}, [[] for _ in range(roles)]
-    for line in log.decode("ascii", "replace").splitlines():
-        if line.startswith("began "):
-            found, messages = {}, [[] for _ in range(roles)]
-        if said := TIME_LINE.fullmatch(line) or HOST_LINE.fullmatch(line):
-            found[said[1]] = said[2]
-        elif (message := LOG_LINE.fullmatch(line)) and int(message[2]) < roles:
-            messages[int(message[2])].append([message[5].lower(), int(message[6])])
-    return {"begin": found.get("began"), "end": found.get("ended"), "host": found.get("host"), "messages": messages}
-
-
-def is_set_back(log: bytes) -> bool:
-    """Returns whether a line of a log has an earlier time than one before it, since the match has begun last."""
-    times = OWN_TIMES.findall(log[max(0, log.rfind(b"\nbegan ")) :])
-    return any(later < earlier for earlier, later in itertools.pairwise(times))
-
-
 def forfeit_keys(result: Result) -> dict[str, object]:
     """Returns what the line of a match says of its forfeit: who has lost it so, why, and which goals count in place of its own."""
     lost, players = result.forfeits(), result.match.players
@@ -230,7 +201,7 @@ class Sums(NamedTuple):
     description: str | None = None
 
 
-def match_line(result: Result, sums: Sums, log: bytes, broken: list[dict[str, object]]) -> bytes:
+def match_line(result: Result, sums: Sums, logged: Beginning, broken: list[dict[str, object]]) -> bytes:
     """Returns the match as one line of JSON; `broken` has the answers that were broken, with their reasons."""
     match = result.match
     said = {
@@ -247,7 +218,8 @@ def match_line(result: Result, sums: Sums, log: bytes, broken: list[dict[str, ob
         "phase": result.phase,
         "cause": result.cause,
         "errors": [dict(sorted(errors.items())) for errors in result.errors],
-        **times_of(log, len(match.players)),
+        **dict(zip(("begin", "end", "host"), logged.times())),
+        "messages": logged.by_role(len(match.players)),
         "broken": broken,
     }
     return (json.dumps(said, separators=(",", ":")) + "\n").encode("ascii")

@@ -49,7 +49,7 @@ def add_serve(command: argparse.ArgumentParser) -> None:
 
 def run_serve(asked: argparse.Namespace, referee: Referee) -> int:
     stamp = plan_stamp(Folder(asked.folder))
-    site = LiveSite(read_plan(asked.folder, referee), lambda: read_plan(asked.folder, referee), stamp, asked.delay)
+    site = LiveSite(read_plan(asked.folder, referee), referee, lambda: read_plan(asked.folder, referee), stamp, asked.delay)
     site.look()
     asyncio.run(serve(site, asked))
     return 0

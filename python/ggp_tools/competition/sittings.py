@@ -1,11 +1,12 @@
 """What a player did in a match, as its record and its log say it: its goal, its response times, and its errors with the messages that
 caused them."""
 
+from collections.abc import Sequence
 from dataclasses import dataclass
 
-from ggp_tools.competition.log_lines import LogLine, log_line
 from ggp_tools.competition.plots import BARS, bar_of
 from ggp_tools.competition.results import Result
+from ggp_tools.match_log import PLAY, START, Event, Message, messages, shown
 
 # Of a player's errors in one match so many are shown, the last ones.
 MOST_ERRORS = 10
@@ -40,40 +41,38 @@ class Sitting:
         return None if self.result.match.again else self.result.counted()[self.role]
 
 
-def times_of_role(lines: list[LogLine]) -> tuple[tuple[int, ...], int | None, int | None]:
+def times_of_role(lines: list[Message]) -> tuple[tuple[int, ...], int | None, int | None]:
     """Returns how many PLAY of a role took how long, how long its START took, and its longest PLAY."""
     counts, start = [0] * BARS, None
-    plays = [line.milliseconds for line in lines if line.kind == "PLAY"]
+    plays = [line.ms for line in lines if line.kind == PLAY]
     for milliseconds in plays:
         counts[bar_of(milliseconds)] += 1
     for line in lines:
-        if line.kind == "START":
-            start = line.milliseconds
+        if line.kind == START:
+            start = line.ms
     return tuple(counts), start, max(plays, default=None)
 
 
-def faults_of_role(record: dict, role: int, lines: list[LogLine]) -> tuple[Fault, ...]:
+def faults_of_role(record: dict, role: int, lines: list[Message]) -> tuple[Fault, ...]:
     """Returns the last errors of a role."""
     turns = [turn for turn, errors in enumerate(record["errors"], 1) if errors[role]][-MOST_ERRORS:]
-    asked = {line.turn(): line for line in lines if line.kind == "PLAY"} if turns else {}
+    asked = {line.turn(): line for line in lines if line.kind == PLAY} if turns else {}
     found = []
     for turn in turns:
         line = asked.get(turn)
         error, move = record["errors"][turn - 1][role], record["moves"][turn - 1][role]
         # A retired role was asked for nothing.
-        found.append(Fault(turn, error, move, line.message, line.answer) if line and error != "RT" else Fault(turn, error, move))
+        texts = (shown(line.message), shown(line.came())) if line and error != "RT" else ()
+        found.append(Fault(turn, error, move, *texts))
     return tuple(found)
 
 
-def sittings_of(result: Result, record: dict, log: bytes, ended: str | None) -> list[Sitting]:
-    """Returns what each role's player did in a match. Where it has begun again on another host, what was before that does not count."""
-    by_role: list[list[LogLine]] = [[] for _ in result.match.players]
-    for text in log.decode("ascii", "replace").splitlines():
-        if text.startswith("began "):
-            by_role = [[] for _ in result.match.players]
-        line = log_line(text)
-        if line and line.role < len(by_role):
-            by_role[line.role].append(line)
+def sittings_of(result: Result, record: dict, run: Sequence[Event], ended: str | None) -> list[Sitting]:
+    """Returns what each role's player did in a match, by what its log says since the match began last."""
+    by_role: list[list[Message]] = [[] for _ in result.match.players]
+    for message in messages(run):
+        if message.role < len(by_role):
+            by_role[message.role].append(message)
     return [
         Sitting(result, role, record["roles"][role], ended or "", *times_of_role(lines), faults_of_role(record, role, lines))
         for role, lines in enumerate(by_role)

@@ -1,20 +1,22 @@
 """Tells what happened to the players of a match, turn by turn: by its record, by its log, and by what `play` has noted."""
 
+import contextlib
 import functools
+import io
 import re
 from collections.abc import Iterator
 from dataclasses import dataclass
 
 from ggp_tools.answers import Illegal, game_of, no_expression
-from ggp_tools.competition.files import Refused, file_bytes
-from ggp_tools.competition.log_lines import MORE, NO_ANSWER, SHOWN
+from ggp_tools.competition.files import Refused, file_bytes, opened_file
 from ggp_tools.competition.plan import Plan
 from ggp_tools.competition.schedule import Match
-from ggp_tools.moments import MOMENT
+from ggp_tools.match_log import PLAY, START, Message, Other, Runs, events
+from ggp_tools.moments import MOMENT, moment_at
+from ggp_tools.printable import message_of
 from ggp_tools.records.show import read_record
 
 TIMED = re.compile(rf"({MOMENT}) (.*)")
-MESSAGE = re.compile(r"\S+ role (\d{1,9}) \S+ message (\d{1,9}) (.*), (\d{1,18}) ms")
 # How the lines of `play` about a match begin, where players, games and matches may have the same names; and that of its round.
 NOTED = (
     "(?:begin|end|no record|back|absent|info|abort|no answer to abort|lost|refused|aside|missing|start|restart|died|down) {match}[ :]"
@@ -30,67 +32,54 @@ MARKS = {
 
 
 @dataclass
-class Event:
-    """What happened at a time, or nobody knows when; to one role, or to all."""
+class Said:
+    """What happened at a time, or at an unknown one; to one role, or to all."""
 
     time: str
     role: int | None
     words: str
-    # Whether it is a line of the log of what `play` notes too.
-    is_stage: bool = False
 
 
-def marked(events: list[Event], before: str = "") -> list[Event]:
-    """Returns what one file says, and before what has an earlier time than what was before it that the clock was set back."""
+def marked(said: list[Said], before: str = "") -> list[Said]:
+    """Returns what one file says, with a remark before each part that has an earlier time than the part before it."""
     found = []
-    for event in events:
-        if event.time and event.time < before:
-            found.append(Event(event.time, None, SET_BACK.format(before=before)))
-        found.append(event)
-        before = event.time or before
+    for one in said:
+        if one.time and one.time < before:
+            found.append(Said(one.time, None, SET_BACK.format(before=before)))
+        found.append(one)
+        before = one.time or before
     return found
 
 
-def parts_at(events: list[Event], word: str) -> list[list[Event]]:
-    """Returns events in parts, of which each but the first begins with an event whose words begin so."""
-    parts: list[list[Event]] = [[]]
-    for event in events:
-        if event.words.startswith(word):
+def last_time(said: list[Said]) -> str:
+    """Returns the last time that is known of what was said."""
+    return next((one.time for one in reversed(said) if one.time), "")
+
+
+def parts_at(notes: list[Said], word: str) -> list[list[Said]]:
+    """Returns notes in parts. Each part but the first begins with a note whose words begin so."""
+    parts: list[list[Said]] = [[]]
+    for note in notes:
+        if note.words.startswith(word):
             parts.append([])
-        parts[-1].append(event)
+        parts[-1].append(note)
     return parts
 
 
-def in_order(notes: list[Event], log: list[Event], match_id: str) -> list[Event]:
-    """Returns what was noted and what was logged, each in the order of its lines, since a clock may be set. What a log has from one beginning
-    of the match to the next follows the note of this beginning. Of beginnings before the last ones the log has nothing."""
+def in_order(notes: list[Said], runs: list[list[Said]], match_id: str) -> list[Said]:
+    """Returns the notes and the runs of the log, each in the order of its lines, since a clock may be set. A run follows the note of its
+    beginning. The log may lack the runs before the last ones."""
     before, *begun = parts_at(notes, f"begin {match_id} ")
     if not begun:
-        return marked([*notes, *log])
-    early, *later = parts_at(log, "began ")
-    # Only the log of a match that is over says when it began.
-    runs = [early, *later] if early else later
+        return marked([*notes, *sum(runs, [])])
     lacking = len(begun) - len(runs)
     runs = [[] for _ in range(lacking)] + runs if lacking >= 0 else [sum(runs[: 1 - lacking], []), *runs[1 - lacking :]]
     found = marked(before)
     for part, run in zip(begun, runs):
-        last = found[-1].time if found else ""
         # The note of a beginning may be later than the first line of the log.
-        found += marked(part[:1], last) + marked(run)
-        found += marked(part[1:], found[-1].time)
-    return [event for event in found if not event.is_stage]
-
-
-def parts_of(said: str) -> tuple[str, str]:
-    """Returns the message and the answer of a line of a log. In a message that is whole each bracket is closed."""
-    if said[SHOWN : SHOWN + len(MORE) + 2] == f"{MORE}: ":
-        return said[: SHOWN + len(MORE)], said[SHOWN + len(MORE) + 2 :]
-    depth = 0
-    for at, sign in enumerate(said):
-        depth += {"(": 1, ")": -1}.get(sign, 0)
-        if not depth:
-            return said[: at + 1], said[at + 3 :]
-    return said, ""
+        found += marked(part[:1], last_time(found)) + marked(run)
+        found += marked(part[1:], last_time(found))
+    return found
 
 
 class Told:
@@ -102,7 +91,7 @@ class Told:
         self.record = read_record(file_bytes(file)) if file.is_file() else None
         self.roles = plan.roles(match.game)
 
-    def noted(self) -> Iterator[Event]:
+    def noted(self) -> Iterator[Said]:
         """Gives what `play` has noted of the match, with the player of an INFO or an ABORT."""
         if not self.folder.journal.is_file():
             return
@@ -111,7 +100,7 @@ class Told:
             for line in file:
                 found = TIMED.fullmatch(line.rstrip("\n"))
                 if found and own.match(found[2]):
-                    yield Event(found[1], self.role_of(found[2]), found[2])
+                    yield Said(found[1], self.role_of(found[2]), found[2])
 
     def role_of(self, words: str) -> int | None:
         """Returns the role whose player alone a line is about."""
@@ -119,57 +108,45 @@ class Told:
         player = rest.partition(": ")[0]
         return self.match.players.index(player) if kind in ("info", "abort", "start", "restart", "died", "down") and player in self.match.players else None
 
-    def log(self) -> list[str]:
-        """Returns the lines of the log; of a match that is open, those that came so far."""
-        said = self.folder.open / self.match.id / "played.said"
-        file = said if not self.record and said.is_file() else self.folder.log(self.match.id)
-        return file_bytes(file).decode("ascii", "replace").splitlines() if file.is_file() else []
-
-    def logged(self) -> Iterator[Event]:
-        """Gives what the log says."""
-        time, lines = "", self.log()
+    def logged(self) -> list[list[Said]]:
+        """Returns what the log says of each run of the match; of a match that is open, so far."""
+        room = self.folder.room_log(self.match.id)
+        file = room if not self.record and room.is_file() else self.folder.log(self.match.id)
+        runs: list[list[Message]] = [[]]
+        known = Runs()
+        with opened_file(file) if file.is_file() else contextlib.nullcontext(io.BytesIO()) as log:
+            for event in events(log):
+                if not isinstance(event, Other) and event.match == self.match.id and known.is_next(event):
+                    runs.append([])
+                if isinstance(event, Message) and event.role < len(self.roles):
+                    runs[-1].append(event)
+        runs = runs if runs[0] else runs[1:]
         # What was before the match began again has left nothing in the record.
-        begin = max((at for at, line in enumerate(lines) if line.startswith("began ")), default=0)
-        for at, line in enumerate(lines):
-            found = TIMED.fullmatch(line)
-            time, line = (found[1], found[2]) if found else (time, line)
-            if line.startswith(("began ", "host ", "lost ", "ended ")):
-                word, _, rest = line.partition(" ")
-                time = rest.partition(" ")[0] if word != "host" else time
-                yield Event(time, None, line, True)
-            elif (said := MESSAGE.fullmatch(line)) and int(said[1]) < len(self.roles):
-                role = int(said[1])
-                yield Event(time if found else "", role, self.message_words(role, int(said[2]), said[3], said[4], at >= begin))
-            elif found:
-                yield Event(time, None, f"said: {line}")
+        return [[self.said_of(message, run is runs[-1]) for message in run] for run in runs]
 
-    def message_words(self, role: int, number: int, said: str, ms: str, counts: bool) -> str:
-        """Returns what came of a message to a role; the first is START, and then comes one each turn. Of one that counts the record tells
-        more."""
-        message, answer = parts_of(said)
-        kind = message[1:].partition(" ")[0]
-        head = f"turn {number - 1}: {kind}" if kind == "PLAY" else kind
-        mark = self.mark_of(role, number - 2, kind) if counts else None
-        # A player may answer with the words of an error: the record knows, where there is one.
-        is_missed = NO_ANSWER.fullmatch(answer) and mark in (None, "TO", "CE")
-        words = f"{head} brought {answer} after {ms} ms" if is_missed else f"{head} was answered `{answer}` after {ms} ms"
-        if self.record and counts and kind == "PLAY":
-            words += f"; {self.turn_words(role, number - 2, answer)}"
+    def said_of(self, message: Message, counts: bool) -> Said:
+        """Returns what came of a message to a role. Of a message that counts the record says more."""
+        head = f"turn {message.turn()}: {PLAY}" if message.kind == PLAY else str(message.kind)
+        came = message_of(message.came())
+        words = f"{head} brought {came} after {message.ms} ms" if message.error else f"{head} was answered `{came}` after {message.ms} ms"
+        mark = self.mark_of(message) if counts else None
+        if self.record and counts and message.kind == PLAY:
+            words += f"; {self.turn_words(message.role, message.round, message.answer or '')}"
         elif mark:
-            words += f"; {self.mark_words(mark, kind)}"
-        return f"{words}. Message {number} to it: {message}"
+            words += f"; {self.mark_words(mark, message.kind)}"
+        moment = message.moment()
+        time = "" if moment is None else moment_at(moment)
+        return Said(time, message.role, f"{words}. Message {message.number} to it: {message_of(message.message)}")
 
-    def mark_of(self, role: int, turn: int, kind: str) -> str | None:
+    def mark_of(self, message: Message) -> str | None:
         """Returns the error that the record has of a message, empty where it has none; none where no record tells."""
-        if not self.record or kind == "PLAY" and turn >= len(self.record["errors"]):
+        if not self.record or message.kind == PLAY or message.kind is None:
             return None
-        if kind == "PLAY":
-            return self.record["errors"][turn][role]
-        return self.record["startMarks" if kind == "START" else "endMarks"][role]
+        return self.record["startMarks" if message.kind == START else "endMarks"][message.role]
 
     def mark_words(self, mark: str, kind: str) -> str:
         """Returns what the error of a record means."""
-        seconds = self.match.start if kind == "START" else self.match.play
+        seconds = self.match.start if kind == START else self.match.play
         if mark in MARKS:
             return f"{mark}: {MARKS[mark].format(seconds=seconds)}"
         return f"{mark}: no legal move of its role in that state"
@@ -218,7 +195,7 @@ class Told:
         strikes = self.plan.competition.strikes
         more = f", retired after {strikes} turns in a row without a move of its own" if strikes else ""
         yield f"{match.id}, {match.game}: {who}; {match.start} s for START, {match.play} s for each other message{more}"
-        events = in_order(notes, list(self.logged()), match.id)
+        events = in_order(notes, self.logged(), match.id)
         for player in players:
             role = match.players.index(player)
             yield from ("", f"{player}, {self.roles[role]}:")

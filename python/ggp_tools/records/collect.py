@@ -6,6 +6,7 @@
     ggp-records --rules FOLDER pages DIR PILE ..
     ggp-records --rules FOLDER ggp-base [--log LOG ..] [--games URL] DIR PILE ..
     ggp-records --rules FOLDER facts [--log LOG ..] [--descriptions FOLDER] [--refereed-by TEXT] FILE PILE ..
+    ggp-records log LOG ..
 
 A PILE is a file with a record on each line, as `season` and `run` write them; lines of accounts are skipped. FOLDER has the ground rules of
 the games, a file NAME.kif each: a record is of the game with its roles and its first state. With --large the limits of the rules are those
@@ -13,7 +14,8 @@ for large games. `check` writes a line for each record: the file, the line's num
 each two. With --explain lines below one that is not lawful say what was expected and what was found. `ggp-base` writes a file for each
 record that is lawful, as ggp-base has a match, and names the others. URL/NAME/ is then the address of the game NAME. `facts` writes a line
 of JSON for each record that is lawful, with what it does not say itself, and names the others. LOG, a file or a folder of files, has the
-times of messages, as the folder `logs` of a competition. The FOLDER of --descriptions has what the rules were made from, by the same names,
+times of messages, as the folder `logs` of a competition. `log` prints logs as text, an event on each line, with at most 200 bytes of each
+message and each answer. The FOLDER of --descriptions has what the rules were made from, by the same names,
 and TEXT names the program that refereed the matches. FILE and DIR must not be there. docs/PROFILE.md has the verdicts in section 9,
 examples/records/README.md the keys for ggp-base and of facts.
 
@@ -27,12 +29,13 @@ import sqlite3
 import sys
 from collections.abc import Iterable, Iterator
 
+from ggp_tools.match_log import event_of, text_of
 from ggp_tools.records.collection import Judged, Pile, judged_lines, known_games
 from ggp_tools.records.explain import explanation, json_lines
 from ggp_tools.records.facts import Facts, description_sums, version_beside, write_facts
-from ggp_tools.records.ggp_base import times_of_logs, write_matches
+from ggp_tools.records.ggp_base import write_matches
 from ggp_tools.records.index import write_pages
-from ggp_tools.records.match_logs import MatchLogs
+from ggp_tools.records.match_logs import MatchLogs, lines_of_logs
 from ggp_tools.records.tables import write_csv, write_sqlite
 from ggp_tools.referee import NoReferee, Referee, Unchecked, find_program
 
@@ -94,16 +97,16 @@ def name_others(others: Iterable[Judged]) -> None:
         print(f"ggp-records: not written: {visible(judged.line.file)}, line {judged.line.number}: {visible(judged.verdict)}", file=sys.stderr)
 
 
-def facts_for(given: argparse.Namespace, referee: Referee) -> Facts:
+def facts_for(given: argparse.Namespace, referee: Referee, logs: MatchLogs) -> Facts:
     """Returns what makes the facts of records, with all that is read before any of these."""
     refereed_by = given.refereed_by or version_beside(given.rules)
-    return Facts(referee.version(), refereed_by, description_sums(given.rules, given.descriptions), MatchLogs(given.log))
+    return Facts(referee.version(), refereed_by, description_sums(given.rules, given.descriptions), logs)
 
 
 def arguments(words: list[str]) -> argparse.Namespace:
     reader = argparse.ArgumentParser("ggp-records", description=__doc__, formatter_class=argparse.RawDescriptionHelpFormatter)
     reader.add_argument("--program", metavar="FILE", help="ggp_manager, if it is not beside this program or on the path")
-    reader.add_argument("--rules", metavar="FOLDER", required=True, help="the games: a file NAME.kif of ground rules each")
+    reader.add_argument("--rules", metavar="FOLDER", help="the games: a file NAME.kif of ground rules each")
     reader.add_argument("--large", action="store_true", help="the limits of the rules are those for large games")
     reader.add_argument("--jobs", type=int, default=len(os.sched_getaffinity(0)), metavar="N", help="at most N processes at a time")
     reader.add_argument("--explain", action="store_true", help="`check`: say why a record is not lawful")
@@ -120,7 +123,12 @@ def arguments(words: list[str]) -> argparse.Namespace:
         if output:
             command.add_argument("output", metavar=output, type=pathlib.Path)
         command.add_argument("piles", metavar="PILE", nargs="+")
+    actions.add_parser("log").add_argument("logs", metavar="LOG", nargs="+")
     given = reader.parse_args(words)
+    if given.action == "log":
+        return given
+    if given.rules is None:
+        reader.error("the following arguments are required: --rules")
     if given.jobs < 1:
         reader.error("--jobs is at least 1")
     if given.action != "check" and os.path.lexists(given.output):
@@ -128,11 +136,27 @@ def arguments(words: list[str]) -> argparse.Namespace:
     return given
 
 
+def print_log(paths: list[str]) -> int:
+    """Prints logs as text. Returns the status: 1 if a line is not an event."""
+    others = 0
+    for line in lines_of_logs(paths):
+        event = event_of(line)
+        others += event is None
+        if event:
+            print(text_of(event))
+    sys.stdout.flush()
+    if others:
+        print(f"ggp-records: {others:,} {'line is' if others == 1 else 'lines are'} not of a log", file=sys.stderr)
+    return int(others > 0)
+
+
 def perform(given: argparse.Namespace) -> int:
     """Does what the words ask for. Returns the status."""
+    if given.action == "log":
+        return print_log(given.logs)
     referee, pile, count = Referee(find_program(given.program), given.large), Pile(given.piles), Count()
-    times = times_of_logs(given.log) if given.action == "ggp-base" else {}
-    facts = facts_for(given, referee) if given.action == "facts" else None
+    logs = MatchLogs(getattr(given, "log", ()))
+    facts = facts_for(given, referee, logs) if given.action == "facts" else None
     games, refused = known_games(given.rules, referee)
     for said in refused:
         print(f"ggp-records: skipped: {visible(said)}", file=sys.stderr)
@@ -150,7 +174,7 @@ def perform(given: argparse.Namespace) -> int:
         case "pages":
             write_pages(given.output, lines)
         case "ggp-base":
-            name_others(write_matches(given.output, lines, times, given.games))
+            name_others(write_matches(given.output, lines, logs, given.games))
         case "facts":
             name_others(write_facts(given.output, lines, facts))
             for match_id, why in facts.faults.items():

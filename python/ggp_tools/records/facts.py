@@ -9,11 +9,11 @@ import pathlib
 from collections.abc import Iterable, Iterator
 
 from ggp_tools.competition.known import sum_of_file
-from ggp_tools.competition.log_faults import shown
 from ggp_tools.competition.plan import read_sums
+from ggp_tools.match_log import BROKEN, KINDS
 from ggp_tools.records.collection import Judged
 from ggp_tools.records.ggp_base import ABORTED, COMPLETED
-from ggp_tools.records.match_logs import BROKEN, KINDS, Beginning, MatchLogs, message_sum
+from ggp_tools.records.match_logs import Beginning, MatchLogs, message_sum
 from ggp_tools.records.tables import made_whole
 from ggp_tools.referee import VERSION_LINE
 
@@ -65,8 +65,7 @@ class Exchanges:
         self.asked = [turns.index("RT") if "RT" in turns else len(turns) for turns in errors]
 
     def text(self, kind: str, joint: str = "") -> str:
-        """Returns a message as a log shows it."""
-        return shown(f"({kind} {self.record['matchId']}{' ' * bool(joint)}{joint})")
+        return f"({kind} {self.record['matchId']}{' ' * bool(joint)}{joint})"
 
     def last(self, role: int) -> int:
         """Returns the number of the last message to a role: after START, each PLAY and what ends the match."""
@@ -138,7 +137,7 @@ class Facts:
         whys: dict[tuple[int, int], str] = {}
         if taken := self.of_log(judged, exchanges):
             logged, messages = taken
-            begin, end, host = logged.times(all(row[0] for row in messages), all(row[-1] for row in messages))
+            begin, end, host = logged.times()
             whys = logged.broken
         return {
             "id": line.match_id,

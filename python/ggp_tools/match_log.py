@@ -1,0 +1,239 @@
+"""The JSON log of matches: its events, and one reader for files, also for one that grows. docs/PROFILE.md describes the format in section
+10, docs/COMPETITION.md the events that `play` adds. A text is a sequence of bytes, a character for each."""
+
+import dataclasses
+import io
+import json
+import re
+from collections.abc import Iterable, Iterator
+from dataclasses import dataclass
+from typing import BinaryIO
+
+from ggp_tools.moments import moment_at
+from ggp_tools.printable import printable
+
+# An answer has at most 65,536 bytes, each of six characters at most. A line that is longer is no event, and is not kept in memory.
+LONGEST_LINE = 1 << 23
+START, PLAY, STOP, ABORT = KINDS = "START", "PLAY", "STOP", "ABORT"
+ENDS = STOP, ABORT
+NO_TIME, BROKEN, SHORTAGE = ERRORS = "TO", "CE", "lost"
+# No number is greater: two days before the last time of day that Python knows. No answer takes much longer than a day.
+MOST_NUMBER, MOST_MS = 253_402_128_000_000, 86_400_000 + 1_000_000
+WORD = re.compile(r"[A-Za-z0-9_.-]{1,64}")
+ESCAPED = re.compile(r'["\\]|[^ -~]')
+# Of a text a line for a terminal shows so many bytes.
+SHOWN = 200
+
+
+class Event:
+    """A line of a log."""
+
+    def moment(self) -> float | None:
+        """Returns when it happened, in seconds since 1970. None if the line does not say it."""
+        time = getattr(self, "time", None)
+        return None if time is None else time / 1_000
+
+    def is_sound(self) -> bool:
+        """Returns whether a log may have these values, which are of the right types."""
+        return True
+
+
+@dataclass(frozen=True, slots=True)
+class Message(Event):
+    """A message to the player of a role, numbered from 1, and its answer, or the error in place of an answer. `time` is when the message
+    was sent, and `ms` how long the answer took. The message START has `...` in place of the description."""
+
+    match: str
+    role: int
+    player: str
+    number: int
+    kind: str | None
+    round: int | None
+    time: int | None
+    ms: int
+    message: str
+    answer: str | None
+    error: str | None
+    reason: str | None
+
+    def moment(self) -> float | None:
+        return None if self.time is None else (self.time + self.ms) / 1_000
+
+    def is_sound(self) -> bool:
+        if self.kind not in (*KINDS, None) or (self.kind == PLAY) != (self.round is not None) or self.number < 1:
+            return False
+        return self.error is None if self.answer is not None else self.error in ERRORS
+
+    def turn(self) -> int:
+        """Returns the turn that a PLAY asks for, counted from 1; 0 for START."""
+        return 0 if self.round is None else self.round + 1
+
+    def came(self) -> str:
+        """Returns the answer, or the error with its reason."""
+        if self.answer is not None:
+            return self.answer
+        return f"{self.error} ({self.reason})" if self.reason else self.error
+
+
+@dataclass(frozen=True, slots=True)
+class Open(Event):
+    """A match is about to send its first START."""
+
+    match: str
+    time: int | None
+
+
+@dataclass(frozen=True, slots=True)
+class End(Event):
+    """The first role of a match has answered STOP or ABORT, or its time is over."""
+
+    match: str
+    time: int | None
+    kind: str
+
+    def is_sound(self) -> bool:
+        return self.kind in ENDS
+
+
+@dataclass(frozen=True, slots=True)
+class Host(Event):
+    """`play` has a match begin on a host."""
+
+    match: str
+    host: str
+
+
+@dataclass(frozen=True, slots=True)
+class Other(Event):
+    """An event that is only printed."""
+
+    name: str
+    values: dict[str, str | int | None]
+
+
+NAMES = {Message: "message", Open: "open", End: "end", Host: "host"}
+TYPES = {name: (kind, {field.name: field.type for field in dataclasses.fields(kind)}) for kind, name in NAMES.items()}
+
+
+def is_value(key: str, value: object, kind: type) -> bool:
+    """Returns whether a value of JSON can be that of a key."""
+    if not isinstance(value, kind) or isinstance(value, bool):
+        return False
+    if isinstance(value, int):
+        return 0 <= value <= (MOST_MS if key == "ms" else MOST_NUMBER)
+    if isinstance(value, str):
+        return bool(WORD.fullmatch(value)) if key in ("match", "player") else value.isascii() or max(value) <= "\xff"
+    return True
+
+
+def event_of(line: bytes) -> Event | None:
+    """Returns the event of a line. None if the line is not one of a log."""
+    try:
+        values = json.loads(line)
+    except (ValueError, RecursionError):
+        return None
+    name = values.pop("event", None) if isinstance(values, dict) else None
+    if not isinstance(name, str):
+        return None
+    kind, types = TYPES.get(name, (None, dict.fromkeys(values, str | int | None)))
+    # A match that is refused may have any id.
+    if values.keys() != types.keys() or not all(is_value(key if kind else "", values[key], own) for key, own in types.items()):
+        return None
+    event = kind(**values) if kind else Other(name, values)
+    return event if event.is_sound() else None
+
+
+def values_of(event: Event) -> tuple[str, dict[str, str | int | None]]:
+    """Returns the name of an event and the values by their keys."""
+    if isinstance(event, Other):
+        return event.name, event.values
+    name = NAMES[type(event)]
+    return name, {key: getattr(event, key) for key in TYPES[name][1]}
+
+
+def text_of_value(value: str | int | None) -> str:
+    """Returns a value as a log has it."""
+    if value is None:
+        return "null"
+    if isinstance(value, int):
+        return str(value)
+    return '"%s"' % ESCAPED.sub(lambda found: f"\\{found[0]}" if found[0] in '"\\' else f"\\u{ord(found[0]):04x}", value)
+
+
+def line_of(event: Event) -> bytes:
+    """Returns the line of an event: the one way in which it is written."""
+    name, values = values_of(event)
+    return ("{" + ",".join(f'"{key}":{text_of_value(value)}' for key, value in {"event": name, **values}.items()) + "}\n").encode("ascii")
+
+
+def whole_lines(file: BinaryIO) -> Iterator[bytes]:
+    """Gives the lines of a file from its position on: not one that is too long, nor the last one if it has no end yet."""
+    while line := file.readline(LONGEST_LINE):
+        rest = line
+        while rest and not rest.endswith(b"\n"):
+            rest = file.readline(LONGEST_LINE)
+        if rest is line:
+            yield line
+
+
+def events(file: BinaryIO) -> Iterator[Event]:
+    """Gives the events of a log."""
+    return (event for line in whole_lines(file) if (event := event_of(line)))
+
+
+class Runs:
+    """Tells the runs of a match apart, of which each counts its messages anew. The first role's event `open` may come after the START of
+    another role."""
+
+    def __init__(self) -> None:
+        self.is_open, self.last = False, {}
+
+    def is_next(self, event: Event) -> bool:
+        """Takes the next event of the match. Returns whether another run begins with it."""
+        if isinstance(event, Message):
+            begins = event.number <= self.last.get(event.role, 0)
+        else:
+            begins = isinstance(event, Host) or isinstance(event, Open) and self.is_open
+        if begins:
+            self.is_open, self.last = False, {}
+        if isinstance(event, Message):
+            self.last[event.role] = event.number
+        self.is_open = self.is_open or isinstance(event, Open)
+        return begins
+
+
+def last_run(log: BinaryIO, match: str) -> list[Event]:
+    """Returns what a log says of a match since the match began last: its host, its begin, its messages and its end."""
+    run: list[Event] = []
+    runs = Runs()
+    for event in events(log):
+        if isinstance(event, Other) or event.match != match:
+            continue
+        if runs.is_next(event):
+            run = []
+        run.append(event)
+    return run
+
+
+def published(log: bytes, match: str) -> bytes:
+    """Returns what an archive has of the log of a match."""
+    return b"".join(map(line_of, last_run(io.BytesIO(log), match)))
+
+
+def messages(run: Iterable[Event]) -> list[Message]:
+    return [event for event in run if isinstance(event, Message)]
+
+
+def shown(text: str) -> str:
+    return printable(text[:SHOWN]) + ".." * (len(text) > SHOWN)
+
+
+def text_of(event: Event) -> str:
+    """Returns an event as one line of text for a terminal, of bounded length."""
+    if isinstance(event, Message):
+        head = f"{event.match} role {event.role} {event.player} message {event.number}"
+        return f"{head} {shown(event.message)}: {shown(event.came())}, {event.ms} ms"
+    name, values = values_of(event)
+    match, moment = values.get("match"), event.moment()
+    rest = (str(value) for key, value in values.items() if value is not None and key not in ("match", "time"))
+    return shown(" ".join(filter(None, (match and str(match), name.replace("_", " "), *rest, moment and moment_at(moment)))))
