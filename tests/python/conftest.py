@@ -15,7 +15,7 @@ os.environ["PYTHONDONTWRITEBYTECODE"] = "1"
 settings.register_profile("fixed", derandomize=True, deadline=None, database=None, suppress_health_check=[HealthCheck.too_slow])
 settings.load_profile("fixed")
 # These modules play matches and take longest. They begin first, so that no worker is left with one of them at the end.
-LONG = ("demonstration", "hosts", "archive", "play", "whole", "many_hosts", "grown", "told", "why")
+LONG = ("demonstration", "slurm", "archive", "play", "whole", "launcher", "grown", "told", "why")
 
 
 def pytest_addoption(parser: pytest.Parser) -> None:

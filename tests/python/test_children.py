@@ -1,4 +1,4 @@
-"""Processes that play matches: how they are ended, and what bounds what they say."""
+"""Processes that play and check matches: how they are ended, and what bounds what they say."""
 
 import asyncio
 import os
@@ -9,16 +9,17 @@ from ggp_tools.competition import children
 from ggp_tools.competition.children import Child, Limits, RemoteChild
 
 MOST = 600
-WIDE = Limits(100_000, 50_000, MOST)
+WIDE = Limits(100_000, 50_000)
+NODE = "import sys\nsys.stderr.write('ggp_competition: node n1\\n')\nsys.stderr.flush()\n"
 # It says a line, and then prints what it is given, as fast as it can and without end.
 ENDLESS = "import sys\nsys.stderr.write('connected\\n')\nsys.stderr.flush()\nwhile True: sys.{stream}.write('x' * 999 + '\\n')"
 CLEAR = "bad \x1b]0;title\x07 words \x9b31m"
 
 
-def ran(room, script, limits=WIDE, heard=lambda line: None):
+def ran(room, script):
     """Runs a Python script to its end."""
     async def run():
-        child = RemoteChild(room, "played", room / "log", limits, heard)
+        child = RemoteChild(room, "played", room / "log", WIDE)
         await child.run([sys.executable, "-c", script])
         return child
 
@@ -48,44 +49,54 @@ def is_alive(process):
     ("stdout", "it printed more than 100,000 bytes, which no match has"), ("stderr", "it said more than 50,000 bytes, which no match has"),
 ])
 def test_a_process_that_prints_without_end_is_ended(tmp_path, stream, words):
-    child = ran(tmp_path, ENDLESS.format(stream=stream), WIDE)
+    child = ran(tmp_path, ENDLESS.format(stream=stream))
     assert (child.passed, child.last_words()) == (words, words)
     assert (tmp_path / "played").stat().st_size <= 100_000
     assert (tmp_path / "played.said").stat().st_size <= 50_000
 
 
-def test_a_process_that_is_silent_for_too_long_is_ended(tmp_path):
-    said = "import sys, time\nsys.stderr.write('connected\\n')\nsys.stderr.flush()\nsys.stdin.read()"
-    child = ran(tmp_path, said, Limits(100_000, 50_000, 2))
-    assert child.last_words() == "nothing was heard of it for 2 s"
-    assert child.said_end() in (b"connected\n", b"")
+def test_a_job_that_runs_and_is_silent_is_lost(tmp_path, monkeypatch):
+    monkeypatch.setattr(children, "LOST_SECONDS", 1)
+    child = ran(tmp_path, f"{NODE}sys.stdin.read()")
+    assert (child.last_words(), child.is_lost(), child.node) == ("nothing was heard of it for 1 s", True, "n1")
     # It heard that nothing comes any more, and ended by itself.
     assert (child.status, child.goes_on) == (0, False)
 
 
-def test_a_process_that_says_something_now_and_then_goes_on(tmp_path):
-    said = "import sys, time\nfor _ in range(20):\n  print('x', flush=True, file=sys.stdout if _ % 2 else sys.stderr)\n  time.sleep(0.5)"
-    child = ran(tmp_path, said, Limits(100_000, 50_000, 8))
-    assert (child.passed, child.status, (tmp_path / "played").read_bytes()) == ("", 0, b"x\n" * 10)
+def test_a_job_that_waits_in_a_queue_may_be_silent(tmp_path, monkeypatch):
+    monkeypatch.setattr(children, "LOST_SECONDS", 0.1)
+    child = ran(tmp_path, "import time; time.sleep(1)")
+    assert (child.passed, child.status, child.is_lost(), child.node) == ("", 0, True, "")
 
 
-def test_all_lines_are_heard(tmp_path):
-    heard = []
-    child = ran(tmp_path, "import os; os.write(2, b'one\\ntw'); os.write(2, b'o\\n')", heard=heard.append)
-    assert (heard, child.status, child.said_end(), child.last_words()) == ([b"one", b"two"], 0, b"one\ntwo\n", "two")
+def test_a_job_that_says_something_now_and_then_goes_on(tmp_path, monkeypatch):
+    monkeypatch.setattr(children, "LOST_SECONDS", 8)
+    said = f"{NODE}import time\nfor _ in range(20):\n  print('ggp_competition: beat', flush=True, file=sys.stderr)\n  time.sleep(0.5)\nprint('ggp_competition: status 3', file=sys.stderr)"
+    child = ran(tmp_path, said)
+    assert (child.passed, child.status, child.is_lost(), child.said_end()) == ("", 3, False, b"")
 
 
-def test_a_process_on_another_machine_gets_a_byte_now_and_then(tmp_path, monkeypatch):
+def test_what_a_job_says_is_told_from_what_others_say(tmp_path):
+    event = '{"event":"open","match":"m","time":1}'
+    said = f"motd\nggp_competition: node a\x1bb\nggp_competition: node c\n{event}\nggp_competition: statusx\nggp_competition: status 12345\nggp_competition: status -9\nend\n"
+    child = ran(tmp_path, f"import sys; sys.stderr.write({said!r})")
+    assert (child.node, child.status, child.said_end(), (tmp_path / "log").read_text()) == ("a?b", -9, b"motd\nend\n", f"{event}\n")
+
+
+def test_a_job_that_runs_gets_a_byte_now_and_then_and_its_command(tmp_path, monkeypatch):
     monkeypatch.setattr(children, "BEAT", 0.01)
-    assert ran(tmp_path, "import os; print(len(os.read(0, 1) + os.read(0, 1) + os.read(0, 1)))", WIDE).printed() == "3"
-    # The standard input of another one is empty.
-    assert printed(tmp_path, sys.executable, "-c", "import os; print(len(os.read(0, 1)))").printed() == "0"
+    script = f"{NODE}given = ['', sys.stdin.readline()]\nwhile len(given[-1]) == 1: given.append(sys.stdin.readline())\nprint(given[1] == chr(10), given[-1])"
 
+    async def run():
+        child = RemoteChild(tmp_path, "played", tmp_path / "log", WIDE)
+        running = asyncio.create_task(child.run([sys.executable, "-c", script]))
+        await child.is_up.wait()
+        child.begin(["one", "two words"])
+        await running
+        return child
 
-def test_a_reader_that_takes_no_byte_holds_nothing_up(tmp_path, monkeypatch):
-    monkeypatch.setattr(children, "BEAT", 0)
-    # It sees the end of its input only once all that the pipe holds was read, and so the pipe is full by then.
-    assert ran(tmp_path, "import fcntl, time, array, termios\nhas = array.array('i', [0])\nwhile has[0] < 65536: fcntl.ioctl(0, termios.FIONREAD, has)", WIDE).status == 0
+    # A byte may come before the command.
+    assert asyncio.run(run()).out.read_text().split(" ", 1)[1] == '["one", "two words"]\n\n'
 
 
 def test_what_a_process_leaves_behind_is_not_waited_for(tmp_path):
@@ -101,9 +112,10 @@ def test_a_process_that_is_cancelled_is_ended_with_what_it_has_started(tmp_path,
     found = []
 
     async def run():
-        is_up = asyncio.Event()
-        child = RemoteChild(tmp_path, "played", tmp_path / "log", WIDE, lambda line: found.append(int(line)) or is_up.set())
-        await cancelled(child, ["bash", "-c", f"sleep 600 & echo $! >&2; {'cat; kill $!' if hears else 'wait'}"], is_up)
+        child = RemoteChild(tmp_path, "played", tmp_path / "log", WIDE)
+        child.has_begun = True
+        await cancelled(child, ["bash", "-c", f"sleep 600 & echo ggp_competition: node $! >&2; {'cat; kill $!' if hears else 'wait'}"], child.is_up)
+        found.append(int(child.node))
         return child
 
     child = asyncio.run(run())

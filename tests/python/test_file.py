@@ -4,15 +4,14 @@ import random
 import unittest
 
 from ggp_tools.competition.command import MOST_AT_ONCE
-from ggp_tools.competition.competition_file import Command, Host, MOST_PLAYERS, MOST_ROUNDS, MOST_SECONDS, MOST_STRIKES, Mistaken, read_competition
+from ggp_tools.competition.competition_file import Command, Launcher, MOST_PLAYERS, MOST_ROUNDS, MOST_SECONDS, MOST_STRIKES, Mistaken, read_competition
 from ggp_tools.competition.schedule import MOST_MATCHES
 from planning import planned
 from support import TOP, toml
 
 PLAYERS = [("ann", "10.0.0.1:9147"), ("bob", "[::1]:9148"), ("cid", "host.example:9149", "concurrent = 3")]
 GAMES = [("chess", "chess.kif"), ("go", "go.kif")]
-GOOD = toml(PLAYERS, GAMES, 'kind = "round_robin"\nrounds = 2', "start = 30\nstrikes = 3\nhosts = [\"one\", \"me@two\"]")
-NO_HOSTS = ":", "::", "@", "a@", "@a", "a@b@c", ".", "..", "a:", ":22", "a:b:c", "me@:", "me@::", "-a", "me@-a", "a b", "2/a", ""
+GOOD = toml(PLAYERS, GAMES, 'kind = "round_robin"\nrounds = 2', "start = 30\nstrikes = 3\nlauncher = {command = [\"srun\", \"-N1\"], slots = 9}")
 # What is changed in GOOD, and the mistakes that come of it: the line, the key, and words.
 MISTAKES = [
     ('name = "cup"', "", [(1, "name", "missing")]),
@@ -33,15 +32,13 @@ MISTAKES = [
     ("strikes = 3", 'forfeit = "yes"', [(3, "forfeit", "true or false")]),
     ("strikes = 3", 'order = "wins"', [(3, "order", "'wins' is none of goals, points")]),
     ("strikes = 3", 'absent = "wait"', [(3, "absent", "none of leave, play")]),
-    ('"me@two"', '"-oProxyCommand=x"', [(4, "hosts", "is no host")]),
-    *(('"me@two"', f'"{host}"', [(4, "hosts", f"'{host}' is no host: NAME or USER@NAME is wanted")]) for host in NO_HOSTS),
-    ('"me@two"', '"one"', [(4, "hosts", "twice")]),
-    ('"me@two"', "2", [(4, "hosts", "a text in quotes")]),
-    ('"me@two"', "{matches = 2}", [(4, "hosts.name", "the key is missing")]),
-    ('"me@two"', '{name = "two", matches = 0}', [(4, "hosts.matches", "0 is not from 1 to 1,024")]),
-    ('"me@two"', '{name = "two", matches = "2"}', [(4, "hosts.matches", "a whole number is wanted")]),
-    ('"me@two"', '{name = "two", cores = 2}', [(4, "hosts.cores", "no such key; there are name, matches")]),
-    ('"me@two"', '{name = "one", matches = 2}', [(4, "hosts", "twice")]),
+    ('["srun", "-N1"]', "[]", [(4, "launcher.command", "at least one text is expected")]),
+    ('["srun", "-N1"]', '["srun", 1]', [(4, "launcher.command", "a text in quotes")]),
+    ('["srun", "-N1"]', '"srun"', [(4, "launcher.command", "an array of texts"), (4, "launcher.command", "at least one text")]),
+    ("slots = 9", "slots = 1025", [(4, "launcher.slots", "is not from 1 to 1,024")]),
+    (", slots = 9", "", [(4, "launcher.slots", "missing")]),
+    ("slots = 9", "slots = 9, nodes = 2", [(4, "launcher.nodes", "no such key; there are command, slots")]),
+    ("launcher = {", "hosts = {", [(4, "hosts", "this key is now launcher")]),
     ("[form]", "[from]", [(1, "form", "one [form]"), (5, "from", "no such key")]),
     ('"round_robin"', '"league"', [(6, "form.kind", "none of round_robin, gauntlet, schedule, swiss, knockout")]),
     ('"round_robin"', '"knockout"', [(7, "form.rounds", "the kind knockout has no such key")]),
@@ -73,8 +70,8 @@ MISTAKES = [
     ('"[::1]:9148"', '"host:65536"', [(19, "players.address", "the port 65536")]),
     ('"[::1]:9148"', '"host:0"', [(19, "players.address", "the port 0")]),
     ('address = "[::1]:9148"', 'address = "[::1]:9148"\nmemory = "1G"', [(20, "players.memory", "only a player with a `command` has this key")]),
-    ('address = "[::1]:9148"', 'address = "[::1]:9148"\ncommand = ["x", "{port}"]', [(19, "players.address", "is started here"), (17, "players.command", "can't be reached from `hosts`")]),
-    *(('address = "[::1]:9148"', new, [(line, f"players.{key}", words), (17, "players.command", "hosts")]) for new, line, key, words in (
+    ('address = "[::1]:9148"', 'address = "[::1]:9148"\ncommand = ["x", "{port}"]', [(19, "players.address", "is started here"), (17, "players.command", "can't be reached by the matches of a launcher")]),
+    *(('address = "[::1]:9148"', new, [(line, f"players.{key}", words), (17, "players.command", "launcher")]) for new, line, key, words in (
         ('command = []', 19, "command", "at least one text is expected"), ('command = [""]', 19, "command", "at least one text is expected"),
         ('command = ["x"]', 19, "command", "{port} is expected in the command or in the environment"), ('command = ["x", 5, "{port}"]', 19, "command", "a text in quotes"),
         *((f'command = ["x", "{{port}}"]\n{more}', 20, more.split()[0], words) for more, words in (
@@ -114,13 +111,13 @@ class CompetitionFile(unittest.TestCase):
 
     def test_reads(self):
         found = read_competition(GOOD.encode())
-        self.assertEqual((found.name, found.strikes, found.hosts), ("cup", 3, (Host("one", 0), Host("me@two", 0))))
+        self.assertEqual((found.name, found.strikes, found.launcher), ("cup", 3, Launcher(("srun", "-N1"), 9)))
         self.assertEqual([(player.name, player.place(), player.concurrent) for player in found.players][1:], [("bob", "bob@[::1]:9148", 1), ("cid", "cid@host.example:9149", 3)])
         self.assertEqual([(game.name, game.start, game.play) for game in found.games], [("chess", 30, 10), ("go", 30, 10)])
 
     def test_a_player_with_a_command(self):
         started = 'command = ["x", "--at", "{port}"]\ndirectory = "d"\nenvironment = {A = "1", B = ""}\nmemory = "512M"\nprocessors = 2\nrestart = "each_match"\nstart_seconds = 30'
-        here = GOOD.replace('hosts = ["one", "me@two"]', "")
+        here = GOOD.replace('launcher = {command = ["srun", "-N1"], slots = 9}', "")
         found = read_competition(here.replace('address = "[::1]:9148"', started).encode()).players[1]
         self.assertEqual((found.command, found.address), (Command(("x", "--at", "{port}"), "d", (("A", "1"), ("B", "")), 512 << 20, 2, "each_match", 30), ""))
         plain = read_competition(here.replace('address = "[::1]:9148"', 'command = ["x"]\nenvironment = {PORT = "{port}"}').encode()).players
@@ -133,13 +130,6 @@ class CompetitionFile(unittest.TestCase):
             self.assertEqual(mistakes_of(toml(PLAYERS, GAMES, f"kind = {kind}").encode()), [])
             found = mistakes_of(toml(PLAYERS, GAMES, f"kind = {kind}", 'order = "goals"').encode())
             self.assertEqual(found, [(2, "order", f"the kind {kind.split(chr(34))[1]} has an order of its own")])
-
-    def test_hosts(self):
-        hosts = ("localhost", "10.0.0.1", "me@host.example", "a_b-c", "me@two:2222", "::1", "me@2001:db8::1")
-        for host in hosts:
-            self.assertEqual(read_competition(GOOD.replace("me@two", host).encode()).hosts, (Host("one", 0), Host(host, 0)))
-        told = read_competition(GOOD.replace('"me@two"', '{name = "me@two", matches = 32}').encode()).hosts
-        self.assertEqual(told, (Host("one", 0), Host("me@two", 32)))
 
     def test_what_players_are_told(self):
         found = read_competition(GOOD.replace('file = "go.kif"', 'file = "go.kif"\nplayer_rules = "variables"').encode())

@@ -132,7 +132,7 @@ class Growth(unittest.TestCase):
         self.assertEqual({match.round for match in planned(competition(3), ROLES)}, {0})
 
     def test_what_the_schedule_does_not_follow_from_is_free(self):
-        one, other = competition(3), competition(3, head="wait = 3\nforfeit = true\nhosts = [\"one\"]")
+        one, other = competition(3), competition(3, head="wait = 3\nforfeit = true\nlauncher = {command = [\"x\"], slots = 2}")
         self.assertEqual(shape(one), shape(other))
 
     def test_all_that_the_schedule_follows_from_is_of_its_shape(self):

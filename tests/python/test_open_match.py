@@ -10,9 +10,8 @@ import unittest
 from unittest import mock
 
 from ggp_tools.competition import open_match
-from ggp_tools.competition.competition_file import Host
+from ggp_tools.competition.competition_file import Launcher
 from ggp_tools.competition.files import Folder
-from ggp_tools.competition.hosts import CONNECTED, Hosts
 from ggp_tools.competition.open_match import OpenMatch, Shared, leave_players
 from ggp_tools.competition.schedule import Match
 from ggp_tools.competition.seats import Seats
@@ -24,9 +23,6 @@ NO_ANSWER = (1, b"", "ggp_manager: no answer")
 READY = (0, b"available\n", "")
 LAWFUL = (0, b"lawful\n", "")
 OPENED = '{"event":"open","match":"cup-001","time":1}\n'
-NEAR = '{"event":"host","match":"cup-001","host":"near"}\n'
-LOST_EVENT = '{{"event":"lost","match":"cup-001","time":9500,"reason":"{}"}}\n'
-MESSAGE = line(Match("cup-001", "heap", 10, 10, ("ann", "bob")), 0, 1, "(START cup-001 red ... 10 10)", "ready")
 
 
 class Process:
@@ -100,19 +96,17 @@ class WithMatch(unittest.TestCase):
         self.enterContext(mock.patch.object(open_match.described, "description_of", lambda plan, game: self.described.append((plan, game.name)) or self.description))
         self.begin(self.HEAD)
 
-    def begin(self, head, hosts=()):
+    def begin(self, head, launcher=None):
         self.plan = plan_in(str(self.folder), ["ann", "bob"], head=head)
-        if hosts:
-            self.plan.competition = dataclasses.replace(self.plan.competition, hosts=hosts)
+        self.plan.competition = dataclasses.replace(self.plan.competition, launcher=launcher)
         folder, competition = self.plan.folder, self.plan.competition
         folder.make(folder.accounts, folder.rules)
         self.match, self.reporter, self.seats = self.plan.matches[0], Said(), Seats(self.plan.competition)
-        self.hosts = Hosts(hosts, competition.tries, competition.wait, 4) if hosts else None
         self.may_begin, self.left = True, []
         self.players = StartedPlayers(folder, competition, None, self.reporter)
-        shared = Shared(self.plan, Referee("program"), self.seats, self.reporter, self.hosts, self.players, lambda match: self.may_begin, lambda: self.left.append(self.open.stage))
+        shared = Shared(self.plan, Referee("program"), self.seats, self.reporter, launcher, self.players, lambda match: self.may_begin, lambda: self.left.append(self.open.stage))
         self.seats.sit(self.match)
-        self.open = OpenMatch(shared, self.match, self.hosts and self.hosts.take(100.0))
+        self.open = OpenMatch(shared, self.match)
         self.record = json.dumps(record_of(self.match, [["(take 2)", "noop"], ["noop", "(take 1)"]], [["", ""], ["", ""]], [0, 100])).encode() + b"\n"
         self.account = f"0\topen {self.match.id} 0 10 10 ann bob\topened\n".encode()
         Process.laid_down |= {"played": [(0, self.record + self.account, OPENED)], "verified": [LAWFUL], "replayed": [(0, b"replayed 1 calls\n" + self.record, "")]}
@@ -381,95 +375,3 @@ class Checking(WithMatch):
         self.begin(self.HEAD)
         self.checked(held=(1, b"differs: turn 1\n", ""), verified=(1, b"", "ggp_manager: not lawful: goals"))
         self.assertFalse(self.open.stops_game)
-
-
-class OnHosts(WithMatch):
-    SAID = f"hello\n{CONNECTED}\n{OPENED}{MESSAGE}"
-    ALONE = (Host("near", 2),)
-
-    def setUp(self):
-        super().setUp()
-        self.slept, sleep = [], asyncio.sleep
-        self.enterContext(mock.patch("asyncio.sleep", lambda seconds: self.slept.append(seconds) or sleep(0)))
-        self.begin(self.HEAD, (*self.ALONE, Host("far", 2)))
-
-    def play(self, *answers):
-        """Has the match be played, each time with the next of these answers."""
-        Process.laid_down |= {"played": list(answers), "abort-0": [(0, b"", "")], "abort-1": [(None, b"", "")]}
-        self.go()
-        self.assertEqual(self.hosts.open, dict.fromkeys(self.hosts.room, 0))
-        return [process.words[-2] for process in Process.begun if process.name == "played"]
-
-    def whole(self):
-        return 0, self.record + self.account, self.SAID
-
-    def test_played_on_a_host(self):
-        self.hosts.failed["near"] = 1
-        self.assertEqual(self.play(self.whole()), ["near"])
-        played = next(process for process in Process.begun if process.name == "played")
-        self.assertEqual((played.words[0], played.limits.silence), ("ssh", 130))
-        self.assertIn("--log=-", played.words[-1])
-        self.assertEqual(self.plan.folder.log("cup-001").read_text(), f"{NEAR}{OPENED}{MESSAGE}")
-        self.assertEqual((self.reporter.begun, self.open.host, self.hosts.failed["near"], self.slept.count(20)), ([("cup-001", "near")], None, 0, 0))
-
-    def test_a_host_that_plays_nothing_is_not_there(self):
-        self.hosts.failed["near"] = 1
-        self.play((0, self.record + self.account, f"x {CONNECTED}\n"))
-        self.assertEqual((self.hosts.failed["near"], self.plan.folder.log("cup-001").read_text()), (1, NEAR))
-
-    def test_only_so_many_connections_are_made_at_a_time(self):
-        free = []
-        Process.meanwhile = lambda process: process.name == "played" and free.append(self.hosts.connecting["near"]._value)
-        self.play((255, b"", "No route\n"), self.whole())
-        self.play(self.whole())
-        self.assertEqual((free, self.hosts.connecting["near"]._value), ([3, 4, 4], 4))
-
-    def test_if_an_ssh_is_killed_the_match_may_go_on_for_a_while(self):
-        for status, hosts, waits in ((-9, self.ALONE, 1), (1, self.ALONE, 0)):
-            self.begin(self.HEAD, hosts)
-            self.slept.clear()
-            self.play((status, b"", self.SAID))
-            self.assertEqual((self.open.is_broken, self.names()[-1], self.slept.count(open_match.SILENCE)), (True, "played", waits))
-
-    def test_a_match_that_is_lost_with_its_host_begins_again_on_another(self):
-        order = []
-        Process.meanwhile = lambda process: order.append((process.name, self.open.host, self.slept.count(20)))
-        self.assertEqual(self.play((255, b"", f"{self.SAID}Connection closed\n"), self.whole()), ["near", "far"])
-        # Until the host has heard nothing for so long the match may go on there; then its players are sent ABORT.
-        self.assertEqual(order[2:6], [("played", "near", 0), ("abort-0", None, 1), ("abort-1", None, 1), ("played", "far", 1)])
-        self.assertEqual(self.reporter.lines, ["lost cup-001 on near: Connection closed; no match goes there for 7 s"])
-        self.assertEqual(self.reporter.notes[2:], ["abort cup-001 ann: answered", "abort cup-001 bob: no answer"])
-        self.assertEqual({process.given_seconds for process in Process.begun if process.name.startswith("abort")}, {5})
-        lost = LOST_EVENT.format("Connection closed")
-        self.assertEqual(self.plan.folder.log("cup-001").read_text(), f"{NEAR}{OPENED}{MESSAGE}{lost}{NEAR.replace('near', 'far')}{OPENED}{MESSAGE}")
-        self.assertEqual((self.open.result.goals, self.open.why), ((0, 100), None))
-
-    def test_a_host_that_was_not_reached_is_not_waited_for(self):
-        self.play((255, b"", "No route\n"), self.whole())
-        self.assertEqual(([name for name in self.names() if name.startswith(("played", "abort"))], self.slept.count(20)), (["played", "played"], 0))
-        self.assertTrue(self.plan.folder.log("cup-001").read_text().startswith(NEAR + LOST_EVENT.format("No route")))
-
-    def test_it_is_begun_as_often_as_there_are_tries(self):
-        self.assertEqual(self.play((255, b"", "No route\n")), ["near", "far"])
-        self.assertEqual((self.open.why, self.open.is_broken), ("its host is lost: No route", True))
-
-    def test_if_no_host_is_left_it_is_given_up(self):
-        self.begin(self.HEAD, self.ALONE)
-        self.hosts.failed["near"] = 1
-        self.assertEqual(self.play((255, b"", "No route\n")), ["near"])
-        self.assertEqual((self.open.why, self.reporter.lines), ("its host is lost: No route", ["lost cup-001 on near: No route; no match goes there any more"]))
-
-    def test_a_host_that_is_left_alone_is_waited_for(self):
-        self.begin("tries = 2\nwait = 1\n", self.ALONE)
-        self.assertEqual(self.play((255, b"", "No route\n"), self.whole()), ["near", "near"])
-
-    def test_an_error_of_the_match_itself_is_none_of_the_host(self):
-        for status, said, is_lost in ((3, f"{CONNECTED}\nggp_manager: want of memory\n", False), (3, "x\n", True), (254, f"{CONNECTED}\n", True), (127, f"{CONNECTED}\n", True), (1, f"{CONNECTED}\n", False)):
-            self.begin("tries = 1\n", self.ALONE)
-            self.play((status, b"", said))
-            self.assertEqual((bool(self.reporter.lines), self.open.is_broken, self.open.result), (is_lost, True, None), (status, said))
-
-    def test_that_a_host_was_reached_is_no_reason(self):
-        self.begin("tries = 1\n", self.ALONE)
-        self.play((1, b"", f"ggp_manager: x\n{CONNECTED}\n"))
-        self.assertEqual(self.open.why, "ggp_manager: x")

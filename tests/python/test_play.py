@@ -129,7 +129,7 @@ class Play(InFolder):
         self.assertEqual(([run(cup, command)[0] for command in ("plan", "table")], list(cup.glob("open"))), ([0, 0], []))
 
     def test_a_fault_of_info_is_not_the_player_s(self):
-        self.planned(["good", "good"], head=HEAD + 'absent = "play"\nhosts = ["nowhere"]\n')
+        self.planned(["good", "good"], head=HEAD + 'absent = "play"\n')
         write_fault = "ggp_manager: write fault"
         # The disk may be full where a write fails, and where nothing can be said of it.
         for done, words, count in ((f"echo '{write_fault}' >&2; exit 1", write_fault, 1), ("exit 1", UNSAID.format(1), 1), ("kill -9 $$", UNSAID.format(-9), 2)):

@@ -15,7 +15,7 @@ import unittest
 from unittest import mock
 
 from ggp_tools.competition import playing
-from ggp_tools.competition.competition_file import Host
+from ggp_tools.competition.competition_file import Launcher
 from ggp_tools.competition.files import Refused
 from ggp_tools.competition.playing import Playing, abort_matches, allow_descriptors, interrupts_counted, places_in, rooms, said_of_missing, says_full
 from ggp_tools.competition.seats import Seats
@@ -54,8 +54,8 @@ class Standing:
     laid_down: dict = {}
     begun: list = []
 
-    def __init__(self, shared, match, host=None):
-        self.shared, self.match, self.host = shared, match, host
+    def __init__(self, shared, match):
+        self.shared, self.match = shared, match
         self.stage, self.places, self.seconds, self.seated = "asking", [f"{player}@h" for player in match.players], 1.5, 0.0
         self.result, self.why = None, None
         self.is_broken, self.stops_game, self.is_seated, self.goes_on, self.is_ended = False, False, True, False, False
@@ -74,7 +74,6 @@ class Standing:
         if self.is_seated:
             self.is_seated = False
             self.shared.seats.leave(self.match)
-            self.host and self.shared.hosts.leave(self.host)
             self.shared.has_left()
 
 
@@ -107,9 +106,9 @@ class WithMatches(unittest.TestCase):
         self.aborted.append((dict(places), seconds))
         return {match: self.silent[match] for match in places if match in self.silent}
 
-    def begin(self, head="", hosts=(), at_once=99):
+    def begin(self, head="", launcher=None, at_once=99):
         self.plan = plan_in(str(self.folder), self.NAMES, head=head)
-        self.plan.competition = dataclasses.replace(self.plan.competition, hosts=hosts)
+        self.plan.competition = dataclasses.replace(self.plan.competition, launcher=launcher)
         self.reporter = Said()
         self.playing = Playing(self.plan, "referee", Seats(self.plan.competition), self.reporter, at_once)
 
@@ -240,10 +239,10 @@ class Going(WithMatches):
         self.assertEqual((self.begun(), self.playing.is_full), (["cup-001"], True))
         self.assertEqual([says_full(why, on_host) for why, on_host in (("x: write fault", True), ("x: write fault", False), (UNSAID.format(1), False), (UNSAID.format(1), True), (UNSAID.format(2), False), ("write fault ", False))],
                          [True, True, True, False, False, False])
-        for hosts, is_broken, is_full in (((Host("h", 1),), True, False), ((Host("h", 1),), False, True), ((), True, True)):
-            self.begin(hosts=hosts)
+        for launcher, is_broken, is_full in ((Launcher(("x",), 4), True, False), (Launcher(("x",), 4), False, True), (None, True, True)):
+            self.begin(launcher=launcher)
             self.go(cup_001=[over(why=UNSAID.format(1), is_broken=is_broken)])
-            self.assertEqual(bool(self.playing.is_full), is_full, (hosts, is_broken))
+            self.assertEqual(bool(self.playing.is_full), is_full, (launcher, is_broken))
 
     def test_after_one_interrupt_open_matches_are_played_to_their_ends(self):
         self.begin(at_once=3)
@@ -273,7 +272,7 @@ class Going(WithMatches):
         self.go(cup_001=["playing", self.interrupt(2), *["playing"] * 9, won], cup_003=["checking", *["checking"] * 9, self.interrupt(1), won])
         self.assertEqual(([standing.is_ended for standing in Standing.begun], list(self.playing.results), list(self.playing.left)), ([True, False], ["cup-003"], ["cup-001"]))
 
-    def test_the_directory_of_a_match_that_may_go_on_at_a_host_is_kept(self):
+    def test_the_directory_of_a_match_that_may_go_on_on_a_node_is_kept(self):
         room = self.plan.folder.open / "cup-001"
         room.mkdir(parents=True)
         (room / "players").touch()
@@ -302,28 +301,13 @@ class Going(WithMatches):
         self.go(cup_001=[lambda match: setattr(self.reporter.journal, "fault", OSError(errno.ENOSPC, "full", "play.log")), won])
         self.assertEqual((self.begun(), self.reporter.lines, self.playing.is_full), (["cup-001"], ["play.log is not written, and no more matches begin: full"], True))
 
-    def test_on_hosts_as_many_begin_as_they_have_room_for(self):
-        self.begin(hosts=(Host("near", 1), Host("far", 1)))
+    def test_with_a_launcher_as_many_begin_as_it_has_slots(self):
+        self.begin(launcher=Launcher(("x",), 1))
         most = []
-        Standing.laid_down = {match.id: [lambda match: most.append(sum(self.playing.hosts.open.values())), won] for match in self.plan.matches}
+        Standing.laid_down = {match.id: [lambda match: most.append(sum(standing.is_seated for standing in Standing.begun)), won] for match in self.plan.matches}
         self.go()
-        self.assertEqual((max(most), len(self.playing.results), self.playing.hosts.open), (2, 12, {"near": 0, "far": 0}))
-        self.assertEqual({standing.host for standing in Standing.begun}, {"near", "far"})
+        self.assertEqual((max(most), len(self.playing.results)), (1, 12))
         self.assertIsNotNone(self.playing.seconds_left())
-
-    def test_a_host_with_room_does_not_keep_play_busy_while_no_player_is_free(self):
-        self.begin(hosts=(Host("near", 9),))
-        begun, begin = [], self.playing.begin
-        self.playing.begin = lambda group: begun.append(1) or begin(group)
-        Standing.laid_down = {match.id: [*["playing"] * 99, won] for match in self.plan.matches}
-        self.go()
-        self.assertLess(len(begun), 4 * len(self.plan.matches))
-
-    def test_if_all_hosts_are_lost_no_match_begins(self):
-        self.begin("tries = 1\n", hosts=(Host("near", 9),))
-        self.playing.hosts.failed["near"] = 1
-        self.go()
-        self.assertEqual((self.begun(), self.playing.may_begin()), ([], False))
 
     def test_what_may_begin(self):
         self.assertTrue(self.playing.may_begin() and self.playing.may_go_on())

@@ -3,8 +3,10 @@
 import asyncio
 import contextlib
 import ctypes
+import json
 import os
 import pathlib
+import re
 import resource
 import signal
 import sys
@@ -14,8 +16,8 @@ from dataclasses import dataclass
 from typing import IO, Any
 
 from ggp_tools.competition.files import new_file
-from ggp_tools.competition.said_lines import SaidLines
-from ggp_tools.printable import MOST_READ, message_lines
+from ggp_tools.competition.said_lines import OURS, SaidLines
+from ggp_tools.printable import MOST_READ, message_lines, printable
 
 END_WITH_PARENT = 1
 # What is known of a process that could say nothing.
@@ -29,17 +31,18 @@ MOST_AT_ONCE = 1 << 16
 MOST_UNREAD = 2
 # A process that plays a match on another machine gets a byte every `BEAT` seconds, and so many seconds to end there.
 BEAT, HANG_UP_SECONDS = 2, 3
+# A job that runs says something every two seconds. It counts as lost if nothing was heard of it for so many.
+LOST_SECONDS = 10
+MOST_OF_NODE = 64
 LIBRARY = ctypes.CDLL(None)
 
 
 @dataclass(frozen=True)
 class Limits:
-    """What a process may do that plays a match on another machine: how many bytes it may print, and say on standard error, and for how many
-    seconds it may do neither."""
+    """How many bytes a job may print, and say on standard error."""
 
     printed: int
     said: int
-    silence: float
 
 
 def watch_by_descriptors() -> None:
@@ -117,20 +120,44 @@ class Child:
 
 
 class RemoteChild(Child):
-    """A process that plays a match on another machine. What it says on standard error are the events of a log, and other lines. It gets a
-    byte on standard input every few seconds, and is ended when it passes a limit."""
+    """A job: a launcher that has a match played on a node. What it says on standard error are the events of a log, lines of the job, and
+    others. It gets a byte on standard input every few seconds, and is ended when it passes a limit."""
 
-    def __init__(self, room: pathlib.Path, name: str, log: pathlib.Path, limits: Limits, heard: Callable[[bytes], None]) -> None:
+    def __init__(self, room: pathlib.Path, name: str, log: pathlib.Path, limits: Limits) -> None:
         super().__init__(room, name)
         self.limits = limits
-        self.lines = SaidLines(self.said, log, limits.said, heard)
+        self.lines = SaidLines(self.said, log, limits.said, self.take)
         self.began = self.heard_at = time.monotonic()
-        self.was_read = asyncio.Event()
+        self.was_read, self.is_up, self.beats = asyncio.Event(), asyncio.Event(), -1
+        # The node and the exit status of the referee, as the job itself reports them.
+        self.node, self.reported, self.has_begun = "", None, False
+
+    def is_lost(self) -> bool:
+        """Returns whether nobody knows how the match has ended."""
+        return bool(self.passed) or self.reported is None
+
+    def begin(self, words: list[str]) -> None:
+        """Has the job run the referee by this command."""
+        self.has_begun = True
+        with contextlib.suppress(OSError):
+            os.write(self.beats, json.dumps(words).encode() + b"\n")
+
+    def take(self, line: bytes) -> None:
+        """Takes a line that the job itself says: first the node, last the status."""
+        if not line.startswith(OURS):
+            return
+        word, _, rest = line.removeprefix(OURS).decode("ascii", "replace").partition(" ")
+        if word == "node" and not self.node:
+            self.node = printable(rest)[:MOST_OF_NODE]
+            self.is_up.set()
+        elif word == "status" and re.fullmatch("-?[0-9]{1,3}", rest):
+            self.reported = int(rest)
 
     async def run(self, words: list[str]) -> None:
         """Runs the process to its end, or until it passes a limit."""
         said, beaten = os.pipe(), os.pipe()
         with open(said[0], "rb", buffering=0) as heard, open(beaten[1], "wb", buffering=0) as beats, self.lines.said, self.lines.log:
+            self.beats = beats.fileno()
             with open(said[1], "wb") as theirs, open(beaten[0], "rb") as given, new_file(self.out) as out:
                 process = await started(words, self.limits, stdin=given, stdout=out, stderr=theirs)
             beating = asyncio.create_task(self.beat(beats))
@@ -141,7 +168,8 @@ class RemoteChild(Child):
                 beating.cancel()
                 await self.end(process, beats)
                 asyncio.get_running_loop().remove_reader(heard)
-                self.status, self.seconds = process.returncode, time.monotonic() - self.began
+                self.status = process.returncode if self.reported is None else self.reported
+                self.seconds = time.monotonic() - self.began
         if self.out.stat().st_size >= self.limits.printed:
             self.passed = PRINTED.format(self.limits.printed)
         if self.lines.error:
@@ -163,37 +191,37 @@ class RemoteChild(Child):
     async def beat(self, beats: IO[bytes]) -> None:
         """Shows the other end that this process is there. A pipe that is full, or has no reader any more, is no error."""
         os.set_blocking(beats.fileno(), False)
+        # A job that waits in a queue reads nothing.
+        await self.is_up.wait()
         while True:
             with contextlib.suppress(OSError):
                 beats.write(b"\n")
             await asyncio.sleep(BEAT)
 
     async def outwait(self, process: asyncio.subprocess.Process) -> None:
-        """Waits until the process has ended and all that it said was read, or until it was silent for too long."""
-        size = 0
-        while True:
-            heard_at = self.heard_at
-            try:
-                async with asyncio.timeout_at(heard_at + self.limits.silence):
-                    await process.wait()
-                break
-            except TimeoutError:
-                grown = self.out.stat().st_size
-                if grown == size and self.heard_at == heard_at:
-                    self.passed = SILENT.format(self.limits.silence)
+        """Waits until the process has ended and all that it said was read, or until a job that runs was silent for too long. One that waits
+        in a queue may be silent."""
+        ended, up = asyncio.create_task(process.wait()), asyncio.create_task(self.is_up.wait())
+        try:
+            await asyncio.wait([ended, up], return_when=asyncio.FIRST_COMPLETED)
+            while not ended.done():
+                await asyncio.wait([ended], timeout=self.heard_at + LOST_SECONDS - time.monotonic())
+                if not ended.done() and time.monotonic() >= self.heard_at + LOST_SECONDS:
+                    self.passed = SILENT.format(LOST_SECONDS)
                     return
-                size, self.heard_at = grown, self.heard_at if grown == size else time.monotonic()
-        with contextlib.suppress(TimeoutError):
-            async with asyncio.timeout(MOST_UNREAD):
-                await self.was_read.wait()
+            await asyncio.wait([asyncio.create_task(self.was_read.wait())], timeout=MOST_UNREAD)
+        finally:
+            ended.cancel()
+            up.cancel()
 
     async def end(self, process: asyncio.subprocess.Process, beats: IO[bytes]) -> None:
-        """Ends the process. It can first end the match on the other machine, which may go on if this one is killed."""
+        """Ends the process. It can first end the match on the node, which may go on if this one is killed."""
         beats.close()
+        self.beats = -1
         if process.returncode is None:
             # Before Python 3.12, `asyncio.timeout` does not work in a task that is being cancelled.
             _, late = await asyncio.wait([asyncio.create_task(process.wait())], timeout=HANG_UP_SECONDS)
-            self.goes_on = bool(late)
+            self.goes_on = bool(late) and self.has_begun
         await kill(process)
 
     def last_words(self, is_word: Callable[[str], bool] = lambda line: True) -> str:

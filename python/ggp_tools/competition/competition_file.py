@@ -1,6 +1,5 @@
 """Reads competition.toml: what is played, by whom, and in which form. Each mistake is reported with its line and key."""
 
-import ipaddress
 import re
 from collections.abc import Iterable
 from dataclasses import dataclass
@@ -14,11 +13,9 @@ PLAYER_NAME = re.compile(r"[A-Za-z0-9_.-]{1,64}")
 ADDRESS = re.compile(r"(\[[0-9A-Fa-f:.]+(?:%[A-Za-z0-9_.-]+)?\]|[A-Za-z0-9_.-]+):([0-9]{1,5})")
 MARK = b"\xef\xbb\xbf"
 CONTROL = re.compile(r"[\x00-\x1f\x7f-\x9f]")
-# What ssh reaches: a name with or without a port, or an IPv6 address.
-HOST = re.compile(r"(?:[A-Za-z0-9_][A-Za-z0-9_.-]*@)?(?:[A-Za-z0-9_][A-Za-z0-9_.-]*(?::[0-9]{1,5})?|([0-9A-Fa-f:]*:[0-9A-Fa-f:]*))")
 # Numbers from here on are not shown.
 MOST_SHOWN = 10**20
-# Of matches at a time: of a player, of a host, and of all.
+# Of matches at a time: of a player, of a launcher, and of all.
 MOST_AT_A_TIME = 1_024
 MOST_SECONDS, MOST_STRIKES, MOST_PLAYERS, MOST_ROUNDS, MOST_PORT = 86_400, 255, 1_000, 1_000, 65_535
 # When a player is started again that the competition starts: if it is dead, for each match, or never.
@@ -40,8 +37,8 @@ ORDERS = BY_GOALS, BY_POINTS = "goals", "points"
 # What START carries: the rules that the referee plays, or the description that they were made from.
 PLAYER_RULES = ("ground", "variables")
 # Keys that had another name before version 0.2.0, by that name.
-RENAMED = {"told": "player_rules"}
-ROOT_KEYS = ("name", "start", "play", "strikes", "tries", "wait", "info", "absent", "forfeit", "order", "ids", "hosts", "form", "games", "players")
+RENAMED = {"told": "player_rules", "hosts": "launcher"}
+ROOT_KEYS = ("name", "start", "play", "strikes", "tries", "wait", "info", "absent", "forfeit", "order", "ids", "launcher", "form", "games", "players")
 
 
 @dataclass(frozen=True)
@@ -118,11 +115,11 @@ class Player:
 
 
 @dataclass(frozen=True)
-class Host:
-    """A machine on which matches are played, as ssh reaches it, and how many at a time: 0 where it says no number."""
+class Launcher:
+    """A command that runs a program on another machine, and how many matches it may have at a time."""
 
-    name: str
-    matches: int
+    command: tuple[str, ...]
+    slots: int
 
 
 @dataclass(frozen=True)
@@ -157,7 +154,7 @@ class Competition:
     forfeit: bool
     order: str
     ids: str
-    hosts: tuple[Host, ...]
+    launcher: Launcher | None
     form: Form
     games: tuple[Game, ...]
     players: tuple[Player, ...]
@@ -358,8 +355,8 @@ def players_of(root: Section) -> list[Player]:
     if len(found) > MOST_PLAYERS:
         root.mistake("players", f"there are {len(found):,} players, and at most {MOST_PLAYERS:,} are taken")
     for player in found:
-        if player.command and "hosts" in root.table:
-            root.mistake("players.command", "a player that is started here can't be reached from `hosts`", player.line)
+        if player.command and "launcher" in root.table:
+            root.mistake("players.command", "a player that is started here can't be reached by the matches of a launcher", player.line)
     return found
 
 
@@ -400,41 +397,15 @@ def refuse_line(section: Section, line: Text, games: set[str | None], players: s
             section.mistake("lines", f"the player {name!r} stands there twice", line.line)
 
 
-def is_host(text: str) -> bool:
-    found = HOST.fullmatch(text)
-    try:
-        return bool(found and (found[1] is None or ipaddress.IPv6Address(found[1]) != ipaddress.IPv6Address("::")))
-    except ValueError:
-        return False
-
-
-def host_tables(root: Section) -> list[Section]:
-    """Returns a table for each host. A text is a table that has a name alone."""
-    found = []
-    for number, member in enumerate(root.value("hosts", list, "an array of hosts", [])):
-        table = {"name": member} if type(member) is str else member
-        if type(table) is dict:
-            path = ("hosts", number)
-            lines = {(*path, key): root.lines.get((*path, key), root.line("hosts", number)) for key in table}
-            found.append(Section(table, path, {path: root.line("hosts", number), **lines}, root.mistakes))
-        else:
-            root.mistake("hosts", 'a text in quotes is wanted, or {name = "..", matches = N}', root.line("hosts", number))
-    return found
-
-
-def hosts_of(root: Section) -> tuple[Host, ...]:
-    hosts: dict[str, Host] = {}
-    for section in host_tables(root):
-        section.refuse_others(("name", "matches"))
-        name, line = section.text("name"), section.line("name")
-        matches = section.number("matches", 1, MOST_AT_A_TIME, 1) if "matches" in section.table else 0
-        if name is not None and not is_host(name):
-            root.mistake("hosts", f"{name!r} is no host: NAME or USER@NAME is wanted", line)
-        if name in hosts:
-            root.mistake("hosts", f"the host {name!r} stands there twice", line)
-        if name is not None:
-            hosts[name] = Host(name, matches)
-    return tuple(hosts.values())
+def launcher_of(root: Section) -> Launcher | None:
+    if "launcher" not in root.table:
+        return None
+    section = root.section("launcher")
+    section.refuse_others(("command", "slots"))
+    words = tuple(word.text for word in section.texts("command"))
+    if not words or not words[0] or any("\0" in word for word in words):
+        section.mistake("command", "at least one text is expected: a program that runs its arguments on another machine")
+    return Launcher(words, section.number("slots", 1, MOST_AT_A_TIME))
 
 
 def root_of(data: bytes, mistakes: list[Mistake]) -> Section:
@@ -468,7 +439,7 @@ def read_competition(data: bytes) -> Competition:
         root.flag("forfeit"),
         root.word("order", ORDERS, BY_GOALS),
         root.word("ids", IDS, COUNTED_IDS),
-        hosts_of(root),
+        launcher_of(root),
         form_of(root, games, players),
         tuple(games),
         tuple(players),

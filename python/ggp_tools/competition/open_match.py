@@ -10,15 +10,16 @@ from dataclasses import dataclass
 
 from ggp_tools.competition import described
 from ggp_tools.competition.children import Child, Limits, RemoteChild
+from ggp_tools.competition.competition_file import Launcher
 from ggp_tools.competition.files import PLAYERS, file_bytes, new_file, write_whole
-from ggp_tools.competition.hosts import CONNECTED, LOST, SILENCE, Hosts, remote_words
+from ggp_tools.competition.jobs import SILENCE, job_words
 from ggp_tools.competition.kept import fault_of_files, keep, most_of_record, size_of
 from ggp_tools.competition.plan import Plan
 from ggp_tools.competition.results import fault_of_record, read_record, result_of
 from ggp_tools.competition.schedule import Match
 from ggp_tools.competition.seats import Seats
 from ggp_tools.competition.started_players import StartedPlayers
-from ggp_tools.match_log import Event, Host, Message, Other, event_of, line_of
+from ggp_tools.match_log import Event, Host, Other, line_of
 from ggp_tools.printable import printable
 from ggp_tools.records.lengths import LONGEST_ACCOUNT, MOST_TURNS, longest_record
 from ggp_tools.referee import LAWFUL, NO, NO_NAME, Referee, is_no_answer
@@ -27,11 +28,9 @@ from ggp_tools.reporting import Reporter
 # The referee ends INFO by itself after so many seconds, and soon after that it has said whether it was short of something itself.
 WHOLE, SOON = 10, 1
 THERE = ("available", "ready", "unknown")
-# A referee on a host says at most so many bytes before the match, and of each message the log has at most so many besides its texts.
+# A launcher says at most so many bytes before the match, and of each message the log has at most so many besides its texts.
 MOST_BEFORE, MOST_OF_MESSAGE = 1 << 20, 1 << 10
-# A match on a host counts as lost if nothing was heard of it for so many seconds beyond its longest clock.
-MOST_SILENCE = 120
-# The players of a match that was lost with its host have so many seconds to answer ABORT.
+# The players of a match that was lost with its node have so many seconds to answer ABORT.
 ABORT_SECONDS = 5
 
 
@@ -51,14 +50,14 @@ def add_event(log: pathlib.Path, event: Event) -> None:
 
 @dataclass
 class Shared:
-    """What all open matches have in common. Without hosts they are played on this computer. `has_left` is called when players or a host
-    are free again."""
+    """What all open matches have in common. Without a launcher they are played on this computer. `has_left` is called when players are free
+    again."""
 
     plan: Plan
     referee: Referee
     seats: Seats
     reporter: Reporter
-    hosts: Hosts | None
+    launcher: Launcher | None
     players: StartedPlayers
     may_begin: Callable[[Match], bool]
     has_left: Callable[[], None]
@@ -68,16 +67,14 @@ class OpenMatch:
     """A match that is open. `stage` is asking, playing or checking. In the end it has a result, or the reason why there is none. If it has
     neither, it waits to be played later."""
 
-    def __init__(self, shared: Shared, match: Match, host: str | None = None) -> None:
-        self.shared, self.match, self.host = shared, match, host
+    def __init__(self, shared: Shared, match: Match) -> None:
+        self.shared, self.match = shared, match
         self.plan, self.seats, self.reporter = shared.plan, shared.seats, shared.reporter
         self.referee = self.plan.judge(shared.referee, match.game)
-        self.room = self.plan.folder.open / match.id
+        self.room, self.log = self.plan.folder.open / match.id, self.plan.folder.room_log(match.id)
         self.places: list[str] = []
         self.stage, self.seconds = "asking", 0.0
-        # While its ssh is being connected it holds one of the connections of its host. Then it has reached the host.
-        self.connects, self.is_reached = False, False
-        # Whether a referee may still play it on a host, after it was ended here.
+        # Whether a referee may still play it on a node, after it was ended here.
         self.goes_on = False
         # When its players sat down. All matches that were open when a player turned out to be missing asked it in one try.
         self.seated, self.is_seated = time.monotonic(), True
@@ -88,12 +85,10 @@ class OpenMatch:
         """Plays the match. If it is ended before its end while it is at play, it is broken: its players must be sent ABORT."""
         try:
             self.room.mkdir(0o700, parents=True, exist_ok=True)
-            await self.shared.players.ready(self.match.id, self.match.players)
-            self.places = [self.shared.players.place(player) for player in self.match.players]
-            if await self.ask() and self.shared.may_begin(self.match) and (played := await self.play()):
+            if played := await (self.play_elsewhere() if self.shared.launcher else self.play_here()):
                 self.leave()
                 self.stage = "checking"
-                await self.check(*played)
+                await self.check(played, file_bytes(self.log))
         except BaseException:
             self.is_broken = self.stage == "playing"
             raise
@@ -101,19 +96,12 @@ class OpenMatch:
             self.close()
 
     def leave(self) -> None:
-        """Frees its players and its host for other matches."""
+        """Frees its players for other matches."""
         if self.is_seated:
             self.is_seated = False
             self.seats.leave(self.match)
             self.shared.players.leave(self.match.id, self.match.players)
-            self.leave_host()
             self.shared.has_left()
-
-    def leave_host(self) -> None:
-        if self.host:
-            self.end_connecting()
-            self.shared.hosts.leave(self.host)
-        self.host = None
 
     def close(self) -> None:
         """Removes its directory, unless its players have yet to be freed: it broke off now, or in a `play` before and has not begun again."""
@@ -130,6 +118,8 @@ class OpenMatch:
 
     async def ask(self) -> bool:
         """Asks each player whether it is free. Returns whether the match can begin."""
+        await self.shared.players.ready(self.match.id, self.match.players)
+        self.places = [self.shared.players.place(player) for player in self.match.players]
         async with asyncio.TaskGroup() as group:
             asked = {player: group.create_task(self.info(at, player)) for at, player in enumerate(self.match.players)}
         said, errors = {}, []
@@ -177,85 +167,84 @@ class OpenMatch:
             return f"{what}, {child.seconds:.1f} s"
         return f"{child.last_words() if child.status else child.printed()}, {child.seconds:.1f} s"
 
-    async def play(self) -> tuple[pathlib.Path, bytes] | None:
-        """Plays the match; if its host is lost, again on another one. Returns the file that the referee wrote, and the log. If there is no
-        record, it returns none, and the match is broken."""
-        write_whole(self.room / PLAYERS, "".join(f"{place}\n" for place in self.places).encode())
-        log = self.plan.folder.room_log(self.match.id)
-        new_file(log).close()
-        self.stage = "playing"
-        for times_left in reversed(range(self.plan.competition.tries)):
-            host, child = self.host, await self.run()
-            self.seconds = child.seconds
-            if not child.status:
-                return child.out, file_bytes(log)
-            if not host or not child.passed and self.is_reached and child.status not in LOST:
-                if host and child.status < 0:
-                    # The ssh was killed, and not the referee, which may go on until it notices that.
-                    await asyncio.sleep(SILENCE)
-                break
-            add_event(log, Other("lost", {"match": self.match.id, "time": int(time.time() * 1_000), "reason": child.last_words()}))
-            if not await self.move_on(child, times_left):
-                break
-        self.why, self.is_broken = self.why or child.last_words(lambda line: line != CONNECTED), True
+    async def can_be_played(self) -> bool:
+        """Returns whether the match is at play from now on: its players are free, or are in it already."""
+        if self.stage == "asking" and await self.ask() and self.shared.may_begin(self.match):
+            write_whole(self.room / PLAYERS, "".join(f"{place}\n" for place in self.places).encode())
+            self.stage = "playing"
+        return self.stage == "playing"
+
+    async def play_here(self) -> pathlib.Path | None:
+        """Plays the match on this computer. Returns the file that the referee wrote. If there is none, the match is broken, or not begun."""
+        new_file(self.log).close()
+        if not await self.can_be_played():
+            return None
+        self.reporter.begins(self.match)
+        return self.outcome_of(await self.child(self.run_words(str(self.log.absolute())), "played"))
+
+    def outcome_of(self, child: Child) -> pathlib.Path | None:
+        """Returns the file that the referee wrote, if it says that it has played the match."""
+        self.seconds = child.seconds
+        if child.status:
+            self.why, self.is_broken = child.last_words(), True
+        return None if child.status else child.out
+
+    def run_words(self, log: str) -> list[str]:
+        """Returns the command of the referee, which may run in another directory."""
+        rules, player_rules = self.plan.folder.rules_of(self.match.game).absolute(), self.plan.player_rules_path(self.match.game)
+        strikes = self.plan.competition.strikes
+        return self.referee.run_words(rules, player_rules and player_rules.absolute(), self.match, strikes, self.places, log)
+
+    async def play_elsewhere(self) -> pathlib.Path | None:
+        """Plays the match as a job of the launcher; if that is lost, again as another one. Returns the file that the referee wrote. If there
+        is none, the match is broken, or not begun."""
+        new_file(self.log).close()
+        for tries_left in reversed(range(self.plan.competition.tries)):
+            job, is_free = await self.run_job()
+            if not is_free:
+                return None
+            if not job.is_lost():
+                return self.outcome_of(job)
+            words = job.last_words()
+            add_event(self.log, Other("lost", {"match": self.match.id, "time": int(time.time() * 1_000), "reason": words}))
+            self.reporter.line(f"lost {self.match.id} on {job.node or 'no node'}: {words}")
+            if job.has_begun:
+                # The match may go on at a node that is not reached any more.
+                await asyncio.sleep(SILENCE)
+                await self.free_players()
+            elif tries_left:
+                await asyncio.sleep(self.plan.competition.wait)
+        self.why, self.is_broken = f"its jobs were lost: {words}", self.stage == "playing"
         return None
 
-    async def run(self) -> Child:
-        """Has the referee play the match, and returns its process once that is over."""
-        match, folder, self.is_reached = self.match, self.plan.folder, False
-        log, player_rules = folder.room_log(match.id), self.plan.player_rules_path(match.game)
-        strikes, player_rules = self.plan.competition.strikes, player_rules and player_rules.absolute()
-        given = folder.rules_of(match.game).absolute(), player_rules, match, strikes, self.places
-        if not self.host:
-            self.reporter.begins(match)
-            return await self.child(self.referee.run_words(*given, log.absolute()), "played")
-        await self.shared.hosts.connecting[self.host].acquire()
-        self.connects, words = True, remote_words(self.host, self.referee.run_words(*given, "-"))
-        add_event(log, Host(match.id, self.host))
-        child = RemoteChild(self.room, "played", log, self.limits(), self.heard)
+    async def run_job(self) -> tuple[RemoteChild, bool]:
+        """Has the launcher run a job. Once it runs the players are asked, and if these are free the job plays the match. Returns the job once
+        it is over, and false if the players are not free."""
+        job = RemoteChild(self.room, "played", self.log, self.limits())
+        running = asyncio.create_task(job.run(job_words(self.shared.launcher, self.match.id)))
+        starting = asyncio.create_task(job.is_up.wait())
         try:
-            await child.run(words)
+            await asyncio.wait([running, starting], return_when=asyncio.FIRST_COMPLETED)
+            if job.is_up.is_set():
+                if not await self.can_be_played():
+                    return job, False
+                add_event(self.log, Host(self.match.id, job.node))
+                self.reporter.begins(self.match, job.node)
+                job.begin(self.run_words("-"))
+            await running
+            return job, True
         finally:
-            self.goes_on = child.goes_on
-            self.end_connecting()
-        return child
+            for task in (starting, running):
+                task.cancel()
+            await asyncio.wait([running])
+            self.goes_on = job.goes_on
 
     def limits(self) -> Limits:
-        """Returns what a host may send of the match: no more than its referee can write, and not after too long a silence."""
+        """Returns what a job may send of the match: no more than its referee can write."""
         record = longest_record(self.plan.rules[self.match.game].text)
         # Each player is sent all moves, and a byte of an answer may take six.
-        said = MOST_BEFORE + len(self.places) * (MOST_OF_MESSAGE * (MOST_TURNS + 2) + 6 * record)
-        printed = record + LONGEST_ACCOUNT
-        return Limits(printed, said, max(self.match.start, self.match.play) + MOST_SILENCE)
-
-    def heard(self, line: bytes) -> None:
-        """Takes a line that was said on its host."""
-        if not self.is_reached and line.endswith(CONNECTED.encode()):
-            self.is_reached = True
-            self.end_connecting()
-            self.reporter.begins(self.match, self.host)
-        elif self.is_reached and isinstance(event_of(line), Message):
-            self.shared.hosts.was_there(self.host)
-
-    def end_connecting(self) -> None:
-        if self.connects:
-            self.shared.hosts.connecting[self.host].release()
-        self.connects = False
-
-    async def move_on(self, child: RemoteChild, times_left: int) -> bool:
-        """Leaves a host that is lost. Returns whether the match has another one, on which it can begin."""
-        hosts, lost = self.shared.hosts, self.host
-        follows = hosts.was_lost(lost, child.began)
-        self.reporter.line(f"lost {self.match.id} on {lost}: {child.last_words()}; {follows}")
-        self.leave_host()
-        if self.is_reached:
-            # The match may go on at a host that is not reached any more.
-            await asyncio.sleep(SILENCE)
-            await self.free_players()
-        self.host = await hosts.taken(lost) if times_left else None
-        if not self.host:
-            self.why = f"its host is lost: {child.last_words()}"
-        return bool(self.host)
+        said = MOST_BEFORE + len(self.match.players) * (MOST_OF_MESSAGE * (MOST_TURNS + 2) + 6 * record)
+        return Limits(record + LONGEST_ACCOUNT, said)
 
     async def free_players(self) -> None:
         """Sends its players ABORT, since the match that they play in is lost."""

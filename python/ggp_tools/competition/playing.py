@@ -17,7 +17,6 @@ from ggp_tools.competition.aborts import send_aborts
 from ggp_tools.competition.children import UNSAID, watch_by_descriptors
 from ggp_tools.competition.competition_file import is_place
 from ggp_tools.competition.files import PLAYERS, Folder, Refused, file_bytes
-from ggp_tools.competition.hosts import Hosts
 from ggp_tools.competition.kept import look_at_records, set_aside, strangers
 from ggp_tools.competition.open_match import OpenMatch, Shared, leave_players
 from ggp_tools.competition.plan import Plan, plan_next_round, refuse_addresses, refuse_lost_results, round_words
@@ -45,13 +44,13 @@ class Playing:
     """The matches that wait, those that are open, and what came of the others. `watch` gets the results now and then, if it is given."""
 
     def __init__(self, plan: Plan, referee: Referee, seats: Seats, reporter: Reporter, at_once: int) -> None:
-        self.plan, self.referee, self.seats, self.reporter, self.at_once = plan, referee, seats, reporter, at_once
-        competition = plan.competition
+        self.plan, self.referee, self.seats, self.reporter = plan, referee, seats, reporter
+        competition, self.launcher = plan.competition, plan.competition.launcher
+        self.at_once = self.launcher.slots if self.launcher else at_once
         # `news` is set when matches may begin that could not before, or there is an interrupt; `ends` when there is another result.
         self.news, self.ends = asyncio.Event(), asyncio.Event()
-        self.hosts = Hosts(competition.hosts, competition.tries, competition.wait, at_once, self.news.set) if competition.hosts else None
         self.players = StartedPlayers(plan.folder, competition, referee, reporter)
-        self.shared = Shared(plan, referee, seats, reporter, self.hosts, self.players, self.may_still_begin, self.news.set)
+        self.shared = Shared(plan, referee, seats, reporter, self.launcher, self.players, self.may_still_begin, self.news.set)
         self.results, self.left, self.stopped = {}, {}, {}
         self.open: dict[OpenMatch, asyncio.Task] = {}
         self.waiting = collections.deque()
@@ -66,7 +65,7 @@ class Playing:
 
     def may_begin(self) -> bool:
         """Returns whether further matches may begin."""
-        return not self.interrupts and not self.is_full and not (self.hosts and self.hosts.are_all_lost())
+        return not self.interrupts and not self.is_full
 
     def may_still_begin(self, match: Match) -> bool:
         """Returns whether a match may begin whose players are free."""
@@ -79,12 +78,12 @@ class Playing:
     def begin(self, group: asyncio.TaskGroup) -> None:
         """Opens matches as long as fewer than may be are at play and one can begin."""
         self.looked, at_play = time.monotonic(), sum(open_match.is_seated for open_match in self.open)
-        while at_play < self.at_once and (not self.hosts or self.hosts.with_room(self.looked)):
+        while at_play < self.at_once:
             match = self.seats.next_match(self.waiting, self.looked)
             if not match:
                 return
             self.time_left.add(match, -1)
-            open_match = OpenMatch(self.shared, match, self.hosts and self.hosts.take(self.looked))
+            open_match = OpenMatch(self.shared, match)
             self.open[open_match] = group.create_task(self.hold(open_match))
             at_play += 1
 
@@ -112,7 +111,7 @@ class Playing:
             self.reporter.ends(open_match.result, open_match.seconds)
             self.ends.set()
         elif open_match.why:
-            self.is_full |= says_full(open_match.why, open_match.is_broken and bool(self.hosts))
+            self.is_full |= says_full(open_match.why, open_match.is_broken and bool(self.launcher))
             self.left[match.id] = open_match.why
             self.reporter.line(f"no record {match.id}: {open_match.why}")
             if open_match.stops_game and match.game not in self.stopped:
@@ -155,9 +154,8 @@ class Playing:
         self.reporter.clear()
 
     async def hear_news(self) -> None:
-        """Waits until something has happened that lets matches begin or end, or until a player or a host has rested."""
-        moments = [self.seats.idle_until, *(self.hosts.rested.values() if self.hosts else ())] if self.waiting and self.may_begin() else []
-        until = min((moment for moment in moments if self.looked < moment < math.inf), default=None)
+        """Waits until something has happened that lets matches begin or end, or until a player has rested."""
+        until = self.seats.idle_until if self.waiting and self.may_begin() and self.looked < self.seats.idle_until < math.inf else None
         with contextlib.suppress(TimeoutError):
             async with asyncio.timeout_at(until):
                 await self.news.wait()
@@ -185,8 +183,7 @@ class Playing:
     def seconds_left(self) -> float | None:
         """Returns how many seconds the rest takes; none if that is not known yet."""
         now = time.monotonic()
-        at_once = min(self.at_once, self.hosts.all_room()) if self.hosts else self.at_once
-        return self.time_left.left([(open_match.match, now - open_match.seated) for open_match in self.open], max(at_once, 1))
+        return self.time_left.left([(open_match.match, now - open_match.seated) for open_match in self.open], self.at_once)
 
     def interrupt(self, count: int) -> None:
         self.interrupts += count
@@ -237,17 +234,17 @@ def leaves(errors: BaseExceptionGroup) -> Iterator[BaseException]:
         yield from leaves(error) if isinstance(error, BaseExceptionGroup) else (error,)
 
 
-def says_full(why: str, is_on_host: bool) -> bool:
+def says_full(why: str, is_elsewhere: bool) -> bool:
     """Returns whether a match has no record since the disk is full, which the referee may be the first to see. It says so with status 1,
-    or can't write that either. On a host that status may have other reasons."""
-    return why.endswith("write fault") or not is_on_host and why.endswith(UNSAID.format(1))
+    or can't write that either. On a node that status may have other reasons."""
+    return why.endswith("write fault") or not is_elsewhere and why.endswith(UNSAID.format(1))
 
 
 async def abort_matches(
     referee: Referee, places: dict[str, list[str]], folder: Folder, reporter: Reporter, seconds: float | None = None, going_on: Container[str] = ()
 ) -> None:
     """Sends the players of these matches ABORT, within so many seconds if they are given. The directory of a match is kept if one does not
-    answer, or if the match may be going on at a host, so that it is sent again."""
+    answer, or if the match may be going on at a node, so that it is sent again."""
     for match in places:
         leave_players(folder.open / match)
     silent = await send_aborts(referee, places, seconds)

@@ -8,6 +8,8 @@ from ggp_tools.competition.files import new_file
 from ggp_tools.match_log import LONGEST_LINE
 
 EVENT = b'{"event":'
+# How the lines of a job begin, which are about the match and not of it.
+OURS = b"ggp_competition: "
 
 
 class SaidLines:
@@ -28,7 +30,7 @@ class SaidLines:
             lines, self.rest = [*lines, self.rest], b""
         if self.left >= 0:
             self.write(self.log, [line for line in lines if line.startswith(EVENT)])
-            self.write(self.said, [line for line in lines if not line.startswith(EVENT)])
+            self.write(self.said, [line for line in lines if not line.startswith((EVENT, OURS))])
         for line in lines:
             self.heard(line)
 

@@ -1,0 +1,201 @@
+"""Matches that a launcher has played elsewhere. Here the launchers are scripts that run the jobs on this computer."""
+
+import collections
+import json
+import os
+import signal
+import socket
+import subprocess
+import sys
+import time
+
+import pytest
+from ggp_tools.competition.competition_file import Launcher
+from ggp_tools.competition.jobs import JOB, job_words
+from ggp_tools.competition.said_lines import OURS
+from players import TestPlayer
+from support import GAMES, TOP, InFolder, command_of, program, program_but, run, start
+
+HEAD = "start = 60\nplay = 60\nstrikes = 1\nwait = 0\ninfo = 10\ntries = 2\n"
+# The command with other seconds, after which a job is lost, or its match has ended for sure.
+OTHER = f"import sys; sys.path.insert(0, {str(TOP / 'python')!r})\nfrom ggp_tools.competition import children, command, open_match\n%s\nsys.exit(command.main())"
+NODE = socket.gethostname()
+
+
+def lines(out, word):
+    return [line for line in out.splitlines() if line.startswith(f"{word} ")]
+
+
+# ---- a job
+
+def started(*, silence=600, **more):
+    return subprocess.Popen([sys.executable, "-I", JOB, str(silence)], stdin=subprocess.PIPE, stdout=subprocess.PIPE, stderr=subprocess.PIPE, text=True, **more)
+
+
+def test_a_job_reports_its_node_and_the_status_from_inside():
+    for status in (0, 1, 3, -9):
+        script = f"echo \"it's\"; echo why >&2; {f'kill {status} $$' if status < 0 else f'exit {status}'}"
+        with started(env={**os.environ, "SLURMD_NODENAME": "n7"}) as job:
+            job.stdin.write(f"\n\n{json.dumps(['sh', '-c', script])}\n\n")
+            job.stdin.flush()
+            # Its standard input is open until it has ended.
+            out, said = job.stdout.read(), job.stderr.read()
+            assert (job.wait(), out) == (status % 256, "it's\n")
+        assert [line for line in said.splitlines() if line != "ggp_competition: beat"] == ["ggp_competition: node n7", "why", f"ggp_competition: status {status}"]
+
+
+def test_a_job_says_something_every_two_seconds_but_not_within_a_line():
+    with started() as job:
+        assert [job.stderr.readline() for _ in range(3)] == [f"ggp_competition: node {NODE}\n", "ggp_competition: beat\n", "ggp_competition: beat\n"]
+        job.stdin.write(json.dumps(["sh", "-c", "printf half >&2; sleep 5; echo whole >&2"]) + "\n")
+        job.stdin.flush()
+        said = [line for line in job.stderr.read().splitlines() if line != "ggp_competition: beat"]
+        assert said == ["halfwhole", "ggp_competition: status 0"]
+
+
+def test_a_program_that_is_not_there():
+    with started() as job:
+        job.stdin.write('["/none/of these"]\n')
+        job.stdin.flush()
+        assert (job.stderr.read().splitlines()[-1], job.wait()) == ("/none/of these: No such file or directory", 254)
+
+
+@pytest.mark.parametrize("hangs_up", [True, False])
+def test_a_job_ends_its_referee_if_it_hears_nothing(hangs_up):
+    with started(silence=600 if hangs_up else 1) as job:
+        job.stdin.write(json.dumps(["sh", "-c", "echo $$ >&2; exec sleep 600"]) + "\n")
+        job.stdin.flush()
+        job.stderr.readline()
+        referee = job.stderr.readline().strip()
+        if hangs_up:
+            job.stdin.close()
+        assert job.wait() == 254
+        assert not command_of(referee)
+        job.stdin = None
+
+
+def test_a_referee_ends_with_its_job():
+    with started() as job:
+        job.stdin.write(json.dumps(["sh", "-c", "echo $$ >&2; exec sleep 600"]) + "\n")
+        job.stdin.flush()
+        job.stderr.readline()
+        referee = job.stderr.readline().strip()
+        job.kill()
+        job.wait()
+        while command_of(referee):
+            time.sleep(0.01)
+
+
+def test_the_command_of_a_job_has_nothing_to_quote():
+    words = job_words(Launcher(("srun", "--job-name={match}", "-n1"), 2), "cup-001")
+    assert words == ["srun", "--job-name=cup-001", "-n1", "python3", "-I", str(JOB), "20"]
+    assert OURS == b"ggp_competition: "
+
+
+# ---- competitions
+
+class Launched(InFolder):
+    def planned(self, launcher, count=1, slots=2, kind="good", head=HEAD):
+        self.players = [TestPlayer(f"p{at}", kind, at, most=count) for at in range(2)]
+        form = f'kind = "schedule"\nlines = {json.dumps(["countdown p0 p1"] * count)}'
+        players = [(player.name, player.place(), f"concurrent = {count}") for player in self.players]
+        # A launcher of these tests is a script, which gets the name of the match and the job.
+        script = self.folder / "launch"
+        script.write_text(f"#!/bin/bash\nmatch=$1 folder={self.folder}\nshift\n{launcher}\n")
+        script.chmod(0o755)
+        head = f'{head}launcher = {{command = ["{script}", "{{match}}"], slots = {slots}}}\n'
+        self.schedule = self.plan(players, [("countdown", GAMES / "countdown.kif")], form, head)
+
+    def started_with(self, more, path):
+        words = [sys.executable, "-c", OTHER % more, "play", "--program", path]
+        return subprocess.Popen(words, cwd=self.folder, text=True, stdout=subprocess.PIPE, stderr=subprocess.PIPE)
+
+    def test_each_match_is_a_job(self):
+        self.planned('echo $match >> $folder/jobs; exec "$@"', 6)
+        status, out, said = run(self.folder, "play")
+        self.assertEqual((status, said), (0, ""), out)
+        self.assertEqual(collections.Counter((self.folder / "jobs").read_text().split()), collections.Counter(planned[0] for planned in self.schedule))
+        self.assertEqual({line.rpartition(" ")[2] for line in lines(out, "begin")}, {NODE})
+        self.assertEqual({json.loads(line)["host"] for line in (self.folder / "matches.jsonl").read_text().splitlines()}, {NODE})
+        self.assert_sound(self.schedule)
+        self.assertEqual([run(self.folder, *words)[0] for words in (("publish",), ("check", "cup.tar.gz"))], [0, 0])
+
+    def test_no_more_jobs_are_there_at_a_time_than_slots(self):
+        self.planned('touch $folder/$match.open; ls $folder/*.open | wc -l >> $folder/most; "$@"; status=$?; rm $folder/$match.open; exit $status', 8, 3)
+        status, out, _ = run(self.folder, "play", "--at-once", "8")
+        self.assertEqual((status, max(map(int, (self.folder / "most").read_text().split())) <= 3), (0, True), out)
+
+    def test_a_job_that_waits_in_a_queue_asks_no_player(self):
+        self.planned('echo queued > $folder/queue; read line < $folder/go; exec "$@"')
+        os.mkfifo(self.folder / "go")
+        os.mkfifo(self.folder / "queue")
+        playing = start(self.folder, "play")
+        self.assertEqual((self.folder / "queue").read_text(), "queued\n")
+        self.assertFalse((self.folder / "open/cup-001/info-0").exists())
+        (self.folder / "go").write_text("go\n")
+        out, _ = playing.communicate(timeout=600)
+        self.assertEqual((playing.returncode, len(lines(out, "end"))), (0, 1), out)
+
+    def test_players_that_are_busy_when_a_job_runs(self):
+        self.planned('exec "$@"')
+        self.players[0].status = "busy"
+        status, out, _ = run(self.folder, "play")
+        self.assertEqual((status, lines(out, "back"), lines(out, "no")), (1, ["back cup-001: p0 is busy"], ["no record cup-001: p0 is busy"]), out)
+
+    def test_a_launcher_that_fails_is_tried_again_and_then_reported(self):
+        self.planned("printf 'noise\\n\\033]0;title\\007srun: no such partition\\n' >&2; exit 1")
+        status, out, _ = run(self.folder, "play")
+        words = "?]0;title?srun: no such partition"
+        self.assertEqual((status, lines(out, "lost"), lines(out, "no")), (1, [f"lost cup-001 on no node: {words}"] * 2, [f"no record cup-001: its jobs were lost: {words}"]), out)
+        self.assertEqual([player.begun for player in self.players], [[], []])
+        self.assertEqual(list((self.folder / "open").iterdir()), [])
+
+    def test_a_job_that_is_lost_with_its_node_is_begun_again(self):
+        lost = '[ -e $folder/lost ] && exec "$@"; touch $folder/lost; "$@" <&0 & job=$!; read line < $folder/cut; kill -9 $job; echo "srun: error: Node failure" >&2'
+        self.planned(lost, kind="slow")
+        os.mkfifo(self.folder / "cut")
+        for player in self.players:
+            player.thinks = 1
+        playing = self.started_with("open_match.SILENCE = 0.5", program())
+        while not all(player.matches for player in self.players):
+            time.sleep(0.01)
+        (self.folder / "cut").write_text("cut\n")
+        for player in self.players:
+            player.thinks = 0
+        out, said = playing.communicate(timeout=600)
+        self.assertEqual((playing.returncode, said, len(lines(out, "end"))), (0, "", 1), out)
+        # Its status is 0.
+        self.assertEqual(lines(out, "lost"), [f"lost cup-001 on {NODE}: srun: error: Node failure"])
+        self.assertEqual([(player.begun, player.aborted, player.clashes) for player in self.players], [(["cup-001"] * 2, ["cup-001"], [])] * 2)
+        self.assertEqual(next((self.folder / "logs").iterdir()).read_text().count('"event":"host"'), 2)
+        self.assert_sound(self.schedule)
+
+    def test_a_job_that_runs_and_says_nothing_more_is_lost(self):
+        self.planned('[ -e $folder/lost ] && exec "$@"; touch $folder/lost; echo "ggp_competition: node n1" >&2; exec sleep 6000')
+        playing = self.started_with("open_match.SILENCE = 0.5; children.LOST_SECONDS = 20", program())
+        out, said = playing.communicate(timeout=800)
+        self.assertEqual((playing.returncode, said, lines(out, "lost")), (0, "", ["lost cup-001 on n1: nothing was heard of it for 20 s"]), out)
+        self.assert_sound(self.schedule)
+
+    def test_a_referee_that_fails_costs_its_match(self):
+        self.planned('exec "$@"', 3, 1)
+        once = program_but(self.folder / "killed", f'"$1" = run && ! -e {self.folder}/once', f"touch {self.folder}/once; kill -9 $$")
+        status, out, _ = run(self.folder, "play", "--program", once)
+        self.assertEqual((status, len(lines(out, "no")), len(lines(out, "abort")), len(lines(out, "end")), lines(out, "lost")), (1, 1, 1, 2, []), out)
+        self.assertEqual(run(self.folder, "play")[0], 0)
+
+    def test_play_leaves_no_job(self):
+        for number in (signal.SIGTERM, signal.SIGKILL):
+            self.planned('exec "$@"')
+            path = program_but(self.folder / "told", '"$1" = run', f"echo $$ > {self.folder}/process; exec sleep 600")
+            playing = start(self.folder, "play", "--program", path)
+            self.assertEqual(playing.stdout.readline(), f"begin cup-001 countdown p0 p1 on {NODE}\n")
+            while not (self.folder / "process").exists() or not (process := (self.folder / "process").read_text().strip()):
+                time.sleep(0.01)
+            playing.send_signal(number)
+            out, _ = playing.communicate(timeout=600)
+            while command_of(process):
+                time.sleep(0.01)
+            (self.folder / "process").unlink()
+            if number == signal.SIGTERM:
+                self.assertIn("missing cup-001: it was ended before its end", out)
