@@ -1,0 +1,167 @@
+"""Matches through Slurm: a controller and three nodes on this computer, of which one is killed and one is cut off in the middle."""
+
+import json
+import os
+import pathlib
+import shutil
+import signal
+import socket
+import subprocess
+import tempfile
+import time
+
+import pytest
+from players import TestPlayer
+from support import GAMES, InFolder, run, start
+
+NODES, MATCHES = ("n1", "n2", "n3"), 60
+CONF = """
+ClusterName=test
+SlurmctldHost={host}(127.0.0.1)
+SlurmctldPort={ports[0]}
+SlurmUser=root
+SlurmdUser=root
+AuthType=auth/munge
+CryptoType=crypto/munge
+AuthInfo=socket={room}/munge.socket
+ProctrackType=proctrack/pgid
+TaskPlugin=task/none
+SelectType=select/cons_tres
+SelectTypeParameters=CR_Core
+StateSaveLocation={room}/state
+SlurmdSpoolDir={room}/spool-%n
+SlurmdPidFile={room}/slurmd-%n.pid
+SlurmctldPidFile={room}/slurmctld.pid
+SlurmctldLogFile={room}/slurmctld.log
+SlurmdLogFile={room}/slurmd-%n.log
+MpiDefault=none
+ReturnToService=2
+SlurmdTimeout=10
+KillWait=2
+{nodes}
+PartitionName=all Nodes=n[1-3] Default=YES MaxTime=INFINITE State=UP OverSubscribe=FORCE:64
+"""
+HEAD = "start = 60\nplay = 60\nstrikes = 0\nwait = 1\ninfo = 10\ntries = 20\n"
+# A command is not asked for where it is: a package of Debian has it.
+TOOLS = ("munged", "slurmctld", "slurmd", "srun", "sinfo")
+
+
+def why_not():
+    """Returns why a cluster can't be started here, or none."""
+    if os.geteuid():
+        return "only root can start the nodes of a cluster"
+    missing = [tool for tool in TOOLS if not shutil.which(tool)]
+    return f"{', '.join(missing)} not installed: apt-get install slurm-wlm munge" if missing else None
+
+
+def free_ports(count):
+    sockets = [socket.create_server(("127.0.0.1", 0)) for _ in range(count)]
+    ports = [found.getsockname()[1] for found in sockets]
+    for found in sockets:
+        found.close()
+    return ports
+
+
+class Cluster:
+    """A controller and three nodes. All of their processes are children of this one, or have its configuration in their environment."""
+
+    def __init__(self, room):
+        self.room, self.environment = room, {**os.environ, "SLURM_CONF": f"{room}/slurm.conf"}
+        room.chmod(0o755)
+        for name in ("state", *(f"spool-{node}" for node in NODES)):
+            (room / name).mkdir()
+        (room / "munge.key").write_bytes(os.urandom(1024))
+        (room / "munge.key").chmod(0o400)
+        host, (first, *ports) = socket.gethostname(), free_ports(4)
+        nodes = "\n".join(f"NodeName={node} NodeHostname={host} NodeAddr=127.0.0.1 Port={port} CPUs=4 State=UNKNOWN" for node, port in zip(NODES, ports))
+        (room / "slurm.conf").write_text(CONF.format(host=host, room=room, ports=[first, *ports], nodes=nodes))
+        munge = [f"--{name}={room}/{file}" for name, file in (("key-file", "munge.key"), ("socket", "munge.socket"), ("pid-file", "munged.pid"), ("log-file", "munged.log"), ("seed-file", "seed"))]
+        subprocess.run(["munged", "--force", *munge], check=True)
+        self.started = [self.daemon("slurmctld", "-D"), *(self.daemon("slurmd", "-D", "-N", node) for node in NODES)]
+        # It answers once all nodes have registered.
+        while self.call("sinfo", "-h", "-t", "idle", "-o", "%D").stdout.strip() != "3":
+            assert self.started[0].poll() is None, (room / "slurmctld.log").read_text()
+
+    def daemon(self, *words):
+        return subprocess.Popen(words, env=self.environment, stdin=subprocess.DEVNULL, stdout=subprocess.DEVNULL, stderr=subprocess.DEVNULL)
+
+    def call(self, *words):
+        return subprocess.run(words, env=self.environment, capture_output=True, text=True)
+
+    def processes(self, node=None):
+        """Returns the processes of a node, or of all: its daemon, the jobs, and what hands on their output."""
+        found, ours = [], [f"SLURM_CONF={self.room}/slurm.conf".encode(), *([f"SLURMD_NODENAME={node}".encode()] if node else [])]
+        for place in pathlib.Path("/proc").glob("[0-9]*"):
+            try:
+                environment = (place / "environ").read_bytes().split(b"\0")
+                if all(word in environment for word in ours):
+                    found.append((int(place.name), int((place / "stat").read_text().rpartition(")")[2].split()[1])))
+            except OSError:
+                continue
+        return found
+
+    def kill(self, node):
+        """Kills a node with all that runs there."""
+        self.started[1 + NODES.index(node)].kill()
+        jobs = self.processes(node)
+        for process in {parent for _, parent in jobs} | {process for process, _ in jobs}:
+            self.send(process, signal.SIGKILL)
+
+    def cut_off(self, node):
+        """Has nothing come from a node, and nothing reach it. What runs there goes on."""
+        self.started[1 + NODES.index(node)].send_signal(signal.SIGSTOP)
+        jobs = self.processes(node)
+        for process in {parent for _, parent in jobs} - {process for process, _ in jobs}:
+            self.send(process, signal.SIGSTOP)
+
+    def send(self, process, number):
+        name = pathlib.Path(f"/proc/{process}/comm")
+        try:
+            # The daemon of another node is its own parent's child.
+            if name.read_text().strip() != "slurmd":
+                os.kill(process, number)
+        except OSError:
+            pass  # it has ended
+
+    def end(self):
+        for daemon in self.started[:0:-1] + self.started[:1]:
+            daemon.kill()
+            daemon.wait()
+        for process, parent in self.processes():
+            for number in (process, parent) if parent != os.getpid() and parent != 1 else (process,):
+                if pathlib.Path(f"/proc/{number}/comm").exists() and number != os.getpid():
+                    self.send(number, signal.SIGKILL)
+        os.kill(int((self.room / "munged.pid").read_text()), signal.SIGKILL)
+
+
+@pytest.mark.gate
+class Slurm(InFolder):
+    def setUp(self):
+        if why := why_not():
+            self.skipTest(why)
+        super().setUp()
+        self.cluster = Cluster(pathlib.Path(self.enterContext(tempfile.TemporaryDirectory())))
+        self.addCleanup(self.cluster.end)
+
+    def test_sixty_matches_on_three_nodes_of_which_one_dies_and_one_is_cut_off(self):
+        players = [TestPlayer(f"p{at}", "slow", at, most=12) for at in range(2)]
+        form = f'kind = "schedule"\nlines = {json.dumps(["countdown p0 p1"] * MATCHES)}'
+        launcher = 'launcher = {command = ["srun", "--nodes=1", "--ntasks=1", "--quiet", "--job-name={match}"], slots = 12}\n'
+        schedule = self.plan([(player.name, player.place(), "concurrent = 12") for player in players], [("countdown", GAMES / "countdown.kif")], form, HEAD + launcher)
+        playing = start(self.folder, "play", env=self.cluster.environment)
+        out, ended = "", 0
+        while line := playing.stdout.readline():
+            out, ended = out + line, ended + line.startswith("end ")
+            if line.startswith("end ") and ended == 10:
+                self.cluster.kill("n1")
+            if line.startswith("end ") and ended == 20:
+                self.cluster.cut_off("n2")
+        self.assertEqual((playing.wait(), playing.stderr.read()), (0, ""), out)
+        playing.stdout.close()
+        playing.stderr.close()
+        self.assertIn(" on n3\n", out)
+        self.assertEqual(sum(line.startswith("end ") for line in out.splitlines()), MATCHES)
+        self.assertEqual([player.clashes for player in players], [[], []])
+        self.assert_sound(schedule)
+        self.assertEqual([run(self.folder, *words)[0] for words in (("publish",), ("check", "cup.tar.gz"))], [0, 0])
+        print("\n".join(line for line in out.splitlines() if line.startswith("lost ")), time.monotonic())
