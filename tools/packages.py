@@ -35,9 +35,9 @@ class Need:
 
 NEEDS = (
     Need("gringo", ("gringo",), "grounds games with variables"),
-    Need("openssh-server", ("sshd",), "the hosts of the competition that tests play on several machines"),
-    Need("openssh-client", ("ssh", "ssh-keygen"), "reaches these hosts"),
-    Need("iproute2", ("ip",), "gives these hosts networks"),
+    Need("slurm-wlm", ("slurmctld", "slurmd", "srun", "sinfo"), "the cluster on which tests play a competition"),
+    Need("munge", ("munged",), "lets the nodes of this cluster know each other"),
+    Need("iproute2", ("ip",), "gives players and referees networks"),
     Need("nftables", ("nft",), "gives a player and the referee firewalls"),
     Need("util-linux", ("unshare", "nsenter", "setpriv"), "namespaces, and tests as another user"),
     Need("mount", ("mount", "umount"), "a full disk"),

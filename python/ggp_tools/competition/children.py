@@ -138,7 +138,7 @@ class RemoteChild(Child):
 
     def begin(self, words: list[str]) -> None:
         """Has the job run the referee by this command."""
-        self.has_begun = True
+        self.has_begun, self.began = True, time.monotonic()
         with contextlib.suppress(OSError):
             os.write(self.beats, json.dumps(words).encode() + b"\n")
 
