@@ -201,7 +201,7 @@ class BadInput(InFolder):
         status, out, said = run(self.folder, "plan")
         self.assertEqual((status, said, [line.split(":")[0] for line in out.splitlines()]), (0, "", ["coins", "coins", "one", "schedule.tsv"]))
         self.assertEqual(out.splitlines()[1], (
-            "coins: goals past 100 are left out (1): where one would hold at the end, its role keeps the other goal that holds there, "
+            "coins: goals past 100 are left out (1, the first by sentence 2, line 1: (<= (goal a ?x) (true (s ?x)))): where one would hold at the end, its role keeps the other goal that holds there, "
             "and if none does the match has no goals"
         ))
 
