@@ -1,5 +1,5 @@
-"""The JSON log of matches: its events, and one reader for files, also for one that grows. docs/PROFILE.md describes the format in section
-10, docs/COMPETITION.md the events that `play` adds. A text is a sequence of bytes, a character for each."""
+"""The JSON log of matches: its events, and one reader for files, also for one that grows. docs/COMMANDS.md describes the format,
+docs/COMPETITION.md the events that `play` adds. A text is a sequence of bytes, a character for each."""
 
 import dataclasses
 import io

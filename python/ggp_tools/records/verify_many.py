@@ -5,7 +5,7 @@
 PROGRAM is `ggp_manager`, and OPTIONS are those of its `verify --lines`, as `--rules-file FILE`. Standard input is cut at line ends into
 pieces of about BYTES bytes (4,194,304 if not given). N processes of the program, one for each processor if not given, check a piece
 each, and the verdicts are written in the order of the lines. Nothing is judged here: what is written, what is said on standard error
-and the status are those of one process over all lines, and docs/PROFILE.md says in section 10 what they mean. But verdicts come by the
+and the status are those of one process over all lines, and docs/COMMANDS.md says what they mean. But verdicts come by the
 piece, reads are not counted, and each process reads the file of the rules, so that file can't be a pipe.
 
 N is at most 1,024, and at most N + 2 pieces with their verdicts are in memory. Faults of its own begin with `ggp-verify-records: `. Wrong

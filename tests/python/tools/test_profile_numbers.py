@@ -1,13 +1,13 @@
-"""Limits that a program which checks memory does not come to within minutes: the number in the code is that of docs/PROFILE.md."""
+"""Limits that a program which checks memory does not come to within minutes: the number in the code is that of docs/COMMANDS.md."""
 import os
 import re
 import unittest
 
 TOP = os.path.dirname(os.path.dirname(os.path.dirname(os.path.dirname(os.path.realpath(__file__)))))
-# The file and the name of a constant, what stands around its number in the profile, and a file that uses it with what follows there.
+# The file and the name of a constant, what is around its number in the document, and a file that uses it with what follows there.
 LIMITS = [
-    ("crates/game_commands/src/replaying.rt", "MAX_ACCOUNT", r"accounts, each of at most ([\d,]+) bytes", "crates/game_commands/src/replaying.rt", "- self.text.len();"),
-    ("crates/command_faults/src/files.rt", "MAX_LINE", r"records, one a line, each of at most ([\d,]+) bytes", "crates/game_commands/src/checking.rt", ") {"),
+    ("crates/game_commands/src/replaying.rt", "MAX_ACCOUNT", r"a call log, for `replay` \| ([\d,]+) bytes", "crates/game_commands/src/replaying.rt", "- self.text.len();"),
+    ("crates/command_faults/src/files.rt", "MAX_LINE", r"a row of `verify --lines`, of `--done` and of `--records` \| ([\d,]+) bytes", "crates/game_commands/src/checking.rt", ") {"),
 ]
 
 
@@ -17,8 +17,8 @@ def text_of(file):
 
 
 class Limits(unittest.TestCase):
-    def test_the_code_has_the_numbers_of_the_profile(self):
-        profile = text_of("docs/PROFILE.md")
+    def test_the_code_has_the_numbers_of_the_document(self):
+        profile = text_of("docs/COMMANDS.md")
         for file, name, words, user, behind in LIMITS:
             said = re.findall(words, profile)
             self.assertEqual(re.findall(rf"\bconst {name}: usize = ([\d_]+);", text_of(file)), [number.replace(",", "_") for number in said], name)
