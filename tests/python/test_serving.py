@@ -234,7 +234,14 @@ class Pages(Served):
             self.look()
             self.assertIn("6 records are still to be read, so the standings lack them", self.page("/"))
             self.assertIn("0 of 6 matches are over.", self.page("/"))
+            self.site.reader.look_at_record(self.site.reader.unread.popleft())
+            self.site.next_tables = 0.0
+            self.look()
+            # Ratings by some of the records are not shown, and may take long.
+            self.assertEqual([row[-1] for row in rows_of(parsed(self.page("/")).find(id="standings"))[1:]], ["none"] * 2)
+        self.site.next_tables = 0.0
         self.look()
+        self.assertEqual({row[-1][0] for row in rows_of(parsed(self.page("/")).find(id="standings"))[1:]}, {"0"})
         self.assertNotIn("still to be read", self.page("/"))
         self.assertIn("6 of 6 matches are over.", self.page("/"))
 

@@ -120,7 +120,7 @@ class LiveSite:
         self.results: list[Result] = []
         self.standing: dict[str, str] = {}
         self.own: dict[str, list[Result]] = {}
-        self.tables_version, self.next_tables = -1, 0.0
+        self.tables_version, self.next_tables = None, 0.0
 
     # ---- looking at the folder
 
@@ -179,14 +179,16 @@ class LiveSite:
     def count_results(self) -> None:
         """Computes the tables where results have come, if that was not done just before."""
         began = time.monotonic()
-        if self.tables_version == self.reader.results_version or began < self.next_tables:
+        # As long as records are still to be read, ratings would be of some of them.
+        version = self.reader.results_version, not self.reader.unread
+        if self.tables_version == version or began < self.next_tables:
             return
         self.results = in_order(self.plan, self.reader.results)
-        self.tables = tables_of(self.plan.competition, self.results, self.plan.rounds)
+        self.tables = tables_of(self.plan.competition, self.results, self.plan.rounds, is_rated=not self.reader.unread)
         self.standing = standing_texts(self.tables[0])
         self.own = {f"/games/{name}.html": found for name, found in by_game(self.results).items()}
         self.own |= {f"/{page_name(name)}": found for name, found in by_player(self.results).items()}
-        self.tables_version = self.reader.results_version
+        self.tables_version = version
         ended = time.monotonic()
         self.next_tables = ended + SHARE * (ended - began)
 

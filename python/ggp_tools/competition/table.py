@@ -136,8 +136,8 @@ def count_rounds(table: Table, competition: Competition, results: Iterable[Resul
             line.rounds_won = won[player]
 
 
-def tables_of(competition: Competition, results: Sequence[Result], rounds: Sequence[Round] = ()) -> list[Table]:
-    """Returns the tables: first that of all games, then that of each game."""
+def tables_of(competition: Competition, results: Sequence[Result], rounds: Sequence[Round] = (), is_rated: bool = True) -> list[Table]:
+    """Returns the tables: first that of all games, then that of each game. Ratings take long if few of many players have met."""
     names = [entrant.name for entrant in competition.players]
     kind = competition.form.kind if is_by_rounds(competition) else ""
     by = [(ALL, kind or competition.order), *((game.name, BY_POINTS if kind else competition.order) for game in competition.games)]
@@ -149,7 +149,7 @@ def tables_of(competition: Competition, results: Sequence[Result], rounds: Seque
             count_result(table, result)
     if kind:
         count_rounds(found[0], competition, results)
-    for table in found:
+    for table in found if is_rated else ():
         for player, rating in rated([name for name in names if table.lines[name].matches], table.points).items():
             table.lines[player].rating = rating
     return found
