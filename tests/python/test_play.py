@@ -132,8 +132,8 @@ class Play(InFolder):
         self.planned(["good", "good"], head=HEAD + 'absent = "play"\n')
         write_fault = "ggp_manager: write fault"
         # The disk may be full where a write fails, and where nothing can be said of it.
-        for done, words, count in ((f"echo '{write_fault}' >&2; exit 1", write_fault, 1), ("exit 1", UNSAID.format(1), 1), ("kill -9 $$", UNSAID.format(-9), 2)):
-            faulty = program_but(self.folder / "faulty", f'"$1" = info && "$3" = p0*', done)
+        for done, words, count in ((f"echo '{write_fault}' >&2; exit 2", write_fault, 1), ("exit 2", UNSAID.format(2), 1), ("kill -9 $$", UNSAID.format(-9), 2)):
+            faulty = program_but(self.folder / "faulty", f'"$1" = info && "$4" = p0*', done)
             status, out, _ = run(self.folder, "play", "--at-once", "1", "--program", faulty)
             told = [f"no record {planned[0]}: p0 could not be asked: {words}" for planned in self.schedule]
             self.assertEqual((status, lines(out, "no record"), lines(out, "begin")), (1, told[:count], []), out)

@@ -237,8 +237,8 @@ class Going(WithMatches):
         self.begin(at_once=1)
         self.go(cup_001=[over(why="ggp_manager: write fault")])
         self.assertEqual((self.begun(), self.playing.is_full), (["cup-001"], True))
-        self.assertEqual([says_full(why, on_host) for why, on_host in (("x: write fault", True), ("x: write fault", False), (UNSAID.format(1), False), (UNSAID.format(1), True), (UNSAID.format(2), False), ("write fault ", False))],
-                         [True, True, True, False, False, False])
+        self.assertEqual([says_full(why, on_host) for why, on_host in (("x: write fault", True), ("x: write fault", False), (UNSAID.format(1), False), (UNSAID.format(1), True), (UNSAID.format(3), False), ("write fault ", False), (UNSAID.format(2), False))],
+                         [True, True, True, False, False, False, True])
         for launcher, is_broken, is_full in ((Launcher(("x",), 4), True, False), (Launcher(("x",), 4), False, True), (None, True, True)):
             self.begin(launcher=launcher)
             self.go(cup_001=[over(why=UNSAID.format(1), is_broken=is_broken)])

@@ -236,8 +236,8 @@ def leaves(errors: BaseExceptionGroup) -> Iterator[BaseException]:
 
 def says_full(why: str, is_elsewhere: bool) -> bool:
     """Returns whether a match has no record since the disk is full, which the referee may be the first to see. It says so with status 1,
-    or can't write that either. On a node that status may have other reasons."""
-    return why.endswith("write fault") or not is_elsewhere and why.endswith(UNSAID.format(1))
+    with `--why` with status 2, or can't write that either. On a node that status may have other reasons."""
+    return why.endswith("write fault") or not is_elsewhere and why.endswith((UNSAID.format(1), UNSAID.format(2)))
 
 
 async def abort_matches(
