@@ -26,6 +26,7 @@ NEVER = float("inf")
 
 def setUpModule():
     """On a busy computer a look at the records, and the referee, may take long. Here nothing waits for that."""
+    unittest.enterModuleContext(patch.object(live, "READING", 1e9))
     for share in ("SHARE", "JUDGING_SHARE"):
         unittest.enterModuleContext(patch.object(live, share, 0))
 

@@ -39,7 +39,7 @@ class Served(unittest.TestCase):
 
     def setUp(self):
         # On a busy computer a look at the records, and the referee, may take long. Here nothing waits for that.
-        for module, name, value in ((live, "SHARE", 0), (live, "JUDGING_SHARE", 0), (live_site, "FOLLOW", 1e9)):
+        for module, name, value in ((live, "SHARE", 0), (live, "READING", 1e9), (live, "JUDGING_SHARE", 0), (live_site, "FOLLOW", 1e9)):
             self.enterContext(patch.object(module, name, value))
         self.plan = plan_in(self.enterContext(tempfile.TemporaryDirectory()), ["ann", "bob", "cid"], head=self.STRIKES)
         self.site = LiveSite(self.plan, Referee(program()), lambda: self.plan)
