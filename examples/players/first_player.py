@@ -1,7 +1,8 @@
 #!/usr/bin/env python3
-"""The smallest player that knows the rules: it answers the first legal move that it finds. Usage: first_player.py PORT"""
+"""The smallest player that knows the rules: it answers the first legal move that it finds."""
+
+import argparse
 import re
-import sys
 from http.server import BaseHTTPRequestHandler, HTTPServer
 
 
@@ -88,4 +89,6 @@ class Player(BaseHTTPRequestHandler):
         return "done"
 
 
-HTTPServer(("127.0.0.1", int(sys.argv[1])), Player).serve_forever()
+parser = argparse.ArgumentParser(description=__doc__)
+parser.add_argument("port", metavar="PORT", type=int, help="it listens at this port of 127.0.0.1")
+HTTPServer(("127.0.0.1", parser.parse_args().port), Player).serve_forever()

@@ -27,6 +27,7 @@ VERSION_LINE = re.compile(rb"ggp_manager [0-9]+\.[0-9]+\.[0-9]+\n")
 # Before this version logs were not JSON.
 FIRST_WITH_EVENTS = 0, 3, 0
 BAD_RULES = "ggp_manager: bad description"
+TOO_LONG = "the file is too long"
 # A script of the desk has no more bytes, and an answer with more of them is no move.
 MOST_OF_SCRIPT, MOST_OF_MOVE = 1 << 20, 4_096
 
@@ -180,6 +181,8 @@ class Referee:
     def check_rules(self, rules_path: pathlib.Path | str, name: object = None) -> None:
         """Refuses a file that is no ground description; `name` says which one it is, where the path does not."""
         said = self.call("verify", "--lines", WHY, *self.rules_words(rules_path))
+        if last_line(said) == f"{BAD_RULES}: {TOO_LONG}":
+            raise BadRules(TOO_LONG)
         if last_line(said) == BAD_RULES:
             # The line before says where, and what is wrong there.
             raise BadRules(said_lines(said)[-2:][0].removeprefix("ggp_manager: "))

@@ -93,4 +93,4 @@ def macros(name: str) -> typing.Any:
 
 def page(name: str, **values: object) -> bytes:
     """Returns the page that a template makes of these values, in ASCII."""
-    return environment().get_template(f"{name}.html").render(values).encode("ascii", "xmlcharrefreplace")
+    return (environment().get_template(f"{name}.html").render(values) + "\n").encode("ascii", "xmlcharrefreplace")

@@ -32,7 +32,7 @@ DESCRIPTIONS = [
     (FACTS + "(role a)", "line 3, column 1: a role that is named twice: (role a)"),
     (FACTS + "(legal a go) (init s)\n(goal a 101)", "line 4, column 1: neither a fact nor a rule: (goal a 101)"),
     (FACTS + "(" * 70 + "a" + ")" * 70, "line 3, column 65: a list inside 64 others, but 64 are the limit"),
-    ("".join(f"(role r{number})" for number in range(17)), "line 1, column 151: more than 8192 sentences, 16384 different atomic sentences, 16 roles or 4096 moves of one role: (role r16)"),
+    ("".join(f"(role r{number})" for number in range(17)), "line 1, column 151: more than 65536 sentences, 65536 different atomic sentences, 16 roles or 4096 moves of one role: (role r16)"),
 ]
 
 
@@ -289,7 +289,7 @@ class BadInput(InFolder):
             self.assertRegex(whole, rf"\n +{name} +{told}\n")
             of_command = said(name, "--help")
             self.assertIn(f"\n{told[0].upper()}{told[1:]}.\n", of_command)
-            self.assertRegex(of_command, r"\n +(FOLDER|ARCHIVE) +the (folder of the competition|file of the archive)")
+            self.assertRegex(of_command, r"\n +(FOLDER +the folder of the competition|ARCHIVE +the file of the archive|FILE +competition.toml)")
             self.assertRegex(of_command, r"\n +--program FILE +the referee, ggp_manager \(")
 
     def test_no_referee_is_found(self):

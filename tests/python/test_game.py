@@ -208,11 +208,14 @@ class Game(InFolder):
             "suspicious: line 2, column 1: `=>` is no word of GDL, and nothing of the game asks for it; is `<=` meant?: (=> (legal a x) p)",
             "the rest was not looked at",
         ]))
-        for text, words in [("", "line 1, column 1: there is no sentence"), ("(role a", "line 1, column 1: a list that is not closed")]:
+        for text, words in [("", "line 1, column 1: there is no sentence"), ("(role a", "line 1, column 1: a list that is not closed; add a `)`")]:
             self.assertEqual(self.look(text), (1, [f"game.kif is not accepted: {words}", "the rest was not looked at"]))
         self.assertEqual(self.look("(" * 70 + "a" + ")" * 70)[1][-1], "the rest was not looked at")
-        said = ["game.kif is not accepted: it has more than 1,048,576 bytes", "the rest was not looked at"]
-        self.assertEqual(self.look(" x" * (1 << 19) + "x"), (1, said))
+        said = ["game.kif is not accepted: it has more than 4,194,304 bytes", "the rest was not looked at"]
+        self.assertEqual(self.look(" x" * (1 << 21) + "x"), (1, said))
+        # Past the usual limit of bytes the limits for large games are taken.
+        status, lines = self.look(SOUND + ";" * (1 << 20), "--matches", "0")
+        self.assertEqual((status, lines[0].startswith("game.kif is accepted: ")), (0, True), lines)
         status, lines = self.look(SOUND + "(goal ann 200)")
         words = "line 11, column 1: (goal ann 200) can be derived, and its goal is no number from 0 to 100: (goal ann 200)"
         self.assertEqual((status, lines[1:]), (1, [words, "nothing else is suspicious"]), lines)

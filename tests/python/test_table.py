@@ -11,7 +11,7 @@ from unittest import mock
 from ggp_tools.competition.competition_file import read_competition
 from ggp_tools.competition.plan import Plan
 from ggp_tools.competition.ratings import Rating
-from ggp_tools.competition.results import Result, Retirement, result_of, times_of
+from ggp_tools.competition.results import Result, Retirement, result_of
 from ggp_tools.competition.rounds import Round
 from ggp_tools.competition.schedule import Match
 from ggp_tools.competition.table import Line, Table, tables_of
@@ -249,21 +249,3 @@ class Tables(unittest.TestCase):
         flat = [(table["game"], row["player"], row["goals"], row["rating"]) for table in said["tables"] for row in table["lines"]]
         self.assertEqual([(line[0], line[1], float(line[3]), float(line[11]) if line[11] else None) for line in lines], flat)
         self.assertIn("all games,ann,bob,2,1.5\n", files["crosstable.csv"].decode())
-
-    def test_times_of_a_log(self):
-        log = (
-            b"began 2026-01-02T03:04:05.678Z\nhost one\nm1 role 1 bob message 1 (START m1 b (..: ready, 7 ms\n"
-            b"m1 role 0 ann message 2 (PLAY m1 NIL): TO (no answer, 3 ms, in time), 1000 ms\nParallel: a word\nended 2026-01-02T03:04:06.000Z\n"
-        )
-        found = times_of(log, 2)
-        self.assertEqual(found["messages"], [[["play", 1000]], [["start", 7]]])
-        self.assertEqual((found["begin"], found["end"], found["host"]), ("2026-01-02T03:04:05.678Z", "2026-01-02T03:04:06.000Z", "one"))
-
-    def test_numbers_of_a_log_that_are_too_long(self):
-        for line in ("m1 role {} ann message 1 (PLAY m1 nil): x, 3 ms", "m1 role 0 ann message {} (PLAY m1 nil): x, 3 ms", "m1 role 0 ann message 1 (PLAY m1 nil): x, {} ms"):
-            self.assertEqual(times_of(line.format("0" * 5000).encode(), 1)["messages"], [[]])
-
-    def test_times_that_are_none(self):
-        for line in ("began <plaintext>", "began 2026-01-02T03:04:05.678Z<b>", "began 2026-01-02", "ended now", "began 2026-01-02T03:04:05Z"):
-            found = times_of(line.encode(), 1)
-            self.assertEqual((found["begin"], found["end"]), (None, None), line)

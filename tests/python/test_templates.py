@@ -42,7 +42,6 @@ def values_of_macro(text: str) -> dict[str, dict[str, object]]:
     """Returns the arguments that a macro has in a form of its own."""
     match, error = values_of(text)["match"], Value(match=values_of(text)["match"], player=text, turn=1, move=text)
     row = {"left": 1, "y": 1, "player": text, "low": 1, "high": 2, "x": 1, "rating": 1, "half": 1}
-    line = Value(message=text, answer=text, milliseconds=1)
     errors = {"match": text, "turn": text, "reason": text, "error": text, "texts": (text, text, text)}
     return {
         "competition.standings": {"rows": [(text, ["1", text, text])], "up": "../"},
@@ -53,7 +52,8 @@ def values_of_macro(text: str) -> dict[str, dict[str, object]]:
         "competition.errors": {"rows": [errors], "count": 5},
         "live.replaced": {"rows": [(error, 1, text, text)]},
         "live.matches": {"rows": [(match, text)]},
-        "live.answers": {"rows": [(text, line)]},
+        "live.answers": {"rows": [(text, text, text, 1)]},
+        "live.turn_row": {"moves": [(text, text), (text, "")]},
         "live.seats": {"players": (text, text)},
         "live.waiting": {"waiting": text},
         "boards.terms": {"before": None},
