@@ -5,13 +5,19 @@ ghost use Rattle.std.specs.Prelude.{◌<◌};
 
 use game_core::Counted;
 use ggp_commands::{Fault, Surroundings, Terminals, asks_why, command, report};
-use match_plans::MAX_SCHEDULED;
-use network_players::{Beside, HostQuery, RoundSignal, Sockets, make_beside};
-use process_streams::{ERRORS, FILE_SIZE, INPUT, OUTPUT, Standard, hold_closed, limit_of};
-use std::io::{ErrorKind, IsTerminal, Write};
+use match_messages::Player;
+use match_plans::{MAX_SCHEDULED, Reach, ReportsShortages};
+use network_players::{Beside, Explains, HostQuery, Resolves, RoundSignal, Sockets, make_beside};
+use process_streams::{
+    ERRORS, FILE_SIZE, INPUT, LockedFiles, OUTPUT, Standard, hold_closed, limit_of,
+};
+use std::alloc::Global;
+use std::io::{ErrorKind, IsTerminal, Read, Write};
 use std::os::fd::AsFd;
 use std::process::ExitCode;
-use std::sync::Arc;
+use std::sync::{Arc, Wait};
+use std::thread::Threads;
+use std::time::Clock;
 use std::{env, io};
 
 /// The words after the program's name.
@@ -40,6 +46,47 @@ fn fault_of(error: &io::Error) -> Fault {
 /// Reports a fault before any command. Returns the program's status.
 fn ended<E: Write>(errors: &mut E, fault: Fault, why: bool) -> ExitCode {
     ExitCode::from(report(errors, fault, why))
+}
+
+/// What a command gets of the process beside its runtime and network.
+#[derive(Drop)]
+struct Process<I, O, E> {
+    alloc: Global,
+    terminals: Terminals,
+    input: I,
+    output: O,
+    errors: E,
+}
+
+/// Performs the command of the words. Returns the program's status.
+fn perform<H, S, I: Read + Drop, O: Write + Drop, E: Write + Send + Drop>(
+    rt: &H,
+    reach: &S,
+    words: &[String],
+    process: Process<I, O, E>,
+) -> u8
+where
+    H: Resolves + Clock + LockedFiles + Threads + Wait + Sync,
+    H::File: Send,
+    S: Reach + ReportsShortages + Sync,
+    S::Player: Player + Explains + Drop + Send,
+{
+    let Process {
+        alloc,
+        terminals,
+        input,
+        output,
+        errors,
+    } = process;
+    let mut reader = Counted::new(input);
+    let mut writer = Counted::new(output);
+    let around = Surroundings {
+        rt,
+        alloc,
+        reach,
+        terminals,
+    };
+    command(&around, words, &mut reader, &mut writer, errors)
 }
 
 fn main(rt: HostRuntime) -> ExitCode {
@@ -71,19 +118,16 @@ fn main(rt: HostRuntime) -> ExitCode {
         host: rt,
         begin: |rt: HostRuntime, query: Arc<HostQuery>| make_beside(rt, query),
     };
+    let process = Process {
+        alloc: rt.alloc(),
+        terminals,
+        input: Standard::new(host, input, INPUT, None),
+        output: Standard::new(host, output, OUTPUT, limit),
+        errors: Standard::new(host, errors, ERRORS, limit),
+    };
     let reach = Sockets {
         rt: &network,
         signals: signals.as_slice(),
     };
-    let mut reader = Counted::new(Standard::new(host, input, INPUT, None));
-    let mut writer = Counted::new(Standard::new(host, output, OUTPUT, limit));
-    let mut errors = Standard::new(host, errors, ERRORS, limit);
-    let around = Surroundings {
-        rt: host,
-        alloc: rt.alloc(),
-        reach: &reach,
-        terminals,
-    };
-    let status = command(&around, &words, &mut reader, &mut writer, &mut errors);
-    ExitCode::from(status)
+    ExitCode::from(perform(host, &reach, &words, process))
 }
