@@ -1,4 +1,4 @@
-"""What is asked of the program and what is made of its answers: a stand-in says what docs/PROFILE.md has the program say, and what it never does."""
+"""What is asked of the program and what is made of its answers: a stand-in says what the documents have the program say, and what it never does."""
 
 import os
 import pathlib

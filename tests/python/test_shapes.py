@@ -1,4 +1,4 @@
-"""The shapes of what a record says, by the words of section 9 of docs/PROFILE.md."""
+"""The shapes of what a record says, by the words of docs/RECORDS.md."""
 
 import unittest
 

@@ -31,7 +31,7 @@ use std::thread::Threads;
 use thiserror::Error;
 
 /// The limit of a role's asks for what is due to it. It is above all asks that a whole match can need, however long its clocks are
-/// (`docs/PROFILE.md`, section 10).
+/// (`docs/COMMANDS.md`).
 const MAX_TRIES: u64 = 1_000_000_000;
 
 /// Why a match has no record.

@@ -16,7 +16,7 @@ record that is lawful, as ggp-base has a match, and names the others. URL/NAME/ 
 of JSON for each record that is lawful, with what it does not say itself, and names the others. LOG, a file or a folder of files, has the
 times of messages, as the folder `logs` of a competition. `log` prints logs as text, an event on each line, with at most 200 bytes of each
 message and each answer. The FOLDER of --descriptions has what the rules were made from, by the same names,
-and TEXT names the program that refereed the matches. FILE and DIR must not be there. docs/PROFILE.md has the verdicts in section 9,
+and TEXT names the program that refereed the matches. FILE and DIR must not be there. docs/RECORDS.md has the verdicts,
 examples/records/README.md the keys for ggp-base and of facts.
 
 The status is 0 if all records are lawful, 1 if not, 2 for wrong use, 3 if the program came to no verdict."""

@@ -99,7 +99,7 @@ def json_lines(data: bytes) -> list[str]:
     return ["Python finds no place. A value is nested more than 127 deep, a number is none or past the range of binary64, or a surrogate pair is not whole."]
 
 
-# What a key must hold, after section 9 of docs/PROFILE.md. In a list for each turn the member that is wrong is looked for.
+# What a key must hold, after docs/RECORDS.md. In a list for each turn the member that is wrong is looked for.
 MARKS, CLOCK = 'for each role a mark: null, "", "TO" or "CE"', "a whole number of seconds, 1 to 86,400"
 NAME = "1 to 64 letters, digits, `-`, `_` and `.`"
 SHAPES = {
@@ -242,7 +242,7 @@ class Replay(Match):
         return ("goals", f"A record of the phase {phase} {why}.", f"expected: {sides[0]}", f"found: {sides[1]}")
 
     def end_fault(self) -> Found | None:
-        """Compares phase and cause with those that the marks and the last state leave, by the table in section 9 of docs/PROFILE.md."""
+        """Compares phase and cause with those that the marks and the last state leave, by the last table of docs/RECORDS.md."""
         for kind in self.marks:
             self.marks[kind] = {role: mark for role, mark in enumerate(self.given[f"{kind}Marks"]) if mark is not None}
         given, (phase, cause), found = len(self.marks["end"]), self.phase(), (self.given["phase"], self.given["cause"])

@@ -1,4 +1,4 @@
-"""The shapes of what a record says, after section 9 of docs/PROFILE.md, and of the lines of its account."""
+"""The shapes of what a record says, after docs/RECORDS.md, and of the lines of its account."""
 
 import re
 from collections.abc import Callable
