@@ -43,7 +43,7 @@ PartitionName=all Nodes=n[1-3] Default=YES MaxTime=INFINITE State=UP OverSubscri
 """
 HEAD = "start = 60\nplay = 60\nstrikes = 0\nwait = 1\ninfo = 10\ntries = 20\n"
 # A command is not asked for where it is: a package of Debian has it.
-TOOLS = ("munged", "slurmctld", "slurmd", "srun", "sinfo")
+TOOLS = ("munged", "slurmctld", "slurmd", "srun", "sbatch", "sinfo")
 
 
 def why_not():
