@@ -5,12 +5,12 @@ import re
 from crates import TOP, below, crate_rows, crates
 from unit_crates import UNIT, unit_crates
 
-CRATES = "| Crate | Stands on | What it is for |"
+CRATES = "| Crate | Uses | Purpose |"
 TESTS = "| Crate of tests | What it tests |"
 # The layers stand in a block of code behind this line.
-LAYERS = "The program's crates, each over some of the lines below its own:\n"
+LAYERS = "The crates of the program. Each uses only crates in the rows below its own:\n"
 LAYER_ROWS = r"\n(?:    .*\n)*"
-# Crates that no crate of the program stands on.
+# Crates that no crate of the program uses.
 ANNEXES = ("worked",)
 # A table is its head and the lines below it that are rows.
 ROWS = r"\n(?:\|.*\n)*"
@@ -36,7 +36,7 @@ def comment_of(source: str) -> str:
 
 
 def nearest(deps: list[str], known: dict[str, list[str]]) -> list[str]:
-    """Returns the crates of a list that none of the others stands on."""
+    """Returns the crates of a list that none of the others uses."""
     return [dep for dep in deps if not any(dep in below(other, known) for other in deps)]
 
 
