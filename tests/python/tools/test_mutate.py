@@ -89,9 +89,20 @@ def test_what_no_test_finds_is_left(tmp_path: Path, monkeypatch):
     assert (room / "python/ggp_tools/small.py").read_text(encoding="utf-8") == SMALL
 
 
-def test_a_module_has_one_row_while_it_exists(tmp_path: Path):
+def test_rows_of_modules_that_have_changed_are_dropped(tmp_path: Path):
     results = tmp_path / "python.txt"
-    results.write_text("# old head\nkif 7 0 2026-01-01\ngone 5 0 2026-01-01\nreferee 8 1 2026-01-01\n", encoding="utf-8")
-    mutate.keep("kif", 9, 2, str(results))
-    head, kif, referee = results.read_text(encoding="utf-8").splitlines()
-    assert (head.startswith("# Mutations"), kif.split()[:3], referee) == (True, ["kif", "9", "2"], "referee 8 1 2026-01-01")
+    kept = f"referee 8 1 2026-01-01 {mutate.checksum('referee')}\n"
+    results.write_text(f"# old head\nkif 7 0 2026-01-01 0123456789ab\ngone 5 0 2026-01-01 0123456789ab\n{kept}", encoding="utf-8")
+    mutate.write_rows({"answers": "answers 9 2 2026-01-02 0123456789ab\n"}, str(results))
+    head, *rows = results.read_text(encoding="utf-8").splitlines(keepends=True)
+    assert (head, rows) == (mutate.HEAD, ["answers 9 2 2026-01-02 0123456789ab\n", kept])
+
+
+def test_a_checksum_is_of_the_code_alone(tmp_path: Path, monkeypatch):
+    (tmp_path / mutate.PACKAGE).mkdir(parents=True)
+    monkeypatch.setattr(mutate, "TOP", str(tmp_path))
+    sums = []
+    for text in ("a = 1\n", "# A comment.\na  =  1", "a = 2\n"):
+        (tmp_path / mutate.PACKAGE / "small.py").write_text(text, encoding="utf-8")
+        sums.append(mutate.checksum("small"))
+    assert sums[0] == sums[1] != sums[2] and mutate.checksum("gone") == ""
