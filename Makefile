@@ -44,7 +44,7 @@ play: needs
 	@program=$$(tools/program) && examples/play-yourself "$$program" examples/games/tictactoe.kif
 
 season: needs
-	@program=$$(tools/program) && tests/program/season-small "$$program" && tests/program/season-crowd "$$program"
+	@program=$$(tools/program) && tests/program/season-crowd "$$program"
 
 competition: needs
 	@program=$$(tools/program) && examples/hold-a-competition "$$program"
