@@ -11,6 +11,7 @@ POLICY = "/usr/sbin/policy-rc.d"
 NO_SERVICES = "#!/bin/sh\nexit 101\n"
 SYSTEM = ("/usr/sbin", "/sbin")
 MODULES = "/usr/lib/python3/dist-packages"
+LIBRARIES = "/usr/lib/x86_64-linux-gnu"
 
 
 def searched() -> str:
@@ -44,6 +45,8 @@ NEEDS = (
     Need("python3", ("/usr/bin/python3",), "runs the Python tests"),
     Need("python3-jinja2", (f"{MODULES}/jinja2",), "makes pages from templates"),
     Need("python3-aiohttp", (f"{MODULES}/aiohttp",), "serves the live pages of a competition"),
+    Need("python3-numpy", (f"{MODULES}/numpy",), "computes ratings"),
+    Need("libopenblas0-serial", (f"{LIBRARIES}/openblas-serial/libblas.so.3",), "lets numpy compute the ratings of many players fast"),
     Need("python3-bs4", (f"{MODULES}/bs4",), "reads pages in tests"),
     Need("python3-pytest", (f"{MODULES}/pytest",), "runs the Python tests"),
     Need("python3-pytest-xdist", (f"{MODULES}/xdist",), "runs the Python tests in parallel"),

@@ -13,17 +13,14 @@ if typing.TYPE_CHECKING:
     import markupsafe
 
 FOLDER = pathlib.Path(__file__).parent / "templates"
-# The Debian packages of the modules that only some commands need.
-PACKAGES = {"jinja2": "python3-jinja2", "aiohttp": "python3-aiohttp"}
 
 
 def end_without(missing: ImportError) -> typing.NoReturn:
     """Ends the command because a module is missing."""
     name = (missing.name or "").partition(".")[0]
-    package = PACKAGES.get(name, f"python3-{name}")
     # The packages of Debian are for its own Python.
     how = "" if sys.executable.startswith("/usr/bin/") else ", and run it with /usr/bin/python3"
-    print(f"{pathlib.Path(sys.argv[0]).name}: this command needs the Python module {name}: apt-get install {package}{how}", file=sys.stderr)
+    print(f"{pathlib.Path(sys.argv[0]).name}: this command needs the Python module {name}: apt-get install python3-{name}{how}", file=sys.stderr)
     raise SystemExit(2)
 
 

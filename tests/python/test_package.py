@@ -34,7 +34,7 @@ class WithoutPackages(InFolder):
     def setUp(self):
         super().setUp()
         self.room = self.enterContext(tempfile.TemporaryDirectory())
-        for name in ("jinja2", "aiohttp"):
+        for name in ("jinja2", "aiohttp", "numpy"):
             pathlib.Path(self.room, f"{name}.py").write_text(f"raise ModuleNotFoundError('missing', name='{name}')\n")
 
     def ran(self, command, *words):
@@ -44,16 +44,20 @@ class WithoutPackages(InFolder):
     def test_what_makes_no_page_runs_and_what_does_names_the_package(self):
         self.plan([("ann", "h:1"), ("bob", "h:2")], [("countdown", GAMES / "countdown.kif")])
         program_words = "--program", program()
-        for words in (("plan",), ("table",)):
-            self.assertEqual(self.ran("ggp_competition", *program_words, *words), (0, ""), words)
+        self.assertEqual(self.ran("ggp_competition", *program_words, "plan"), (0, ""))
         record = GAMES.parent / "records/countdown-3-second_version.record"
         self.assertEqual(self.ran("ggp-explain-record", program(), "--countdown", "3", record), (0, ""))
         for command in (path.name for path in PYTHON.glob("ggp*") if path.is_file()):
             self.assertEqual(self.ran(command, "--help"), (0, ""), command)
-        jinja = "{}: this command needs the Python module jinja2: apt-get install python3-jinja2\n"
-        self.assertEqual(self.ran("ggp_competition", *program_words, "pages"), (2, jinja.format("ggp_competition")))
-        self.assertEqual(self.ran("ggp-show-record", record), (2, jinja.format("ggp-show-record")))
-        self.assertEqual(self.ran("ggp_competition", *program_words, "serve"), (2, jinja.format("ggp_competition")))
+        missing = "{}: this command needs the Python module {}: apt-get install python3-{}\n"
+        jinja, numpy = (missing.format("ggp_competition", name, name) for name in ("jinja2", "numpy"))
+        self.assertEqual(self.ran("ggp_competition", *program_words, "table"), (2, numpy))
+        self.assertEqual(self.ran("ggp_competition", *program_words, "pages"), (2, jinja))
+        self.assertEqual(self.ran("ggp_competition", *program_words, "serve"), (2, jinja))
+        self.assertEqual(self.ran("ggp-show-record", record), (2, missing.format("ggp-show-record", "jinja2", "jinja2")))
         pathlib.Path(self.room, "jinja2.py").unlink()
+        self.assertEqual(self.ran("ggp_competition", *program_words, "serve"), (2, numpy))
+        pathlib.Path(self.room, "numpy.py").unlink()
+        self.assertEqual(self.ran("ggp_competition", *program_words, "table"), (0, ""))
         aiohttp = "ggp_competition: this command needs the Python module aiohttp: apt-get install python3-aiohttp\n"
         self.assertEqual(self.ran("ggp_competition", *program_words, "serve"), (2, aiohttp))

@@ -1,91 +1,58 @@
-"""Ratings: against what is known in closed form, against players whose strengths are known, and where there are none."""
+"""Ratings: against what is known in closed form, against slow computations by other ways, against players whose strengths are known, and
+where there are none."""
 
 import math
 import random
 import unittest
-from unittest import mock
 
-from ggp_tools.competition.ratings import NORMAL_95, SCALE, groups, rated
+import hypothesis
+import numpy
+from hypothesis import strategies
 
+from ggp_tools.competition.ratings import groups, rated
 
-def played(chance, strengths, matches):
-    """Returns the points of players of these strengths, of whom each pair plays so many matches."""
-    points = {}
-    for player, strength in strengths.items():
-        for opponent, against in strengths.items():
-            if player < opponent:
-                won = sum(chance.random() < strength / (strength + against) for _ in range(matches))
-                points[player, opponent], points[opponent, player] = won, matches - won
-    return points
+# 400 points are odds of 10 to 1; 1.96 standard deviations hold 95%.
+SCALE, SPREAD = 173.71779276, 1.959964
 
 
-class Ratings(unittest.TestCase):
-    def test_two_players_have_a_closed_form(self):
-        for won, lost in ((30, 10), (1, 1), (2.5, 0.5), (1, 999)):
-            found = rated(["a", "b"], {("a", "b"): won, ("b", "a"): lost})
-            self.assertAlmostEqual(found["a"].rating - found["b"].rating, SCALE * math.log(won / lost), 6)
-            self.assertAlmostEqual(found["a"].rating, -found["b"].rating, 9)
-            # The difference has the variance 1 / (n p (1 - p)), each rating a quarter of that.
-            wanted = SCALE * NORMAL_95 * math.sqrt((won + lost) / (won * lost)) / 2
-            self.assertAlmostEqual(found["a"].half, wanted, 6)
-            self.assertAlmostEqual(found["b"].half, wanted, 6)
+@strategies.composite
+def drawn_points(draw):
+    """Returns players, and what some pairs of them got against each other."""
+    players = draw(strategies.permutations("abcdef"))[: draw(strategies.integers(2, 6))]
+    got = strategies.sampled_from((0, 0, 0.5, 1, 2.5, 40))
+    pairs = [(player, opponent) for player in players for opponent in players if player < opponent]
+    return players, {way: draw(got) for pair in pairs if draw(strategies.booleans()) for way in (pair, pair[::-1])}
 
-    def test_a_circle_of_equals_is_level(self):
-        players = list("abcd")
-        points = {(player, opponent): 3 for player in players for opponent in players if player != opponent}
-        found = rated(players, points)
-        for rating in found.values():
-            self.assertAlmostEqual(rating.rating, 0, 6)
-        # With n matches of each of k pairs the information is n k / 4 of the identity, less its part along (1, .., 1).
-        self.assertAlmostEqual(found["a"].half, SCALE * NORMAL_95 * math.sqrt(4 / (6 * 4) * 3 / 4), 6)
 
-    def test_likelihood_is_greatest(self):
-        chance = random.Random(1)
-        players = list("abcde")
-        points = played(chance, dict(zip(players, (1, 2, 3, 4, 5))), 7)
-        found = {player: rating.rating / SCALE for player, rating in rated(players, points).items()}
+def expected(player, points, logs):
+    """Returns what the strengths let a player expect against those that it met within its group."""
+    met = {other: points[player, other] + points[other, player] for other in logs if (player, other) in points}
+    return sum(count / (1 + math.exp(logs[other] - logs[player])) for other, count in met.items())
 
-        def likelihood(logs):
-            return -sum(count * math.log(1 + math.exp(logs[opponent] - logs[player])) for (player, opponent), count in points.items())
 
-        for player in players:
-            for step in (-0.01, 0.01):
-                self.assertLess(likelihood({**found, player: found[player] + step}), likelihood(found))
+def reached(players, points):
+    """Returns for each player those to whom a chain of points leads."""
+    found = {player: {player} for player in players}
+    for _ in players:
+        for (player, opponent), got in points.items():
+            for some in found.values():
+                some |= {opponent} if got and player in some else set()
+    return found
 
-    def test_known_strengths_lie_in_the_intervals(self):
-        chance, inside, total, nearest = random.Random(48), 0, 0, []
-        strengths = {name: math.exp(number / 3) for number, name in enumerate("abcdefgh")}
-        mean = sum(map(math.log, strengths.values())) / len(strengths)
-        for _ in range(100):
-            found = rated(list(strengths), played(chance, strengths, 20))
-            for name, strength in strengths.items():
-                if found[name].rating is not None:
-                    away = abs(found[name].rating - SCALE * (math.log(strength) - mean))
-                    inside, total = inside + (away <= found[name].half), total + 1
-                    nearest.append(away)
-        self.assertEqual(total, 800)
-        # Of 800 intervals of 95% some 760 hold the strength; a group's ratings are not independent.
-        self.assertGreater(inside, 736)
-        self.assertLess(inside, 784)
-        self.assertLess(sum(nearest) / total, 45)
 
-    def test_who_has_won_or_lost_all_has_no_rating(self):
-        points = {("top", "a"): 2, ("top", "b"): 2, ("a", "b"): 1, ("b", "a"): 1, ("a", "low"): 1, ("b", "low"): 2}
-        found = rated(["top", "a", "b", "low"], points)
-        self.assertIsNone(found["top"].rating)
-        self.assertIsNone(found["low"].rating)
-        self.assertAlmostEqual(found["a"].rating, 0)
-
-    def test_groups_that_never_beat_each_other_are_rated_apart(self):
-        points = {("a", "b"): 1, ("b", "a"): 3, ("c", "d"): 1, ("d", "c"): 1, ("a", "c"): 5}
-        self.assertEqual(groups(list("abcd"), points), [["a", "b"], ["c", "d"]])
-        found = rated(list("abcd"), points)
-        self.assertEqual([found[name].group for name in "abcd"], [1, 1, 2, 2])
-
-    def test_a_long_chain_is_one_group(self):
-        names = [f"p{number}" for number in range(3000)]
-        points = {(player, opponent): 1 for player, opponent in zip(names, [*names[1:], names[0]])}
-        self.assertEqual(len(groups(names, points)), 1)
+def iterated(players, points):
+    """Returns the logarithms of the strengths of a group by another way, the iteration of Hunter ("MM algorithms for generalized Bradley-Terry
+    models", The Annals of Statistics 32, 2004), or None where that is too slow."""
+    found = dict.fromkeys(players, 0.0)
+    won = {player: sum(points.get((player, other), 0) for other in players) for player in players}
+    for _ in range(5_000):
+        new = {player: found[player] + math.log(won[player] / expected(player, points, found)) for player in players}
+        mean = sum(new.values()) / len(new)
+        new = {player: log - mean for player, log in new.items()}
+        if max(abs(new[player] - found[player]) for player in players) < 1e-12:
+            return new
+        found = new
+    return None
 
 
 def solved(matrix, right):
@@ -118,76 +85,98 @@ def halves(players, points, logs):
     matrix = [[information(row, column) for column in range(count - 1)] for row in range(count - 1)]
     columns = [solved(matrix, [float(at == column) for at in range(count - 1)]) for column in range(count - 1)]
     found = [columns[at][at] for at in range(count - 1)]
-    return [400 / math.log(10) * 1.959964 * math.sqrt(variance) for variance in (*found, sum(map(sum, columns)))]
+    return [SCALE * SPREAD * math.sqrt(variance) for variance in (*found, sum(map(sum, columns)))]
 
 
-class Outside(unittest.TestCase):
-    """Ratings against numbers and ways that are not those of the module."""
+def played(chance, strengths, matches):
+    """Returns the points of players of these strengths, of whom each pair plays so many matches."""
+    points = {}
+    for player, strength in strengths.items():
+        for opponent, against in strengths.items():
+            if player < opponent:
+                won = sum(chance.random() < strength / (strength + against) for _ in range(matches))
+                points[player, opponent], points[opponent, player] = won, matches - won
+    return points
 
-    def test_three_times_as_many_wins_are_191_points(self):
-        found = rated(["a", "b"], {("a", "b"): 30, ("b", "a"): 10})
-        # 400 times the decimal logarithm of 3; the half is 400 / ln 10 * 1.96 * sqrt(40 / 300) / 2.
-        self.assertAlmostEqual(found["a"].rating - found["b"].rating, 190.8485, 3)
-        self.assertAlmostEqual(found["a"].half, 62.16297, 4)
-        self.assertEqual((found["a"].group, found["a"].is_close), (1, True))
 
-    def test_groups_are_those_who_have_points_against_each_other_by_a_chain(self):
-        chance = random.Random(2)
-        for _ in range(300):
-            players = [f"p{number}" for number in range(chance.randrange(1, 8))]
-            chance.shuffle(players)
-            points = {(player, opponent): chance.choice((0, 0, 0.5, 1)) for player in players for opponent in players if player != opponent and chance.random() < 0.5}
-            reached = {player: {player} for player in players}
-            for _ in players:
-                for (player, opponent), got in points.items():
-                    for some in players:
-                        if got and player in reached[some]:
-                            reached[some].add(opponent)
-            wanted = []
-            for player in players:
-                group = [opponent for opponent in players if opponent in reached[player] and player in reached[opponent]]
-                wanted += [group] if group[0] == player else []
-            self.assertEqual(groups(players, points), wanted)
+class Ratings(unittest.TestCase):
+    def test_two_players_have_a_closed_form(self):
+        for won, lost in ((30, 10), (1, 1), (2.5, 0.5), (1, 99_999)):
+            found = rated(["a", "b"], {("a", "b"): won, ("b", "a"): lost})
+            self.assertAlmostEqual(found["a"].rating - found["b"].rating, 400 * math.log10(won / lost), 5)
+            self.assertAlmostEqual(found["a"].rating, -found["b"].rating, 5)
+            # The difference has the variance 1 / (n p (1 - p)), each rating a quarter of that.
+            wanted = SCALE * SPREAD * math.sqrt((won + lost) / (won * lost)) / 2
+            self.assertAlmostEqual(found["a"].half, wanted, 3)
+            self.assertAlmostEqual(found["b"].half, wanted, 3)
 
-    def test_intervals_are_those_of_the_information(self):
-        chance = random.Random(3)
-        for _ in range(40):
-            players = [f"p{number}" for number in range(chance.randrange(2, 6))]
-            # They stand in the order of competition.toml, whatever their names are.
-            chance.shuffle(players)
-            points = {(player, opponent): chance.choice((1, 1.5, 3, 7)) for player in players for opponent in players if player != opponent}
-            found = rated(players, points)
-            logs = {name: found[name].rating / (400 / math.log(10)) for name in players}
-            for name, half in zip(players, halves(players, points, logs)):
-                self.assertAlmostEqual(found[name].half, half, 2)
+    def test_a_circle_of_equals_is_level(self):
+        players = list("abcd")
+        found = rated(players, {(player, opponent): 3 for player in players for opponent in players if player != opponent})
+        for rating in found.values():
+            self.assertAlmostEqual(rating.rating, 0, 6)
+        # With n matches of each of k pairs the information is n k / 4 of the identity, less its part along (1, .., 1).
+        self.assertAlmostEqual(found["a"].half, SCALE * SPREAD * math.sqrt(4 / (6 * 4) * 3 / 4), 3)
+
+    @hypothesis.given(drawn_points())
+    @hypothesis.settings(max_examples=100, deadline=None)
+    def test_ratings_are_those_of_a_slow_iteration(self, drawn):
+        players, points = drawn
+        found, chains = rated(players, points), reached(players, points)
+        wanted = [[other for other in players if other in chains[player] and player in chains[other]] for player in players]
+        wanted = [group for player, group in zip(players, wanted) if group[0] == player and group[1:]]
+        self.assertEqual([[player for player in players if found[player].group == number] for number in range(1, len(wanted) + 1)], wanted)
+        for player in {*players} - {player for group in wanted for player in group}:
+            self.assertEqual((found[player].rating, found[player].half, found[player].group), (None, None, None))
+        for group in wanted:
+            logs = {player: found[player].rating / SCALE for player in group}
+            own = {pair: got for pair, got in points.items() if {*pair} <= {*group}}
             self.assertAlmostEqual(sum(logs.values()), 0, 9)
             # Where the likelihood is greatest each has got what is expected of it.
-            for player in players:
-                met = {opponent: points[player, opponent] + points[opponent, player] for opponent in players if opponent != player}
-                expected = sum(count / (1 + math.exp(logs[opponent] - logs[player])) for opponent, count in met.items())
-                self.assertAlmostEqual(expected, sum(points[player, opponent] for opponent in met), 6)
+            for player in group:
+                self.assertAlmostEqual(expected(player, own, logs), sum(got for (winner, _), got in own.items() if winner == player), 6)
+            for player, half in zip(group, halves(group, own, logs)):
+                self.assertAlmostEqual(found[player].half, half, delta=half * 1e-5)
+            for player, log in (iterated(group, own) or {}).items():
+                self.assertAlmostEqual(found[player].rating, SCALE * log, 4)
 
-    def test_too_few_steps_are_told(self):
-        points = {("a", "b"): 30, ("b", "a"): 1, ("b", "c"): 20, ("c", "b"): 1, ("c", "d"): 9, ("d", "c"): 2}
-        for steps, is_close in ((3, False), (100_000, True)):
-            with mock.patch("ggp_tools.competition.ratings.MOST_STEPS", steps):
-                self.assertEqual({rating.is_close for rating in rated(list("abcd"), points).values()}, {is_close})
+    def test_known_strengths_lie_in_the_intervals(self):
+        chance, inside, total, nearest = random.Random(48), 0, 0, []
+        strengths = {name: math.exp(number / 3) for number, name in enumerate("abcdefgh")}
+        mean = sum(map(math.log, strengths.values())) / len(strengths)
+        for _ in range(100):
+            found = rated(list(strengths), played(chance, strengths, 20))
+            for name, strength in strengths.items():
+                if found[name].rating is not None:
+                    away = abs(found[name].rating - SCALE * (math.log(strength) - mean))
+                    inside, total = inside + (away <= found[name].half), total + 1
+                    nearest.append(away)
+        self.assertEqual(total, 800)
+        # Of 800 intervals of 95% some 760 hold the strength; a group's ratings are not independent.
+        self.assertGreater(inside, 736)
+        self.assertLess(inside, 784)
+        self.assertLess(sum(nearest) / total, 45)
 
-    def test_steps_go_on_while_one_strength_still_changes(self):
-        # The first step leaves the strength of b as it is: a has won 4 of 6, b 5 of 10, c 3 of 8, and 4/6 * 3/8 is a quarter.
-        points = {("a", "b"): 3, ("b", "a"): 1, ("a", "c"): 1, ("c", "a"): 1, ("b", "c"): 4, ("c", "b"): 2}
-        found = rated(list("abc"), points)
-        for player, won in (("a", 4), ("b", 5), ("c", 3)):
-            met = {opponent: points[player, opponent] + points[opponent, player] for opponent in "abc" if opponent != player}
-            expected = sum(count / (1 + math.exp((found[opponent].rating - found[player].rating) / SCALE)) for opponent, count in met.items())
-            self.assertAlmostEqual(expected, won, 6)
+    def test_groups_that_never_beat_each_other_are_rated_apart(self):
+        found = rated(list("abcdef"), {("a", "b"): 1, ("b", "a"): 3, ("c", "d"): 1, ("d", "c"): 1, ("a", "c"): 5, ("e", "a"): 2, ("a", "e"): 0})
+        self.assertEqual([found[name].group for name in "abcdef"], [1, 1, 2, 2, None, None])
 
-    def test_who_is_not_named_has_got_nothing(self):
-        points = {("a", "b"): 2, ("b", "c"): 1, ("c", "d"): 3, ("d", "a"): 1}
-        zeros = {(player, opponent): 0 for player in "abcd" for opponent in "abcd" if player != opponent}
-        self.assertEqual(rated(list("abcd"), points), rated(list("abcd"), {**zeros, **points}))
+    def test_a_long_chain_is_one_group(self):
+        self.assertEqual(groups(numpy.roll(numpy.eye(3_000, dtype=bool), 1, axis=1)), [list(range(3_000))])
 
-    def test_a_player_alone_has_no_rating_and_no_group(self):
-        found = rated(["a", "b", "c"], {("a", "b"): 1, ("b", "c"): 2, ("c", "b"): 2})
-        self.assertEqual((found["a"].rating, found["a"].half, found["a"].group, found["a"].is_close), (None, None, None, True))
-        self.assertEqual((found["b"].group, list(found)), (1, ["a", "b", "c"]))
+    def test_a_chain_of_lopsided_results_is_rated(self):
+        # The strengths of the first and of the last differ by a factor of 9 to the power of 99.
+        names = [f"p{number}" for number in range(100)]
+        points = {way: got for pair in zip(names, names[1:]) for way, got in ((pair, 9), (pair[::-1], 1))}
+        found = rated(names, points)
+        for first, second in zip(names, names[1:]):
+            self.assertAlmostEqual(found[first].rating - found[second].rating, 400 * math.log10(9), 5)
+
+    def test_strengths_that_the_results_hardly_limit_are_not_shown(self):
+        # Two chains, of which the first of each has beaten the last of the other: that limits how the chains compare by next to nothing.
+        points = {}
+        for chain in ("abcdefghijklmno", "ABCDEFGHIJKLMNO"):
+            points |= {way: got for pair in zip(chain, chain[1:]) for way, got in ((pair, 999), (pair[::-1], 1))}
+            points |= {(chain[0], chain[-1].swapcase()): 999}
+        found = rated(sorted({player for pair in points for player in pair}), points)
+        self.assertEqual({(rating.rating, rating.half, rating.group) for rating in found.values()}, {(None, None, 1)})

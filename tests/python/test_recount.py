@@ -6,7 +6,6 @@ import random
 import unittest
 from collections import Counter
 from itertools import permutations
-from unittest import mock
 
 from ggp_tools.competition.competition_file import read_competition
 from ggp_tools.competition.growth import Again, History, grown, refuse_changes
@@ -23,8 +22,7 @@ MANY = 120
 
 def tables(*words):
     """Returns the tables without ratings, which have tests of their own."""
-    with mock.patch("ggp_tools.competition.table.rated", lambda *_: {}):
-        return tables_of(*words)
+    return tables_of(*words, is_rated=False)
 
 
 def competition(count, games, form, head=""):

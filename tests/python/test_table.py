@@ -6,7 +6,6 @@ import random
 import unittest
 from collections import Counter
 from dataclasses import replace
-from unittest import mock
 
 from ggp_tools.competition.competition_file import read_competition
 from ggp_tools.competition.plan import Plan
@@ -232,13 +231,11 @@ class Tables(unittest.TestCase):
             text, row = csv_text([Table("two", {"ann": line})]), dict(zip(HEADS, fields(line)))
             self.assertEqual([json.dumps(row["rating"]), *(cells[key] for cells in csv.DictReader(text.splitlines()) for key in ("rating", "half"))], [said, said, "118.2"])
 
-    def test_a_rating_that_is_not_settled_is_told(self):
-        results = [result(names, goals) for names in (NAMES[:2], NAMES[1:3], NAMES[2:]) for goals in ([100, 0], [100, 0], [0, 100])]
-        for steps, said in ((100_000, []), (3, ["rating not settled: ann, bob, cid, dan (after 100,000 steps it was still changing)"])):
-            with mock.patch("ggp_tools.competition.ratings.MOST_STEPS", steps):
-                tables = tables_of(competition(), results)
-            self.assertEqual(list(notes(tables[0])), said)
-            self.assertEqual(json.loads(table_files(Plan(None, competition(), {}, [played.match for played in results]), tables)["table.json"])["tables"][0]["notes"], said)
+    def test_why_there_is_no_rating_is_told(self):
+        lines = {name: Line(name, matches=1, rating=Rating(*found)) for name, found in (("ann", (None, None, 1)), ("bob", (None, None, None)), ("cid", (7, 2, 2)))}
+        said = ["no rating: bob (no chain of points leads to and from the others)", "no rating: ann (the results limit it so little that it can't be computed)"]
+        self.assertEqual(list(notes(Table("two", lines, met={("ann", "bob"): 1}))), said)
+        self.assertEqual(rating_text(Table("two", lines), lines["ann"]), "none")
 
     def test_files_say_the_same(self):
         results = [result(["ann", "bob"], [100, 0]), result(["bob", "ann"], [50, 50]), result(["cid"], [30], game="one")]

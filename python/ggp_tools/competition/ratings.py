@@ -1,136 +1,88 @@
 """Ratings by the model of Bradley and Terry: a player with strength s beats one with strength t with the chance s / (s + t).
 
-The strengths are those under which the results are likeliest, found by the iteration of Hunter, "MM algorithms for generalized
-Bradley-Terry models", The Annals of Statistics 32 (2004), where a draw counts as half a win for each. They are unique, up to a
-factor, exactly for players of whom each group has won something against the others. So each such set of players is rated by itself,
-and a player outside of all sets has no rating. A rating is 400 times the decimal logarithm of the strength, with the mean 0 in its
-group. The intervals of 95% come from the observed information: the negative second derivatives of the logarithm of the likelihood, inverted
-where the sum of the ratings is 0. In tests with eight players of known strengths 763 of 800 intervals contain the strength."""
+The strengths are those under which the results are likeliest, where a draw counts as half a win for each. They are unique, up to a factor,
+exactly for players of whom each group has won something against the others (Ford, "Solution of a ranking problem from binary
+comparisons", The American Mathematical Monthly 64, 1957). So each such set of players is rated separately, and a player outside of all sets
+has no rating. A rating is 400 times the decimal logarithm of the strength, with the mean 0 in its group. The intervals of 95% come from the
+observed information: the negative second derivatives of the logarithm of the likelihood, inverted where the sum of the ratings is 0. In
+tests with eight players of known strengths 763 of 800 intervals contain the strength."""
 
 import math
-from collections.abc import Mapping, Sequence
+from collections.abc import Iterator, Mapping, Sequence
 from dataclasses import dataclass
+
+import numpy
 
 SCALE = 400 / math.log(10)
 NORMAL_95 = 1.959963984540054
-MOST_STEPS, CLOSE = 100_000, 1e-11
-
-
-# What the first player of a pair got against the second.
-Points = Mapping[tuple[str, str], float]
+MOST_STEPS, CLOSE = 100, 1e-8
 
 
 @dataclass(frozen=True)
 class Rating:
-    """A player's rating, half the length of its interval of 95%, and the group within which ratings compare; none without a group. And
-    whether the iteration has come so close that more steps would change nothing."""
+    """A player's rating, half the length of its interval of 95%, and the group within which ratings compare. Without a group there is no
+    rating. In a group there is none if its results limit the strengths so little that floating-point numbers can't find them."""
 
-    rating: float
-    half: float
-    group: int
-    is_close: bool = True
-
-
-def groups(players: Sequence[str], points: Points) -> list[list[str]]:
-    """Returns the largest groups of players in which each has points, by a chain, against each other: Tarjan's strongly connected
-    components, found without recursion. The order is that of their first players."""
-    scorers = {player: [] for player in players}
-    for winner, loser in points:
-        if points[winner, loser] > 0:
-            scorers[winner].append(loser)
-    low, number, on_stack, stack, found = {}, {}, set(), [], []
-    for root in players:
-        work = [(root, iter(scorers[root]))] if root not in number else []
-        while work:
-            at, rest = work[-1]
-            if at not in number:
-                number[at] = low[at] = len(number)
-                stack.append(at)
-                on_stack.add(at)
-            following = next(rest, None)
-            if following is None:
-                work.pop()
-                if work:
-                    low[work[-1][0]] = min(low[work[-1][0]], low[at])
-                if low[at] == number[at]:
-                    group = {stack.pop()}
-                    while at not in group:
-                        group.add(stack.pop())
-                    on_stack -= group
-                    found.append(group)
-            elif following not in number:
-                work.append((following, iter(scorers[following])))
-            elif following in on_stack:
-                low[at] = min(low[at], number[following])
-    place = {player: at for at, player in enumerate(players)}
-    return sorted((sorted(group, key=place.get) for group in found), key=lambda members: place[members[0]])
+    rating: float | None
+    half: float | None
+    group: int | None
 
 
-def strengths(players: Sequence[str], points: Points) -> tuple[dict[str, float], bool]:
-    """Returns the logarithms of the likeliest strengths of a group, with the mean 0, and whether the steps were enough for them."""
-    met = {player: [] for player in players}
-    for player in players:
-        for opponent in players:
-            count = points.get((player, opponent), 0) + points.get((opponent, player), 0)
-            if count:
-                met[player].append((opponent, count))
-    won = {player: sum(points.get((player, opponent), 0) for opponent, _ in met[player]) for player in players}
-    found = dict.fromkeys(players, 1.0)
+def searched(roots: Sequence[int], leads: numpy.ndarray) -> Iterator[list[int]]:
+    """Gives what depth-first search finds from each root and not from those before it, in the order in which it leaves them."""
+    is_new = numpy.ones(len(leads), bool)
+    for root in roots:
+        path, left = [root] if is_new[root] else [], []
+        while path:
+            is_new[path[-1]] = False
+            following = leads[path[-1]] & is_new
+            if following.any():
+                path.append(following.argmax())
+            else:
+                left.append(path.pop())
+        if left:
+            yield left
+
+
+def groups(points: numpy.ndarray) -> list[list[int]]:
+    """Returns the largest groups of players in which each has points, by a chain, against each other: strongly connected components, by
+    two searches (Kosaraju and Sharir). The order is that of their first players."""
+    order = [player for left in searched(range(len(points)), points > 0) for player in left]
+    return sorted(sorted(left) for left in searched(order[::-1], points.T > 0))
+
+
+def likeliest(points: numpy.ndarray) -> list[tuple[float, float]] | None:
+    """Returns the ratings of a group, each with half its interval, or None if they can't be found.
+
+    Newton's method; if a step would change the difference of two that have met by d, it is shortened to log(1 + d) / d of its length. Then
+    the likelihood grows with each step: meanwhile no second derivative grows by more than the factor 1 + d."""
+    met, won, logs = points + points.T, points.sum(axis=1), numpy.zeros(len(points))
     for _ in range(MOST_STEPS):
-        new = {player: won[player] / sum(count / (found[player] + found[opponent]) for opponent, count in met[player]) for player in players}
-        mean = math.exp(sum(map(math.log, new.values())) / len(new))
-        new = {player: strength / mean for player, strength in new.items()}
-        change = max(abs(math.log(new[player] / found[player])) for player in players)
-        found = new
+        chances = 1 / (1 + numpy.exp(numpy.clip(logs - logs[:, None], -700, 700)))
+        information = -met * chances * chances.T
+        information -= numpy.diag(information.sum(axis=1))
+        # This adds 1 where all move together, which no result tells, so that there is an inverse.
+        information += 1 / len(met)
+        try:
+            step = numpy.linalg.solve(information, won - (met * chances).sum(axis=1))
+        except numpy.linalg.LinAlgError:
+            return None
+        change = abs((step - step[:, None])[met > 0]).max()
         if change < CLOSE:
-            break
-    return {player: math.log(strength) for player, strength in found.items()}, change < CLOSE
+            variances = numpy.linalg.inv(information).diagonal() - 1 / len(met)
+            return [(SCALE * log, SCALE * NORMAL_95 * math.sqrt(variance)) for log, variance in zip(logs.tolist(), variances.tolist())]
+        logs += step * (math.log1p(change) / change)
+    return None
 
 
-def variances(players: Sequence[str], points: Points, logs: dict[str, float]) -> list[float]:
-    """Returns the variances of the logarithms: the diagonal of the inverse of the information, where their sum is 0."""
-    size = len(players)
-    rows = [[1 / size] * size for _ in players]
-    for at, player in enumerate(players):
-        for beside in range(at):
-            opponent = players[beside]
-            chance = 1 / (1 + math.exp(logs[opponent] - logs[player]))
-            share = (points.get((player, opponent), 0) + points.get((opponent, player), 0)) * chance * (1 - chance)
-            rows[at][beside] -= share
-            rows[at][at] += share
-            rows[beside][beside] += share
-    return [entry - 1 / size for entry in inverse_diagonal(rows)]
-
-
-def inverse_diagonal(rows: list[list[float]]) -> list[float]:
-    """Returns the diagonal of the inverse of a positive definite matrix, of which what stands above the diagonal is not read, by Cholesky's
-    factors."""
-    size = len(rows)
-    lower = [[0.0] * size for _ in rows]
-    for at in range(size):
-        for beside in range(at + 1):
-            rest = rows[at][beside] - sum(map(float.__mul__, lower[at][:beside], lower[beside][:beside]))
-            lower[at][beside] = math.sqrt(rest) if at == beside else rest / lower[beside][beside]
-    found = [0.0] * size
-    for column in range(size):
-        solved = [0.0] * size
-        for at in range(column, size):
-            rest = (at == column) - sum(map(float.__mul__, lower[at][column:at], solved[column:at]))
-            solved[at] = rest / lower[at][at]
-        found[column] = sum(entry * entry for entry in solved)
-    return found
-
-
-def rated(players: Sequence[str], points: Points) -> dict[str, Rating]:
+def rated(players: Sequence[str], points: Mapping[tuple[str, str], float]) -> dict[str, Rating]:
     """Returns the rating of each player, where `points` has what each pair's first player got against the second: 1 for a match that
     it won, a half for one that was drawn."""
-    found, number = {}, 0
-    for group in groups(players, points):
-        if len(group) == 1:
-            found[group[0]] = Rating(None, None, None)
-            continue
-        number += 1
-        logs, is_close = strengths(group, points)
-        for player, variance in zip(group, variances(group, points, logs)):
-            found[player] = Rating(SCALE * logs[player], SCALE * NORMAL_95 * math.sqrt(variance), number, is_close)
+    place, got = {player: at for at, player in enumerate(players)}, numpy.zeros((len(players), len(players)))
+    for (player, opponent), count in points.items():
+        got[place[player], place[opponent]] = count
+    found, several = dict.fromkeys(players, Rating(None, None, None)), (group for group in groups(got) if len(group) > 1)
+    for number, group in enumerate(several, 1):
+        for member, (rating, half) in zip(group, likeliest(got[numpy.ix_(group, group)]) or [(None, None)] * len(group)):
+            found[players[member]] = Rating(rating, half, number)
     return found

@@ -5,14 +5,18 @@ one is above its own, else drawn; in a match of one role, or without goals, it i
 retired in a match has lost it, whatever the goals and also without any, against each player that was not. Its goal counts as 0, and who
 is left gets 100, which several share and have drawn."""
 
+import typing
 from collections.abc import Iterable, Sequence
 from dataclasses import dataclass, field
 
 from ggp_tools.competition.competition_file import BY_POINTS, KNOCKOUT, SWISS, Competition
-from ggp_tools.competition.ratings import Rating, rated
 from ggp_tools.competition.results import DRAWN, LOST, WON, Result
 from ggp_tools.competition.rounds import Round, is_by_rounds, rounds_won, scores_of
 from ggp_tools.competition.schedule import Match
+from ggp_tools.templating import end_without
+
+if typing.TYPE_CHECKING:
+    from ggp_tools.competition.ratings import Rating
 
 ALL = "all games"
 
@@ -34,7 +38,7 @@ class Line:
     replaced: int = 0
     absent: int = 0
     retired: int = 0
-    rating: Rating | None = None
+    rating: "Rating | None" = None
     # In a competition by rounds, and of all games together.
     byes: int = 0
     bye_points: int = 0
@@ -137,7 +141,11 @@ def count_rounds(table: Table, competition: Competition, results: Iterable[Resul
 
 
 def tables_of(competition: Competition, results: Sequence[Result], rounds: Sequence[Round] = (), is_rated: bool = True) -> list[Table]:
-    """Returns the tables: first that of all games, then that of each game. Ratings take long if few of many players have met."""
+    """Returns the tables: first that of all games, then that of each game."""
+    try:
+        from ggp_tools.competition.ratings import rated
+    except ImportError as why:
+        end_without(why)
     names = [entrant.name for entrant in competition.players]
     kind = competition.form.kind if is_by_rounds(competition) else ""
     by = [(ALL, kind or competition.order), *((game.name, BY_POINTS if kind else competition.order) for game in competition.games)]

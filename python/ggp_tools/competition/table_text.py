@@ -7,7 +7,6 @@ from collections.abc import Iterable, Iterator, Mapping, Sequence
 
 from ggp_tools.competition.competition_file import BY_POINTS, KNOCKOUT, SWISS
 from ggp_tools.competition.plan import Plan
-from ggp_tools.competition.ratings import MOST_STEPS
 from ggp_tools.competition.results import FULL_GOAL, Result, again_words
 from ggp_tools.competition.rounds import rounds_of
 from ggp_tools.competition.schedule import Match
@@ -19,7 +18,7 @@ HEADS = (
 )
 TABLE_FILES = "table.txt", "table.csv", "crosstable.csv", "table.json"
 METHOD = (
-    "Bradley and Terry's model, by Hunter's MM iteration (The Annals of Statistics 32, 2004); a draw is half a win; "
+    "the likeliest ones of Bradley and Terry's model, by Newton's method; a draw is half a win; "
     "intervals of 95% from the observed information; 400 points are odds of 10 to 1"
 )
 
@@ -118,11 +117,11 @@ def notes(table: Table) -> Iterator[str]:
             yield f"{line.player} made no move of its own: all of its moves were replaced"
         elif line.absent:
             yield f"{line.player} made no move of its own in {line.absent} of its {line.matches} matches"
-    unrated = [line.player for line in table.standings() if line.rating and line.rating.rating is None] if table.is_of_pairs() else []
-    if unrated:
+    lines = [line for line in table.standings() if line.rating and line.rating.rating is None] if table.is_of_pairs() else []
+    if unrated := [line.player for line in lines if line.rating.group is None]:
         yield f"no rating: {', '.join(unrated)} (no chain of points leads to and from the others)"
-    if unsettled := [line.player for line in table.standings() if line.rating and not line.rating.is_close]:
-        yield f"rating not settled: {', '.join(unsettled)} (after {MOST_STEPS:,} steps it was still changing)"
+    if unlimited := [line.player for line in lines if line.rating.group]:
+        yield f"no rating: {', '.join(unlimited)} (the results limit it so little that it can't be computed)"
 
 
 def count_of_planned(plan: Plan) -> int:
