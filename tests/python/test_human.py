@@ -272,6 +272,16 @@ class Pages(unittest.TestCase):
             self.assertEqual(self.request("POST", "/", start, source=theirs).read(), b"busy")
             self.assertEqual(self.request("POST", "/", "(PLAY M NIL)", source=theirs).read(), b"noop")
 
+    def test_a_long_message_of_a_stranger_is_not_read(self):
+        self.serve("127.0.0.3")
+        line = http.client.HTTPConnection(*self.server.server_address[:2], timeout=SECONDS, source_address=("127.0.0.2", 0))
+        self.addCleanup(line.close)
+        # The head alone is sent, and answered at once.
+        line.putrequest("POST", "/")
+        line.putheader("Content-Length", "16777216")
+        line.endheaders()
+        self.assertEqual(line.getresponse().read(), b"busy")
+
     def test_a_message_may_have_16_mib(self):
         self.seat.page_opens(1)
         self.assertEqual(self.request("POST", "/", "(INFO)".ljust(16_777_216)).read(), b"available")

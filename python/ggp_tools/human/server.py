@@ -15,6 +15,8 @@ from ggp_tools.templating import source
 
 # A START carries the whole rules.
 MOST_BYTES, MOST_MOVE = 16_777_216, 65_536
+# The messages by which a referee introduces itself.
+INTRODUCES = re.compile(r"[\s(]*(?:info|start)\b", re.IGNORECASE)
 # A page that is told nothing for so many seconds gets a line that says that the player is still there.
 ALIVE = 10.0
 # The files of the page by their names below its token, and what it may load and run: only these.
@@ -51,18 +53,22 @@ class Handler(BaseHTTPRequestHandler):
 
     def do_POST(self) -> None:
         is_move = self.path == f"{self.server.page}move"
-        body = self.body(MOST_MOVE if is_move else MOST_BYTES)
+        is_trusted = is_move or self.server.may_be_referee(self.client_address[0])
+        body = self.body(MOST_BYTES if is_trusted and not is_move else MOST_MOVE)
         if not is_move and self.path != "/":
             self.send_error(HTTPStatus.NOT_FOUND)
-        elif body is None:
-            self.send_error(HTTPStatus.BAD_REQUEST)
         elif not is_own_name(self.headers["Host"] or "localhost", self.server.server_name):
             self.send_error(HTTPStatus.FORBIDDEN)
-        elif is_move:
-            self.take_move(body)
-        elif self.headers["Origin"] is not None or self.headers["Sec-Fetch-Site"] is not None:
+        elif not is_move and (self.headers["Origin"] is not None or self.headers["Sec-Fetch-Site"] is not None):
             # A browser sends one of them with what a page posts; a referee sends neither.
             self.send_error(HTTPStatus.FORBIDDEN)
+        elif not is_trusted:
+            # A long message of a stranger is neither read nor parsed: that takes minutes.
+            self.reply(HTTPStatus.OK, "text/acl", b"busy")
+        elif body is None:
+            self.send_error(HTTPStatus.BAD_REQUEST)
+        elif is_move:
+            self.take_move(body)
         else:
             self.take_message(body)
 
@@ -77,7 +83,9 @@ class Handler(BaseHTTPRequestHandler):
         """Answers the referee. Without a move in time the connection is closed: that is no answer."""
         try:
             text = body.decode("latin-1")
-            is_referee = self.server.is_referee(self.client_address[0], read_message(text)[0])
+            if not self.server.referees and INTRODUCES.match(text) and read_message(text):
+                self.server.referees.add(self.client_address[0])
+            is_referee = self.client_address[0] in self.server.referees
             answer = self.server.seat.answer(text, self.headers["Receiver"] or "") if is_referee else "busy"
         except (Unread, RecursionError) as why:
             self.send_error(HTTPStatus.BAD_REQUEST, ascii(str(why)[:200]))
@@ -138,8 +146,6 @@ class Server(ThreadingHTTPServer):
         super().__init__(address, Handler)
         self.seat, self.referees, self.page = seat, set(referees), f"/{secrets.token_urlsafe(16)}/"
 
-    def is_referee(self, address: str, keyword: str) -> bool:
-        """Returns whether a message of this kind comes from a referee."""
-        if not self.referees and keyword in ("info", "start"):
-            self.referees.add(address)
-        return address in self.referees
+    def may_be_referee(self, address: str) -> bool:
+        """Returns whether messages from this address are read: they are from a referee, or there is none yet."""
+        return not self.referees or address in self.referees
