@@ -15,7 +15,7 @@ from ggp_tools.templating import source
 
 # A START carries the whole rules.
 MOST_BYTES, MOST_MOVE = 16_777_216, 65_536
-# The messages by which a referee introduces itself.
+# The messages by which a referee introduces itself. Any other long message is not parsed before it has done so.
 INTRODUCES = re.compile(r"[\s(]*(?:info|start)\b", re.IGNORECASE)
 # A page that is told nothing for so many seconds gets a line that says that the player is still there.
 ALIVE = 10.0
@@ -83,7 +83,7 @@ class Handler(BaseHTTPRequestHandler):
         """Answers the referee. Without a move in time the connection is closed: that is no answer."""
         try:
             text = body.decode("latin-1")
-            if not self.server.referees and INTRODUCES.match(text) and read_message(text):
+            if not self.server.referees and (len(text) <= MOST_MOVE or INTRODUCES.match(text)) and read_message(text)[0] in ("info", "start"):
                 self.server.referees.add(self.client_address[0])
             is_referee = self.client_address[0] in self.server.referees
             answer = self.server.seat.answer(text, self.headers["Receiver"] or "") if is_referee else "busy"
