@@ -1,14 +1,12 @@
 -- The lines of the log, each a JSON object.
-use Rattle.std.specs.Prelude.{ℕ, ◌+◌, ◌/◌, ◌%◌, ◌==◌, ◌||◌, nat_lt, List, [], ◌∷◌, ◌++◌, codes, flat_map, if◌then◌else◌, Option, Some, None}
+use Rattle.std.specs.Prelude.{ℕ, ◌+◌, ◌/◌, ◌%◌, ◌==◌, ◌||◌, nat_lt, List, [], ◌∷◌, ◌++◌, codes, flat_map, if◌then◌else◌, Option, Some, None, option_map}
+use Rattle.std.specs.Borrow.{Bor}
 use Rattle.std.specs.Fmt.{decimal}
-use Rattle.match_messages.specs.declared.kind.MessageKind.{MessageKind}
-use Rattle.match_messages.specs.declared.kind.MessageKind.TheVariants.{Info, Start, Play, Stop, Abort}
 use Rattle.match_log.specs.ShownTexts.{is_visible}
 use Rattle.match_log.specs.declared.events.Json.{Json}
-use Rattle.match_log.specs.declared.events.Json.TheVariants.{Null, Number, Text, Parts}
+use Rattle.match_log.specs.declared.events.Json.TheVariants.{Number, Text, Parts}
 use Rattle.match_log.specs.declared.events.Addressee.{Addressee}
-use Rattle.match_log.specs.declared.events.Sending.{Sending}
-use Rattle.match_log.specs.declared.events.Exchanged.{Exchanged}
+use Rattle.match_log.specs.declared.events.Exchange.{Exchange}
 use Rattle.match_log.specs.declared.events.Event.{Event}
 use Rattle.match_log.specs.declared.events.Event.TheVariants.{Begun, Message, Open, End, Absent, NoRecord, LeftOut}
 
@@ -27,50 +25,49 @@ escaped byte = if (byte == 34) || (byte == 92) then 92 ∷ byte ∷ []
 abbrev pub json_string : List ℕ → List ℕ
 json_string text = 34 ∷ (flat_map escaped text ++ 34 ∷ [])
 
-abbrev pub json_value : Json → List ℕ
-json_value Null = codes "null"
-json_value (Number number) = decimal number
-json_value (Text text) = json_string text.now
-json_value (Parts before middle after) = json_string (before.now ++ (middle.now ++ after.now))
-
 -- the value, or null
 abbrev pub nullable : {A : Type 0} → (A → List ℕ) → Option A → List ℕ
 nullable text None = codes "null"
 nullable text (Some value) = text value
 
--- the word of a message of a match, or null
-abbrev pub kind_value : Option MessageKind → List ℕ
-kind_value None = codes "null"
-kind_value (Some Start) = json_string (codes "START")
-kind_value (Some Play) = json_string (codes "PLAY")
-kind_value (Some Stop) = json_string (codes "STOP")
-kind_value (Some Abort) = json_string (codes "ABORT")
-kind_value (Some Info) = codes "null"
+abbrev pub json_value : Json → List ℕ
+json_value (Number number) = nullable decimal number
+json_value (Text text) = nullable json_string (option_map (λ bytes. bytes.now) text)
+json_value (Parts before middle after) = json_string (before.now ++ (middle.now ++ after.now))
 
--- the members of an object that name the player of a role
-unfoldable pub addressee_members : Addressee → List ℕ
-addressee_members a = codes "\"match\":" ++ (json_value a.id ++ (codes ",\"role\":" ++ (decimal a.role ++ (codes ",\"player\":" ++ json_value a.name))))
+-- a member of an object, by its name and the text of its value
+abbrev pub member : List ℕ × List ℕ → List ℕ
+member (name, value) = codes ",\"" ++ (name ++ (codes "\":" ++ value))
 
--- those of what a message is and when it was sent
-unfoldable pub sending_members : Sending → List ℕ
-sending_members s = codes "\"number\":" ++ (decimal s.number ++ (codes ",\"kind\":" ++ (json_value s.kind
-    ++ (codes ",\"round\":" ++ (json_value s.round ++ (codes ",\"time\":" ++ json_value s.time))))))
+abbrev pub written_member : Bor (List ℕ) × Json → List ℕ
+written_member m = member (m.0.now, json_value m.1)
+
+-- the object with these members, and a line feed
+abbrev pub object_line : List ℕ → List ℕ → List ℕ
+object_line event members = codes "{\"event\":\"" ++ (event ++ (codes "\"" ++ (members ++ codes "}\n")))
+
+-- the members that name the player of a role
+abbrev pub addressee_members : Addressee → List (List ℕ × List ℕ)
+addressee_members to = (codes "match", json_value to.id) ∷ (codes "role", decimal to.role) ∷ (codes "player", json_value to.name) ∷ []
 
 -- those of a message and what it brought
-unfoldable pub exchanged_members : Exchanged → List ℕ
-exchanged_members e = codes "\"ms\":" ++ (decimal e.millis ++ (codes ",\"message\":" ++ (json_value e.message
-    ++ (codes ",\"answer\":" ++ (json_value e.answer ++ (codes ",\"error\":" ++ (json_value e.error
-    ++ (codes ",\"reason\":" ++ json_value e.reason))))))))
+abbrev pub exchange_members : Exchange → List (List ℕ × List ℕ)
+exchange_members e = (codes "number", decimal e.number) ∷ (codes "kind", json_value e.kind) ∷ (codes "round", json_value e.round)
+    ∷ (codes "time", json_value e.time) ∷ (codes "ms", decimal e.millis) ∷ (codes "message", json_value e.message)
+    ∷ (codes "answer", json_value e.answer) ∷ (codes "error", json_value e.error) ∷ (codes "reason", json_value e.reason) ∷ []
+
+abbrev pub message_line : Addressee → Exchange → List ℕ
+message_line to exchange = object_line (codes "message") (flat_map member (addressee_members to ++ exchange_members exchange))
 
 -- an object of the log, and a line feed
 abbrev pub event_line : Event → List ℕ
-event_line (Begun version) = codes "{\"event\":\"log\",\"program\":\"ggp_manager\",\"version\":\"" ++ (version.now ++ codes "\"}\n")
-event_line (Message addressee sending exchanged) = codes "{\"event\":\"message\"," ++ (addressee_members addressee
-    ++ (codes "," ++ (sending_members sending ++ (codes "," ++ (exchanged_members exchanged ++ codes "}\n")))))
-event_line (Open id time) = codes "{\"event\":\"open\",\"match\":" ++ (json_value id ++ (codes ",\"time\":" ++ (json_value time ++ codes "}\n")))
-event_line (End id time kind) = codes "{\"event\":\"end\",\"match\":" ++ (json_value id
-    ++ (codes ",\"time\":" ++ (json_value time ++ (codes ",\"kind\":" ++ (json_value kind ++ codes "}\n")))))
-event_line (Absent addressee) = codes "{\"event\":\"absent\"," ++ (addressee_members addressee ++ codes "}\n")
-event_line (NoRecord id reason) = codes "{\"event\":\"no_record\",\"match\":" ++ (json_value id
-    ++ (codes ",\"reason\":" ++ (json_value reason ++ codes "}\n")))
-event_line (LeftOut count) = codes "{\"event\":\"left_out\",\"count\":" ++ (decimal count ++ codes "}\n")
+event_line (Begun version) = object_line (codes "log")
+    (flat_map member ((codes "program", json_string (codes "ggp_manager")) ∷ (codes "version", json_string version.now) ∷ []))
+event_line (Message to exchange) = message_line to exchange
+event_line (Open id time) = object_line (codes "open") (flat_map member ((codes "match", json_value id) ∷ (codes "time", json_value time) ∷ []))
+event_line (End id time kind) = object_line (codes "end")
+    (flat_map member ((codes "match", json_value id) ∷ (codes "time", json_value time) ∷ (codes "kind", json_value kind) ∷ []))
+event_line (Absent to) = object_line (codes "absent") (flat_map member (addressee_members to))
+event_line (NoRecord id reason) = object_line (codes "no_record")
+    (flat_map member ((codes "match", json_value id) ∷ (codes "reason", json_value reason) ∷ []))
+event_line (LeftOut count) = object_line (codes "left_out") (flat_map member ((codes "count", decimal count) ∷ []))

@@ -1,9 +1,20 @@
--- What the log has of an answer.
+-- What the log has of a message and of its answer.
 use Rattle.std.specs.Prelude.{ℕ, List, Option, Some, None, codes}
 use Rattle.desk_calls.specs.declared.answer.Answer.{Answer}
 use Rattle.desk_calls.specs.declared.answer.Answer.TheVariants.{Text, Silent, Broken}
+use Rattle.match_messages.specs.declared.kind.MessageKind.{MessageKind}
+use Rattle.match_messages.specs.declared.kind.MessageKind.TheVariants.{Info, Start, Play, Stop, Abort}
 use Rattle.network_players.specs.declared.contacting.ContactFault.{ContactFault}
 use Rattle.network_players.specs.declared.contacting.ContactFault.TheVariants.{Shortage}
+
+-- the word of a message of a match
+abbrev pub kind_text : Option MessageKind → Option (List ℕ)
+kind_text None = None
+kind_text (Some Start) = Some (codes "START")
+kind_text (Some Play) = Some (codes "PLAY")
+kind_text (Some Stop) = Some (codes "STOP")
+kind_text (Some Abort) = Some (codes "ABORT")
+kind_text (Some Info) = None
 
 -- the text of an answer
 abbrev pub answer_text : Answer → Option (List ℕ)

@@ -1,60 +1,20 @@
 //! What the log has in one line: a JSON object.
-ghost use Rattle.std.specs.Prelude.{◌≡◌, ◌<◌, flat_map};
+ghost use Rattle.std.specs.Prelude.{◌≡◌, ◌<◌, ◌++◌, flat_map};
 ghost use Rattle.std.specs.Fmt.{WritesOnOk};
-ghost use Rattle.match_log.specs.LogLines.{escaped, hex_digit};
+ghost use Rattle.match_log.specs.LogLines.{escaped, hex_digit, json_string, message_line, object_line, written_member};
 
-use match_messages::MessageKind;
 use std::fmt;
 use std::fmt::Write as _;
 
 /// A value of an object.
-#[derive(Drop)]
+#[derive(Clone, Copy)]
 pub enum Json<'a> {
-    Null,
-    Number(u128),
-    /// A text of any bytes.
-    Text(&'a [u8]),
+    /// The number, or null.
+    Number(Option<u128>),
+    /// The text of any bytes, or null.
+    Text(Option<&'a [u8]>),
     /// A text that lies in three parts.
     Parts(&'a [u8], &'a [u8], &'a [u8]),
-}
-
-impl<'a> Json<'a> {
-    ghost use Rattle.std.specs.Prelude.{option_map};
-    ghost use Rattle.std.specs.Fmt.{decimal};
-    ghost use Rattle.match_log.specs.LogLines.{json_string, json_value, kind_value, nullable};
-
-    /// The number, or null.
-    pub(crate) fn number(number: Option<u128>) -> Json<'a>
-        ensures { json_value result ≡ nullable decimal number }
-    {
-        match number {
-            Some(number) => Json::Number(number),
-            None => Json::Null,
-        }
-    }
-
-    /// The text, or null.
-    pub(crate) fn text(text: Option<&'a [u8]>) -> Json<'a>
-        ensures { json_value result ≡ nullable json_string (option_map (λ text. text.now) text.entry) }
-    {
-        match text {
-            Some(text) => Json::Text(text),
-            None => Json::Null,
-        }
-    }
-
-    /// The word of a message of a match, or null.
-    pub(crate) fn kind(kind: Option<MessageKind>) -> Json<'a>
-        ensures { json_value result ≡ kind_value kind }
-    {
-        match kind {
-            Some(MessageKind::Start) => Json::Text(b"START"),
-            Some(MessageKind::Play) => Json::Text(b"PLAY"),
-            Some(MessageKind::Stop) => Json::Text(b"STOP"),
-            Some(MessageKind::Abort) => Json::Text(b"ABORT"),
-            Some(MessageKind::Info) | None => Json::Null,
-        }
-    }
 }
 
 /// The digit of a number below 16.
@@ -93,6 +53,22 @@ fn write_bytes<F: fmt::Write>(f: &mut fmt::Formatter<F>, text: &[u8]) -> fmt::Re
     Ok(())
 }
 
+/// Writes a string whose text lies in three parts.
+fn write_string<F: fmt::Write>(
+    f: &mut fmt::Formatter<F>,
+    before: &[u8],
+    middle: &[u8],
+    after: &[u8],
+) -> fmt::Result
+    ensures { WritesOnOk F.write_str_gives f.old result (json_string (before.now ++ (middle.now ++ after.now))) f.new }
+{
+    f.write_char('"')?;
+    write_bytes(f, before)?;
+    write_bytes(f, middle)?;
+    write_bytes(f, after)?;
+    f.write_char('"')
+}
+
 impl fmt::Display for Json<'_> {
     ghost use Rattle.std.specs.Prelude.{Some};
     ghost use Rattle.match_log.specs.LogLines.{json_value};
@@ -101,26 +77,31 @@ impl fmt::Display for Json<'_> {
 
     fn fmt<F: fmt::Write>(&self, f: &mut fmt::Formatter<F>) -> fmt::Result {
         match *self {
-            Json::Null => f.write_str("null"),
-            Json::Number(number) => write!(f, "{number}"),
-            Json::Text(text) => {
-                f.write_char('"')?;
-                write_bytes(f, text)?;
-                f.write_char('"')
-            }
-            Json::Parts(before, middle, after) => {
-                f.write_char('"')?;
-                write_bytes(f, before)?;
-                write_bytes(f, middle)?;
-                write_bytes(f, after)?;
-                f.write_char('"')
-            }
+            Json::Number(Some(number)) => write!(f, "{number}"),
+            Json::Text(Some(text)) => write_string(f, text, b"", b""),
+            Json::Parts(before, middle, after) => write_string(f, before, middle, after),
+            Json::Number(None) | Json::Text(None) => f.write_str("null"),
         }
     }
 }
 
+/// Writes an object in one line: what it reports, and its members in their order.
+fn write_object<F: fmt::Write>(
+    f: &mut fmt::Formatter<F>,
+    event: &str,
+    members: &[(&str, Json<'_>)],
+) -> fmt::Result
+    ensures { WritesOnOk F.write_str_gives f.old result (object_line event.now (flat_map written_member members.now)) f.new }
+{
+    write!(f, "{{\"event\":\"{event}\"")?;
+    for (name, value) in members {
+        write!(f, ",\"{name}\":{value}")?;
+    }
+    f.write_str("}\n")
+}
+
 /// The player of a role of a match.
-#[derive(Drop)]
+#[derive(Clone, Copy)]
 pub struct Addressee<'a> {
     /// The match's id.
     pub id: Json<'a>,
@@ -128,54 +109,15 @@ pub struct Addressee<'a> {
     pub name: Json<'a>,
 }
 
-impl fmt::Display for Addressee<'_> {
-    ghost use Rattle.std.specs.Prelude.{Some};
-    ghost use Rattle.match_log.specs.LogLines.{addressee_members};
-
-    ghost output = { λ addressee. Some (addressee_members addressee) };
-
-    #[tactic(auto, unfolding(crate::specs::LogLines::addressee_members))]
-    fn fmt<F: fmt::Write>(&self, f: &mut fmt::Formatter<F>) -> fmt::Result {
-        let Addressee { id, role, name } = self;
-        write!(f, "\"match\":{id},\"role\":{role},\"player\":{name}")
-    }
-}
-
-/// What a message is, and when it was sent.
-#[derive(Drop)]
-pub struct Sending<'a> {
+/// A message, and what it brought.
+#[derive(Clone, Copy)]
+pub struct Exchange<'a> {
     /// The number of the player's messages in the match, with this one.
     pub number: u64,
     pub kind: Json<'a>,
     pub round: Json<'a>,
-    /// In milliseconds since 1970.
+    /// When it was sent, in milliseconds since 1970.
     pub time: Json<'a>,
-}
-
-impl fmt::Display for Sending<'_> {
-    ghost use Rattle.std.specs.Prelude.{Some};
-    ghost use Rattle.match_log.specs.LogLines.{sending_members};
-
-    ghost output = { λ sending. Some (sending_members sending) };
-
-    #[tactic(auto, unfolding(crate::specs::LogLines::sending_members))]
-    fn fmt<F: fmt::Write>(&self, f: &mut fmt::Formatter<F>) -> fmt::Result {
-        let Sending {
-            number,
-            kind,
-            round,
-            time,
-        } = self;
-        write!(
-            f,
-            "\"number\":{number},\"kind\":{kind},\"round\":{round},\"time\":{time}"
-        )
-    }
-}
-
-/// A message and what it brought.
-#[derive(Drop)]
-pub struct Exchanged<'a> {
     /// For how many milliseconds the player was waited for.
     pub millis: u128,
     pub message: Json<'a>,
@@ -185,34 +127,12 @@ pub struct Exchanged<'a> {
     pub reason: Json<'a>,
 }
 
-impl fmt::Display for Exchanged<'_> {
-    ghost use Rattle.std.specs.Prelude.{Some};
-    ghost use Rattle.match_log.specs.LogLines.{exchanged_members};
-
-    ghost output = { λ exchanged. Some (exchanged_members exchanged) };
-
-    #[tactic(auto, unfolding(crate::specs::LogLines::exchanged_members))]
-    fn fmt<F: fmt::Write>(&self, f: &mut fmt::Formatter<F>) -> fmt::Result {
-        let Exchanged {
-            millis,
-            message,
-            answer,
-            error,
-            reason,
-        } = self;
-        write!(
-            f,
-            "\"ms\":{millis},\"message\":{message},\"answer\":{answer},\"error\":{error},\"reason\":{reason}"
-        )
-    }
-}
-
 /// An object of the log.
-#[derive(Drop)]
+#[derive(Clone, Copy)]
 pub enum Event<'a> {
     /// The program of this version begins.
     Begun(&'a str),
-    Message(Addressee<'a>, Sending<'a>, Exchanged<'a>),
+    Message(Addressee<'a>, Exchange<'a>),
     /// The match of this id begins at this time.
     Open(Json<'a>, Json<'a>),
     /// The match of this id is over at this time, with a message of this kind.
@@ -225,6 +145,31 @@ pub enum Event<'a> {
     LeftOut(u64),
 }
 
+/// Writes the object of a message.
+fn write_message<'a, F: fmt::Write>(
+    f: &mut fmt::Formatter<F>,
+    to: &Addressee<'a>,
+    exchange: &Exchange<'a>,
+) -> fmt::Result
+    ensures { WritesOnOk F.write_str_gives f.old result (message_line to.now exchange.now) f.new }
+{
+    let members = [
+        ("match", to.id),
+        ("role", Json::Number(Some(to.role as u128))),
+        ("player", to.name),
+        ("number", Json::Number(Some(u128::from(exchange.number)))),
+        ("kind", exchange.kind),
+        ("round", exchange.round),
+        ("time", exchange.time),
+        ("ms", Json::Number(Some(exchange.millis))),
+        ("message", exchange.message),
+        ("answer", exchange.answer),
+        ("error", exchange.error),
+        ("reason", exchange.reason),
+    ];
+    write_object(f, "message", &members)
+}
+
 /// The object in one line.
 impl fmt::Display for Event<'_> {
     ghost use Rattle.std.specs.Prelude.{Some};
@@ -234,28 +179,29 @@ impl fmt::Display for Event<'_> {
 
     fn fmt<F: fmt::Write>(&self, f: &mut fmt::Formatter<F>) -> fmt::Result {
         match self {
-            Event::Begun(version) => writeln!(
-                f,
-                "{{\"event\":\"log\",\"program\":\"ggp_manager\",\"version\":\"{version}\"}}"
-            ),
-            Event::Message(addressee, sending, exchanged) => writeln!(
-                f,
-                "{{\"event\":\"message\",{addressee},{sending},{exchanged}}}"
-            ),
-            Event::Open(id, time) => writeln!(
-                f,
-                "{{\"event\":\"open\",\"match\":{id},\"time\":{time}}}"
-            ),
-            Event::End(id, time, kind) => writeln!(
-                f,
-                "{{\"event\":\"end\",\"match\":{id},\"time\":{time},\"kind\":{kind}}}"
-            ),
-            Event::Absent(addressee) => writeln!(f, "{{\"event\":\"absent\",{addressee}}}"),
-            Event::NoRecord(id, reason) => writeln!(
-                f,
-                "{{\"event\":\"no_record\",\"match\":{id},\"reason\":{reason}}}"
-            ),
-            Event::LeftOut(count) => writeln!(f, "{{\"event\":\"left_out\",\"count\":{count}}}"),
+            Event::Begun(version) => {
+                let program = Json::Text(Some(b"ggp_manager"));
+                let version = Json::Text(Some(version.as_bytes()));
+                write_object(f, "log", &[("program", program), ("version", version)])
+            }
+            Event::Message(to, exchange) => write_message(f, to, exchange),
+            Event::Open(id, time) => write_object(f, "open", &[("match", *id), ("time", *time)]),
+            Event::End(id, time, kind) => {
+                let members = [("match", *id), ("time", *time), ("kind", *kind)];
+                write_object(f, "end", &members)
+            }
+            Event::Absent(to) => {
+                let role = Json::Number(Some(to.role as u128));
+                let members = [("match", to.id), ("role", role), ("player", to.name)];
+                write_object(f, "absent", &members)
+            }
+            Event::NoRecord(id, reason) => {
+                write_object(f, "no_record", &[("match", *id), ("reason", *reason)])
+            }
+            Event::LeftOut(count) => {
+                let count = Json::Number(Some(u128::from(*count)));
+                write_object(f, "left_out", &[("count", count)])
+            }
         }
     }
 }

@@ -1,8 +1,8 @@
 //! Logs matches while they run: `Logging` wraps players and reports each message with its answer, and the progress of the matches.
 ghost use Rattle.std.specs.Prelude.{◌≡◌, ◌==◌, ◌||◌, IfOk, Ok, option_map, string_bytes};
-ghost use Rattle.match_log.specs.LogMessages.{answer_text, error_word};
+ghost use Rattle.match_log.specs.LogMessages.{answer_text, error_word, kind_text};
 
-use crate::events::{Addressee, Event, Exchanged, Json, Sending};
+use crate::events::{Addressee, Event, Exchange, Json};
 use crate::notices::Notices;
 use crate::status::Progress;
 use desk_calls::Answer;
@@ -29,11 +29,9 @@ pub struct Logging<'a, H, S> {
     pub names_absent: bool,
 }
 
-/// A player with logged messages.
+/// What the log has of a player of a match.
 #[derive(Drop)]
-pub struct LoggedPlayer<'a, H, P> {
-    rt: &'a H,
-    player: P,
+struct PlayerLog<'a> {
     alloc: Global,
     /// The match's id.
     id: String,
@@ -51,14 +49,35 @@ pub struct LoggedPlayer<'a, H, P> {
     notices: &'a Notices,
 }
 
-/// A message that is sent to a player.
+/// A player with logged messages.
 #[derive(Drop)]
+pub struct LoggedPlayer<'a, H, P> {
+    rt: &'a H,
+    player: P,
+    log: PlayerLog<'a>,
+}
+
+/// A message that is sent to a player.
+#[derive(Clone, Copy)]
 struct Sent<'a> {
     message: &'a SharedText<'a>,
     kind: Option<MessageKind>,
     /// When it was sent, if the clock can be read: a moment, and the milliseconds since 1970.
     moment: Option<Instant>,
     time: Option<u128>,
+}
+
+/// The word of a message of a match.
+fn kind_text(kind: Option<MessageKind>) -> Option<&'static [u8]>
+    ensures { option_map (λ word. word.now) result ≡ kind_text kind }
+{
+    match kind {
+        Some(MessageKind::Start) => Some(b"START"),
+        Some(MessageKind::Play) => Some(b"PLAY"),
+        Some(MessageKind::Stop) => Some(b"STOP"),
+        Some(MessageKind::Abort) => Some(b"ABORT"),
+        Some(MessageKind::Info) | None => None,
+    }
 }
 
 /// The text of a message in the log. In START, `...` stands for the description, which all matches share.
@@ -94,12 +113,130 @@ fn error_word(answer: &Answer, why: Option<ContactFault>) -> Option<&'static [u8
     }
 }
 
-/// Whether a message with this answer failed through no shortage of the referee.
-fn has_failed(answer: &Answer, why: Option<ContactFault>) -> bool {
-    match (answer, why) {
-        (Answer::Broken, Some(ContactFault::Shortage(_))) => false,
-        (Answer::Broken, _) => true,
-        _ => false,
+impl PlayerLog<'_> {
+    /// The player in the log.
+    fn addressee(&self) -> Addressee<'_> {
+        Addressee {
+            id: Json::Text(Some(self.id.as_bytes())),
+            role: self.role,
+            name: Json::Text(Some(self.name.as_bytes())),
+        }
+    }
+
+    /// Adds an object to the log, if there is one.
+    fn add<R: Wait>(&self, rt: &R, event: &Event<'_>) {
+        if self.notices.is_logged {
+            self.notices.log(rt, event.to_string(self.alloc));
+        }
+    }
+
+    /// Counts a message that is sent now, and the match that begins with it.
+    fn begin<'m, R: Clock + Wait>(&mut self, rt: &R, message: &'m SharedText<'m>) -> Sent<'m> {
+        self.messages = self.messages.saturating_add(1);
+        let kind = MessageKind::of(message);
+        let time = match rt.since_1970() {
+            Ok(time) => Some(time.as_millis()),
+            Err(_) => None,
+        };
+        if let Some(progress) = self.progress {
+            progress.begin(self.counts, kind);
+            self.notices.move_on(rt);
+        }
+        if self.counts && matches!(kind, Some(MessageKind::Start)) {
+            self.add(rt, &Event::Open(self.addressee().id, Json::Number(time)));
+        }
+        Sent {
+            message,
+            kind,
+            moment: Instant::now(rt).ok(),
+            time,
+        }
+    }
+
+    /// Reports a message with its answer, and the match that ends with it.
+    fn tell<R: Clock + Wait>(
+        &mut self,
+        rt: &R,
+        sent: &Sent<'_>,
+        answer: &Answer,
+        why: Option<ContactFault>,
+    ) {
+        let took = time_since(rt, sent.moment);
+        let is_short = matches!(why, Some(ContactFault::Shortage(_)));
+        self.is_absent = self.is_absent && !is_short && matches!(answer, Answer::Broken);
+        if self.notices.is_logged {
+            self.notices
+                .log(rt, self.message_line(sent, answer, took, why));
+        }
+        if let Some(progress) = self.progress {
+            progress.count(self.counts, sent.kind);
+            self.notices.move_on(rt);
+        }
+        match sent.kind {
+            Some(MessageKind::Play) => self.plays = self.plays.saturating_add(1),
+            Some(MessageKind::Stop | MessageKind::Abort) if self.counts => {
+                let time = match sent.time {
+                    Some(time) => Some(time.saturating_add(took.as_millis())),
+                    None => None,
+                };
+                let kind = Json::Text(kind_text(sent.kind));
+                self.add(
+                    rt,
+                    &Event::End(self.addressee().id, Json::Number(time), kind),
+                );
+            }
+            _ => {}
+        }
+    }
+
+    /// The line of a message with its answer.
+    fn message_line(
+        &self,
+        sent: &Sent<'_>,
+        answer: &Answer,
+        took: Duration,
+        why: Option<ContactFault>,
+    ) -> Result<String, AllocError> {
+        let reason = match why {
+            Some(fault) => Some(fault.to_string(self.alloc)?),
+            None => None,
+        };
+        let round = match sent.kind {
+            Some(MessageKind::Play) => Some(u128::from(self.plays)),
+            _ => None,
+        };
+        let exchange = Exchange {
+            number: self.messages,
+            kind: Json::Text(kind_text(sent.kind)),
+            round: Json::Number(round),
+            time: Json::Number(sent.time),
+            millis: took.as_millis(),
+            message: logged_text(sent.message, sent.kind),
+            answer: Json::Text(answer_text(answer)),
+            error: Json::Text(error_word(answer, why)),
+            reason: Json::Text(match &reason {
+                Some(reason) => Some(reason.as_bytes()),
+                None => None,
+            }),
+        };
+        Event::Message(self.addressee(), exchange).to_string(self.alloc)
+    }
+
+    /// Reports the player if every message to it failed.
+    fn name_if_absent<R: Wait>(&self, rt: &R) {
+        if !self.is_absent || self.messages == 0 {
+            return;
+        }
+        self.add(rt, &Event::Absent(self.addressee()));
+        if !self.names_absent {
+            return;
+        }
+        if let Ok(line) = format!(in self.alloc;
+            "ggp_manager: {} role {} {}: every message failed\n",
+            self.id, self.role, self.name,
+        ) {
+            let _ = self.notices.report(rt, line.as_bytes());
+        }
     }
 }
 
@@ -114,9 +251,9 @@ impl<'a, H, S: Reach> Reach for Logging<'a, H, S> {
         at: RolePlace<'_>,
         address: &PlayerAddress<'_>,
     ) -> Result<LoggedPlayer<'a, H, S::Player>, AllocError>
-        ensures named { IfOk result (λ p. (string_bytes p.id ≡ at.entry.id.now) × (string_bytes p.name ≡ address.now.name.now)) }
-        ensures role { IfOk result (λ p. (p.role ≡ at.entry.role) × (p.counts ≡ self.now.is_alone || (at.entry.role == 0))) }
-        ensures first { IfOk result (λ p. (p.messages ≡ 0) × (p.plays ≡ 0)) }
+        ensures named { IfOk result (λ p. (string_bytes p.log.id ≡ at.entry.id.now) × (string_bytes p.log.name ≡ address.now.name.now)) }
+        ensures role { IfOk result (λ p. (p.log.role ≡ at.entry.role) × (p.log.counts ≡ self.now.is_alone || (at.entry.role == 0))) }
+        ensures first { IfOk result (λ p. (p.log.messages ≡ 0) × (p.log.plays ≡ 0)) }
         ensures reached { (logged : _) → result ≡ Ok logged → S.is_reached self.now.reach.now at.entry address.now logged.player }
     {
         let id = String::from_str(alloc, at.id)?;
@@ -124,136 +261,20 @@ impl<'a, H, S: Reach> Reach for Logging<'a, H, S> {
         Ok(LoggedPlayer {
             rt: self.rt,
             player: self.reach.player(alloc, at, address)?,
-            alloc,
-            id,
-            role: at.role,
-            name,
-            counts: self.is_alone || at.role == 0,
-            messages: 0,
-            plays: 0,
-            is_absent: true,
-            names_absent: self.names_absent,
-            progress: self.progress,
-            notices: self.notices,
+            log: PlayerLog {
+                alloc,
+                id,
+                role: at.role,
+                name,
+                counts: self.is_alone || at.role == 0,
+                messages: 0,
+                plays: 0,
+                is_absent: true,
+                names_absent: self.names_absent,
+                progress: self.progress,
+                notices: self.notices,
+            },
         })
-    }
-}
-
-impl<H: Clock + Wait, P: Explains> LoggedPlayer<'_, H, P> {
-    /// The match's id in the log.
-    fn id(&self) -> Json<'_> {
-        Json::Text(self.id.as_bytes())
-    }
-
-    /// The player in the log.
-    fn addressee(&self) -> Addressee<'_> {
-        Addressee {
-            id: self.id(),
-            role: self.role,
-            name: Json::Text(self.name.as_bytes()),
-        }
-    }
-
-    /// Adds an object to the log, if there is one.
-    fn log(&self, event: &Event<'_>) {
-        if self.notices.is_logged {
-            self.notices.log(self.rt, event.to_string(self.alloc));
-        }
-    }
-
-    /// Counts a message that is sent now, and the match that begins with it.
-    fn begin<'m>(&mut self, message: &'m SharedText<'m>) -> Sent<'m>
-        ensures { self.new.player ≡ self.old.player }
-    {
-        self.messages = self.messages.saturating_add(1);
-        let kind = MessageKind::of(message);
-        let time = self.rt.since_1970().ok().map(|time| time.as_millis());
-        if let Some(progress) = self.progress {
-            progress.begin(self.counts, kind);
-            self.notices.move_on(self.rt);
-        }
-        if self.counts && kind == Some(MessageKind::Start) {
-            self.log(&Event::Open(self.id(), Json::number(time)));
-        }
-        Sent {
-            message,
-            kind,
-            moment: Instant::now(self.rt).ok(),
-            time,
-        }
-    }
-
-    /// Reports a message with its answer, and the match that ends with it.
-    fn tell(&mut self, sent: &Sent<'_>, answer: &Answer)
-        ensures { self.new.player ≡ self.old.player }
-    {
-        let took = time_since(self.rt, sent.moment);
-        self.is_absent = self.is_absent && has_failed(answer, self.player.why());
-        if self.notices.is_logged {
-            let line = self.message_line(sent, answer, took);
-            self.notices.log(self.rt, line);
-        }
-        if let Some(progress) = self.progress {
-            progress.count(self.counts, sent.kind);
-            self.notices.move_on(self.rt);
-        }
-        match sent.kind {
-            Some(MessageKind::Play) => self.plays = self.plays.saturating_add(1),
-            Some(MessageKind::Stop | MessageKind::Abort) if self.counts => {
-                let time = sent.time.map(|time| time.saturating_add(took.as_millis()));
-                self.log(&Event::End(self.id(), Json::number(time), Json::kind(sent.kind)));
-            }
-            _ => {}
-        }
-    }
-
-    /// The line of a message with its answer.
-    fn message_line(
-        &self,
-        sent: &Sent<'_>,
-        answer: &Answer,
-        took: Duration,
-    ) -> Result<String, AllocError> {
-        let why = self.player.why();
-        let reason = match why {
-            Some(fault) => Some(fault.to_string(self.alloc)?),
-            None => None,
-        };
-        let round = match sent.kind {
-            Some(MessageKind::Play) => Some(self.plays as u128),
-            _ => None,
-        };
-        let sending = Sending {
-            number: self.messages,
-            kind: Json::kind(sent.kind),
-            round: Json::number(round),
-            time: Json::number(sent.time),
-        };
-        let exchanged = Exchanged {
-            millis: took.as_millis(),
-            message: logged_text(sent.message, sent.kind),
-            answer: Json::text(answer_text(answer)),
-            error: Json::text(error_word(answer, why)),
-            reason: Json::text(reason.as_ref().map(|reason| reason.as_bytes())),
-        };
-        Event::Message(self.addressee(), sending, exchanged).to_string(self.alloc)
-    }
-
-    /// Reports the player if every message to it failed.
-    fn name_if_absent(&self) {
-        if !self.is_absent || self.messages == 0 {
-            return;
-        }
-        self.log(&Event::Absent(self.addressee()));
-        if !self.names_absent {
-            return;
-        }
-        if let Ok(line) = format!(in self.alloc;
-            "ggp_manager: {} role {} {}: every message failed\n",
-            self.id, self.role, self.name,
-        ) {
-            let _ = self.notices.report(self.rt, line.as_bytes());
-        }
     }
 }
 
@@ -275,10 +296,10 @@ impl<H: Clock + Wait, P: Player + Explains> Player for LoggedPlayer<'_, H, P> {
     ghost handed = { λ p. P.handed p.player };
 
     fn ask(&mut self, seconds: u32, body: &[u8]) -> Answer {
-        let message = SharedText::lent(self.alloc, body);
-        let sent = self.begin(&message);
+        let message = SharedText::lent(self.log.alloc, body);
+        let sent = self.log.begin(self.rt, &message);
         let answer = self.player.ask(seconds, body);
-        self.tell(&sent, &answer);
+        self.log.tell(self.rt, &sent, &answer, self.player.why());
         answer
     }
 
@@ -288,9 +309,9 @@ impl<H: Clock + Wait, P: Player + Explains> Player for LoggedPlayer<'_, H, P> {
         seconds: u32,
         message: &SharedText<'_>,
     ) -> Result<Answer, AllocError> {
-        let sent = self.begin(message);
+        let sent = self.log.begin(self.rt, message);
         let answer = self.player.ask_shared(alloc, seconds, message)?;
-        self.tell(&sent, &answer);
+        self.log.tell(self.rt, &sent, &answer, self.player.why());
         Ok(answer)
     }
 
@@ -300,6 +321,6 @@ impl<H: Clock + Wait, P: Player + Explains> Player for LoggedPlayer<'_, H, P> {
 
     fn leave(&mut self) {
         self.player.leave();
-        self.name_if_absent();
+        self.log.name_if_absent(self.rt);
     }
 }

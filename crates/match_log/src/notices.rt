@@ -18,6 +18,9 @@ use whole_streams::{Pieces, write_all};
 /// of moves, an answer 65,536 bytes, and each of them takes at most six.
 const MAX_WAITING: usize = 8_388_608;
 
+/// The limit of one wait for reports, in seconds. Then another one begins.
+const LONGEST_WAIT_SECONDS: u64 = 3_600;
+
 /// The reports that wait to be written.
 #[derive(Drop)]
 struct Waiting {
@@ -70,7 +73,13 @@ impl Waiting {
 
 /// The number of lines that end in a text.
 fn lines_in(text: &[u8]) -> u64 {
-    text.iter().filter(|byte| **byte == b'\n').count() as u64
+    let mut count = 0u64;
+    for byte in text {
+        if *byte == b'\n' {
+            count = count.saturating_add(1);
+        }
+    }
+    count
 }
 
 /// Writes whole lines, as far as the stream takes them. Returns the number of lines that were not written whole.
@@ -95,25 +104,21 @@ struct LogState {
 }
 
 impl LogState {
-    /// Writes lines to the log.
-    fn write_lines<W: Write>(&mut self, stream: &mut W, lines: &[u8]) {
-        self.missing = if self.missing > 0 {
-            self.missing.saturating_add(lines_in(lines))
-        } else {
-            unwritten(stream, lines)
-        };
-    }
-
     /// Writes the waiting lines to the log, and the number of those that are left out.
-    fn write<W: Write>(&mut self, alloc: Global, waiting: &Waiting, stream: &mut W) {
-        self.write_lines(stream, &waiting.log);
+    fn write<W: Write>(&mut self, alloc: Global, waiting: &mut Waiting, stream: &mut W) {
         self.left_out = self.left_out.saturating_add(waiting.left_out);
         if self.left_out > 0 {
             if let Ok(line) = Event::LeftOut(self.left_out).to_string(alloc) {
-                self.left_out = 0;
-                self.write_lines(stream, line.as_bytes());
+                if waiting.log.extend_from_slice(line.as_bytes()).is_ok() {
+                    self.left_out = 0;
+                }
             }
         }
+        self.missing = if self.missing > 0 {
+            self.missing.saturating_add(lines_in(&waiting.log))
+        } else {
+            unwritten(stream, &waiting.log)
+        };
     }
 
     /// Reports what the log lacks. A failed write is skipped.
@@ -160,7 +165,14 @@ impl Notices {
     /// Adds to the log, if there is one, that the match of this id has no record.
     pub fn log_missing<R: Wait, F: fmt::Display>(&self, rt: &R, id: &str, why: &F) {
         if self.is_logged {
-            self.log(rt, missing_line(self.alloc, id, why));
+            let line = match why.to_string(self.alloc) {
+                Ok(reason) => {
+                    let reason = Json::Text(Some(reason.as_bytes()));
+                    Event::NoRecord(Json::Text(Some(id.as_bytes())), reason).to_string(self.alloc)
+                }
+                Err(error) => Err(error),
+            };
+            self.log(rt, line);
         }
     }
 
@@ -190,17 +202,16 @@ impl Notices {
 
     /// Waits for reports, for this time at most if one is given, and takes them.
     fn take<H: Clock + Wait>(&self, rt: &H, at_most: Option<Duration>) -> Waiting {
-        let waiting = self.waiting.lock(rt);
-        let mut waiting = match at_most {
-            Some(time) => {
-                self.changed
-                    .wait_timeout_while(rt, waiting, time, |waiting| waiting.is_idle())
-                    .0
-            }
-            None => self
-                .changed
-                .wait_while(rt, waiting, |waiting| waiting.is_idle()),
-        };
+        let at_most = at_most.unwrap_or(Duration::from_secs(LONGEST_WAIT_SECONDS));
+        let mut waiting = self
+            .changed
+            .wait_timeout_while(
+                rt,
+                self.waiting.lock(rt),
+                at_most,
+                |waiting| waiting.is_idle(),
+            )
+            .0;
         let nothing = Waiting::nothing(self.alloc, waiting.is_closed);
         mem::replace(&mut *waiting, nothing)
     }
@@ -222,14 +233,14 @@ impl Notices {
         // How long the status line has to wait, if it is behind the matches.
         let mut behind = None;
         for _ in rt.forever() {
-            let waiting = self.take(rt, behind);
+            let mut waiting = self.take(rt, behind);
             if let Some(log) = &mut log {
-                state.write(self.alloc, &waiting, log);
+                state.write(self.alloc, &mut waiting, log);
             }
             let mut stream = stream.lock(rt);
             let _ = write_all(&mut Counted::new(&mut *stream), &waiting.reports);
             if log.is_none() {
-                state.write(self.alloc, &waiting, &mut *stream);
+                state.write(self.alloc, &mut waiting, &mut *stream);
             }
             if waiting.is_closed {
                 state.end(&mut *stream);
@@ -260,41 +271,30 @@ impl<'a, R: Wait> ReportStream<'a, R> {
             line: Vec::new(notices.alloc),
         }
     }
-
-    /// Appends the line to what waits. Returns whether there was memory for it.
-    fn end_line(&mut self) -> bool {
-        let is_taken = self.notices.report(self.rt, &self.line);
-        self.line.clear();
-        is_taken
-    }
 }
 
 impl<R: Wait> Write for ReportStream<'_, R> {
     fn write(&mut self, bytes: &[u8]) -> io::Result<usize> {
-        let start = self.line.len();
-        if self.line.extend_from_slice(bytes).is_err() {
-            // Otherwise the next report would continue this one.
-            self.line.clear();
-            return Err(io::Error::from(ErrorKind::OutOfMemory));
+        for byte in bytes {
+            if self.line.push(reported_byte(*byte)).is_err() {
+                // Otherwise the next report would continue this one.
+                self.line.clear();
+                return Err(io::Error::from(ErrorKind::OutOfMemory));
+            }
         }
-        for byte in self.line.iter_mut().skip(start) {
-            *byte = reported_byte(*byte);
+        if !self.line.ends_with(b"\n") {
+            return Ok(bytes.len());
         }
-        let is_whole = self.line.last() == Some(&b'\n');
-        if is_whole && !self.end_line() {
-            return Err(io::Error::from(ErrorKind::OutOfMemory));
+        let is_taken = self.notices.report(self.rt, &self.line);
+        self.line.clear();
+        if is_taken {
+            Ok(bytes.len())
+        } else {
+            Err(io::Error::from(ErrorKind::OutOfMemory))
         }
-        Ok(bytes.len())
     }
 
     fn flush(&mut self) -> io::Result<()> {
         Ok(())
     }
-}
-
-/// The line of a match without a record.
-fn missing_line<F: fmt::Display>(alloc: Global, id: &str, why: &F) -> Result<String, AllocError> {
-    let reason = why.to_string(alloc)?;
-    let event = Event::NoRecord(Json::Text(id.as_bytes()), Json::Text(reason.as_bytes()));
-    event.to_string(alloc)
 }

@@ -60,16 +60,16 @@ impl Progress {
         }
     }
 
-    /// Writes the line's text.
-    fn push_line<F: std::fmt::Write>(&self, line: &mut F) -> std::fmt::Result {
+    /// Rewrites the line, and skips a failed write.
+    fn show<E: Write>(&self, stream: &mut E) {
         let over = self.over.load(Ordering::SeqCst);
         let open = self.begun.load(Ordering::SeqCst).saturating_sub(over);
         let planned = self.planned.load(Ordering::SeqCst);
         let messages = self.messages.load(Ordering::SeqCst);
-        write!(
-            line,
+        let _ = write!(
+            Pieces { stream },
             "{CLEAR}matches open {open}, over {over} of {planned}, messages {messages}"
-        )
+        );
     }
 }
 
@@ -77,12 +77,6 @@ impl Progress {
 fn write_text<E: Write>(stream: &mut E, text: &str) {
     let mut pieces = Pieces { stream };
     let _ = pieces.write_str(text);
-}
-
-/// Rewrites the line, and skips a failed write.
-fn show_progress<E: Write>(stream: &mut E, progress: &Progress) {
-    let mut pieces = Pieces { stream };
-    let _ = progress.push_line(&mut pieces);
 }
 
 /// A stream of messages with a status line below them. The line is erased before a message.
@@ -120,7 +114,7 @@ impl<E: Write> StatusStream<E> {
         }
         self.shown_at = Instant::now(clock).ok();
         self.is_shown = true;
-        show_progress(&mut self.stream, progress);
+        progress.show(&mut self.stream);
         None
     }
 
