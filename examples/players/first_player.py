@@ -68,24 +68,26 @@ class Player(BaseHTTPRequestHandler):
 
     def do_POST(self):
         message = read(self.rfile.read(int(self.headers["Content-Length"])).decode("ascii").lower())
-        answer = self.answer(*message).encode("ascii")
+        answer = self.answer(self.headers["Receiver"], *message).encode("ascii")
         self.send_response(200)
         self.send_header("Content-Type", "text/acl")
         self.send_header("Content-Length", str(len(answer)))
         self.end_headers()
         self.wfile.write(answer)
 
-    def answer(self, kind, match_id="", *arguments):
+    def answer(self, receiver, kind, match_id="", *arguments):
+        # Two roles of a match may be at this address, under different names.
+        seat = match_id, receiver
         match kind:
             case "info":
                 return "available"
             case "start":
                 role, sentences, _start_clock, _play_clock = arguments
-                self.matches[match_id] = Match(role, sentences)
+                self.matches[seat] = Match(role, sentences)
                 return "ready"
-            case "play" if match_id in self.matches:
-                return show(self.matches[match_id].move(arguments[0]))
-        self.matches.pop(match_id, None)
+            case "play" if seat in self.matches:
+                return show(self.matches[seat].move(arguments[0]))
+        self.matches.pop(seat, None)
         return "done"
 
 

@@ -17,6 +17,7 @@ import threading
 import traceback
 from collections.abc import Callable
 from concurrent.futures import Future
+from dataclasses import dataclass
 from http.server import BaseHTTPRequestHandler, ThreadingHTTPServer
 
 # No message of the referee is longer, or has more lists in one another. START is the longest: its rules have at most 4,194,304 bytes (those
@@ -124,30 +125,41 @@ class Game:
         return [head[2] for head in self.true_heads("legal", state) if head[1] == role]
 
 
+@dataclass
+class Seat:
+    """A role that the player plays in its match."""
+
+    role: object
+    game: Game
+    state: set
+
+
 class Player:
-    """What the player knows of its match, and how it answers a message."""
+    """What the player knows of its match, and how it answers a message. The field `Receiver` of a message names the role's player: another
+    role of the match may be at the same address."""
 
     def __init__(self, choose, game=Game):
         self.choose, self.make_game = choose, game
-        self.match = None
+        self.seats = {}
 
-    def answer(self, message):
+    def answer(self, message, receiver=""):
         match message:
             case "info" | ("info",):
-                return "busy" if self.match else "available"
+                return "busy" if self.seats else "available"
             case ("start", match_id, role, rules, _, _):
                 game = self.make_game(rules)
-                self.match, self.role, self.game, self.state = match_id, role, game, game.initial()
+                # Another match ends by this.
+                self.seats = {key: seat for key, seat in self.seats.items() if key[0] == match_id}
+                self.seats[match_id, receiver] = Seat(role, game, game.initial())
                 return "ready"
-            case ("play", match_id, moves) if match_id == self.match:
+            case ("play", match_id, moves) if seat := self.seats.get((match_id, receiver)):
                 if moves not in ("nil", ()):
-                    self.state = self.game.next(self.state, moves)
-                moves = [show(move) for move in self.game.legal(self.state, self.role)]
+                    seat.state = seat.game.next(seat.state, moves)
+                moves = [show(move) for move in seat.game.legal(seat.state, seat.role)]
                 return self.choose([move for move in moves if len(move) <= MOST_ANSWER] or moves)
             case ("stop", match_id, _) | ("abort", match_id):
                 # It may name a match that this player has not begun.
-                if match_id == self.match:
-                    self.match = None
+                self.seats.pop((match_id, receiver), None)
                 return "done"
         return "busy"
 
@@ -181,7 +193,7 @@ class Handler(BaseHTTPRequestHandler):
             self.send_error(400)
             return
         body = self.rfile.read(int(size)).decode("ascii")
-        answer = self.server.answer(read_message(body))
+        answer = self.server.answer(read_message(body), self.headers["Receiver"])
         self.send_response(200)
         self.send_header("Content-Type", "text/acl")
         self.send_header("Content-Length", str(len(answer)))
@@ -209,15 +221,15 @@ class Server(ThreadingHTTPServer):
         threading.stack_size(usual)
 
     def work(self):
-        for message, answered in iter(self.asked.get, None):
+        for message, receiver, answered in iter(self.asked.get, None):
             try:
-                answered.set_result(self.player.answer(message))
+                answered.set_result(self.player.answer(message, receiver))
             except Exception as why:
                 answered.set_exception(why)
 
-    def answer(self, message):
+    def answer(self, message, receiver):
         answered = Future()
-        self.asked.put((message, answered))
+        self.asked.put((message, receiver, answered))
         return answered.result()
 
     def handle_error(self, request, client_address):
