@@ -1,7 +1,9 @@
 """A player whose moves a person makes: what it answers the referee, and what the page is told."""
 
+import contextlib
 import http.client
 import json
+import socket
 import threading
 import unittest
 
@@ -281,6 +283,21 @@ class Pages(unittest.TestCase):
         line.putheader("Content-Length", "16777216")
         line.endheaders()
         self.assertEqual(line.getresponse().read(), b"busy")
+
+    def test_an_address_with_many_connections_keeps_nobody_out(self):
+        many = [socket.create_connection(self.server.server_address[:2], SECONDS, ("127.0.0.2", 0)) for _ in range(200)]
+        for line in many:
+            self.addCleanup(line.close)
+        # Those above the limit are closed.
+        self.assertEqual(many[-1].recv(1), b"")
+        self.seat.page_opens(1)
+        self.assertEqual(self.request("POST", "/", "(INFO)").read(), b"available")
+        for line in many:
+            line.close()
+        answered = None
+        while answered != 200:
+            with contextlib.suppress(OSError, http.client.HTTPException):
+                answered = self.request("GET", self.of_page(), source="127.0.0.2").status
 
     def test_a_message_may_have_16_mib(self):
         self.seat.page_opens(1)

@@ -6,6 +6,8 @@ import json
 import re
 import secrets
 import socket
+import threading
+from collections import Counter
 from collections.abc import Iterable
 from http.server import BaseHTTPRequestHandler, ThreadingHTTPServer
 from http import HTTPStatus
@@ -18,7 +20,10 @@ MOST_BYTES, MOST_MOVE = 16_777_216, 65_536
 # The messages by which a referee introduces itself. Any other long message is not parsed before it has done so.
 INTRODUCES = re.compile(r"[\s(]*(?:info|start)\b", re.IGNORECASE)
 # A page that is told nothing for so many seconds gets a line that says that the player is still there.
-ALIVE = 10.0
+# So soon it is noticed that the page was closed.
+ALIVE = 1.0
+# An address may have so many connections at once.
+MOST_CONNECTIONS = 32
 # The files of the page by their names below its token, and what it may load and run: only these.
 FILES = {"": ("human.html", "text/html"), "style.css": ("style.css", "text/css"), "human.js": ("human.js", "text/javascript")}
 POLICY = "default-src 'none'; style-src 'self'; script-src 'self'; connect-src 'self'; base-uri 'none'; form-action 'none'; frame-ancestors 'none'"
@@ -141,10 +146,28 @@ class Server(ThreadingHTTPServer):
     """The server of a person's seat: it takes messages from these referees, by their addresses, or from that of the first INFO or START."""
 
     daemon_threads = True
+    request_queue_size = 256
 
     def __init__(self, address: tuple[str, int], seat: Seat, referees: Iterable[str] = ()) -> None:
         super().__init__(address, Handler)
         self.seat, self.referees, self.page = seat, set(referees), f"/{secrets.token_urlsafe(16)}/"
+        self.connections: Counter[str] = Counter()
+        self.counting = threading.Lock()
+
+    def verify_request(self, request: object, client_address: tuple[str, int]) -> bool:
+        """Counts a connection. It is closed if its address has too many."""
+        with self.counting:
+            if self.connections[client_address[0]] >= MOST_CONNECTIONS:
+                return False
+            self.connections[client_address[0]] += 1
+        return True
+
+    def process_request_thread(self, request: socket.socket, client_address: tuple[str, int]) -> None:
+        try:
+            super().process_request_thread(request, client_address)
+        finally:
+            with self.counting:
+                self.connections[client_address[0]] -= 1
 
     def may_be_referee(self, address: str) -> bool:
         """Returns whether messages from this address are read: they are from a referee, or there is none yet."""
