@@ -6,7 +6,7 @@ ghost use Rattle.network_players.specs.Contacts.{address_fault, after_try, conne
 
 use crate::deadline::{Deadline, Halt, TimedStream, first_limit, is_time_out};
 use crate::lookup::{Lookup, Resolves};
-use crate::routes::any_address;
+use crate::routes::{Routes, any_address, lacks_family, outside};
 use crate::shortage::{is_of_either, shortage_of};
 use desk_calls::MAX_CLOCK;
 use game_core::{Counted, Text};
@@ -78,6 +78,9 @@ pub trait Explains {
     }
 }
 
+/// The number of the error with which this computer's firewall stops a packet.
+const EPERM: i32 = 1;
+
 /// For so many seconds connections that fail are tried again. A player that restarts meanwhile has lost nothing.
 const RETRY_SECONDS: u64 = 2;
 
@@ -140,7 +143,8 @@ fn is_of_a_host(address: &SocketAddr) -> bool {
 
 /// Tries to send an empty datagram to the address. Only this computer's interfaces, routes and firewall can make that fail: the socket is
 /// new, so no answer can have come.
-fn send_nothing(socket: &UdpSocket, address: &SocketAddr) -> io::Result<()> {
+fn send_nothing<N: Net>(net: &N, address: &SocketAddr) -> io::Result<()> {
+    let socket = UdpSocket::bind(net, any_address(address))?;
     if socket.connect(*address).is_err() {
         // The system refuses a broadcast address only to a socket that has not asked for it, and a route for any socket.
         socket.set_broadcast(true)?;
@@ -152,23 +156,41 @@ fn send_nothing(socket: &UdpSocket, address: &SocketAddr) -> io::Result<()> {
     }
 }
 
-/// What this computer is short of, so that it sends nothing to the address. `None` if it would send, or if nobody could.
-fn refusal<N: Net>(net: &N, address: &SocketAddr) -> Option<Shortage> {
-    if !is_of_a_host(address) {
-        return None;
-    }
-    let sent = match UdpSocket::bind(net, any_address(address)) {
-        Ok(socket) => send_nothing(&socket, address),
-        Err(error) => Err(error),
-    };
-    match sent {
-        Ok(()) => None,
-        Err(error) => Some(shortage_of(&error).unwrap_or(Shortage::Network)),
+/// Whether an error says that this computer's firewall has stopped a datagram.
+fn is_forbidden(error: &io::Error) -> bool {
+    error.raw_os_error() == Some(EPERM)
+}
+
+/// Whether this computer's firewall stops datagrams of the address's family in general. Then a stopped one says nothing of connections.
+fn stops_datagrams<N: Net>(net: &N, address: &SocketAddr) -> bool {
+    match send_nothing(net, &outside(address.ip().to_canonical().is_ipv4())) {
+        Ok(()) => false,
+        Err(error) => is_forbidden(&error),
     }
 }
 
+/// What this computer is short of, so that it sends nothing to the address. `None` if it would send, if nobody could, if it lacks only the
+/// family of the address, which a router of the player can take away, or if its firewall lets out connections alone.
+fn refusal<N: Routes>(net: &N, address: &SocketAddr) -> Option<Shortage> {
+    if !is_of_a_host(address) {
+        return None;
+    }
+    let Err(error) = send_nothing(net, address) else {
+        return None;
+    };
+    let shortage = shortage_of(&error).unwrap_or(Shortage::Network);
+    let is_of_network = shortage == Shortage::Network;
+    if is_of_network && is_forbidden(&error) && stops_datagrams(net, address) {
+        return None;
+    }
+    if is_of_network && lacks_family(net, address) {
+        return None;
+    }
+    Some(shortage)
+}
+
 /// What this computer is short of, so that it sends nothing to any of the addresses. `None` if it would send to one, or if there is none.
-fn refusal_of_all<N: Net>(net: &N, addresses: &[SocketAddr]) -> Option<Shortage> {
+fn refusal_of_all<N: Routes>(net: &N, addresses: &[SocketAddr]) -> Option<Shortage> {
     let mut last = None;
     for address in addresses {
         last = Some(refusal(net, address)?);
@@ -188,15 +210,19 @@ fn connect_fault(error: &io::Error, may_be_own: bool, refusal: Option<Shortage>)
 }
 
 /// The fault of an address to which no connection was made. Where the player or a router on the way can cause the error too, this computer is
-/// asked.
-fn fault_of<N: Net>(net: &N, address: &SocketAddr, error: &io::Error) -> ContactFault {
+/// asked. If it has lost the family of the address, each address of that family gives the error of a lack of ports.
+fn fault_of<N: Routes>(net: &N, address: &SocketAddr, error: &io::Error) -> ContactFault {
     let may_be_own = is_of_either(error.raw_os_error());
     let refusal = if may_be_own {
         refusal(net, address)
     } else {
         None
     };
-    connect_fault(error, may_be_own, refusal)
+    let fault = connect_fault(error, may_be_own, refusal);
+    if fault == ContactFault::Shortage(Shortage::Ports) && lacks_family(net, address) {
+        return ContactFault::NoConnection;
+    }
+    fault
 }
 
 /// Whether a message failed on the network, and not by what the player sent.
@@ -222,7 +248,7 @@ fn fault_at_refusal(fault: ContactFault, refusal: Option<Shortage>) -> ContactFa
 }
 
 /// The fault of a message that failed so. One that failed on the network is a shortage if this computer sends nothing to the player now.
-fn blamed<N: Net>(net: &N, addresses: &[SocketAddr], fault: ContactFault) -> ContactFault {
+fn blamed<N: Routes>(net: &N, addresses: &[SocketAddr], fault: ContactFault) -> ContactFault {
     if is_of_network(fault) {
         fault_at_refusal(fault, refusal_of_all(net, addresses))
     } else {
@@ -289,7 +315,7 @@ fn try_address<N: Net + Clock>(
 }
 
 /// Connects to an address within the time left, at the second try if the first one is not answered.
-fn connect_to<N: Net + Clock>(
+fn connect_to<N: Routes + Clock>(
     net: &N,
     address: &SocketAddr,
     deadline: &mut Deadline,
@@ -312,18 +338,29 @@ fn connect_to<N: Net + Clock>(
     Err(ContactFault::Late(Received::Unconnected))
 }
 
-/// Connects to the first of the addresses that takes a connection, within the time left.
-fn connect_once<N: Net + Clock>(
+/// Connects to the first of the addresses that takes a connection, within the time left. Once one has taken a connection, it comes first, and
+/// the others are tried only while this computer lacks something. Otherwise a player could refuse a connection and so pass its message on to
+/// the address of another player, if its name has that address too.
+fn connect_once<N: Routes + Clock>(
     net: &N,
-    addresses: &[SocketAddr],
+    lookup: &mut Lookup,
     deadline: &mut Deadline,
 ) -> Result<N::Stream, ContactFault> {
     let mut fault = ContactFault::NoAddress;
-    for address in addresses {
-        match connect_to(net, address, deadline) {
-            Ok(stream) => return Ok(stream),
+    for place in 0..lookup.addresses().len() {
+        let Some(&address) = lookup.addresses().get(place) else {
+            break;
+        };
+        match connect_to(net, &address, deadline) {
+            Ok(stream) => {
+                lookup.prefer(place);
+                return Ok(stream);
+            }
             Err(ContactFault::Late(received)) => return Err(ContactFault::Late(received)),
             Err(last) => fault = fault_so_far(fault, last),
+        }
+        if lookup.has_preferred() && !matches!(fault, ContactFault::Shortage(_)) {
+            break;
         }
     }
     Err(fault)
@@ -407,7 +444,7 @@ fn connect<N: Resolves + Clock>(
     let mut before = ContactFault::Late(Received::Unconnected);
     for _ in 0..MAX_CONNECTS {
         let connected = match find_host(net, alloc, player, lookup, deadline) {
-            Ok(()) => connect_once(net, lookup.addresses(), deadline),
+            Ok(()) => connect_once(net, lookup, deadline),
             Err(fault) => Err(fault),
         };
         let fault = match connected {

@@ -97,6 +97,8 @@ impl<R: Net + Copy + Send + 'static> Resolves for R {
 #[derive(Drop)]
 pub struct Lookup {
     found: Option<Vec<SocketAddr>>,
+    /// Whether the first address is there because it has taken a connection.
+    has_preferred: bool,
     /// The lookup that is under way.
     query: Option<Arc<HostQuery>>,
 }
@@ -166,6 +168,7 @@ impl Lookup {
     {
         Lookup {
             found: None,
+            has_preferred: false,
             query: None,
         }
     }
@@ -207,6 +210,21 @@ impl Lookup {
             Err(shortage) => return Err(Halt::Short(shortage)),
         }
         Ok(())
+    }
+
+    /// Puts the address at this place first, since it has taken a connection.
+    pub fn prefer(&mut self, place: usize) {
+        if let Some(found) = &mut self.found {
+            if place < found.len() {
+                found.swap(0, place);
+                self.has_preferred = true;
+            }
+        }
+    }
+
+    /// Whether the first address has taken a connection.
+    pub fn has_preferred(&self) -> bool {
+        self.has_preferred
     }
 
     /// The addresses that were found. There are none before the host is looked up.

@@ -22,7 +22,7 @@ pub(crate) fn any_address(address: &SocketAddr) -> SocketAddr
 }
 
 /// An address of IPv4 or IPv6 that no computer has, since it is reserved for documents. Only a default route leads there.
-fn outside(is_of_ipv4: bool) -> SocketAddr
+pub(crate) fn outside(is_of_ipv4: bool) -> SocketAddr
     ensures { is_ipv4 (socket_ip result) ≡ is_of_ipv4 }
 {
     let ip = if is_of_ipv4 {
@@ -91,7 +91,7 @@ pub(crate) fn lacks_family<N: Routes>(net: &N, address: &SocketAddr) -> bool {
     if to_address.is_none() {
         return false;
     }
-    let is_of_ipv4 = address.is_ipv4();
+    let is_of_ipv4 = address.ip().to_canonical().is_ipv4();
     is_without_family(
         to_address,
         net.lack_of_route(&outside(is_of_ipv4)),

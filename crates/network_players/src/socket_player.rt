@@ -32,7 +32,8 @@ pub struct Sockets<'a, H> {
     ghost has_one: { 0 < length signals.now },
 }
 
-/// A player on the network. Each message goes over a connection of its own, to the addresses that its host had at the first message.
+/// A player on the network. Each message goes over a connection of its own, to the addresses that its host had at the first message. Once one
+/// of them has taken a connection, the others are used only while this computer lacks something.
 #[derive(Drop)]
 pub struct SocketPlayer<'a, H> {
     rt: &'a H,
