@@ -4,13 +4,9 @@ import os
 import resource
 import signal
 import socket
-import subprocess
 import sys
-import tempfile
 from collections.abc import Callable, Iterable
 from typing import NoReturn
-
-from driving import EXAMPLES
 
 
 def runnable(word: str) -> str:
@@ -62,12 +58,3 @@ def closed_port() -> socket.socket:
     endpoint.setsockopt(socket.SOL_SOCKET, socket.SO_REUSEADDR, 1)
     endpoint.bind(("127.0.0.1", 0))
     return endpoint
-
-
-def free_ports(count: int) -> list[str]:
-    """Returns ports that are free now, as the example players are given theirs: one for each role of a game."""
-    with tempfile.NamedTemporaryFile("w") as rules:
-        rules.write("".join(f"(role r{number})" for number in range(count)))
-        rules.flush()
-        ran = subprocess.run([EXAMPLES / "players/ports.py", rules.name], stdout=subprocess.PIPE, text=True, check=True)
-    return ran.stdout.split()
