@@ -38,7 +38,7 @@ demo: needs
 	@program=$$(tools/program) && examples/side-by-side examples/games/countdown.script "$$program" desk --countdown 3
 
 match: needs
-	@program=$$(tools/program) && examples/play-a-match "$$program" examples/games/tictactoe.kif
+	@program=$$(tools/program --match) && examples/play-a-match "$$program" examples/games/tictactoe.kif
 
 play: needs
 	@program=$$(tools/program) && examples/play-yourself "$$program" examples/games/tictactoe.kif

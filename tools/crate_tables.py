@@ -3,7 +3,7 @@ import functools
 import re
 
 from crates import TOP, below, crate_rows, crates
-from unit_crates import UNIT, unit_crates
+from unit_crates import UNIT, is_program, unit_crates
 
 CRATES = "| Crate | Uses | Purpose |"
 TESTS = "| Crate of tests | What it tests |"
@@ -61,8 +61,8 @@ def crate_table(known: dict[str, list[str]]) -> list[Row]:
 
 def test_table() -> list[Row]:
     """Returns a row for each crate of tests: its name and what it tries."""
-    main = {"memory_tests": "main"}
-    return [(f"`{name}`", comment_of(read(f"{UNIT}/{name}/src/{main.get(name, 'lib')}.rt.test"))) for name in unit_crates()]
+    roots = {name: "main" if is_program(name) else "lib" for name in unit_crates()}
+    return [(f"`{name}`", comment_of(read(f"{UNIT}/{name}/src/{root}.rt.test"))) for name, root in roots.items()]
 
 
 def layers(known: dict[str, list[str]]) -> list[list[str]]:

@@ -97,11 +97,11 @@ def write_beside(program, ending, made):
     os.replace(f"{program}.{ending}.new", f"{program}.{ending}")
 
 
-def is_current(program, ending, parts=PARTS):
-    """Returns whether the program stands there and the file beside it says that it, and no other, was made from the text as it is."""
+def is_current(program, ending, made=None):
+    """Returns whether the program stands there and the file beside it says that it, and no other, was made from this (the text as it is)."""
     try:
         with open(f"{program}.{ending}", encoding="utf-8") as file:
-            return os.access(program, os.X_OK) and file.read() == said_of(program, made_from(parts))
+            return os.access(program, os.X_OK) and file.read() == said_of(program, made or made_from())
     except OSError:
         return False
 

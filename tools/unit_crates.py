@@ -23,6 +23,11 @@ def unit_crates() -> list[str]:
     return [line.partition(":")[0].split()[0] for line in lines_of(f"{UNIT}/tests.txt")]
 
 
+def is_program(name: str) -> bool:
+    """Returns whether a crate is a program for a tool, and has no tests."""
+    return os.path.exists(f"{UNIT}/{name}/src/main.rt.test")
+
+
 def files_of(crate: str) -> Iterator[str]:
     """Yields the paths of a crate's sources and definitions, from its directory."""
     for part in ("src", "specs"):

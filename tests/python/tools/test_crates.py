@@ -5,7 +5,7 @@ import unittest
 import unittest.mock
 
 import crates
-from crates import PARTS, below, is_current, own_deps, rows, spell, strays, with_below, write_beside
+from crates import below, is_current, own_deps, rows, spell, strays, with_below, write_beside
 
 TEXT = """\
 # NAME: what it stands on
@@ -58,14 +58,14 @@ class Order(unittest.TestCase):
 
 class Programs(unittest.TestCase):
     def test_a_program_is_current_where_it_is_the_one_that_was_made_from_the_text(self):
-        with tempfile.TemporaryDirectory() as room, unittest.mock.patch("crates.made_from", lambda parts: f"text: {room} {parts}\n"):
+        with tempfile.TemporaryDirectory() as room, unittest.mock.patch("crates.made_from", lambda: f"text: {room}\n"):
             program = f"{room}/program"
             self.assertFalse(is_current(program, "proved"))
             write(program, "one")
             self.assertFalse(is_current(program, "proved"))
-            write_beside(program, "proved", crates.made_from(PARTS))
+            write_beside(program, "proved", crates.made_from())
             self.assertTrue(is_current(program, "proved"))
-            self.assertFalse(is_current(program, "proved", ("src",)))
+            self.assertFalse(is_current(program, "proved", "text: another\n"))
             # Another program in its place, as where a build is stopped behind it.
             write(program, "two")
             self.assertFalse(is_current(program, "proved"))
@@ -75,7 +75,7 @@ class Programs(unittest.TestCase):
             self.assertFalse(is_current(program, "proved"))
 
     def test_a_file_that_says_no_sum_is_not_enough(self):
-        with tempfile.TemporaryDirectory() as room, unittest.mock.patch("crates.made_from", lambda parts: "text: one\n"):
+        with tempfile.TemporaryDirectory() as room, unittest.mock.patch("crates.made_from", lambda: "text: one\n"):
             write(f"{room}/program", "one")
             write(f"{room}/program.proved", "text: one\n")
             self.assertFalse(is_current(f"{room}/program", "proved"))
