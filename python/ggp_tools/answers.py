@@ -4,8 +4,9 @@ import functools
 import sys
 from collections.abc import Callable, Sequence
 
-from ggp_tools.ground_games import MOST_CALLS, Game, State
-from ggp_tools.kif import KifFault, expressions, spelled, starts
+from ggp_tools.holding.game import MOST_CALLS, Game
+from ggp_tools.holding.positions import Position
+from ggp_tools.kif import KifFault, Refused, expressions, spelled, starts
 
 # A log shows so many bytes of an answer, and two dots for further ones.
 SHOWN, MORE = 200, ".."
@@ -48,7 +49,7 @@ def listed(moves: list[str]) -> str:
 @functools.lru_cache(MOST_GAMES)
 def game_of(rules: bytes) -> Game:
     """Returns the game of ground rules, for an interpreter that shares nothing with the program."""
-    return Game(expressions(rules.decode("latin-1")))
+    return Game(rules.decode("latin-1"))
 
 
 class Illegal:
@@ -57,19 +58,19 @@ class Illegal:
     def __init__(self, states: Sequence[Sequence[str]], roles: Sequence[str], game: Callable[[], Game]) -> None:
         sys.setrecursionlimit(MOST_CALLS)
         self.states, self.roles, self.game = states, roles, game
-        self.kept: tuple[int, State] | None = None
+        self.kept: tuple[int, Position] | None = None
 
-    def state(self, turn: int) -> State:
-        """Returns the state before a turn. The game keeps what it has looked up of the one that was asked for last."""
+    def position(self, turn: int) -> Position:
+        """Returns the position before a turn. The one that was asked for last is kept."""
         if self.kept is None or self.kept[0] != turn:
-            self.kept = turn, frozenset(expressions("\n".join(self.states[turn])))
+            self.kept = turn, self.game().position(frozenset(expressions("\n".join(self.states[turn]))))
         return self.kept[1]
 
     def legal(self, role: int, turn: int) -> list[str]:
         """Returns the legal moves of a role in a turn: none where the interpreter can't tell."""
         try:
-            return [spelled(move) for move in self.game().legal(self.state(turn), expressions(self.roles[role])[0])]
-        except (KifFault, LookupError, RecursionError, TypeError, ValueError):
+            return [spelled(move) for move in self.game().moves(self.position(turn), expressions(self.roles[role])[0])]
+        except (Refused, LookupError, RecursionError, TypeError, ValueError):
             return []
 
     def moves(self, role: int, turn: int, error: str) -> str:

@@ -16,6 +16,7 @@ FILE_HEADS = {
 MOST_SHOWN = 160
 COMMENT = re.compile(r";[^\n]*")
 TOKEN = re.compile(r"[()]|[^\s()]+")
+VARIABLE = re.compile(r"(?<![^\s()])\?")
 NO_CHARACTER = re.compile(r"[^\t\n\r\x20-\x7e]")
 
 
@@ -48,10 +49,11 @@ def advice_for_bytes(text: str) -> str:
     return "write it in ASCII, or in a comment"
 
 
-def tokens(text: str) -> Iterator[tuple[str, int, int]]:
-    """Gives each parenthesis and each atom of a text with its index, and the number of lists around it. Refuses what is no KIF."""
+def tokens(text: str, takes_bytes: bool = False) -> Iterator[tuple[str, int, int]]:
+    """Gives each parenthesis and each atom of a text with its index, and the number of lists around it. Refuses what is no KIF, unless a
+    message is read, which may have any bytes."""
     text = blanked(text)
-    if bad := NO_CHARACTER.search(text):
+    if not takes_bytes and (bad := NO_CHARACTER.search(text)):
         raise KifFault(f"a byte that is no character of KIF: {bad[0]!r}", bad.start(), advice_for_bytes(text))
     opened = []
     for token in TOKEN.finditer(text):
@@ -66,13 +68,13 @@ def tokens(text: str) -> Iterator[tuple[str, int, int]]:
         raise KifFault("a list that is not closed", opened[-1], "add a `)`")
 
 
-def expressions(text: str) -> list[Expression]:
-    """Returns the expressions that a text spells, in lower case."""
+def expressions(text: str, most_levels: float = MOST_LEVELS, takes_bytes: bool = False) -> list[Expression]:
+    """Returns the expressions that a text spells, in lower case. Refuses one with more lists in one another."""
     levels = [[]]
-    for token, index, around in tokens(text):
+    for token, index, around in tokens(text, takes_bytes):
         if token == "(":
-            if around == MOST_LEVELS:
-                raise KifFault(f"more than {MOST_LEVELS} lists in one another", index)
+            if around == most_levels:
+                raise KifFault(f"more than {most_levels} lists in one another", index)
             levels.append([])
         elif token == ")":
             closed = tuple(levels.pop())
@@ -80,6 +82,11 @@ def expressions(text: str) -> list[Expression]:
         else:
             levels[-1].append(token.lower())
     return levels[0]
+
+
+def has_variables(text: str) -> bool:
+    """Returns whether a text has a variable."""
+    return VARIABLE.search(blanked(text)) is not None
 
 
 def starts(text: str) -> list[int]:
@@ -118,9 +125,22 @@ def atoms(expression: Expression) -> Iterator[str]:
             yield from atoms(member)
 
 
+def is_variable(expression: Expression) -> bool:
+    return isinstance(expression, str) and expression.startswith("?")
+
+
 def variables(expression: Expression) -> list[str]:
     """The variables of an expression, each once, in their order."""
     return list(dict.fromkeys(atom for atom in atoms(expression) if atom.startswith("?")))
+
+
+def fits(pattern: Expression, term: Expression, values: dict[str, Expression]) -> bool:
+    """Whether the pattern is the term for some values of its variables, whose number grows."""
+    if is_variable(pattern):
+        return values.setdefault(pattern, term) == term
+    if isinstance(pattern, str) or isinstance(term, str):
+        return pattern == term
+    return len(pattern) == len(term) and all(fits(wanted, given, values) for wanted, given in zip(pattern, term))
 
 
 def put(term: Expression, values: dict[str, Expression]) -> Expression:
@@ -138,9 +158,14 @@ def place(expression: Expression) -> tuple:
     return 2, tuple(map(place, expression))
 
 
-def relation(atom: Expression) -> tuple[str, int | None]:
+def relation(atom: Expression) -> Relation:
     """The relation of an atomic sentence, with the number of its arguments: none for an atom alone."""
     return (atom, None) if isinstance(atom, str) else (atom[0], len(atom) - 1)
+
+
+def head_of(sentence: Expression) -> Expression:
+    """The head of a sentence: what it gives."""
+    return sentence[1] if isinstance(sentence, tuple) and sentence[:1] == ("<=",) else sentence
 
 
 def levels(expression: Expression) -> int:

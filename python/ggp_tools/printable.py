@@ -21,3 +21,19 @@ def message_of(text: str) -> str:
 def message_lines(data: bytes) -> list[str]:
     """Returns the last lines of what another program has printed: those of its last 64 KiB."""
     return [message_of(line) for line in data[-MOST_READ:].decode("ascii", "replace").strip().splitlines()]
+
+
+def visible(text: str) -> str:
+    """Returns a text with anything but visible ASCII and the space as its code."""
+    if text.isascii() and text.isprintable():
+        return text
+    return "".join(letter if " " <= letter <= "~" else f"\\u{{{ord(letter):x}}}" for letter in text)
+
+
+def shown(text: str, most: int) -> str:
+    """Returns so many letters of a text, in visible ASCII."""
+    return visible(text[:most]) + MORE * (len(text) > most)
+
+
+def counted(number: int, word: str) -> str:
+    return f"{number:,} {word}{'' if number == 1 else 's'}"

@@ -6,43 +6,14 @@ import pathlib
 import sys
 import time
 from collections.abc import Callable
-from typing import TextIO
 
 from ggp_tools.competition.results import Result, forfeit_words
 from ggp_tools.competition.schedule import Match
 from ggp_tools.moments import moment
 from ggp_tools.printable import printable
+from ggp_tools.streams import lead_nowhere, say
 
 REDRAWN = 0.5
-
-
-def lead_nowhere(output: TextIO | None) -> None:
-    """Has all that is written to an output from now on, and what it still holds, be lost."""
-    os.dup2(os.open(os.devnull, os.O_WRONLY), output.fileno())
-
-
-def ready_streams() -> None:
-    """Has a standard stream that is closed lead nowhere, so that no file takes its number, and spells out what an encoding lacks."""
-    for number, (name, mode) in enumerate((("stdin", "r"), ("stdout", "w"), ("stderr", "w"))):
-        if getattr(sys, name) is None:
-            found = os.open(os.devnull, os.O_RDWR)
-            if found != number:
-                os.dup2(found, number)
-                os.close(found)
-            os.set_inheritable(number, True)
-            setattr(sys, name, open(number, mode, closefd=False))
-    for stream in (sys.stdout, sys.stderr):
-        if stream.errors == "strict":
-            stream.reconfigure(errors="backslashreplace")
-
-
-def say(text: str, end: str = "\n") -> None:
-    """Writes to standard output, at once. A fault names it, and what comes after it goes nowhere."""
-    try:
-        print(text, end=end, flush=True)
-    except OSError as why:
-        lead_nowhere(sys.stdout)
-        raise OSError(why.errno, why.strerror, "standard output") from None
 
 
 def spell(seconds: float) -> str:

@@ -8,6 +8,8 @@ import sys
 import typing
 from collections.abc import Sequence
 
+from ggp_tools.printable import visible
+
 if typing.TYPE_CHECKING:
     import jinja2
     import markupsafe
@@ -22,13 +24,6 @@ def end_without(missing: ImportError) -> typing.NoReturn:
     how = "" if sys.executable.startswith("/usr/bin/") else ", and run it with /usr/bin/python3"
     print(f"{pathlib.Path(sys.argv[0]).name}: this command needs the Python module {name}: apt-get install python3-{name}{how}", file=sys.stderr)
     raise SystemExit(2)
-
-
-def visible(text: str) -> str:
-    """Returns a text with anything but visible ASCII and the space as its code."""
-    if text.isascii() and text.isprintable():
-        return text
-    return "".join(letter if " " <= letter <= "~" else f"\\u{{{ord(letter):x}}}" for letter in text)
 
 
 def rows_of_text(data: bytes) -> "markupsafe.Markup":

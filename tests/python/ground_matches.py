@@ -6,12 +6,13 @@ import json
 import random
 from collections.abc import Sequence
 
-from ggp_tools import ground_games
 from ggp_tools.holding.following import Differs, Following
 from ggp_tools.holding.game import Game
 from ggp_tools.instantiating import making
-from ggp_tools.kif import Expression, expressions
-from support import GAMES
+from ggp_tools.kif import Expression, expressions, relation, spelled
+from support import GAMES, outside
+
+ground_games = outside("ground_games")
 
 MOST_TURNS = 60
 Sentences = list[Expression]
@@ -31,7 +32,7 @@ def instantiated(text: str, how: str = making.WHERE_NEEDED, is_split: bool = Fal
 def begun(sentences: Sentences) -> ground_games.Match:
     """Returns a match by ground rules, ready for its first turn."""
     game = ground_games.Game(sentences)
-    match = ground_games.Match(game, "m", 1, 1, [f"p{at}" for at in range(len(game.roles))])
+    match = ground_games.Match(game, ["m", "1", "1", *(f"p{at}" for at in range(len(game.roles)))])
     match.marks["start"] = dict.fromkeys(range(len(game.roles)), "")
     return match
 
@@ -46,7 +47,7 @@ def played(sentences: Sentences, seed: int, most: int = MOST_TURNS) -> Record:
     """Returns the record of a random match of so many turns at most."""
     match = begun(sentences)
     game = match.game
-    every = {role: sorted((head[2] for head in game.heads.get(("legal", 2), ()) if head[1] == role), key=repr) for role in game.roles}
+    every = {role: sorted((head[2] for head in game.rules if relation(head) == ("legal", 2) and head[1] == role), key=repr) for role in game.roles}
     while len(match.moves) < most and match.phase()[0] == "playing":
         dice = [random.Random(f"{seed} {len(match.moves)} {role}") for role in game.roles]
         legal = [game.legal(match.states[-1], role) for role in game.roles]
@@ -65,7 +66,7 @@ def played_again(sentences: Sentences, record: Record) -> Record:
             legal = match.game.legal(match.states[-1], role)
             answer = expressions(error.removeprefix("IL ") if error.startswith("IL ") else move)[0]
             is_late = error == "TO"
-            turn.append((answer, "") if answer in legal and not is_late else (legal[0], "TO" if is_late else f"IL {ground_games.text_of(answer)}"))
+            turn.append((answer, "") if answer in legal and not is_late else (legal[0], "TO" if is_late else f"IL {spelled(answer)}"))
         match.turn(turn)
     return ended(match)
 
@@ -76,7 +77,7 @@ def judged(dice: random.Random, legal: Sequence[Expression], every: Sequence[Exp
     if kind < 0.2:
         return legal[0], "TO"
     answer = dice.choice(every if kind < 0.4 else sorted(legal, key=repr))
-    return (answer, "") if answer in legal else (legal[0], f"IL {ground_games.text_of(answer)}")
+    return (answer, "") if answer in legal else (legal[0], f"IL {spelled(answer)}")
 
 
 def differs(game: Game, record: Record) -> str | None:

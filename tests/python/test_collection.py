@@ -2,6 +2,8 @@
 
 import contextlib
 import csv
+import gzip
+import hashlib
 import io
 import json
 import os
@@ -14,8 +16,8 @@ import unittest
 from unittest import mock
 
 from ggp_tools.kif import Refused
-from ggp_tools.records.collection import LONGEST_RECORD, Pile, candidates, game_of, judged_batch, judged_lines, known_games, line_of, numbered_lines
-from ggp_tools.records.shapes import ACCOUNT_LINE
+from ggp_tools.records.collection import Pile, candidates, game_of, judged_batch, judged_lines, known_games, line_of
+from ggp_tools.records.record import ACCOUNT_LINE, LONGEST_RECORD, numbered_lines
 from ggp_tools.referee import BadRules
 from support import GAMES, TOP, InFolder, program
 
@@ -23,6 +25,9 @@ RECORDS = TOP / "examples/records"
 # What `verify` says of each record of these names, for the game with a heap of 3.
 LAWFUL = ("countdown-3-first_version", "countdown-3-second_version")
 FAULTY = "countdown-3-another_state"
+
+
+NO_PLACE = "a value is nested more than 127 deep, a number is not one or past the range of binary64, or a surrogate pair is not whole"
 
 
 def record(name: str) -> str:
@@ -86,15 +91,16 @@ class Piles(InFolder):
         self.assertEqual(list(numbered_lines(io.BytesIO(b""))), [])
 
     def test_of_a_line_that_is_too_long_so_much_is_read_as_shows_it(self):
-        with mock.patch("ggp_tools.records.collection.LONGEST_RECORD", 4):
+        with mock.patch("ggp_tools.records.record.LONGEST_RECORD", 4):
             for data, wanted in ((b"1234\n5\n", [4, 1]), (b"1234\r\n5", [4, 1]), (b"12345\r\n5", [5, 1]), (b"12345\n5", [5, 1]), (b"x" * 7 + b"\n5", [7, 1]), (b"x" * 50 + b"\n5\n", [7, 1]), (b"x" * 50, [7])):
                 found = list(numbered_lines(io.BytesIO(data)))
                 self.assertEqual(([number for number, _ in found], [len(line) for _, line in found]), (list(range(1, len(wanted) + 1)), wanted), data)
 
     def test_what_a_line_is(self):
         for data, record, said in (
-            (b'{"matchId":"m"}', {"matchId": "m"}, ""), (b"[]", None, "it is JSON, and no object"), (b"7", None, "it is JSON, and no object"),
-            (b"[" * 99_999, None, "maximum recursion depth exceeded while decoding a JSON array from a unicode string"), (b"{", None, "Expecting property name enclosed in double quotes: line 1 column 2 (char 1)"),
+            (b'{"matchId":"m"}', {"matchId": "m"}, ""), (b"[]", None, "it is JSON, and not an object"), (b"7", None, "it is JSON, and not an object"),
+            (b"[" * 99_999, None, f"it is not JSON: {NO_PLACE}"), (b"{", None, "it is not JSON: line 1, column 2: a key is missing"), (b"", None, "it is not JSON: it is empty"),
+            (b" ", None, "it is not JSON: it is empty"), (b"{} {}", None, "it is not JSON: line 1, column 4: more follows the value"), (b'{"a":NaN}', None, f"it is not JSON: {NO_PLACE}"),
         ):
             found = line_of("f", 3, data)
             self.assertEqual((found.file, found.number, found.data, found.record, found.said), ("f", 3, data, record, said))
@@ -122,7 +128,8 @@ class Piles(InFolder):
         self.assertEqual([(game.name, game.roles, game.first, game.path) for game in games], [("g0", ("a",), ("a", "b"), str(rules / "g0.kif"))])
         self.assertEqual(refused, [
             f"{rules}/h0.kif: it has variables: `ggp-instantiate` makes ground rules of it", f"{rules}/h1.kif: it has no role", f"{rules}/h2.kif: bad",
-            f"{rules}/h3.kif: a `)` with no open list", f"{rules}/h4.kif: it has no role",
+            f"{rules}/h3.kif: line 1, column 1: a `)` with no open list; a sentence before it may have a `)` too many",
+            f"{rules}/h4.kif: line 1, column 1: (role) is no sentence: (role); write (role _)",
         ])
 
     def test_the_game_whose_first_state_is_most_like_it_comes_first(self):
@@ -142,7 +149,7 @@ class Piles(InFolder):
     def test_a_record_is_lawful_if_it_is_so_by_one_of_the_games(self):
         one = {"roles": ["a"], "states": [["a"]]}
         found, referee = self.judged({**one, "by": "g1"}, {**one, "by": "g0"}, 7, {"roles": ["b"]}, {**one, "by": "none"})
-        self.assertEqual(found, [("g1", "lawful"), ("g0", "lawful"), (None, "no record: it is JSON, and no object"), (None, "no game has its roles"), ("g0", "not lawful: g0")])
+        self.assertEqual(found, [("g1", "lawful"), ("g0", "lawful"), (None, "no record: it is JSON, and not an object"), (None, "no game has its roles"), ("g0", "not lawful: g0")])
         self.assertEqual([(name, len(records)) for name, records in referee.asked], [("g0", 3), ("g1", 2), ("g2", 1)])
         self.assertTrue(all(line.endswith(b"}\n") for _, records in referee.asked for line in records))
 
@@ -165,9 +172,10 @@ class Commands(unittest.TestCase):
         lines = [record(LAWFUL[0]), "0\tnext m 0\tover\n", record(FAULTY), record(LAWFUL[1]), "no record\n", '{"roles":["x"]}\n']
         self.pile.write_text("".join(lines), encoding="ascii")
 
-    def run_records(self, *words: str) -> subprocess.CompletedProcess:
+    def run_records(self, *words: str, input: bytes = b"") -> subprocess.CompletedProcess:
         call = [sys.executable, TOP / "python/ggp-records", "--program", program(), "--rules", self.folder / "rules", *words]
-        return subprocess.run(list(map(str, call)), capture_output=True, text=True)
+        said = subprocess.run(list(map(str, call)), capture_output=True, input=input)
+        return subprocess.CompletedProcess(said.args, said.returncode, said.stdout.decode(), said.stderr.decode())
 
     def test_each_record_gets_a_line(self):
         said = self.run_records("check", str(self.pile))
@@ -184,8 +192,38 @@ class Commands(unittest.TestCase):
         self.assertEqual(self.run_records("check", str(self.pile)).returncode, 0)
 
     def test_why_is_said_below_a_record_that_is_not_lawful(self):
-        said = self.run_records("--explain", "check", str(self.pile))
-        self.assertIn("\tmissing: (heap 2)\n\ttoo many: (heap 1)\n", said.stdout)
+        for words in (["--explain", "check", self.pile], ["check", self.pile, "--explain"], ["check", "--explain", self.pile]):
+            said = self.run_records(*words)
+            self.assertIn("\tmissing: (heap 2)\n\ttoo many: (heap 1)\n", said.stdout, words)
+
+    def test_options_that_an_action_has_not_and_what_is_missing(self):
+        for words, said in (
+            (["sqlite", "--explain", "o", self.pile], "`sqlite` has no option --explain"), (["check", "--games", "x", self.pile], "`check` has no option --games"),
+            (["csv", "--refereed-by", "x", "o", self.pile], "`csv` has no option --refereed-by"), (["check"], "the following arguments are required: PILE"),
+            (["pages"], "the following arguments are required: DIR, PILE"), (["facts", "o"], "the following arguments are required: PILE"), (["log"], "the following arguments are required: LOG"),
+            (["--jobs", "0", "check", self.pile], "--jobs is at least 1"),
+        ):
+            found = self.run_records(*words)
+            self.assertEqual((found.returncode, found.stderr.splitlines()[-1]), (2, f"ggp-records: error: {said}"))
+
+    def test_packed_files_and_standard_input(self):
+        packed, data = self.folder / "pile.gz", self.pile.read_bytes()
+        packed.write_bytes(gzip.compress(data))
+        wanted = [line.split("\t")[1:] for line in self.run_records("check", self.pile).stdout.splitlines()]
+        for name, given in ((packed, b""), ("-", data), ("-", gzip.compress(data))):
+            said = self.run_records("check", name, input=given)
+            self.assertEqual([line.split("\t")[1:] for line in said.stdout.splitlines()], wanted, name)
+        packed.write_bytes(gzip.compress(data)[:-9])
+        said = self.run_records("check", packed)
+        self.assertEqual((said.returncode, said.stderr), (3, f"ggp-records: {packed}: what gzip has packed is cut off or damaged\n"))
+
+    def test_records_on_several_lines_are_named_in_our_own_words(self):
+        self.pile.write_text(json.dumps(json.loads(record(LAWFUL[1])), indent=1) + "\n\n", encoding="ascii")
+        rows = [line.split("\t")[-1] for line in self.run_records("check", self.pile).stdout.splitlines()]
+        self.assertEqual(rows[0], "no record: it is not JSON: line 1, column 2: a key is missing")
+        self.assertEqual(rows[-1], "no record: it is not JSON: it is empty")
+        said = self.run_records("check", self.pile, "--explain").stdout.splitlines()
+        self.assertEqual(said[1], "\tThe text ends within the record: its end was cut off, or it is on several lines where each line must be a record.")
 
     def test_a_database_has_matches_players_and_moves(self):
         output = self.folder / "o.db"
@@ -200,11 +238,28 @@ class Commands(unittest.TestCase):
         database.close()
         self.assertEqual(self.run_records("sqlite", str(output), str(self.pile)).returncode, 2)
 
+    def test_rows_that_do_not_count_are_marked(self):
+        self.pile.write_text("".join(record(name) for name in (LAWFUL[1], FAULTY, LAWFUL[1], LAWFUL[0], FAULTY)), encoding="ascii")
+        self.run_records("sqlite", self.folder / "o.db", self.pile)
+        self.run_records("csv", self.folder / "tables", self.pile)
+        marks = [(1, None), (0, None), (1, 1), (1, None), (0, 2)]
+        with contextlib.closing(sqlite3.connect(self.folder / "o.db")) as database:
+            def rows(query):
+                return database.execute(query).fetchall()
+
+            self.assertEqual(rows("SELECT lawful, copy_of FROM matches ORDER BY number"), marks)
+            for table in ("players", "moves"):
+                self.assertEqual(rows(f"SELECT DISTINCT lawful, copy_of FROM {table} ORDER BY match_number"), list(dict.fromkeys(marks)))
+                self.assertEqual(rows(f"SELECT DISTINCT match_number FROM counted_{table} ORDER BY 1"), [(1,), (4,)])
+            self.assertEqual(rows("SELECT checksum FROM matches"), [(hashlib.sha256(line.encode()).hexdigest(),) for line in self.pile.read_text().splitlines(True)])
+        with open(self.folder / "tables/players.csv", encoding="utf-8", newline="") as file:
+            self.assertEqual([(row["match_number"], row["lawful"], row["copy_of"]) for row in csv.DictReader(file)][:6], [("1", "1", "")] * 2 + [("2", "0", "")] * 2 + [("3", "1", "1")] * 2)
+
     def test_files_of_values_have_the_same_rows(self):
         self.run_records("csv", str(self.folder / "tables"), str(self.pile))
         with open(self.folder / "tables/moves.csv", encoding="utf-8", newline="") as file:
             rows = list(csv.reader(file))
-        self.assertEqual(rows[0], ["match_number", "turn", "role_number", "move", "error"])
+        self.assertEqual(rows[0], ["match_number", "turn", "role_number", "move", "error", "lawful", "copy_of"])
         self.assertEqual(len(rows), 1 + 3 * 4)
 
     def test_pages_link_each_match_and_show_no_markup_of_it(self):

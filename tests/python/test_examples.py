@@ -177,4 +177,5 @@ class Examples(unittest.TestCase):
 
 class BuiltIn(unittest.TestCase):
     def test_countdown_is_that_of_the_examples(self):
-        self.assertEqual(set(countdown.countdown(3)), set(outside("ground_games").expressions(GROUND.read_text())))
+        read = outside("ground_games").expressions
+        self.assertEqual(set(read(countdown.countdown(3))), set(read(GROUND.read_text())))

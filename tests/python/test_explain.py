@@ -1,6 +1,7 @@
 """Why a record is not lawful, in words: by the interpreter alone, and with a stand-in for the program."""
 
 import argparse
+import contextlib
 import io
 import json
 import os
@@ -11,11 +12,13 @@ import tempfile
 import unittest
 from unittest import mock
 
-from ggp_tools.ground_games import Game
-from ggp_tools.kif import expressions
+from ggp_tools.holding.game import Game
+from ggp_tools.printable import counted
 from ggp_tools.records import explain
 from ggp_tools.records.countdown import countdown
-from ggp_tools.records.explain import Lines, NoVerdict, explain_lines, explanation, judged, judged_lines, read, shown
+from ggp_tools.records.explain import explain_lines, explanation, judged, judged_lines, read, short
+from ggp_tools.records.record import json_lines
+from ggp_tools.streams import Ended
 from support import TOP, outside, program
 from test_referee import WithStandIn
 
@@ -86,7 +89,7 @@ class Faults(unittest.TestCase):
 
     def test_strikes_count_in_a_row_and_from_then_on(self):
         # Five turns of a game that goes on; red errs in turns 1, 3 and 4, and with two strikes it is retired from turn 5 on.
-        rules = Game(expressions("(role red) (role blue) (init s) (next s) (legal red m) (legal blue n)"))
+        rules = Game("(role red) (role blue) (init s) (next s) (legal red m) (legal blue n)")
         errors = [["TO", ""], ["", "CE"], ["IL ?", ""], ["CE", ""], ["RT", ""]]
         record = {
             "roles": ["red", "blue"], "moves": [["m", "n"]] * 5, "errors": errors, "states": [["s"]] * 6, "goalValues": [], "phase": "playing", "cause": None,
@@ -124,7 +127,7 @@ class Faults(unittest.TestCase):
 
     def test_one_legal_move_of_several(self):
         moves = [f"m{number:02}" for number in range(23)]
-        rules = Game(expressions(f"(role red) (role blue) (init s) (next s) (legal blue n) {' '.join(f'(legal red {move})' for move in moves)}"))
+        rules = Game(f"(role red) (role blue) (init s) (next s) (legal blue n) {' '.join(f'(legal red {move})' for move in moves)}")
         places = {("moves",): [["x", "n"]], ("errors",): [["", ""]], ("states",): [["s"], ["s"]]}
         self.assertEqual(said_of("illegal 0 0", places, rules), ["Turn 1, role red: the move is not legal.", f"expected one of 23: {', '.join(moves[:20])}, and 3 more", "found: x"])
         for error, said in (("", None), ("TO", "beside the error TO the first legal move must stand"), ("IL m07", "beside the error IL m07 the first legal move must stand")):
@@ -136,7 +139,7 @@ class Faults(unittest.TestCase):
             ("(init s) (legal red m)", "nolegal 1", "the role blue has no legal move"),
             ("(init s) (<= terminal (true s)) (goal red 1)", "nogoal 1", "the state is terminal, and the role blue has not exactly one goal"),
         ):
-            rules = Game(expressions(f"(role red) (role blue) {text}"))
+            rules = Game(f"(role red) (role blue) {text}")
             ended = {("moves",): [], ("errors",): [], ("states",): [["s"]], ("goalValues",): [], ("phase",): "aborted", ("cause",): cause}
             self.assertEqual(said_of("end", ended, rules)[0], "The interpreter finds no fault")
             self.assertEqual(said_of("end", {**ended, ("cause",): "asked"}, rules), [
@@ -155,15 +158,15 @@ class Faults(unittest.TestCase):
         self.assertEqual(said_of("x", {("version",): 1, ("strikes",): "gone", ("errors", 0, 1): "CE"})[0], "The interpreter finds no fault")
 
     def test_places_where_a_text_is_no_json(self):
-        none = "Python finds no place. A value is nested more than 127 deep, a number is none or past the range of binary64, or a surrogate pair is not whole."
+        none = "The text is not JSON: a value is nested more than 127 deep, a number is not one or past the range of binary64, or a surrogate pair is not whole."
         more = "More follows the first record: give one record at a time, without its account. With --lines each line is one."
         for text, *lines in (
-            (b'{\n"\xff"', "The text is no JSON: line 2, byte 2 of it: no UTF-8."), (b'\xff', "The text is no JSON: line 1, byte 1 of it: no UTF-8."),
-            (b"\n\xff", "The text is no JSON: line 2, byte 1 of it: no UTF-8."), (b"{} x", "The text is no JSON: line 1, column 4: Extra data."),
-            (b"{}\n{}", "The text is no JSON: line 2, column 1: Extra data.", more), (b"{}\n0\topen m 0\topened\n", "The text is no JSON: line 2, column 1: Extra data.", more),
-            (b"[" * 99_999, none), (b"[]", none), (b'x{"cause":1', "The text is no JSON: line 1, column 1: Expecting value."),
-            (b'{"cause":{"cause":1}', "The text is no JSON: line 1, column 21: Expecting ',' delimiter.", "Another record begins at byte 10: what stands before it was cut off, as where a file was written to the end of a half line."),
-            (b"1} ", "The text is no JSON: line 1, column 2: Extra data."),
+            (b'{\n"\xff"', "The text is not JSON: line 2, byte 2 of it: it is not UTF-8."), (b'\xff', "The text is not JSON: line 1, byte 1 of it: it is not UTF-8."),
+            (b"\n\xff", "The text is not JSON: line 2, byte 1 of it: it is not UTF-8."), (b"{} x", "The text is not JSON: line 1, column 4: more follows the value."),
+            (b"{}\n{}", "The text is not JSON: line 2, column 1: more follows the value.", more), (b"{}\n0\topen m 0\topened\n", "The text is not JSON: line 2, column 1: more follows the value.", more),
+            (b"[" * 99_999, none), (b"[]", none), (b'x{"cause":1', "The text is not JSON: line 1, column 1: a value is missing."),
+            (b'{"cause":{"cause":1}', "The text is not JSON: line 1, column 21: `,` is missing.", "Another record begins at byte 10: what is before it was cut off, for example since a file was written to the end of a half line."),
+            (b"1} ", "The text is not JSON: line 1, column 2: more follows the value."),
         ):
             self.assertEqual(list(explanation("json", Game(countdown(3)), text)), lines, text)
 
@@ -174,8 +177,8 @@ class Faults(unittest.TestCase):
 
 class Words(unittest.TestCase):
     def test_a_text_is_shown_in_visible_characters_up_to_a_length(self):
-        self.assertEqual(shown("a b~\n\xe9\U0001f600"), "a b~\\u{a}\\u{e9}\\u{1f600}")
-        self.assertEqual((shown("x" * 400), shown("x" * 401), shown("x" * 5, 5), shown("x" * 6, 5), shown("\x7f")), ("x" * 400, "x" * 400 + "..", "xxxxx", "xxxxx..", "\\u{7f}"))
+        self.assertEqual(short("a b~\n\xe9\U0001f600"), "a b~\\u{a}\\u{e9}\\u{1f600}")
+        self.assertEqual((short("x" * 400), short("x" * 401), short("\x7f")), ("x" * 400, "x" * 400 + "..", "\\u{7f}"))
 
     def test_of_a_list_the_first_twenty(self):
         words = [f"w{at}" for at in range(1_300)]
@@ -184,7 +187,7 @@ class Words(unittest.TestCase):
         self.assertTrue(explain.listed(words).endswith(", w19, and 1,280 more"))
 
     def test_numbers_of_things(self):
-        self.assertEqual([explain.counted(number, "turn") for number in (0, 1, 2, 1_000)], ["0 turns", "1 turn", "2 turns", "1,000 turns"])
+        self.assertEqual([counted(number, "turn") for number in (0, 1, 2, 1_000)], ["0 turns", "1 turn", "2 turns", "1,000 turns"])
 
     def test_the_role_of_a_cause_is_named(self):
         names = ["red", "blue"]
@@ -198,9 +201,9 @@ class Verdicts(WithStandIn):
     def no_verdict(self, ask, *answer) -> tuple[str, int]:
         self.begin_anew()
         self.answers(*answer)
-        with self.assertRaises(NoVerdict) as why:
+        with self.assertRaises(Ended) as why:
             ask()
-        return why.exception.args
+        return str(why.exception), why.exception.status
 
     def test_of_one_record(self):
         path = self.referee.path
@@ -215,17 +218,17 @@ class Verdicts(WithStandIn):
             judged(self.referee.path, [], b"{}")
 
         path = self.referee.path
-        self.assertEqual(self.no_verdict(ask, b"lawful\n", b"", 1), (f"ggp-explain-record: {path} gives no verdict, and its status is 1", 3))
-        self.assertEqual(self.no_verdict(ask, b"lawful", b"", 0), (f"ggp-explain-record: {path} gives no verdict, and its status is 0", 3))
+        self.assertEqual(self.no_verdict(ask, b"lawful\n", b"", 1), (f"{path} gives no verdict, and its status is 1", 3))
+        self.assertEqual(self.no_verdict(ask, b"lawful", b"", 0), (f"{path} gives no verdict, and its status is 0", 3))
         self.assertEqual(self.no_verdict(ask, b"", b"ggp_manager: not lawful: state 1\n", 2), ("ggp_manager: not lawful: state 1", 3))
         self.assertEqual(self.no_verdict(ask, b"", b"a\nggp_manager: wrong use\n", 2), ("a\nggp_manager: wrong use", 2))
         self.assertEqual(self.no_verdict(ask, b"", b"ggp_manager: wrong use\nggp_manager: want of memory\n", 3), ("ggp_manager: wrong use\nggp_manager: want of memory", 3))
 
     def test_a_program_that_can_not_be_run(self):
-        for path, words in (("/none", "No such file or directory"), ("a\0b", "embedded null byte")):
-            with self.assertRaises(NoVerdict) as why:
+        for path, words in (("/none", "No such file or directory"), ("a\0b", "its name has a byte 0")):
+            with self.assertRaises(Ended) as why:
                 judged(path, [], b"")
-            self.assertEqual(why.exception.args, (f"ggp-explain-record: {path} can't be run: {words}", 3))
+            self.assertEqual((str(why.exception), why.exception.status), (f"{path} can't be run: {words}", 3))
 
     def test_of_lines(self):
         path = self.referee.path
@@ -237,21 +240,23 @@ class Verdicts(WithStandIn):
         wrong = "gives no verdict, and its status is"
         for answer, status in (((b"lawful\n" * 2, b"", 0), 0), ((b"lawful\n", b"", 1), 1), ((b"not lawful: goals\n", b"", 0), 0), ((b"not lawful: goals\n", b"", 2), 2), ((b"lawfull\n", b"", 0), 0), ((b"", b"", 0), 0)):
             said = self.no_verdict(lambda: judged_lines(path, [], [b"{}"]), *answer)
-            self.assertEqual(said, (f"ggp-explain-record: {path} {wrong} {status}", 3), answer)
+            self.assertEqual(said, (f"{path} {wrong} {status}", 3), answer)
 
-    def lines_of(self, data: bytes) -> tuple[Lines, list[str]]:
-        file = self.folder / "records"
+    def lines_of(self, data: bytes) -> tuple[str, list[str]]:
+        """Returns how many records of some lines are lawful, and what is said of the others."""
+        file, out, said = self.folder / "records", io.StringIO(), io.StringIO()
         file.write_bytes(data)
-        lines = Lines(str(file))
-        return lines, list(explain_lines(argparse.Namespace(program=self.referee.path, countdown="3", rules_file=None), lines))
+        with contextlib.redirect_stdout(out), contextlib.redirect_stderr(said):
+            explain_lines(argparse.Namespace(program=self.referee.path, countdown="3", rules_file=None, record=str(file)))
+        return said.getvalue().removeprefix("ggp-explain-record: ").strip(), out.getvalue().splitlines()
 
     def test_only_what_is_not_lawful_is_named(self):
         record, account = RECORD.read_bytes(), b"0\tnext m 0\tover\n"
         self.answers(b"lawful\nnot lawful: goals\nnot lawful: json\nnot lawful: shape cause\n", b"", 1)
-        lines, said = self.lines_of(account + record + record.replace(b"[0,100]", b"[100,0]") + b"{\n" + account + b'{"matchId":7}\n')
+        count, said = self.lines_of(account + record + record.replace(b"[0,100]", b"[100,0]") + b"{\n" + account + b'{"matchId":7}\n')
         self.assertEqual([line for line in said if not line.startswith("\t")], ["line 3, match m1: not lawful: goals", "line 4: not lawful: json", "line 6: not lawful: shape cause"])
         self.assertEqual(said[1], "\tA record of the phase finished has the goals of the last state.")
-        self.assertEqual((lines.lawful, lines.unlawful, lines.skipped, lines.words()), (1, 3, 2, "1 lawful, 3 not lawful, 2 lines of accounts skipped"))
+        self.assertEqual(count, "1 lawful, 3 not lawful, 2 lines of accounts skipped")
         self.assertEqual(self.asked()[1].count(b"\n"), 4)
 
     def test_a_line_that_is_too_long_is_no_record(self):
@@ -259,42 +264,42 @@ class Verdicts(WithStandIn):
         self.answers(b"lawful\n")
         for _ in range(2):
             self.answers()
-        lines, said = self.lines_of(b"{" + b" " * (most - 2) + b"}\n" + b"{" + b" " * (most - 1) + b"}\n")
-        self.assertEqual(said, ["line 2: no record: it is longer than 16 MiB"])
-        self.assertEqual((lines.lawful, lines.unlawful, len(self.asked()[1])), (1, 1, most + 1))
+        count, said = self.lines_of(b"{" + b" " * (most - 2) + b"}\n" + b"{" + b" " * (most - 1) + b"}\n")
+        self.assertEqual((count, said), ("1 lawful, 1 not lawful", ["line 2: no record: it is longer than 16 MiB"]))
 
     def test_lines_behind_one_that_is_too_long_have_their_own_verdicts(self):
         self.answers(b"lawful\nnot lawful: json\nlawful\n", b"", 1)
-        with mock.patch.object(explain, "LONGEST_RECORD", 4):
-            lines, said = self.lines_of(b"{}\n{   }\n[]\n{   }\n{ }\n")
+        with mock.patch("ggp_tools.records.collection.LONGEST_RECORD", 4):
+            count, said = self.lines_of(b"{}\n{   }\n[]\n{   }\n{ }\n")
         named = ["line 2: no record: it is longer than 16 MiB", "line 3: not lawful: json", "line 4: no record: it is longer than 16 MiB"]
         self.assertEqual([line for line in said if not line.startswith("\t")], named)
-        self.assertEqual((lines.lawful, lines.unlawful, self.asked()[1]), (2, 3, b"{}\n[]\n{ }\n"))
+        self.assertEqual((count, self.asked()[1]), ("2 lawful, 3 not lawful", b"{}\n[]\n{ }\n"))
 
     def test_lines_are_handed_over_some_megabytes_at_a_time(self):
         self.answers(b"lawful\n" * 2)
         self.answers(b"lawful\n" * 3)
-        self.answers()
-        with mock.patch("ggp_tools.records.explain.BATCH", 7):
-            lines, said = self.lines_of(b"{}\n{ }  \n[]\n[  ]\n{}\n")
-        self.assertEqual((said, lines.words(), self.asked(0)[1], self.asked(1)[1]), ([], "5 lawful, 0 not lawful", b"{}\n{ }  \n", b"[]\n[  ]\n{}\n"))
+        with mock.patch("ggp_tools.records.collection.BATCH", 7):
+            count, said = self.lines_of(b"{}\n{ }  \n[]\n[  ]\n{}\n")
+        self.assertEqual((said, count, self.asked(0)[1], self.asked(1)[1]), ([], "5 lawful, 0 not lawful", b"{}\n{ }  \n", b"[]\n[  ]\n{}\n"))
 
     def test_without_lines_the_words_are_looked_at(self):
         self.answers()
         self.assertEqual((self.lines_of(b"")[1], self.asked()), ([], (["verify", "--lines", "--countdown=3"], b"")))
 
     def test_a_line_may_have_no_name(self):
-        for data, name in ((b'{"matchId":"a\\u0001"}', "line 7, match a\\u{1}"), (b"[]", "line 7"), (b"{}", "line 7"), (b"[" * 99_999, "line 7"), (b"x", "line 7"), (b'{"matchId":["m"]}', "line 7")):
-            self.assertEqual(explain.named_line(7, data), name)
+        lines = (b'{"matchId":"a\\u0001"}', b"[]", b"{}", b"[" * 99_999, b"x", b'{"matchId":["m"]}')
+        self.answers(b"not lawful: goals\n" * len(lines), b"", 1)
+        said = [line.partition(": ")[0] for line in self.lines_of(b"\n".join(lines))[1] if not line.startswith("\t")]
+        self.assertEqual(said, ["line 1, match a\\u{1}", *(f"line {at}" for at in range(2, 7))])
 
     def test_a_file_is_read_up_to_one_more_than_the_most(self):
         file = self.folder / "file"
         file.write_bytes(b"x" * 20)
         self.assertEqual((len(read(str(file), 19)), len(read(str(file), 10)), len(read(str(file), 30))), (20, 11, 20))
-        for path, words in ((str(self.folder), "Is a directory"), ("/none", "No such file or directory"), ("a\0", "embedded null byte")):
-            with self.assertRaises(NoVerdict) as why:
+        for path, words in ((str(self.folder), "Is a directory"), ("/none", "No such file or directory")):
+            with self.assertRaises(OSError) as why:
                 read(path, 10)
-            self.assertEqual(why.exception.args, (f"ggp-explain-record: {path} can't be read: {words}", 3))
+            self.assertEqual((why.exception.filename, why.exception.strerror), (path, words))
 
 
 class Commands(WithStandIn):
@@ -311,20 +316,18 @@ class Commands(WithStandIn):
     def test_standard_input_and_output(self):
         for words in ([], ["--lines"]):
             ran = subprocess.run([sys.executable, EXPLAIN, "/none", *words, "--countdown=3"], preexec_fn=lambda: os.close(0), capture_output=True, text=True)
-            self.assertEqual((ran.returncode, ran.stdout, ran.stderr), (3, "", "ggp-explain-record: standard input can't be read: Bad file descriptor\n"))
+            self.assertEqual((ran.returncode, ran.stdout, ran.stderr), (3, "", "ggp-explain-record: standard input: it is closed\n"))
         self.answers(b"lawful\n")
         words = sys.executable, EXPLAIN, self.referee.path, RECORD, "--countdown=3"
         self.assertEqual(subprocess.run(words, capture_output=True).stdout, b"lawful\n")
-        with mock.patch.object(explain.sys, "stderr", None):
-            explain.say("x")
 
     def run_main(self, *words: str, answer=(b"lawful\n",)) -> tuple[int, str, str]:
         """Returns the status, what was printed and what was said of a run in this process."""
         self.begin_anew()
         self.answers(*answer)
-        output, said = [], io.StringIO()
-        with mock.patch("sys.argv", ["x", self.referee.path, *words]), mock.patch.object(explain, "put", lambda lines: output.extend(lines)), mock.patch("sys.stderr", said):
-            return explain.main(), "\n".join(output), said.getvalue()
+        output, said = io.StringIO(), io.StringIO()
+        with mock.patch("sys.argv", ["x", self.referee.path, *words]), contextlib.redirect_stdout(output), contextlib.redirect_stderr(said):
+            return explain.main(), output.getvalue().removesuffix("\n"), said.getvalue()
 
     def test_one_record_or_lines(self):
         wrong = (b"", b"ggp_manager: not lawful: version\n", 1)
@@ -344,9 +347,9 @@ class Commands(WithStandIn):
         self.assertEqual(kept, [b"(role red)"])
 
     def test_without_a_verdict_the_status_says_so(self):
-        self.assertEqual(self.run_main("/none", "--countdown=3"), (3, "", "ggp-explain-record: /none can't be read: No such file or directory\n"))
+        self.assertEqual(self.run_main("/none", "--countdown=3"), (3, "", "ggp-explain-record: /none: No such file or directory\n"))
         self.assertEqual(self.run_main(str(RECORD), "--countdown=3", answer=(b"", b"ggp_manager: wrong use\n", 2)), (2, "", "ggp_manager: wrong use\n"))
-        for fault, words in ((MemoryError(), "out of memory"), (OSError(28, "full"), "standard output can't be written: full"), (OSError(28, "full", "x"), "x can't be written: full")):
+        for fault, words in ((MemoryError(), "out of memory"), (OSError(28, "full"), "full"), (OSError(28, "full", "x"), "x: full")):
             with mock.patch.object(explain, "explain_one", side_effect=fault):
                 self.assertEqual(self.run_main(str(RECORD), "--countdown=3"), (3, "", f"ggp-explain-record: {words}\n"))
 
@@ -376,18 +379,18 @@ class Whole(unittest.TestCase):
 
     def test_a_record_that_was_cut(self):
         whole = RECORD.read_text().strip()
-        end, begin = "The text ends within the record: its end was cut off.", "The text begins within a record: its beginning was cut off."
+        end, begin = "The text ends within the record: its end was cut off, or it is on several lines where each line must be a record.", "The text begins within a record: its beginning was cut off."
         for length in range(1, len(whole)):
             with self.subTest(length):
-                self.assertEqual(explain.json_lines(whole[:length].encode())[1:], [end])
+                self.assertEqual(json_lines(whole[:length].encode())[1:], [end])
         for at in range(1, len(whole) - 1):
-            said = explain.json_lines(whole[at:].encode())
+            said = json_lines(whole[at:].encode())
             with self.subTest(at):
-                self.assertTrue(said[1:] == [begin] or whole[at:].startswith("[") or '"' not in whole[at:] or "Extra data" in said[0], said)
-        again = explain.json_lines(f"{whole[:50]}{whole}".encode())
-        self.assertIn("Another record begins at byte 51: what stands before it was cut off", again[1])
+                self.assertTrue(said[1:] == [begin] or whole[at:].startswith("[") or '"' not in whole[at:] or "more follows" in said[0], said)
+        again = json_lines(f"{whole[:50]}{whole}".encode())
+        self.assertIn("Another record begins at byte 51: what is before it was cut off", again[1])
         for text in (b'{"a":\n x}', b"", b"no record", b'{"a" 1, "b": {'):
-            self.assertEqual(explain.json_lines(text)[1:], [], text)
+            self.assertEqual(json_lines(text)[1:], [], text)
 
     def test_records_one_a_line_by_one_run_of_the_program(self):
         record = json.loads(RECORD.read_text())
@@ -413,10 +416,10 @@ class Whole(unittest.TestCase):
         for words, status, said in (
             (("--countdown", "101"), 2, "ggp_manager: wrong use"),
             (("--countdown", "x"), 2, "ggp_manager: wrong use"),
-            (("--rules-file", "none"), 3, "ggp-explain-record: none can't be read: No such file or directory"),
+            (("--rules-file", "none"), 3, "ggp-explain-record: none: No such file or directory"),
             (("--rules-file", str(RECORD)), 3, "ggp_manager: bad description"),
-            (("--countdown", "3", "none"), 3, "ggp-explain-record: none can't be read: No such file or directory"),
-            (("--lines", "--countdown", "3", "none"), 3, "ggp-explain-record: none can't be read: No such file or directory"),
+            (("--countdown", "3", "none"), 3, "ggp-explain-record: none: No such file or directory"),
+            (("--lines", "--countdown", "3", "none"), 3, "ggp-explain-record: none: No such file or directory"),
             (("--lines", "--countdown", "x"), 2, "ggp_manager: wrong use"),
             (("--lines", "--rules-file", str(RECORD)), 3, "ggp_manager: bad description"),
         ):
@@ -430,6 +433,6 @@ class Whole(unittest.TestCase):
         words = [sys.executable, EXPLAIN, program(), "--countdown=3", RECORD]
         with open("/dev/full", "w") as full:
             ran = subprocess.run(words, stdout=full, stderr=subprocess.PIPE)
-        self.assertEqual((ran.returncode, ran.stderr), (3, b"ggp-explain-record: standard output can't be written: No space left on device\n"))
+        self.assertEqual((ran.returncode, ran.stderr), (3, b"ggp-explain-record: standard output: No space left on device\n"))
         ran = subprocess.run(words, preexec_fn=lambda: os.close(2), capture_output=True)
         self.assertEqual((ran.returncode, ran.stdout, ran.stderr), (0, b"lawful\n", b""))

@@ -12,8 +12,7 @@ from unittest import mock
 
 from ggp_tools.instantiating import gringo
 from ggp_tools.instantiating.gringo import Grounder, LogicProgram, TooMany, TooSlow, level_count, limit_process, term_list, term_text
-from ggp_tools.instantiating.relations import Relations
-from ggp_tools.instantiating.sentences import all_rules
+from ggp_tools.gdl import Relations, all_rules
 from ggp_tools.kif import Refused, expressions, levels, put, relation, spelled, variables
 from support import InFolder
 

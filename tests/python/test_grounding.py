@@ -7,8 +7,7 @@ from unittest import mock
 
 from ggp_tools.instantiating import rounds
 from ggp_tools.instantiating.grounding import ground, in_order, needed, possible, sentence_of, shortened
-from ggp_tools.instantiating.relations import Relations
-from ggp_tools.instantiating.sentences import Literal, Rule, all_rules
+from ggp_tools.gdl import Literal, Relations, Rule, all_rules
 from ggp_tools.instantiating.splitting import FEW_VARIABLES, MOST_LITERALS, split
 from ggp_tools.instantiating.for_players import text_for_players
 from ggp_tools.kif import Refused, expressions, put, spelled, variables

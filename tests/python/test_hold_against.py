@@ -2,22 +2,21 @@
 
 import argparse
 import contextlib
-import gc
+import gzip
 import io
 import json
-import os
 import pathlib
 import resource
 import signal
 import tempfile
 import types
 import unittest
-import warnings
 from unittest import mock
 
 from ggp_tools.holding import command
-from ggp_tools.holding.command import DIFFERENT, NOT_FOLLOWED, SAME, Holding, Late, hold, limit_memory, place_of, put, records_in, seconds, within
+from ggp_tools.holding.command import DIFFERENT, NOT_FOLLOWED, SAME, Holding, Late, hold, limit_memory, place_of, records_in, within
 from ggp_tools.kif import expressions
+from ggp_tools.streams import seconds
 from ground_matches import played
 
 ONE_TURN = "(role ann) (init s) (legal ann go) (<= terminal (true t)) (goal ann 50) (<= (next t) (does ann go))"
@@ -25,31 +24,22 @@ RECORD = json.dumps(played(expressions(ONE_TURN), 1))
 OTHER, WRONG = json.dumps({**json.loads(RECORD), "goalValues": [7]}), "{}"
 
 
+NO_KEY = """not followed: it is no record: expected in cause: null, "asked", "toolong", "allretired", "nolegal R" or "nogoal R", where R is the number of a role, from 0 on; found: no such key"""
+
+
 class Words(unittest.TestCase):
     def test_seconds(self):
         self.assertEqual([seconds(text) for text in ("0.001", "1", "1000000", "1e6")], [0.001, 1, 1_000_000, 1_000_000])
-        for text in ("0", "-1", "1000000.1", "nan", "inf"):
+        for text in ("0", "-1", "1000000.1", "nan", "inf", "x", ""):
             with self.assertRaises(argparse.ArgumentTypeError) as why:
                 seconds(text)
-            self.assertEqual(str(why.exception), f"{text} is not above 0 and up to 1,000,000")
-
-    def arguments(self, *words, stdin=io.StringIO()):
-        with mock.patch("sys.argv", ["x", *words]), mock.patch("sys.stdin", stdin), mock.patch("sys.stderr", io.StringIO()):
-            return command.arguments()
+            self.assertEqual(str(why.exception), f"{text} is not a number above 0 and up to 1,000,000")
 
     def test_what_is_given(self):
-        file = str(pathlib.Path(__file__))
-        found = self.arguments("--seconds", "2.5", file, file, file)
-        self.addCleanup(lambda: [file.close() for file in (found.description, *found.records)])
-        self.assertEqual((found.seconds, found.description.name, [record.name for record in found.records]), (2.5, file, [file, file]))
-        plain = self.arguments(file)
-        plain.description.close()
-        self.assertEqual((plain.seconds, plain.records), (60, []))
-        with self.assertRaises(SystemExit) as why:
-            self.arguments(file, stdin=None)
-        self.assertEqual(why.exception.code, 2)
-        with contextlib.closing(self.arguments(file, file, stdin=None).description) as description:
-            self.assertEqual(description.mode, "rb")
+        for words, wanted in ((["d"], (60, "d", [])), (["--seconds", "2.5", "d", "r", "s"], (2.5, "d", ["r", "s"])), (["d", "r", "--seconds", "1", "-"], (1, "d", ["r", "-"]))):
+            with mock.patch("sys.argv", ["x", *words]):
+                found = command.arguments()
+            self.assertEqual((found.seconds, found.description, found.records), wanted)
 
 
 class Held(unittest.TestCase):
@@ -58,8 +48,9 @@ class Held(unittest.TestCase):
         self.assertEqual(holding.held(RECORD), (SAME, "the same: 1 turns"))
         status, words = holding.held(OTHER)
         self.assertEqual((status, words.startswith("differs: ann has the goal 7 in the record")), (DIFFERENT, True))
-        self.assertEqual(holding.held(WRONG), (NOT_FOLLOWED, "not followed: it is no record: roles is missing, or of another kind"))
-        self.assertEqual(Holding("(p").held(RECORD), (NOT_FOLLOWED, "not followed: line 1: a list that is not closed"))
+        self.assertEqual(holding.held(WRONG), (NOT_FOLLOWED, NO_KEY))
+        self.assertEqual(Holding("(p", "a.kif").held(RECORD), (NOT_FOLLOWED, "not followed: a.kif: line 1, column 1: a list that is not closed; add a `)`"))
+        self.assertEqual(Holding("(role a)\n(<= p (q ?x) (not (r ?y)))", "a.kif").held(RECORD)[1], "not followed: a.kif: line 2, column 1: ?y is unsafe: no sentence of the body that is not negated has it: (<= p (q ?x) (not (r ?y))); add a condition with ?y that is not negated")
         with mock.patch.object(command.Following, "follow", side_effect=command.Differs("one\ntwo")):
             self.assertEqual(holding.held(RECORD), (DIFFERENT, "differs: one; two"))
         self.assertEqual((SAME, DIFFERENT, NOT_FOLLOWED), (0, 1, 3))
@@ -110,13 +101,13 @@ class Seconds(unittest.TestCase):
     def test_each_record_has_its_own(self):
         times = []
         with mock.patch.object(signal, "setitimer", lambda kind, limit: times.append((kind, limit))):
-            self.assertEqual(list(hold(ONE_TURN, [RECORD, WRONG], 2.5)), [(SAME, "the same: 1 turns"), (NOT_FOLLOWED, "not followed: it is no record: roles is missing, or of another kind")])
+            self.assertEqual(list(hold(Holding(ONE_TURN), [RECORD, WRONG], 2.5)), [(SAME, "the same: 1 turns"), (NOT_FOLLOWED, NO_KEY)])
         self.assertEqual(times, [(signal.ITIMER_PROF, 2.5), (signal.ITIMER_PROF, 0)] * 2)
 
     def test_where_they_are_over_it_is_told(self):
         with mock.patch.object(command.Following, "follow", lambda *_: signal.raise_signal(signal.SIGPROF)):
-            self.assertEqual(list(hold(ONE_TURN, [RECORD], 90.0)), [(NOT_FOLLOWED, "not followed: its time was over, after 90 s")])
-        self.assertEqual(list(hold(ONE_TURN, [RECORD], 90.0)), [(SAME, "the same: 1 turns")])
+            self.assertEqual(list(hold(Holding(ONE_TURN), [RECORD], 90.0)), [(NOT_FOLLOWED, "not followed: its time was over, after 90 s")])
+        self.assertEqual(list(hold(Holding(ONE_TURN), [RECORD], 90.0)), [(SAME, "the same: 1 turns")])
 
     def test_they_may_be_over_when_all_is_said(self):
         calls = iter([None, Late])
@@ -137,35 +128,22 @@ class Streams(unittest.TestCase):
                 limit_memory()
             self.assertEqual(limited.call_args.args, (resource.RLIMIT_AS, (wanted, limits[1])), limits)
 
-    def test_lines_are_plain(self):
-        with mock.patch("sys.stdout", io.StringIO()) as out:
-            put("a \u00e9\U0001f600~")
-        self.assertEqual(out.getvalue(), "a \\xe9\\U0001f600~\n")
-
-    def test_a_full_output_is_named_and_gets_no_more(self):
-        with open("/dev/full", "w") as full, mock.patch("sys.stdout", full):
-            with self.assertRaises(OSError) as why:
-                put("x")
-            self.assertEqual((why.exception.errno, why.exception.strerror, why.exception.filename), (28, "No space left on device", "standard output"))
-            self.assertEqual(os.fstat(full.fileno()).st_rdev, os.stat(os.devnull).st_rdev)
-
     def test_lines_that_are_not_empty(self):
-        files = io.BytesIO(b"a\n\n \n b\n"), io.BytesIO(b""), io.BytesIO(b"c")
-        self.assertEqual(list(records_in(files)), [b"a\n", b" b\n", b"c"])
+        with tempfile.TemporaryDirectory() as room:
+            files = [pathlib.Path(room, name) for name in "abc"]
+            for file, data in zip(files, (b"a\n\n \n b\n", b"", gzip.compress(b"c"))):
+                file.write_bytes(data)
+            self.assertEqual(list(records_in(map(str, files))), [b"a\n", b" b\n", b"c"])
 
     def main(self, *lines, text=ONE_TURN):
-        """Returns the status of a run, its lines, and what it says of faults."""
+        """Returns the status of a run, its lines, and what it says of errors."""
         with tempfile.TemporaryDirectory() as room:
             (description := pathlib.Path(room) / "d").write_text(text)
             (records := pathlib.Path(room) / "r").write_text("".join(f"{line}\n" for line in lines))
-            said, out, words = io.StringIO(), [], ["x", str(description), str(records)]
-            with mock.patch("sys.argv", words), mock.patch("sys.stderr", said), mock.patch.object(command, "limit_memory"), mock.patch.object(command.sys, "setrecursionlimit"), mock.patch.object(command, "put", out.append):
-                # The process that the command is for ends with it, and its files with the process.
-                with warnings.catch_warnings(action="ignore", category=ResourceWarning):
-                    status = command.main()
-                    # Else a later run may say that these files are open.
-                    gc.collect()
-                return status, out, said.getvalue()
+            out, said = io.StringIO(), io.StringIO()
+            with mock.patch("sys.argv", ["x", str(description), str(records)]), contextlib.redirect_stdout(out), contextlib.redirect_stderr(said):
+                with mock.patch.object(command, "limit_memory"), mock.patch.object(command.sys, "setrecursionlimit"):
+                    return command.main(), out.getvalue().splitlines(), said.getvalue()
 
     def test_the_worst_of_all_is_the_status(self):
         for lines, status in (((), 0), ((RECORD,), 0), ((RECORD, WRONG), 3), ((WRONG, RECORD, OTHER), 1), ((OTHER, RECORD), 1)):
@@ -173,6 +151,6 @@ class Streams(unittest.TestCase):
             self.assertEqual((found, len(out), said), (status, len(lines), ""), lines)
 
     def test_a_fault_of_a_file(self):
-        for fault, words in ((OSError(5, "bad", "f"), "f: bad"), (OSError(5, "bad"), "a file: bad")):
+        for fault, words in ((OSError(5, "bad", "f"), "f: bad"), (OSError(5, "bad"), "bad"), (MemoryError(), "out of memory")):
             with mock.patch.object(command, "hold", side_effect=fault):
                 self.assertEqual(self.main(RECORD), (2, [], f"ggp-hold-against: {words}\n"))

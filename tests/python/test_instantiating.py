@@ -13,7 +13,7 @@ import unittest.mock
 from ggp_tools.instantiating import folding, forms, limits, making, rounds
 from ggp_tools.instantiating.endless import endless
 from ggp_tools.instantiating.grounding import sentence_of
-from ggp_tools.instantiating.sentences import GAME, Literal, Rule, all_rules
+from ggp_tools.gdl import GAME, Literal, Rule, all_rules
 from ggp_tools.instantiating.splitting import MOST_LITERALS, split
 from ggp_tools.instantiating.for_players import text_for_players
 from ggp_tools.kif import Refused, expressions, put, relation, spelled, variables

@@ -4,9 +4,10 @@ import json
 import subprocess
 
 import pytest
-from ggp_tools.records import show
+from ggp_tools.records import record as records
 from ggp_tools.records.lengths import USUAL_RECORD, first_states, longest_record, without_states
-from ggp_tools.records.show import NoRecord, page_of, read_record
+from ggp_tools.records.record import NoRecord, read_record
+from ggp_tools.records.show import page_of
 from support import GAMES, program
 
 STATES = [["(heap 2)"], ["(heap 1)", '(a "b" ],"strikes":)'], ["(heap 0)"]]
@@ -35,7 +36,7 @@ def test_a_page_of_a_long_record_has_its_first_states(monkeypatch):
     whole = page_of(read_record(DATA))
     assert b"The record has more than" not in whole
     rest = len(without_states(DATA)) + 10
-    monkeypatch.setattr(show, "LONGEST_RECORD", rest)
+    monkeypatch.setattr(records, "LONGEST_RECORD", rest)
     data = DATA.replace(b'["(heap 0)"]', b'["(heap 0)","' + b"x" * rest + b'"]')
     record = read_record(data)
     assert (record["states"], len(record["moves"])) == (STATES[:2], 2)

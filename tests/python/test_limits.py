@@ -10,7 +10,7 @@ from ggp_tools.instantiating import forms, limits
 from ggp_tools.instantiating.endless import endless, fits
 from ggp_tools.instantiating.limits import atoms_of, costs_of, dearest, is_high, refuse_faults, without_high_goals
 from ggp_tools.instantiating.making import NEVER, Making
-from ggp_tools.instantiating.sentences import Literal, Rule, all_rules
+from ggp_tools.gdl import Literal, Rule, all_rules
 from ggp_tools.kif import Refused, expressions, put, told, variables
 
 

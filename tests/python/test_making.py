@@ -19,7 +19,7 @@ GAME = """(role r) (role s) (init (c 1)) (succ 1 2) (succ 2 3)
 def made(text, wanted=WHERE_NEEDED, seconds=60, is_split=False, is_large=False):
     """Returns what is made, or why it is refused, and what is said."""
     lines = []
-    with mock.patch.object(making, "say", lines.append):
+    with mock.patch.object(making, "report", lines.append):
         try:
             found = Making(text, seconds, wanted, is_split, is_large).run()
         except Refused as why:
@@ -135,5 +135,5 @@ class Made(unittest.TestCase):
 
     def test_without_standard_error_nothing_is_said_elsewhere(self):
         with mock.patch("sys.stderr", None), contextlib.redirect_stdout(io.StringIO()) as out:
-            making.say("x")
+            making.report("x")
         self.assertEqual(out.getvalue(), "")

@@ -19,10 +19,9 @@ import unittest
 from collections.abc import Callable
 from unittest import mock
 
-from ggp_tools import ground_games
 from ggp_tools.holding.command import DIFFERENT, SAME, Holding
 from ggp_tools.instantiating import making, rounds
-from ggp_tools.kif import Expression, relation
+from ggp_tools.kif import Expression, relation, spelled
 from ground_matches import Record, Sentences, begun, description, ended, instantiated, played, played_again
 from support import program
 
@@ -148,7 +147,7 @@ def asked(command: str, rules: str, data: str) -> list[str]:
 def made_by_program(sentences: Sentences, record: Record) -> str:
     """The record that the program makes of the same answers by these rules. It has to find that lawful, and to replay it."""
     with tempfile.NamedTemporaryFile("w", suffix=".kif") as file:
-        file.write("".join(f"{ground_games.text_of(sentence)}\n" for sentence in sentences))
+        file.write("".join(f"{spelled(sentence)}\n" for sentence in sentences))
         file.flush()
         script = script_of(record)
         *replies, line = asked("desk", file.name, "".join(f"{text}\n" for text in script))

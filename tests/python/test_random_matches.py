@@ -10,8 +10,9 @@ from unittest import mock
 
 from ggp_tools.descriptions import random_matches
 from ggp_tools.descriptions.random_matches import Played, RandomMatches, lines_of, named, sum_of, turn_lines
-from ggp_tools.ground_games import Game, Match, text_of, texts_of
-from ggp_tools.kif import expressions
+from ggp_tools.holding.game import Game
+from ggp_tools.holding.match import Match, texts_of
+from ggp_tools.kif import expressions, spelled
 from ggp_tools.referee import Referee, Unchecked
 from live_support import RULES
 
@@ -26,7 +27,7 @@ def desk_of(rules, kept, changes=(), **answer):
 
     def desk(words, input, **more):
         kept.append((words, input.decode(), more))
-        game, matches = Game(expressions(rules.decode())), {}
+        game, matches = Game(rules.decode()), {}
         for line in input.decode().splitlines():
             word, name, *rest = line.split(" ", 5 if line.startswith("open") else 4)
             if word == "open":
@@ -79,12 +80,12 @@ class Matches(WithDesk):
         whole = self.play(RULES, 1, 12).ended
         self.assertEqual([self.play(RULES, seed).ended[0] for seed in range(1, 13)], whole)
         self.assertEqual({match.turns for match in whole}, {2, 3})
-        dice, game = random.Random(5), Game(expressions(RULES.decode()))
+        dice, game = random.Random(5), Game(RULES.decode())
         match = Match(game, "m", 1, 1, ["a", "b"])
         match.marks["start"] = {0: "", 1: ""}
         while match.phase()[0] == "playing":
-            match.turn([(dice.choice(game.legal(match.states[-1], role)), "") for role in game.roles])
-        moves = [text_of(move) for turn in match.moves for move in turn]
+            match.turn([(dice.choice(match.legal(role)), "") for role in game.roles])
+        moves = [spelled(move) for turn in match.moves for move in turn]
         self.play(RULES, 5)
         script = self.kept[-1][1].splitlines()
         self.assertEqual([line.split(" ", 4)[4] for line in script if not line.startswith("open") and not line.endswith(("READY", "DONE"))], moves)
@@ -168,7 +169,7 @@ class Matches(WithDesk):
 
 class Scripts(WithDesk):
     def played(self, turns):
-        match = Played(Game(expressions(ENDLESS.decode())), "m", ["p0", "p1"])
+        match = Played(Game(ENDLESS.decode()), "m", ["p0", "p1"])
         match.marks["start"] = {0: "", 1: ""}
         for _ in range(turns):
             match.turn([("go", ""), ("wait", "")])
@@ -184,10 +185,10 @@ class Scripts(WithDesk):
 
     def test_of_most_states_sums_are_kept(self):
         match = self.played(2)
-        state = texts_of(match.game.initial())
-        self.assertEqual(match.states, [sum_of(state), sum_of(state), match.game.initial()])
+        state = texts_of(match.game.initial)
+        self.assertEqual(match.states, [sum_of(state), sum_of(state), match.game.initial])
         record = match.record()
-        self.assertEqual((record["states"], record["moves"], match.states), ([sum_of(state)] * 3, [["go", "wait"]] * 2, [sum_of(state), sum_of(state), match.game.initial()]))
+        self.assertEqual((record["states"], record["moves"], match.states), ([sum_of(state)] * 3, [["go", "wait"]] * 2, [sum_of(state), sum_of(state), match.game.initial]))
         self.assertNotEqual(sum_of(["a", "b"]), sum_of(["ab"]))
 
     def test_a_match_is_cut_to_the_turns_that_a_script_holds(self):
@@ -198,10 +199,10 @@ class Scripts(WithDesk):
                 match = self.played(5)
             match.marks["end"] = {0: "", 1: ""}
             match.shorten()
-            self.assertEqual((len(match.moves), len(match.errors), len(match.states), match.states[-1], match.marks["end"]), (turns, turns, turns + 1, match.game.initial(), {}), most)
+            self.assertEqual((len(match.moves), len(match.errors), len(match.states), match.states[-1], match.marks["end"]), (turns, turns, turns + 1, match.game.initial, {}), most)
 
     def test_a_match_that_one_script_does_not_hold_is_compared_as_far_as_it_does(self):
-        with mock.patch.object(random_matches, "MOST_BYTES", 10_500), mock.patch("ggp_tools.ground_games.MOST_TURNS", 400):
+        with mock.patch.object(random_matches, "MOST_BYTES", 10_500), mock.patch("ggp_tools.holding.match.MOST_TURNS", 400):
             found = self.play(ENDLESS, 3)
             self.assertEqual((found.ended[0].turns, found.ended[0].cause, found.differing), (400, "toolong", []))
             script = self.kept[0][1]

@@ -1,59 +1,36 @@
-"""The second reader of published descriptions: sentences with their lines, the rules that they come to, what is looked up first, how rules are
-compiled, and records that are followed."""
+"""How records are followed: the rules that a description comes to, what is looked up first, how rules are compiled, and what is told of a
+record."""
 
-import itertools
 import random
 import re
 import sys
 import unittest
 from unittest import mock
 
+from ggp_tools.gdl import all_rules
 from ggp_tools.holding import compiling
-from ggp_tools.holding.following import Differs, Following, fits, must_be_record, place_of
+from ggp_tools.holding.following import Differs, Following
 from ggp_tools.holding.game import Game
 from ggp_tools.holding.planning import Sizes, is_known, is_test
 from ggp_tools.holding.positions import Index, Position, Tables, Whole, by_functor, index_of
-from ggp_tools.holding.reading import (
-    Asked, Either, NotFollowed, Rule, Same, Sentence, all_rules, conditions_of, is_built, is_variable, low, products, relation_of, sentences_of, term_of, variables,
-    variables_of,
-)
-from ggp_tools.holding.relations import Relations, grouped
+from ggp_tools.holding.reading import Asked, Either, NotFollowed, Rule, Same, is_built, low, rules_of, term_of, tests_of, variables_of
+from ggp_tools.holding.relations import Relations
+from ggp_tools.instantiating.rounds import components
+from ggp_tools.kif import KifFault, Refused, expressions, fits, place
 
 
 def rules(text):
-    return all_rules(sentences_of(text))
+    return all_rules(expressions(text), rules_of)
 
 
-class Sentences(unittest.TestCase):
-    def test_each_has_its_number_and_the_line_in_which_it_begins(self):
-        self.assertEqual(sentences_of("(A b)\n ; (c\n\n(d\n (e)) F\n"), [Sentence(0, 1, ("a", "b")), Sentence(1, 4, ("d", ("e",))), Sentence(2, 5, "f")])
-        self.assertEqual((sentences_of(""), sentences_of("a;b\n;c"), sentences_of("()")), ([], [Sentence(0, 1, "a")], [Sentence(0, 1, ())]))
+def asked(name, *arguments, positive=True):
+    return Asked(positive, (name, len(arguments) or None), arguments)
 
-    def test_what_is_no_kif_has_its_line(self):
-        for text, words in (("a\n)", "line 2: a `)` with no open list"), ("a\n(b\n(c)\n", "line 2: a list that is not closed"), ("(a) (b", "line 1: a list that is not closed"), ("(a (b", "line 1: a list that is not closed")):
-            with self.assertRaises(NotFollowed) as why:
-                sentences_of(text)
-            self.assertEqual(str(why.exception), words)
 
-    def test_a_sentence_is_cited_up_to_160_characters(self):
-        self.assertEqual(Sentence(3, 7, ("p", "a" * 156)).cited(), f"sentence 3, line 7: (p {'a' * 156})")
-        self.assertEqual(Sentence(3, 7, ("p", "a" * 157)).cited(), f"sentence 3, line 7: (p {'a' * 157}..")
-
+class Terms(unittest.TestCase):
     def test_terms_and_variables(self):
         self.assertEqual((term_of("(Mark 1 (a b))"), term_of("x")), (("mark", "1", ("a", "b")), "x"))
-        self.assertEqual([is_variable(term) for term in ("?x", "x?", ("?x",), "?")], [True, False, False, True])
-        self.assertEqual((list(variables(("p", "?y", ("f", "?x", "?y")))), list(variables("?x")), list(variables("x"))), (["?y", "?x"], ["?x"], []))
-        self.assertEqual(list(variables_of(Either(((Asked(True, ("p", 1), ("?a",)),), (Same(False, ("?b", "?a")),))))), ["?a", "?b"])
-
-    def test_a_list_begins_with_a_name(self):
-        for text, words in (
-            ("((p) a)", "((p) a) is no term"), ("(p ())", "() is no term"), ("(p a ((b)))", "((b)) is no term"), ("(p (f a) (g (h ())))", "() is no term"),
-            ("(<= (p a) (q ((b))))", "((b)) is no term"), ("(<= p (q () b))", "() is no term"), ("()", "() is no term"),
-        ):
-            with self.assertRaises(NotFollowed) as why:
-                rules(text)
-            self.assertEqual(str(why.exception), f"sentence 0, line 1: {text}: {words}")
-        self.assertEqual(len(rules("p (p a) (p (f a) b) (<= p (q (f (g a))))")), 4)
+        self.assertEqual(list(variables_of(Either(((asked("p", "?a"),), (Same(False, ("?b", "?a")),))))), ["?a", "?b"])
 
     def test_a_text_is_one_term(self):
         for text in ("", "a b", "(a) b", " ; a"):
@@ -62,14 +39,7 @@ class Sentences(unittest.TestCase):
             self.assertEqual(str(why.exception), "it is no record: a text of it is not one term")
 
     def test_a_rule_may_have_no_condition(self):
-        self.assertEqual(rules("(<= (p a)) (<= q)"), [Rule(0, ("p", 1), ("a",), ()), Rule(1, ("q", None), (), ())])
-
-    def test_relations(self):
-        for atom, wanted in ((("p", "a"), (("p", 1), ("a",))), ("p", (("p", None), ())), (("terminal",), (("terminal", None), ())), ("terminal", (("terminal", None), ())), (("p",), (("p", 0), ()))):
-            self.assertEqual(relation_of(atom), wanted)
-        for atom in ("?x", ("?p", "a"), (("p",), "a"), ("<=", "a"), ("not", "a"), ("or", "a"), "and", "distinct", ("role", "a", "b"), ("goal", "a"), "role", ("terminal", "a"), ("does", "a")):
-            with self.assertRaises(NotFollowed):
-                relation_of(atom)
+        self.assertEqual(rules("(<= (p a)) (<= q) (<= (terminal) (p))"), [Rule(0, ("p", 1), ("a",), ()), Rule(1, ("q", None), (), ()), Rule(2, ("terminal", None), (), (Asked(True, ("p", 0), ()),))])
 
 
 def nested(levels):
@@ -83,27 +53,20 @@ def nested(levels):
 class Levels(unittest.TestCase):
     """64 lists in one another are taken, as the referee takes them, and 65 are refused."""
 
-    def assert_refused(self, words, ask, *asked):
-        with self.assertRaises(NotFollowed) as why:
-            ask(*asked)
-        self.assertEqual(str(why.exception), words)
-
     def test_lists_in_one_another_in_a_text(self):
-        self.assertEqual(sentences_of("a\n" + "(f " * 64 + "a" + ")" * 64)[1], Sentence(1, 2, nested(64)))
         self.assertEqual(term_of("(f " * 64 + "a" + ")" * 64), nested(64))
-        self.assert_refused("line 2: more than 64 lists in one another", sentences_of, "a\n(f\n" + "(f " * 64 + "a" + ")" * 65)
-        self.assert_refused("line 1: more than 64 lists in one another", term_of, "(f " * 65 + "a" + ")" * 65)
-        self.assertEqual(len(sentences_of(("(f " * 64 + "a" + ")" * 64) * 2)), 2)
-
-    def test_another_number_of_lists(self):
-        self.assertEqual(sentences_of("((a))", 2)[0].term, (("a",),))
-        self.assert_refused("line 1: more than 2 lists in one another", sentences_of, "(((a)))", 2)
+        with self.assertRaises(KifFault) as why:
+            term_of("(f " * 65 + "a" + ")" * 65)
+        self.assertEqual(str(why.exception), "more than 64 lists in one another")
+        self.assertEqual(expressions("(f " * 65 + "a" + ")" * 65, 65), [nested(65)])
 
     def test_lists_in_one_another_in_a_term_that_rules_make(self):
         for term in ("a", nested(1), nested(64), ("f", "a", nested(63), "b")):
             self.assertIs(low(term), term)
         for term in (nested(65), ("f", nested(64), "a"), ("f", "a", nested(64)), nested(200)):
-            self.assert_refused("a term has more than 64 lists in one another", low, term)
+            with self.assertRaises(NotFollowed) as why:
+                low(term)
+            self.assertEqual(str(why.exception), "a term has more than 64 lists in one another")
 
     def test_a_list_that_has_variables_is_built(self):
         self.assertEqual([is_built(term) for term in ("?x", "a", ("f", "a"), ("f", ("g", "?x")))], [False, False, False, True])
@@ -113,34 +76,20 @@ class Levels(unittest.TestCase):
         text = f"(role r) (legal r m) (init {deep}) (<= (next (f ?x)) (true ?x)) (<= terminal (true t)) (goal r 1)"
         record = {"roles": ["r"], "states": [[deep], [deeper]], "moves": [["m"]], "errors": [[""]], "goalValues": [], "phase": "playing", "cause": None}
         self.assertEqual(Following(Game(text)).follow(record), 1)
-        with self.assertRaises(NotFollowed):
+        with self.assertRaises(Refused):
             Game(text.replace(deep, deeper))
 
 
 class Conditions(unittest.TestCase):
-    P, Q = Asked(True, ("p", None), ()), Asked(True, ("q", None), ())
-    NO_P, NO_Q = P._replace(positive=False), Q._replace(positive=False)
-
-    def test_ways_of_literals(self):
-        p, q = self.P, self.Q
+    def test_tests_of_literals(self):
+        p, q = asked("p"), asked("q")
+        no_p, no_q = p._replace(positive=False), q._replace(positive=False)
         for literal, wanted in (
-            ("p", [[p]]), (("not", "p"), [[self.NO_P]]), (("not", ("not", "p")), [[p]]), (("and", "p", "q"), [[p, q]]), (("or", "p", "q"), [[p], [q]]),
-            (("not", ("and", "p", "q")), [[self.NO_P], [self.NO_Q]]), (("not", ("or", "p", "q")), [[self.NO_P, self.NO_Q]]),
-            (("distinct", "a", "?x"), [[Same(False, ("a", "?x"))]]), (("not", ("distinct", "a", "?x")), [[Same(True, ("a", "?x"))]]), (("or",), []), (("and",), [[]]),
+            ("p", [p]), (("not", "p"), [no_p]), (("not", ("not", "p")), [p]), (("and", "p", "q"), [p, q]), (("or", "p", "q"), [Either(((p,), (q,)))]),
+            (("not", ("and", "p", "q")), [Either(((no_p,), (no_q,)))]), (("not", ("or", "p", "q")), [no_p, no_q]), (("or", "p", ("and", "q", ("or", "p", "q"))), [Either(((p,), (q, Either(((p,), (q,))))))]),
+            (("distinct", "a", "?x"), [Same(False, ("a", "?x"))]), (("not", ("distinct", "a", "?x")), [Same(True, ("a", "?x"))]),
         ):
-            self.assertEqual(conditions_of(literal), wanted, literal)
-
-    def test_each_way_of_one_goes_with_each_of_the_others(self):
-        self.assertEqual(products([[[1], [2]], [[3, 4]]]), [[1, 3, 4], [2, 3, 4]])
-
-    def test_ten_thousand_ways_are_taken_and_no_more(self):
-        ten = [[str(at)] for at in range(10)]
-        self.assertEqual(products([ten] * 4), list(map(list, itertools.product("0123456789", repeat=4))))
-        self.assertEqual((products([]), products([[["a"]], []])), ([[]], []))
-        for many in ([ten, ten, ten, [["x"]] * 11], [[["x"]] * 73, [["x"]] * 137], [[["x"]] * 10_001]):
-            with self.assertRaises(NotFollowed) as why:
-                products(many)
-            self.assertEqual(str(why.exception), "its `or`s can hold in more than 10,000 ways")
+            self.assertEqual(tests_of(literal), wanted, literal)
 
     def test_up_to_a_hundred_ways_are_rules_and_of_more_each_or_is_a_relation(self):
         def sentence(*counts):
@@ -150,52 +99,24 @@ class Conditions(unittest.TestCase):
         self.assertEqual((len(few), {rule.relation for rule in few}, {len(rule.body) for rule in few}), (100, {("h", 2)}, {2}))
         self.assertEqual(len(rules(sentence(101, 1))), 102)
         many = rules(f"a {sentence(10, 11)}")
-        self.assertEqual({relation: sum(rule.relation == relation for rule in many) for relation in [("h", 2), ("or 1 0", 1), ("or 1 1", 1)]}, {("h", 2): 1, ("or 1 0", 1): 10, ("or 1 1", 1): 11})
-        self.assertEqual(len(many), 23)
+        self.assertEqual({relation: sum(rule.relation == relation for rule in many) for relation in [("h", 2), ("either1", 1), ("either2", 1)]}, {("h", 2): 1, ("either1", 1): 10, ("either2", 1): 11})
         whole, = (rule for rule in many if rule.relation == ("h", 2))
-        self.assertEqual(whole, Rule(1, ("h", 2), ("?a", "?b"), (Asked(True, ("or 1 0", 1), ("?a",)), Asked(True, ("or 1 1", 1), ("?b",)))))
-        self.assertIn(Rule(1, ("or 1 1", 1), ("?b",), (Asked(True, ("q10", 1), ("?b",)),)), many)
-
-    def test_an_or_of_which_one_way_binds_less_is_no_relation(self):
-        part = " ".join(f"(p{at} ?x)" for at in range(51))
-        found = rules(f"(<= (h ?x) (or {part}) (or (q ?x) (r a)))")
-        self.assertEqual([rule.body for rule in found if rule.relation == ("h", 1)], [
-            (Asked(True, ("or 0 0", 1), ("?x",)), Asked(True, ("q", 1), ("?x",))), (Asked(True, ("or 0 0", 1), ("?x",)), Asked(True, ("r", 1), ("a",))),
-        ])
-        self.assertEqual({rule.relation for rule in found}, {("h", 1), ("or 0 0", 1)})
-        # A way that only denies what it has of a variable does not bind it.
-        many = " ".join(f"(p{at} ?x ?v)" for at in range(101))
-        self.assertEqual([rule.relation for rule in rules(f"(<= (h ?v) (s ?x) (or {many} (and (p ?v) (not (t ?x)))))")], [("h", 1)] * 102)
-        # A denial binds nothing, and what can hold in one way stays where it is.
-        found = rules(f"(<= (h ?x) (s ?x ?y) (or {part} (and (not (q ?z)) (p ?x) (p ?z))) (or (t ?x ?v) (u ?x ?v)))")
-        self.assertEqual([rule.body[0] for rule in found if rule.relation == ("h", 1)], [Asked(True, ("s", 2), ("?x", "?y"))] * 52)
-        self.assertEqual({rule.relation[0] for rule in found}, {"h", "or 0 2"})
+        self.assertEqual(whole, Rule(1, ("h", 2), ("?a", "?b"), (asked("either1", "?a"), asked("either2", "?b"))))
+        self.assertIn(Rule(1, ("either2", 1), ("?b",), (asked("q10", "?b"),)), many)
 
     def test_an_or_stays_where_each_of_its_variables_is_bound_beside_it(self):
         found, = rules("(<= (h ?x) (p ?x) (or (q ?x) (not (r ?x))))")
-        self.assertEqual(found, Rule(0, ("h", 1), ("?x",), (Asked(True, ("p", 1), ("?x",)), Either(((Asked(True, ("q", 1), ("?x",)),), (Asked(False, ("r", 1), ("?x",)),))))))
+        self.assertEqual(found, Rule(0, ("h", 1), ("?x",), (asked("p", "?x"), Either(((asked("q", "?x"),), (asked("r", "?x", positive=False),))))))
         found = rules("(<= (h ?x) (or (p ?x) (q ?x)))")
-        self.assertEqual([rule.body for rule in found], [(Asked(True, ("p", 1), ("?x",)),), (Asked(True, ("q", 1), ("?x",)),)])
-        found, = rules("(<= (h ?x) (p ?x) (or (q ?x) (r ?x)) (not (s ?x)))")
-        self.assertEqual(found.body[2], Either(((Asked(True, ("q", 1), ("?x",)),), (Asked(True, ("r", 1), ("?x",)),))))
-        # What a denial alone has is not bound: an `or` with it makes a rule of each way.
-        with self.assertRaises(NotFollowed):
-            rules("(<= h (not (p ?x)) (or (not (q ?x)) (not (r ?x))))")
-        found = rules("(<= (h ?x) (not (p ?x)) (or (q ?x) (r ?x)))")
-        self.assertEqual([len(rule.body) for rule in found], [2, 2])
+        self.assertEqual([rule.body for rule in found], [(asked("p", "?x"),), (asked("q", "?x"),)])
+        # It may have any number of ways, then.
+        ors = " ".join("(or (q ?x) (r ?x))" for _ in range(40))
+        self.assertEqual(len(rules(f"(<= (h ?x) (p ?x) {ors})")), 1)
         # A denial, or that two are the same, binds nothing.
-        found = rules("(<= (h ?x) (p ?x) (or (q ?x ?y) (s ?x ?y)) (not (t ?x)))")
-        self.assertEqual(len(found), 2)
-
-    def test_what_is_no_rule(self):
-        for text, words in (
-            ("(<=)", "sentence 0, line 1: (<=): a rule without a head"), ("(p ?x)", "sentence 0, line 1: (p ?x): nothing binds ?x"),
-            ("a\n(<= p (distinct ?x a))", "sentence 1, line 2: (<= p (distinct ?x a)): nothing binds ?x"), ("(<= (p ?y) (q ?x))", "sentence 0, line 1: (<= (p ?y) (q ?x)): nothing binds ?y"),
-            ("(<= p (not (q ?x)))", "sentence 0, line 1: (<= p (not (q ?x))): nothing binds ?x"), ("(<= p (goal a))", "sentence 0, line 1: (<= p (goal a)): (goal a) is no sentence of GDL"),
-        ):
-            with self.assertRaises(NotFollowed) as why:
-                rules(text)
-            self.assertEqual(str(why.exception), words)
+        for body, count in (("(not (p ?x)) (or (q ?x) (r ?x))", 2), ("(p ?x) (or (q ?x ?y) (s ?x ?y)) (not (t ?x))", 2), ("(distinct ?x a) (or (q ?x) (r ?x))", 2)):
+            self.assertEqual(len(rules(f"(<= (h ?x) {body})")), count, body)
+        with self.assertRaises(Refused):
+            rules("(<= h (not (p ?x)) (or (not (q ?x)) (not (r ?x))))")
 
 
 class Tied(unittest.TestCase):
@@ -217,15 +138,9 @@ class Tied(unittest.TestCase):
 
     def test_sets_stand_behind_what_they_depend_on(self):
         asks = {"a": {"b": None, "x": None}, "b": {"c": None}, "c": {"b": None, "d": None}, "d": {"y": None}, "e": {"a": None, "e": None}}
-        found = grouped(asks)
+        found = components(asks)
         self.assertEqual(sorted(map(sorted, found)), [["a"], ["b", "c"], ["d"], ["e"]])
         self.assertEqual([sorted(group) for group in found], [["d"], ["b", "c"], ["a"], ["e"]])
-
-    def test_heads_that_may_not_be(self):
-        for text, words in (("(true a)", "sentence 0: true is a head"), ("a (<= (does r m) p)", "sentence 1: does is a head")):
-            with self.assertRaises(NotFollowed) as why:
-                Relations(rules(text))
-            self.assertEqual(str(why.exception), words)
 
 
 class Positions(unittest.TestCase):
@@ -359,28 +274,14 @@ class Games(unittest.TestCase):
             ("(<= (goal a 1) (not (does a m)))", "goal depends on does"), ("(<= terminal (does a m))", "terminal depends on does"), ("(<= (init x) (true x))", "init depends on true"),
             ("(<= (init x) (does a m))", "init depends on does"), ("(<= (role b) (true x))", "role depends on true"), ("(<= (role b) p) (<= p (does a m))", "role depends on does"),
         ):
-            with self.assertRaises(NotFollowed) as why:
+            with self.assertRaises(Refused) as why:
                 Game(f"(role a) {text}")
-            self.assertEqual(str(why.exception), words)
+            self.assertEqual(str(why.exception).partition(", by ")[0], words)
         Game("(role a) (<= (next x) (does a m) (true y)) (<= (legal a m) p) (<= p q) (<= q p) (<= q (true x))")
 
 
 class Followed(unittest.TestCase):
     RECORD = {"roles": ["r"], "states": [["s"], ["t"]], "moves": [["m"]], "errors": [[""]], "goalValues": [], "phase": "playing"}
-
-    def test_what_is_no_record(self):
-        must_be_record(self.RECORD)
-        for changes, words in (
-            ({"roles": "r"}, "roles is missing, or of another kind"), ({"phase": 1}, "phase is missing, or of another kind"), ({"goalValues": None}, "goalValues is missing, or of another kind"),
-            ({"states": [["s"]]}, "moves, errors and states do not fit together"), ({"errors": []}, "moves, errors and states do not fit together"),
-            ({"moves": [["m", "n"]]}, "a turn has not one move for each role"), ({"errors": [[]]}, "a turn has not one move for each role"),
-        ):
-            with self.assertRaises(NotFollowed) as why:
-                must_be_record({**self.RECORD, **changes})
-            self.assertEqual(str(why.exception), f"it is no record: {words}")
-        with self.assertRaises(NotFollowed) as why:
-            must_be_record([])
-        self.assertEqual(str(why.exception), "it is no record: one object of JSON is wanted")
 
     def test_a_pattern_is_a_term_for_some_values(self):
         for pattern, term, is_so in (
@@ -391,7 +292,7 @@ class Followed(unittest.TestCase):
 
     def test_numbers_then_atoms_then_lists(self):
         order = ["0", "7", "10", "a", "b", ("a", "2"), ("a", "10"), ("b",)]
-        self.assertEqual(sorted(reversed(order), key=place_of), order)
+        self.assertEqual(sorted(reversed(order), key=place), order)
 
     def test_the_place_of_a_term_is_that_of_its_parts(self):
         def before(first, second):
@@ -412,7 +313,7 @@ class Followed(unittest.TestCase):
         dice = random.Random(4)
         for _ in range(2_000):
             first, second = made(dice, 2), made(dice, 2)
-            self.assertEqual(place_of(first) < place_of(second), first != second and before(first, second), (first, second))
+            self.assertEqual(place(first) < place(second), first != second and before(first, second), (first, second))
 
     def test_of_many_differences_five_of_each_kind_are_told(self):
         game = Game("(role r) (legal r m) " + " ".join(f"(init (at {at}))" for at in range(7)) + "(<= (next ?t) (true ?t)) (<= terminal (true none)) (goal r 1)")
@@ -447,8 +348,8 @@ class Compiled(unittest.TestCase):
     def test_what_compares_stands_before_what_looks_up(self):
         text = "(role r) (q a) (q b) (f a) (<= (g ?x) (q ?x) (true s)) (<= (legal r ?x) (q ?x) (g ?x) (or (f ?x) (g ?x)) (f ?x) (distinct ?x b))"
         lines = [re.sub(r"\b([fkpv])\d+", r"\1", line.strip()) for line in self.sources(text).splitlines()]
-        at = lines.index("if not p != 'b': continue")
-        self.assertEqual(lines[at + 1 : at + 5], [*["if not ((p,) in k): continue"] * 2, "if not ((((p,) in k)) or (f(D, p))): continue", "if not f(D, p): continue"])
+        at = lines.index("if not v != 'b': continue")
+        self.assertEqual(lines[at + 1 : at + 4], ["if not ((v,) in k): continue", "if not ((((v,) in k)) or (f(D, v))): continue", "if not f(D, v): continue"])
 
     def moves(self, text):
         game = Game(f"(role r) (init s) {text}")

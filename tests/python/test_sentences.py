@@ -2,7 +2,7 @@
 
 import unittest
 
-from ggp_tools.instantiating.sentences import Literal, Rule, all_rules, as_read, cited, each_of, lines_of, ways_of
+from ggp_tools.gdl import Literal, Rule, all_rules, as_read, cited, each_of, lines_of, ways_of
 from ggp_tools.kif import Refused, expressions
 
 
@@ -92,10 +92,10 @@ class Reading(unittest.TestCase):
         self.assertEqual(lines_of("(a)\n\n(b\n c) (d)\n; x\ne"), [1, 3, 4, 6])
         self.assertEqual((lines_of("\n(a)\nb"), lines_of("")), ([2, 3], []))
 
-    def test_a_sentence_is_cited_up_to_a_hundred_characters(self):
-        short, long = ("p", "a" * 96), ("p", "a" * 97)
-        self.assertEqual(cited(1, ["x", short]), f"sentence 1, (p {'a' * 96})")
-        self.assertEqual(cited(0, [long], [7]), f"sentence 0, line 7: (p {'a' * 97}..")
+    def test_a_sentence_is_cited_up_to_160_characters(self):
+        short, long = ("p", "a" * 156), ("p", "a" * 157)
+        self.assertEqual(cited(1, ["x", short]), f"sentence 1, (p {'a' * 156})")
+        self.assertEqual(cited(0, [long], [7]), f"sentence 0, line 7: (p {'a' * 157}..")
 
 
 class Refusals(unittest.TestCase):

@@ -2,8 +2,8 @@
 
 import unittest
 
-from ggp_tools.records import show
-from ggp_tools.records.shapes import is_error, is_expression, is_list, is_text
+from ggp_tools.records import record
+from ggp_tools.records.record import is_error, is_expression, is_list, is_text
 
 
 class Shapes(unittest.TestCase):
@@ -29,9 +29,9 @@ class Shapes(unittest.TestCase):
         self.assertFalse(is_error("IL " + "a" * 8_193))
 
     def test_a_record_may_have_16_mib_before_its_line_s_end(self):
-        for size, end, words in ((1 << 24, b"\n", "it is JSON, and no object"), (1 << 24, b"", "it is JSON, and no object"), ((1 << 24) + 1, b"\n", "it is longer than 16 MiB")):
-            with self.assertRaises(show.NoRecord) as why:
-                show.read_record(b"[]".ljust(size) + end)
+        for size, end, words in ((1 << 24, b"\n", "it is JSON, and not an object"), (1 << 24, b"", "it is JSON, and not an object"), ((1 << 24) + 1, b"\n", "it is longer than 16 MiB")):
+            with self.assertRaises(record.NoRecord) as why:
+                record.read_record(b"[]".ljust(size) + end)
             self.assertEqual(str(why.exception), words, size)
 
     def test_lists_of_members_and_of_lengths(self):

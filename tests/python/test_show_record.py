@@ -6,8 +6,8 @@ import json
 import subprocess
 
 import pytest
+from ggp_tools.printable import visible
 from ggp_tools.records import show
-from ggp_tools.templating import visible
 from html_pages import links_of, parsed
 from support import GAMES, TOP, program
 
@@ -130,18 +130,18 @@ def refusals(record):
         (b"\xff", "not JSON"),
         (b"[" * 100_000, "not JSON"),
         (b"{} {}", "not JSON"),
-        (b"[]", "no object"),
-        *((rest, f"the key {key!r} is missing") for key, rest in without.items()),
-        *(({**record, key: 1.5}, f"the value of {key!r} is n") for key in record),
-        ({**record, "players": ["ann"]}, "'players' is 1, and there are 2 roles"),
-        ({**record, "errors": record["errors"][1:]}, "'errors' is 1 and not 2"),
-        ({**record, "errors": [["", "", ""], *record["errors"][1:]]}, "turn 1 of 'errors' has 3 texts"),
-        ({**record, "states": record["states"][1:]}, "'states' is 2 and not 3"),
-        ({**record, "goalValues": [100]}, "'goalValues' is 1"),
-        ({**record, "phase": "paused"}, "no phase"),
-        ({**record, "cause": "nolegal 2"}, "no cause"),
-        ({**record, "version": 3}, "'version'"),
-        ({**record, "version": 2}, "the key 'strikes' is missing"),
+        (b"[]", "not an object"),
+        *((rest, f"expected in {key}: ") for key, rest in without.items()),
+        *(({**record, key: 1.5}, f"expected in {key}: ") for key in record),
+        ({**record, "players": ["ann"]}, 'expected in players: for each role a name'),
+        ({**record, "errors": record["errors"][1:]}, "expected in errors: "),
+        ({**record, "errors": [["", "", ""], *record["errors"][1:]]}, 'found as member 1 of 2: ["", "", ""]'),
+        ({**record, "states": record["states"][1:]}, "found 2 members, with 2 turns in moves: "),
+        ({**record, "goalValues": [100]}, "found: [100]"),
+        ({**record, "phase": "paused"}, 'found: "paused"'),
+        ({**record, "cause": "nolegal 2"}, 'found: "nolegal 2"'),
+        ({**record, "version": 3}, "expected in version: 1 or 2; found: 3"),
+        ({**record, "version": 2}, "expected in strikes: "),
     ]
 
 

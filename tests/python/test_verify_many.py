@@ -15,7 +15,7 @@ import unittest
 from unittest import mock
 
 from ggp_tools.records import verify_many
-from ggp_tools.records.verify_many import Fault, arguments, check, check_all, copy_out, in_memory, pieces
+from ggp_tools.records.verify_many import Fault, arguments, check, check_all, pieces
 from support import TOP
 
 WRITE_WORDS = 'echo "$@" >> "$(dirname "$0")/words"\n'
@@ -48,8 +48,14 @@ class Pieces(unittest.TestCase):
                 raise part
             return part
 
+        found = []
         with reading(read):
-            return [piece if isinstance(piece, Fault) else b"".join(piece) for piece in pieces(size)]
+            try:
+                for piece in pieces(size):
+                    found.append(piece)
+            except Fault as fault:
+                found.append(fault)
+        return found
 
     def test_the_first_one_is_empty(self):
         self.assertEqual(self.pieces(9), [b""])
@@ -98,39 +104,34 @@ class Checks(WithProgram):
     def checked(self, piece, program=None):
         """Returns the verdicts on a piece, the counts, and the fault."""
         found = check([program or self.program, "verify"], piece)
-        verdicts = b""
-        if found.verdicts:
-            with found.verdicts:
-                found.verdicts.seek(0)
-                verdicts = found.verdicts.read()
-        return verdicts, found.skipped, found.unlawful, found.fault and (found.fault.said, found.fault.status)
+        return found.verdicts, found.skipped, found.unlawful, found.fault and (found.fault.said, found.fault.status)
 
     def test_verdicts_and_counts(self):
-        self.assertEqual(self.checked([b"ok\n", b"ok\n"]), (b"lawful\nlawful\n", 0, 0, None))
-        self.assertEqual(self.checked([b"ok\nno\n7\n8\nno\n"]), (b"lawful\nnot lawful: goals\nnot lawful: goals\n", 2, 2, None))
-        self.assertEqual((self.checked([b"7\n"]), self.checked([])), ((b"", 1, 0, None), (b"", 0, 0, None)))
+        self.assertEqual(self.checked(b"ok\nok\n"), (b"lawful\nlawful\n", 0, 0, None))
+        self.assertEqual(self.checked(b"ok\nno\n7\n8\nno\n"), (b"lawful\nnot lawful: goals\nnot lawful: goals\n", 2, 2, None))
+        self.assertEqual((self.checked(b"7\n"), self.checked(b"")), ((b"", 1, 0, None), (b"", 0, 0, None)))
 
     def test_a_fault_of_the_program(self):
-        self.assertEqual(self.checked([b"ok\nshort\n"])[3], (b"ggp_manager: want of memory\n", 3))
+        self.assertEqual(self.checked(b"ok\nshort\n")[3], (b"ggp_manager: want of memory\n", 3))
         wrong = self.stand_in("wrong", "#!/bin/sh\ncat > /dev/null\necho 'ggp_manager: records not lawful 1' >&2\nexit 2\n")
-        self.assertEqual(self.checked([b"no\n"], wrong)[3], (b"ggp_manager: records not lawful 1\n", 2))
+        self.assertEqual(self.checked(b"no\n", wrong)[3], (b"ggp_manager: records not lawful 1\n", 2))
         silent = self.stand_in("silent", "#!/bin/sh\ncat > /dev/null\nexit 1\n")
-        self.assertEqual(self.checked([b"no\n"], silent)[3], (b"", 1))
+        self.assertEqual(self.checked(b"no\n", silent)[3], (b"", 1))
         # What has counted faults has status 1, and else 0.
         other = self.stand_in("other", "#!/bin/sh\ncat > /dev/null\necho 'ggp_manager: records not lawful 1' >&2\n")
-        self.assertEqual(self.checked([b"no\n"], other)[1:], (0, 0, None))
+        self.assertEqual(self.checked(b"no\n", other)[1:], (0, 0, None))
 
     def test_a_signal(self):
         killed = self.stand_in("killed", "#!/bin/sh\ncat > /dev/null\necho some >&2\nkill -9 $$\n")
-        self.assertEqual(self.checked([b"ok\n"], killed)[3], (f"some\nggp-verify-records: {killed} was ended by signal 9\n".encode(), 137))
+        self.assertEqual(self.checked(b"ok\n", killed)[3], (f"some\nggp-verify-records: {killed} was ended by signal 9\n".encode(), 137))
 
     def test_a_program_that_can_not_be_run(self):
         none = str(self.folder / "none")
-        self.assertEqual(self.checked([b"ok\n"], none), (b"", 0, 0, (f"ggp-verify-records: {none} can't be run: No such file or directory\n".encode(), 2)))
+        self.assertEqual(self.checked(b"ok\n", none), (b"", 0, 0, (f"ggp-verify-records: {none} can't be run: No such file or directory\n".encode(), 2)))
 
     def test_one_that_reads_no_further(self):
         deaf = self.stand_in("deaf", "#!/bin/sh\necho 'ggp_manager: bad description' >&2\nexit 1\n")
-        self.assertEqual(self.checked([b"x" * (1 << 20)], deaf)[3], (b"ggp_manager: bad description\n", 1))
+        self.assertEqual(self.checked(b"x" * (1 << 20), deaf)[3], (b"ggp_manager: bad description\n", 1))
 
     def test_only_unlawful_records_have_1_with_why(self):
         for said, status, wanted in (
@@ -143,16 +144,6 @@ class Checks(WithProgram):
             (b"ggp-verify-records: x was ended by signal 9\n", 137, 137),
         ):
             self.assertEqual(Fault(said, status).status_with_why(), wanted, said)
-
-    def test_a_fault_of_the_input_is_passed_on(self):
-        self.assertEqual(self.checked(Fault(b"ggp_manager: read fault\n")), (b"", 0, 0, (b"ggp_manager: read fault\n", 1)))
-
-    def test_verdicts_that_can_not_be_written(self):
-        file = in_memory("some")
-        file.write(b"x" * 10)
-        with mock.patch.object(verify_many, "write_whole", side_effect=OSError(28, "full")), self.assertRaises(Fault) as why:
-            copy_out(file)
-        self.assertEqual((why.exception.said, why.exception.status, file.closed), (b"ggp_manager: write fault\n", 1, True))
 
 
 class All(WithProgram):
@@ -195,11 +186,10 @@ class All(WithProgram):
             self.all(b"", jobs=3, size=9)
         self.assertEqual(sizes, [9])
 
-    def test_so_many_pieces_are_in_memory(self):
-        started, start = [], verify_many.threading.Thread.start
-        with mock.patch.object(verify_many.threading.Thread, "start", lambda thread: started.append(thread) or start(thread)):
-            self.all(b"ok\n", jobs=3)
-        self.assertEqual(len(started), 5)
+    def test_verdicts_that_can_not_be_written(self):
+        with reading(lambda *_: b""), mock.patch.object(verify_many, "write_whole", side_effect=OSError(28, "full")), self.assertRaises(Fault) as why:
+            check_all([self.program], 1, 9)
+        self.assertEqual((why.exception.said, why.exception.status), (b"ggp_manager: write fault\n", 1))
 
     def test_no_more_processes_at_a_time_than_were_asked_for(self):
         counting = self.stand_in("counting", '#!/bin/sh\ncd "$(dirname "$0")"\nmkdir run.$$\nls -d run.* | wc -l >> counts\nsleep 0.05\nrmdir run.$$\ncat > /dev/null\n')

@@ -28,7 +28,8 @@ from ggp_tools.competition.table_text import in_order, table_files, table_text
 from ggp_tools.competition.trying import try_player
 from ggp_tools.competition.why import said_of_match
 from ggp_tools.printable import printable
-from ggp_tools.reporting import Journal, Reporter, ready_streams, say
+from ggp_tools.reporting import Journal, Reporter
+from ggp_tools.streams import ready_streams, say
 
 MOST_AT_ONCE = 1_024
 HELP = "A competition in one folder, of which competition.toml says what is played."

@@ -13,7 +13,8 @@ from ggp_tools.competition.competition_file import INSTANTIATING
 from ggp_tools.descriptions.goals import goals_said
 from ggp_tools.descriptions.loading import MOST_BYTES, NoDescription, Rules, Stopped, has_variables, load_description, sentence_starts
 from ggp_tools.competition.files import Refused
-from ggp_tools.descriptions.random_matches import RandomMatches, counted
+from ggp_tools.descriptions.random_matches import RandomMatches
+from ggp_tools.printable import counted
 from ggp_tools.referee import Referee, Unchecked
 from ggp_tools.descriptions.refused import why_refused
 from ggp_tools.descriptions.suspicious import NOT_ALL, Suspicions, suspicions

@@ -16,7 +16,7 @@ from typing import TypeVar
 from aiohttp import web
 
 from ggp_tools.competition.live_site import LiveSite, OpenPage
-from ggp_tools.ground_games import MOST_CALLS
+from ggp_tools.holding.game import MOST_CALLS
 from ggp_tools.human.server import is_own_name
 
 Value = TypeVar("Value")

@@ -7,8 +7,7 @@ from dataclasses import dataclass, field
 from pathlib import Path
 
 from ggp_tools.competition.schedule import Match
-from ggp_tools.ground_games import text_of
-from ggp_tools.kif import expressions
+from ggp_tools.kif import expressions, spelled
 from ggp_tools.match_log import NO_TIME, START, Message
 from ggp_tools.records.marks import Mark, marks_of
 from ggp_tools.records.show import Board, visible, words_of
@@ -67,7 +66,7 @@ class Labels:
         """Gives the words of each term that a state may have."""
         for sentence in expressions(self.rules.decode("latin-1")):
             head = sentence[1] if sentence[0] == "<=" else sentence
-            if head[0] in ("init", "next") and (found := words_of(text_of(head[1]))):
+            if head[0] in ("init", "next") and (found := words_of(spelled(head[1]))):
                 yield found
 
     def marks(self, board: Board) -> dict[str, Mark]:

@@ -11,7 +11,7 @@ from ggp_tools.competition.files import Folder, Refused
 from ggp_tools.competition.live_site import LiveSite, plan_stamp
 from ggp_tools.competition.plan import read_plan
 from ggp_tools.referee import Referee
-from ggp_tools.reporting import say
+from ggp_tools.streams import say
 from ggp_tools.templating import end_without
 
 MOST_CONNECTIONS, MOST_DELAY = 4_096, 3_600

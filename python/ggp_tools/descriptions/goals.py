@@ -3,8 +3,8 @@
 from collections.abc import Sequence
 
 from ggp_tools.holding.game import GOAL_NUMBER, Game
-from ggp_tools.holding.reading import NotFollowed, spelled, term_of
-from ggp_tools.holding.relations import GOAL
+from ggp_tools.holding.reading import GOAL, term_of
+from ggp_tools.kif import Refused, spelled
 
 MOST_NAMED = 3
 
@@ -17,7 +17,7 @@ def goals_said(text: str, role: str, terms: Sequence[str]) -> str:
         position = game.position(state)
         values = sorted(game.goal_terms(position, name), key=spelled)
         given = [f"{spelled(value)}{past(value)}, by {named(game, game.sources(GOAL, (name, value), state))}" for value in values]
-    except (NotFollowed, RecursionError):
+    except (Refused, RecursionError):
         return ""
     if len(given) > 1:
         return f"{role} has {len(given):,} goals there: {'; '.join(given[:MOST_NAMED])}"

@@ -13,8 +13,7 @@ from dataclasses import dataclass
 from ggp_tools import kif
 from ggp_tools.descriptions import kept
 from ggp_tools.instantiating.limits import LARGE, LARGE_NOTE
-from ggp_tools.instantiating.relations import Relations
-from ggp_tools.instantiating.sentences import Rule, all_rules, as_read
+from ggp_tools.gdl import Relations, Rule, all_rules, as_read
 from ggp_tools.instantiating.for_players import text_for_players as text_for_players
 from ggp_tools.referee import BadRules, Referee
 
@@ -77,7 +76,7 @@ def look_at_sentences(text: bytes) -> None:
 
 
 def has_variables(text: bytes) -> bool:
-    return any(token.startswith("?") for token in kif.TOKEN.findall(kif.blanked(text.decode("latin-1"))))
+    return kif.has_variables(text.decode("latin-1"))
 
 
 def why_not(made: subprocess.CompletedProcess) -> str:

@@ -9,8 +9,10 @@ from collections.abc import Iterator
 from dataclasses import dataclass
 
 from ggp_tools.descriptions.suspicious import is_too_long
-from ggp_tools.ground_games import MOST_CALLS, Game, Match, text_of, texts_of
-from ggp_tools.kif import Expression, expressions
+from ggp_tools.holding.game import MOST_CALLS, Game
+from ggp_tools.holding.match import Match, texts_of
+from ggp_tools.kif import Expression, spelled
+from ggp_tools.printable import counted
 from ggp_tools.referee import Referee, is_text_list, read_records, rules_file, unchecked
 from ggp_tools.reporting import REDRAWN, Reporter
 
@@ -72,21 +74,17 @@ class Ended:
     choices: list
 
 
-def counted(number: int, word: str) -> str:
-    return f"{number:,} {word}{'' if number == 1 else 's'}"
-
-
 def named(cause: str | None, roles: list[Expression]) -> str | None:
     """Returns the cause with the role's name in the place of its number."""
     word, _, number = (cause or "").partition(" ")
-    return f"{word} {text_of(roles[int(number)])}" if number else cause
+    return f"{word} {spelled(roles[int(number)])}" if number else cause
 
 
 class RandomMatches:
     """Matches of one game, each with a seed of its own."""
 
     def __init__(self, rules: bytes, referee: Referee, name: str, reporter: Reporter, seconds: float | None) -> None:
-        self.game, self.rules, self.referee, self.name = Game(expressions(rules.decode("latin-1"))), rules, referee, name
+        self.game, self.rules, self.referee, self.name = Game(rules.decode("latin-1")), rules, referee, name
         self.reporter, self.seconds, self.until = reporter, seconds, time.monotonic() + seconds
         self.causes, self.ended, self.differing, self.uncompared, self.too_long, self.notes = {None}, [], [], 0, 0, []
         self.waiting, self.size, self.drawn, self.turns, self.is_too_deep = [], 0, 0.0, 0, False
@@ -113,7 +111,7 @@ class RandomMatches:
         while match.phase()[0] == "playing":
             self.turns = len(match.moves)
             self.look_at_clock(said)
-            legal = [self.game.legal(match.states[-1], role) for role in roles]
+            legal = list(map(match.legal, roles))
             choices = [max(most, len(moves)) for most, moves in zip(choices, legal)]
             match.turn([(dice.choice(moves), "") for moves in legal])
         match.marks["end"] = dict.fromkeys(range(len(roles)), "")
@@ -174,7 +172,7 @@ class RandomMatches:
 def turn_lines(match: Played, number: int) -> Iterator[str]:
     """Gives the lines of a turn, which are numbered from 1 on."""
     for role, move in enumerate(match.moves[number - 1]):
-        yield f"submit {match.name} {role} {number} {text_of(move)}"
+        yield f"submit {match.name} {role} {number} {spelled(move)}"
 
 
 def lines_of(match: Played) -> Iterator[str]:

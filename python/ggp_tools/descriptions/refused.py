@@ -3,9 +3,8 @@
 from collections.abc import Iterator
 
 from ggp_tools.instantiating.limits import refuse_faults
-from ggp_tools.instantiating.relations import Relations
 from ggp_tools.instantiating.rounds import asked, circles
-from ggp_tools.instantiating.sentences import Rule, all_rules
+from ggp_tools.gdl import Relations, Rule, all_rules
 from ggp_tools.kif import Expression, Refused, expressions, place_of, spelled, starts, told
 
 MOST_LISTED, MOST_SHOWN = 8, 80

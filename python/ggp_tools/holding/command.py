@@ -1,25 +1,27 @@
 """The command line of `ggp-hold-against`."""
 
 import argparse
-import os
 import resource
 import signal
 import sys
 from collections.abc import Iterable, Iterator
-from typing import BinaryIO
+
+from ggp_tools.kif import Refused, told
+from ggp_tools.records.record import NoRecord
+from ggp_tools.streams import MOST_SECONDS, opened, say, seconds, status_of
 
 from .following import Differs, Following
 from .game import Game
-from .reading import NotFollowed
 from .records import read_record
 
 USAGE = "ggp-hold-against [--seconds N] DESCRIPTION [RECORD ..]"
 ABOUT = """Holds records of matches against the description of the game as it was published, with its variables: whether roles, states, moves,
-errors, the end and the goals are what that description says. It shares nothing with the tools that instantiate, and with the referee."""
+errors, the end and the goals are what that description says. It shares the reader of sentences with the tools that instantiate, and nothing
+with the referee."""
 STATUS = """RECORD is a file with records, one a line; with none they are read from standard input. Each has one line. status 0: all records are
 those of the description. 1: one differs; the lines say where, for the author of the game. 2: the command is wrong, or a file can't be
 read. 3: none is known to differ, and one could not be followed: its time was over, or the description is none that is taken here."""
-SECONDS, MOST_SECONDS = 60.0, 1_000_000
+SECONDS = 60.0
 # Rules that ask for one another are looked up by calls in calls.
 MOST_CALLS = 100_000
 # What it may take, as the grounder of `ggp-instantiate` may.
@@ -35,44 +37,36 @@ def late(signal_number: int, frame: object) -> None:
     raise Late
 
 
-def seconds(text: str) -> float:
-    found = float(text)
-    if not 0 < found <= MOST_SECONDS:
-        raise argparse.ArgumentTypeError(f"{text} is not above 0 and up to {MOST_SECONDS:,}")
-    return found
-
-
 def arguments() -> argparse.Namespace:
     words = argparse.ArgumentParser("ggp-hold-against", usage=USAGE, description=ABOUT, epilog=STATUS)
     told = f"the seconds of a processor for each record, above 0 and up to {MOST_SECONDS:,} ({SECONDS:g})"
     words.add_argument("--seconds", type=seconds, default=SECONDS, metavar="N", help=told)
-    words.add_argument("description", metavar="DESCRIPTION", type=argparse.FileType("rb"), help="the description as it was published")
-    words.add_argument("records", metavar="RECORD", nargs="*", type=argparse.FileType("rb"), help="a file of records, one a line")
-    given = words.parse_args()
-    if not given.records and not sys.stdin:
-        words.error("standard input is closed")
-    return given
+    words.add_argument("description", metavar="DESCRIPTION", help="the description as it was published")
+    words.add_argument("records", metavar="RECORD", nargs="*", help="a file of records, one a line (standard input, also as `-`)")
+    return words.parse_intermixed_args()
 
 
 class Holding:
     """The records of one description, one after another. `following` is none until the description is read. What it keeps of the game
     serves all records; where a look at one was broken off, it may be half of it, and is made anew."""
 
-    def __init__(self, text: str) -> None:
-        self.text, self.following = text, None
+    def __init__(self, text: str, name: str = "the description") -> None:
+        self.text, self.name, self.following = text, name, None
 
     def held(self, line: str) -> tuple[int, str]:
         """Holds one record against the description. Returns a status and words."""
         following, self.following = self.following, None
         try:
-            following = following or Following(Game(self.text))
+            following = following or Following(self.game())
             turns = following.follow(read_record(line))
         except Differs as why:
             self.following = following
             return DIFFERENT, f"differs: {'; '.join(str(why).splitlines())}"
         except Late:
             raise
-        except NotFollowed as why:
+        except NoRecord as why:
+            return NOT_FOLLOWED, f"not followed: it is no record: {why}"
+        except Refused as why:
             return NOT_FOLLOWED, f"not followed: {why}"
         except MemoryError:
             return NOT_FOLLOWED, "not followed: it wants more memory than there is"
@@ -81,6 +75,13 @@ class Holding:
             return NOT_FOLLOWED, f"not followed: a fault of ggp-hold-against, please report it: {type(why).__name__} in {place_of(why)}: {why}"
         self.following = following
         return SAME, f"the same: {turns:,} turns"
+
+    def game(self) -> Game:
+        """Returns the game. Refuses what is none, with the place."""
+        try:
+            return Game(self.text)
+        except Refused as why:
+            raise Refused(f"{self.name}: {told(self.text, why)}") from None
 
 
 def place_of(why: BaseException) -> str:
@@ -91,9 +92,8 @@ def place_of(why: BaseException) -> str:
     return f"{place.tb_frame.f_code.co_name}, line {place.tb_lineno}"
 
 
-def hold(text: str, lines: Iterable[str], limit: float) -> Iterator[tuple[int, str]]:
+def hold(holding: Holding, lines: Iterable[str], limit: float) -> Iterator[tuple[int, str]]:
     """Gives a status and words for each record, each within the seconds."""
-    holding = Holding(text)
     signal.signal(signal.SIGPROF, late)
     for line in lines:
         yield within(limit, holding, line) or (NOT_FOLLOWED, f"not followed: its time was over, after {limit:g} s")
@@ -119,32 +119,27 @@ def limit_memory() -> None:
     resource.setrlimit(resource.RLIMIT_AS, (most, hard))
 
 
-def put(words: str) -> None:
-    """Writes a line. A text of a record may have what an encoding lacks."""
-    try:
-        print(words.encode("ascii", "backslashreplace").decode(), flush=True)
-    except OSError as why:
-        # What is left of the line is not written at the end either.
-        os.dup2(os.open(os.devnull, os.O_WRONLY), sys.stdout.fileno())
-        raise OSError(why.errno, why.strerror, "standard output") from None
-
-
-def records_in(files: Iterable[BinaryIO]) -> Iterator[bytes]:
+def records_in(files: Iterable[str]) -> Iterator[bytes]:
     """Gives the lines of files that are not empty."""
-    for file in files:
-        yield from (line for line in file if line.strip())
+    for name in files:
+        with opened(name) as file:
+            yield from (line for line in file if line.strip())
+
+
+def perform(asked: argparse.Namespace) -> int:
+    """Holds the records against the description. Returns the status."""
+    found = set()
+    with opened(asked.description) as file:
+        holding = Holding(file.read().decode("latin-1"), asked.description)
+    for status, words in hold(holding, records_in(asked.records or ["-"]), asked.seconds):
+        found.add(status)
+        # A text of a record may have what an encoding lacks.
+        say(words.encode("ascii", "backslashreplace").decode())
+    return DIFFERENT if DIFFERENT in found else NOT_FOLLOWED if NOT_FOLLOWED in found else SAME
 
 
 def main() -> int:
     sys.setrecursionlimit(MOST_CALLS)
-    asked, found = arguments(), set()
+    asked = arguments()
     limit_memory()
-    try:
-        text = asked.description.read().decode("latin-1")
-        for status, words in hold(text, records_in(asked.records or [sys.stdin.buffer]), asked.seconds):
-            found.add(status)
-            put(words)
-    except OSError as why:
-        sys.stderr.write(f"ggp-hold-against: {why.filename or 'a file'}: {why.strerror}\n")
-        return 2
-    return DIFFERENT if DIFFERENT in found else NOT_FOLLOWED if NOT_FOLLOWED in found else SAME
+    return status_of("ggp-hold-against", lambda: perform(asked), 2)

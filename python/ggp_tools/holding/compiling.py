@@ -6,11 +6,13 @@ once. What it has found of a position it keeps. Relations that depend on themsel
 
 from collections.abc import Callable, Iterable, Iterator, Sequence
 
+from ggp_tools.kif import Relation, is_variable, spelled, variables
+
 from . import positions
 from .planning import Sizes, is_known, is_test
 from .positions import Position, State, functor_of
-from .reading import Asked, Condition, Either, NotFollowed, Relation, Rule, Same, Term, is_built, is_variable, low, spelled, variables, variables_of
-from .relations import DOES, TRUE, Relations
+from .reading import DOES, TRUE, Asked, Condition, Either, NotFollowed, Rule, Same, Term, is_built, low, variables_of
+from .relations import Relations
 
 # The expressions of variables that are bound.
 Bound = dict[str, str]
@@ -50,8 +52,8 @@ class Program:
         """The function of a relation where these of its arguments are known."""
         name = self.name(relation, known)
         while self.waiting:
-            source = self.waiting.pop()()
-            exec(compile(source, "<rules>", "exec"), self.space)
+            waiting, self.waiting = self.waiting, []
+            exec(compile("\n".join([make() for make in waiting]), "<rules>", "exec"), self.space)
         return self.space[name]
 
     def name(self, relation: Relation, known: tuple[bool, ...]) -> str:
@@ -398,6 +400,8 @@ class Asking:
 
     def source(self) -> str:
         relations, lines = self.program.relations, Lines(self.program)
+        if self.is_plain():
+            return "\n".join(self.plain(lines)) + "\n"
         lines.put(0, f"def _{self.name}({', '.join(['D', *([] if self.is_test else ['F']), *self.parameters])}):")
         if self.relation in relations.circles:
             names = tuple(f"?{at}" for at in range(len(self.known)))
@@ -409,6 +413,21 @@ class Asking:
                 self.put_rule(lines, rule.arguments, rule.body)
         lines.put(1, "return False" if self.is_test else "return F")
         return lines.text() + "\n".join(self.kept()) + "\n"
+
+    def is_plain(self) -> bool:
+        """Whether there are no variables: the question is whether one of some tests holds."""
+        relations = self.program.relations
+        rules = () if self.known or self.relation in relations.circles or self.relation in relations.denying else relations.rules.get(self.relation, ())
+        return bool(rules) and all(is_test(condition, {}) for rule in rules for condition in rule.body)
+
+    def plain(self, lines: Lines) -> Iterator[str]:
+        ways = ["True"] * bool(self.program.relations.facts.get(self.relation))
+        ways += [" and ".join(lines.test(test, {}) for test in sorted(rule.body, key=lines.cost)) for rule in self.program.relations.rules[self.relation]]
+        number = self.program.table((self.relation, self.known), True)
+        yield f"def {self.name}(D):"
+        yield f"    R = D.tables.get({number})"
+        yield f"    if R is None: D.tables[{number}] = R = {' or '.join(ways)}"
+        yield "    return R"
 
     def put_facts(self, lines: Lines) -> None:
         """The lines that give the facts of the relation."""
@@ -448,7 +467,7 @@ class Asking:
 
 
 def spelled_relation(relation: Relation) -> str:
-    return f"a sentence of `{relation[0]}` depends on itself, through a denial"
+    return f"a sentence of `{spelled(relation[0])}` depends on itself, through a denial"
 
 
 class Circle:

@@ -2,11 +2,12 @@
 
 from collections.abc import Callable, Sequence
 
+from ggp_tools.kif import Relation, fits, place, spelled
+
 from .game import Game
 from .positions import Position, State
-from .reading import NotFollowed, Relation, Term, is_variable, spelled, term_of
-from .records import AT_END, ILLEGAL, UNREADABLE, must_be_record
-from .relations import GOAL, INIT, LEGAL, NEXT, TERMINAL
+from .reading import GOAL, INIT, LEGAL, NEXT, TERMINAL, NotFollowed, Term, term_of
+from .records import AT_END, ILLEGAL, UNREADABLE
 
 # So many of each kind are told.
 MOST_TOLD = 5
@@ -41,7 +42,6 @@ class Following:
 
     def follow(self, record: dict) -> int:
         """Follows a record to its end. Returns how many turns it has."""
-        must_be_record(record)
         self.look_at_roles(record["roles"])
         state = self.game.initial
         self.look_at_state("the first state", state, record["states"][0], lambda term: self.cited(INIT, (term,), frozenset()))
@@ -121,7 +121,7 @@ class Following:
         """The place that a move has where the first sentence that could give it does so in some state."""
         for number, rules in self.game.by_sentence(LEGAL).items():
             if any(fits(rule.arguments, (role, move), {}) for rule in rules):
-                return number, place_of(move)
+                return number, place(move)
         raise NotFollowed(f"no head of a sentence fits the legal move {self.text(move)}")
 
     def greatest_place(self, position: Position, role: str, move: Term) -> tuple[int, tuple]:
@@ -129,7 +129,7 @@ class Following:
         numbers = self.game.sources(LEGAL, (role, move), position.state)
         found = min([*numbers, self.seen.get((role, move), numbers[0])])
         self.seen[role, move] = found
-        return found, place_of(move)
+        return found, place(move)
 
     # ---- The end ---------------------------------------------------------------------------------
 
@@ -172,20 +172,3 @@ class Following:
             stuck = "no role" if without is None else self.text(self.in_order[without])
             said = "no role" if at is None else self.text(self.in_order[at])
             raise Differs(f"after the last turn {said} has no legal move in the record, and by the description {stuck}")
-
-
-def fits(pattern: Term, term: Term, values: dict[str, Term]) -> bool:
-    """Whether a pattern is the term for some values of its variables."""
-    if is_variable(pattern):
-        return values.setdefault(pattern, term) == term
-    if isinstance(pattern, str) or isinstance(term, str):
-        return pattern == term
-    return len(pattern) == len(term) and all(fits(wanted, given, values) for wanted, given in zip(pattern, term))
-
-
-def place_of(term: Term) -> tuple:
-    """The place of a term among those of one sentence: numbers by value, then other atoms by their bytes, then lists, member by member."""
-    if isinstance(term, tuple):
-        return 2, tuple(map(place_of, term))
-    digits = term.lstrip("0")
-    return (0, len(digits), digits, term) if term.isdigit() else (1, term)

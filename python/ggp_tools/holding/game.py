@@ -3,37 +3,44 @@
 import re
 from collections.abc import Sequence
 
+from ggp_tools import gdl
+from ggp_tools.kif import Relation, expressions, has_variables
+
 from .compiling import Program
 from .planning import Sizes
 from .positions import Position, State, by_functor
-from .reading import NotFollowed, Relation, Rule, Term, all_rules, sentences_of
-from .relations import GOAL, INIT, LEGAL, NEXT, ROLE, TERMINAL, Relations
+from .reading import GOAL, INIT, LEGAL, NEXT, ROLE, TERMINAL, Rule, Term, one_by_one, rules_of, with_relations
+from .relations import Relations
 
 GOAL_NUMBER = re.compile(r"0|[1-9][0-9]?|100")
+# Rules that ask for one another are looked up by calls in calls, as deep as this.
+MOST_CALLS = 20_000
 
 
 class Game:
-    """A state is a set of terms. Of a position one asks for what is legal and where it ends, and, with its moves, for what follows."""
+    """A state is a set of terms. Of a position one asks for what is legal and where it ends, and, with its moves, for what follows. By a
+    ground description the legal moves come in its order."""
 
-    def __init__(self, text: str) -> None:
-        self.sentences = sentences_of(text)
-        self.rules = all_rules(self.sentences)
-        relations = Relations(self.rules)
-        for head, others in ((INIT, ("true", "does")), (ROLE, ("true", "does")), (LEGAL, ("does",)), (GOAL, ("does",)), (TERMINAL, ("does",))):
-            refuse_dependence(relations, head, others)
-        self.program, self.roles, self.kept = Program(relations, Sizes(relations, 0, {})), (), (None, None)
+    def __init__(self, text: str, takes_bytes: bool = False) -> None:
+        self.text, self.is_ground = text, not has_variables(text)
+        self.sentences = [gdl.as_read(sentence) for sentence in expressions(text, takes_bytes=takes_bytes)]
+        self.rules = gdl.all_rules(self.sentences, rules_of)
+        if self.is_ground:
+            self.rules = one_by_one(self.rules)
+        relations = Relations(with_relations(self.rules) if self.is_ground else self.rules)
+        self.program, self.roles, self.kept, self.lines = Program(relations, Sizes(relations, 0, {})), (), (None, None), []
         empty = self.position(frozenset())
         self.initial, self.roles = frozenset(empty.ask(INIT, (False,))(empty)), empty.ask(ROLE, (False,))(empty)
         self.has_fixed_order = ROLE not in relations.rules
         self.program = Program(relations, Sizes(relations, len(self.roles), by_functor(self.initial)))
-        for relation, known in ((NEXT, (False,)), (LEGAL, (True, True)), (LEGAL, (True, False)), (GOAL, (True, False)), (TERMINAL, ())):
-            self.program.function(relation, known)
+        heads = [rule.arguments for rule in self.rules if rule.relation == LEGAL] if self.is_ground else []
+        self.ranks = {head: rank for rank, head in enumerate(dict.fromkeys(heads))}
 
     def position(self, state: State, moves: Sequence[Term] = ()) -> Position:
         """The position of a state, with a move of each role where there are some. If a state has many more terms than those before it, the
         rules are planned again."""
         rows = by_functor(state)
-        if sizes := self.program.sizes.after(rows):
+        if not self.is_ground and (sizes := self.program.sizes.after(rows)):
             self.program = Program(self.program.relations, sizes)
         return self.program.position(state, list(zip(self.roles, moves)), rows)
 
@@ -45,7 +52,8 @@ class Game:
         return position.ask(LEGAL, (True, True))(position, role, move)
 
     def moves(self, position: Position, role: Term) -> list[Term]:
-        return position.ask(LEGAL, (True, False))(position, role)
+        found = position.ask(LEGAL, (True, False))(position, role)
+        return sorted(found, key=lambda move: self.ranks[role, move]) if self.ranks else found
 
     def is_over(self, position: Position) -> bool:
         return position.ask(TERMINAL, ())(position)
@@ -85,16 +93,6 @@ class Game:
         return alone
 
     def cited(self, number: int) -> str:
-        return self.sentences[number].cited()
+        self.lines = self.lines or gdl.lines_of(self.text)
+        return gdl.cited(number, self.sentences, self.lines)
 
-
-def refuse_dependence(relations: Relations, head: Relation, others: tuple[str, ...]) -> None:
-    """Refuses what is no game: what is asked between turns may not depend on moves."""
-    seen, left = set(), [head]
-    while left:
-        for relation in relations.asks.get(left.pop(), ()):
-            if relation[0] in others:
-                raise NotFollowed(f"{head[0]} depends on {relation[0]}")
-            if relation not in seen:
-                seen.add(relation)
-                left.append(relation)

@@ -4,9 +4,11 @@ import math
 from collections.abc import Collection, Container, Iterable, Mapping, Sequence
 from typing import NamedTuple
 
+from ggp_tools.kif import Relation, is_variable, variables
+
 from .positions import functor_of
-from .reading import Asked, Condition, Relation, Rule, Term, is_variable, variables, variables_of
-from .relations import DOES, TRUE, Relations
+from .reading import DOES, TRUE, Asked, Condition, Rule, Term, variables_of
+from .relations import Relations
 
 # The answers for each argument that is not known, if a relation has no rows yet. And the most answers that an estimate gives.
 FEW, MOST = 3.0, 1e6

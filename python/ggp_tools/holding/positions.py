@@ -51,8 +51,12 @@ class Position:
     """A state, with the moves of a turn where there are some."""
 
     def __init__(self, state: State, pairs: Sequence[tuple[str, Term]], rows: dict[tuple[str, int], list[Term]], ask: Callable, tables: Tables) -> None:
-        self.state, self.pairs, self.does, self.rows, self.ask, self.tables = state, pairs, dict(pairs), rows, ask, tables
-        self.indexes = {}
+        self.state, self.rows, self.ask, self.tables, self.indexes = state, rows, ask, tables, {}
+        self.move(pairs)
+
+    def move(self, pairs: Sequence[tuple[str, Term]]) -> None:
+        """Makes the moves. What was found before stays, since it depends on none."""
+        self.pairs, self.does = pairs, dict(pairs)
 
     def index(self, number: int, functor: tuple[str, int], places: tuple[int, ...]) -> Callable:
         """The terms of a functor by what they have at these places."""

@@ -1,41 +1,23 @@
-"""A description as it was published: its sentences with their lines, and the rules that they come to.
+"""The rules of a description, as records are followed by it.
 
-A term is a text or a tuple. A condition of a rule is one of the classes below; denials stand only before what is derived, and an `or`
-only where each of its variables is bound by other conditions of the rule.
+A condition of a rule is one of the classes below; denials stand only before what is derived, and an `or` only where each of its variables
+is bound by other conditions of the rule. Where no sentence has a variable, each atomic sentence is a relation of its own.
 """
 
-import itertools
-import math
-import re
-from collections.abc import Container
+from collections.abc import Iterator
 from typing import NamedTuple
 
-Term = str | tuple
-# The name of a relation, and the number of its arguments: none for an atom alone.
-Relation = tuple[str, int | None]
-TOKEN = re.compile(r"[()]|[^\s();]+|;[^\n]*|\n")
-OWN = {"role": 1, "init": 1, "true": 1, "next": 1, "does": 2, "legal": 2, "goal": 2, "terminal": None}
-CONNECTIVES = "<=", "not", "or", "and", "distinct"
-# So many rules may come of the `or`s of one sentence. Past the first number each `or` that can be is a relation of its own.
-FEW_WAYS, MOST_WAYS = 100, 10_000
-# As many as the referee takes.
-MOST_LEVELS = 64
+from ggp_tools import gdl
+from ggp_tools.kif import MOST_LEVELS, Expression, Refused, expressions, relation, variables
+
+Term = Expression
+TRUE, DOES, INIT, NEXT = ("true", 1), ("does", 2), ("init", 1), ("next", 1)
+LEGAL, GOAL, ROLE, TERMINAL = ("legal", 2), ("goal", 2), ("role", 1), ("terminal", None)
+OWN = (INIT, NEXT, LEGAL, GOAL, ROLE, TERMINAL)
 
 
-class NotFollowed(Exception):
+class NotFollowed(Refused):
     """Why a record could not be followed: nothing is said of the game."""
-
-
-class Sentence(NamedTuple):
-    """A sentence of the description, counted from 0, and the line, counted from 1, in which it begins."""
-
-    number: int
-    line: int
-    term: object
-
-    def cited(self) -> str:
-        text = spelled(self.term)
-        return f"sentence {self.number}, line {self.line}: {text[:160]}" + (".." if len(text) > 160 else "")
 
 
 class Asked(NamedTuple):
@@ -71,45 +53,15 @@ class Rule(NamedTuple):
     body: tuple
 
 
-def spelled(term: Term) -> str:
-    """The canonical text of a term."""
-    return term if isinstance(term, str) else "(" + " ".join(map(spelled, term)) + ")"
-
-
-def sentences_of(text: str, most_levels: int = MOST_LEVELS) -> list[Sentence]:
-    """The sentences that a text spells, in small letters. Refuses one with more lists in one another."""
-    found, levels, line, begun = [], [[]], 1, 1
-    for token in TOKEN.findall(text):
-        if token == "\n":
-            line += 1
-        elif token == "(":
-            begun = line if len(levels) == 1 else begun
-            if len(levels) > most_levels:
-                raise NotFollowed(f"line {begun}: more than {most_levels} lists in one another")
-            levels.append([])
-        elif token == ")":
-            if len(levels) == 1:
-                raise NotFollowed(f"line {line}: a `)` with no open list")
-            levels[-2].append(tuple(levels.pop()))
-        elif not token.startswith(";"):
-            begun = line if len(levels) == 1 else begun
-            levels[-1].append(token.lower())
-        if len(levels) == 1 and levels[0]:
-            found.append(Sentence(len(found), begun, levels[0].pop()))
-    if len(levels) > 1:
-        raise NotFollowed(f"line {begun}: a list that is not closed")
-    return found
-
-
 def term_of(text: str) -> Term:
     """The term that a text spells, as a move or a term of a state."""
-    found = sentences_of(text)
+    found = expressions(text)
     if len(found) != 1:
         raise NotFollowed("it is no record: a text of it is not one term")
-    return found[0].term
+    return found[0]
 
 
-def low(term: str | tuple) -> str | tuple:
+def low(term: Term) -> Term:
     """Returns a term. Refuses one that is larger than any that the referee takes, as rules make them that don't end."""
     left = [(term, 0)]
     while left:
@@ -121,132 +73,84 @@ def low(term: str | tuple) -> str | tuple:
     return term
 
 
-def is_built(term: str | tuple) -> bool:
+def is_built(term: Term) -> bool:
     """Whether a term is a list that has variables."""
     return not isinstance(term, str) and bool(variables(term))
-
-
-def is_variable(term: Term) -> bool:
-    return isinstance(term, str) and term.startswith("?")
-
-
-def variables(term: Term) -> dict[str, None]:
-    """The variables of a term or of a list of terms, each once, in their order."""
-    if isinstance(term, str):
-        return {term: None} if term.startswith("?") else {}
-    return {name: None for member in term for name in variables(member)}
 
 
 def variables_of(condition: Condition) -> dict[str, None]:
     """The variables of a condition."""
     if isinstance(condition, Either):
         return {name: None for way in condition.ways for inner in way for name in variables_of(inner)}
-    return variables(condition.arguments)
+    return dict.fromkeys(variables(condition.arguments))
 
 
-def relation_of(atom: Term) -> tuple[Relation, tuple[Term, ...]]:
-    """The relation of an atomic sentence, with the number of its arguments (none for an atom alone), and these."""
-    if isinstance(atom, str):
-        found = (atom, None), ()
-    elif atom == ("terminal",):
-        found = ("terminal", None), ()
-    else:
-        found = (atom[0], len(atom) - 1), atom[1:]
-    (name, count), arguments = found
-    if not isinstance(name, str) or name.startswith("?") or name in CONNECTIVES or OWN.get(name, count) != count:
-        raise NotFollowed(f"{spelled(atom)} is no sentence of GDL")
-    return (name, count), arguments
+def arguments_of(atom: Expression) -> tuple[Term, ...]:
+    return () if isinstance(atom, str) else atom[1:]
 
 
-def conditions_of(literal: Term, positive: bool = True) -> list[list[Condition]]:
-    """The ways in which a literal can hold: each a list of conditions."""
+def condition_of(literal: gdl.Literal) -> Condition:
+    if literal.same:
+        return Same(literal.positive, literal.atom)
+    return Asked(literal.positive, relation(literal.atom), arguments_of(literal.atom))
+
+
+def tests_of(literal: Expression, positive: bool = True) -> list[Condition]:
+    """The conditions that all hold where a literal does, or where it does not: an `or` stays one."""
     match literal:
         case ("not", inner):
-            return conditions_of(inner, not positive)
+            return tests_of(inner, not positive)
         case ("or" | "and", *inners):
-            ways = [conditions_of(inner, positive) for inner in inners]
-            return products(ways) if (literal[0] == "and") == positive else list(itertools.chain(*ways))
-        case ("distinct", left, right):
-            return [[Same(not positive, (left, right))]]
-    relation, arguments = relation_of(literal)
-    return [[Asked(positive, relation, arguments)]]
+            ways = [tuple(tests_of(inner, positive)) for inner in inners]
+            return [condition for way in ways for condition in way] if (literal[0] == "and") == positive else [Either(tuple(ways))]
+    return [condition_of(literal) for literal in gdl.ways_of(literal, positive)[0]]
 
 
-def products(ways: list[list[list]]) -> list[list]:
-    """The ways in which all of these can hold together."""
-    count = 1
-    for alternatives in ways:
-        count *= len(alternatives)
-    if count > MOST_WAYS:
-        raise NotFollowed(f"its `or`s can hold in more than {MOST_WAYS:,} ways")
-    return [list(itertools.chain(*way)) for way in itertools.product(*ways)]
+def rules_of(number: int, sentence: Expression, names: Iterator[str]) -> list[Rule]:
+    """The rules of a sentence. An `or` whose variables are bound beside it is tested as it stands; each way of another has a rule."""
+    head, body = gdl.parted(sentence)
+    bound = {name for literal in body if literal[0] not in gdl.NO_RELATIONS for name in variables(literal)}
+    tested = [literal for literal in body if literal[0] in ("or", "and", "not") and bound.issuperset(variables(literal))]
+    others = [literal for literal in body if literal not in tested]
+    tests = [condition for literal in tested for condition in tests_of(literal)]
+    found = gdl.rules_of(number, ("<=", head, *others), names)
+    own = [tests if rule.head == head else [] for rule in found]
+    return [
+        Rule(number, relation(rule.head), arguments_of(rule.head), (*map(condition_of, rule.body), *more)) for rule, more in zip(found, own)
+    ]
 
 
-def rules_of(sentence: Sentence) -> list[Rule]:
-    """The rules of a sentence."""
-    term = sentence.term
-    is_rule = isinstance(term, tuple) and term[:1] == ("<=",)
-    if is_rule and len(term) < 2:
-        raise NotFollowed("a rule without a head")
-    must_be_terms(term)
-    relation, arguments = relation_of(term[1] if is_rule else term)
-    literals = [conditions_of(literal) for literal in (term[2:] if is_rule else ())]
-    bound = {name for ways in literals if len(ways) == 1 for condition in ways[0] if is_binding(condition) for name in variables_of(condition)}
-    tests = [Either(tuple(map(tuple, ways))) for ways in literals if len(ways) > 1 and is_bound(ways, bound)]
-    others = [ways for ways in literals if len(ways) == 1 or not is_bound(ways, bound)]
-    others, own = set_apart(sentence.number, others)
-    return [*own, *(Rule(sentence.number, relation, arguments, tuple([*body, *tests])) for body in products(others))]
+def one_by_one(rules: list[Rule]) -> list[Rule]:
+    """The rules of a description without variables, by which each atomic sentence is looked up by itself: it is a relation."""
+    return [rule._replace(body=tuple(map(alone, rule.body))) for rule in rules]
 
 
-def must_be_terms(term: str | tuple) -> None:
-    """Refuses a list that begins with no name."""
-    if isinstance(term, tuple):
-        if not term or not isinstance(term[0], str):
-            raise NotFollowed(f"{spelled(term)} is no term")
-        for member in term[1:]:
-            must_be_terms(member)
+def with_relations(rules: list[Rule]) -> list[Rule]:
+    """The rules of the game's own relations, and of each atomic sentence that is a relation."""
+    asked, made = {condition.relation for rule in rules for condition in all_asked(rule.body)}, []
+    for rule in rules:
+        own = alone(Asked(True, rule.relation, rule.arguments)).relation
+        if rule.relation in OWN:
+            made.append(rule)
+        if own in asked and own not in OWN:
+            made.append(rule._replace(relation=own, arguments=()))
+    return made
 
 
-def set_apart(number: int, literals: list) -> tuple[list, list[Rule]]:
-    """The same literals with relations of their own for `or`s, where these can hold in many ways, and the rules of these relations."""
-    found, own = [], []
-    is_many = math.prod(map(len, literals)) > FEW_WAYS
-    for place, ways in enumerate(literals):
-        names = tuple({name: None for way in ways for condition in way for name in variables_of(condition)})
-        if is_many and len(ways) > 1 and all(binds(way, names) for way in ways):
-            # No name has a blank.
-            relation = f"or {number} {place}", len(names)
-            own += [Rule(number, relation, names, tuple(way)) for way in ways]
-            ways = [[Asked(True, relation, names)]]
-        found.append(ways)
-    return found, own
+def alone(condition: Condition) -> Condition:
+    """The condition, with a relation of its own for each atomic sentence."""
+    if isinstance(condition, Either):
+        return Either(tuple(tuple(map(alone, way)) for way in condition.ways))
+    if isinstance(condition, Same) or condition.relation in (TRUE, DOES) or not condition.arguments:
+        return condition
+    return Asked(condition.positive, ((condition.relation[0], *condition.arguments), None), ())
 
 
-def binds(way: list, names: tuple[str, ...]) -> bool:
-    bound = {name for condition in way if is_binding(condition) for name in variables_of(condition)}
-    return bound.issuperset(names)
-
-
-def is_binding(condition: Condition) -> bool:
-    return isinstance(condition, Asked) and condition.positive
-
-
-def is_bound(ways: list[list[Condition]], bound: Container[str]) -> bool:
-    return all(name in bound for way in ways for condition in way for name in variables_of(condition))
-
-
-def all_rules(sentences: list[Sentence]) -> list[Rule]:
-    """The rules of all sentences. Each variable of one is bound by a condition that is no denial."""
-    found = []
-    for sentence in sentences:
-        try:
-            rules = rules_of(sentence)
-        except NotFollowed as why:
-            raise NotFollowed(f"{sentence.cited()}: {why}") from None
-        for rule in rules:
-            bound = {name for condition in rule.body if is_binding(condition) for name in variables_of(condition)}
-            named = [*variables(rule.arguments), *(name for condition in rule.body for name in variables_of(condition))]
-            if free := [name for name in named if name not in bound]:
-                raise NotFollowed(f"{sentence.cited()}: nothing binds {free[0]}")
-        found += rules
-    return found
+def all_asked(conditions: tuple[Condition, ...]) -> Iterator[Asked]:
+    """What conditions ask for."""
+    for condition in conditions:
+        if isinstance(condition, Asked):
+            yield condition
+        elif isinstance(condition, Either):
+            for way in condition.ways:
+                yield from all_asked(way)

@@ -3,17 +3,13 @@
 from collections.abc import Iterable, Iterator, Sequence
 
 from ggp_tools.holding.game import Game
-from ggp_tools.holding.reading import is_variable, spelled
+from ggp_tools.holding.match import texts_of
+from ggp_tools.kif import head_of, is_variable, spelled
 from ggp_tools.records.marks import marks_of
 from ggp_tools.records.show import Board, board_places, boards_of, visible, words_of
 
 State = frozenset
 Place = tuple[int, int]
-
-
-def texts_of(state: State) -> list[str]:
-    """Returns the terms of a state as a record has them."""
-    return sorted(map(spelled, state))
 
 
 def places_of(move: str, board: Board) -> list[Place]:
@@ -64,7 +60,7 @@ class Shown:
 
     def signs(self, board: Board) -> dict[str, tuple[str, str]]:
         """Returns the text that a board shows of each label, and its kinds. A label that the rules name looks the same in all states."""
-        heads = (sentence.term[1] if sentence.term[0] == "<=" else sentence.term for sentence in self.game.sentences)
+        heads = map(head_of, self.game.sentences)
         terms = (words_of(spelled(head[1])) for head in heads if head[0] in ("init", "next") and len(head) == 2)
         named = ([word for at, word in enumerate(term) if at in places] for term, places in labelled(terms, board))
         labels = {" ".join(words) for words in named if not any(map(is_variable, words))}

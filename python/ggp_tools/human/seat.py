@@ -6,8 +6,8 @@ import threading
 import time
 
 from ggp_tools.holding.game import Game
-from ggp_tools.holding.reading import NotFollowed, sentences_of, spelled
 from ggp_tools.human.game import Shown
+from ggp_tools.kif import Refused, expressions, spelled
 
 # The keyword of a message, and the id of its match as it is written.
 HEAD = re.compile(r"\s*\(\s*([A-Za-z]+)\s+([^\s()]+)")
@@ -18,7 +18,7 @@ PATIENCE = 10.0
 NO_MOVES = ("nil", ())
 CLOCK = re.compile("[0-9]{1,5}")
 # What the reading of rules that are none may end with.
-BAD_RULES = (NotFollowed, RecursionError, IndexError, KeyError, TypeError, ValueError)
+BAD_RULES = (Refused, RecursionError, IndexError, KeyError, TypeError, ValueError)
 
 
 class Unread(Exception):
@@ -32,8 +32,8 @@ def read_message(text: str) -> tuple[str, str, tuple]:
     head = HEAD.match(text)
     try:
         # Rules stand in lists of the message, and are looked at apart from it.
-        terms = [sentence.term for sentence in sentences_of(text, math.inf)]
-    except NotFollowed as why:
+        terms = expressions(text, math.inf, takes_bytes=True)
+    except Refused as why:
         raise Unread(str(why)) from None
     if not head or len(terms) != 1:
         raise Unread("it is not one list with a keyword and a match")
@@ -43,8 +43,8 @@ def read_message(text: str) -> tuple[str, str, tuple]:
 def game_of(rules: object) -> Game:
     """Returns the game of a START's rules."""
     if not isinstance(rules, tuple):
-        raise NotFollowed("they are no list")
-    return Game("\n".join(map(spelled, rules)))
+        raise Refused("they are no list")
+    return Game("\n".join(map(spelled, rules)), takes_bytes=True)
 
 
 def clock_of(text: object) -> int:
@@ -129,7 +129,7 @@ class Seat:
             game, own = game_of(rules), spelled(role)
             roles = [spelled(role) for role in game.roles]
             if own not in roles:
-                raise NotFollowed(f"they have no role {own}")
+                raise Refused(f"they have no role {own}")
         except BAD_RULES as why:
             self.refuse(asked, f"A match was refused, since its rules can't be followed: {why}")
             return "busy"

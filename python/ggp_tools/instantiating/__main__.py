@@ -1,5 +1,7 @@
 """The command `ggp-instantiate`, for a process that is started with this package alone."""
 
+import sys
+
 from ggp_tools.instantiating.command import main
 
-main()
+sys.exit(main())

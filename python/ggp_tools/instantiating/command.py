@@ -21,15 +21,15 @@ member.
 """
 
 import argparse
-import os
-import sys
 
 from ggp_tools.descriptions.suspicious import suspicions
 from ggp_tools.instantiating.limits import MOST
-from ggp_tools.instantiating.making import ALWAYS, NEVER, WHERE_NEEDED, Making, say
+from ggp_tools.instantiating.making import ALWAYS, NEVER, WHERE_NEEDED, Making
 from ggp_tools.kif import KifFault, Refused, told
+from ggp_tools.streams import MOST_SECONDS, STANDARD_INPUT, Ended, opened, report, say, seconds, status_of
 
-SECONDS, MOST_SECONDS = 60, 1_000_000
+COMMAND = "ggp-instantiate"
+SECONDS = 60
 # So long it is searched for what is suspicious, and so many lines are printed.
 SECONDS_OF_SEARCH, MOST_SUSPICIONS = 5, 20
 HELP = (
@@ -38,41 +38,19 @@ HELP = (
 )
 
 
-def seconds(text: str) -> float:
-    """Returns the seconds that a word says."""
-    found = float(text)
-    if not 0 < found <= MOST_SECONDS:
-        raise argparse.ArgumentTypeError(f"{text} is not above 0 and up to {MOST_SECONDS:,}")
-    return found
-
-
-def put(text: str) -> None:
-    """Writes the ground description. Where that fails, nothing of it is written at the end either."""
-    if not sys.stdout:
-        raise Refused("standard output can't be written: it is closed")
-    try:
-        print(text, end="", flush=True)
-    except OSError as error:
-        os.dup2(os.open(os.devnull, os.O_WRONLY), sys.stdout.fileno())
-        raise Refused(f"standard output can't be written: {error.strerror}") from None
-
-
 def write_player_rules(made: Making, file: str) -> None:
     """Writes the description with variables, and says how long it is."""
     text = made.text_for_players()
     if len(text) > MOST["bytes"]:
         raise Refused(f"nothing is written, since the text for players is past the limit: bytes ({len(text):,} of {MOST['bytes']:,})")
-    try:
-        with open(file, "w", encoding="ascii") as stream:
-            stream.write(text)
-    except OSError as error:
-        raise Refused(f"{file} can't be written: {error.strerror}") from None
-    say(f"  for players {len(text):,} bytes with variables in {file}")
+    with open(file, "w", encoding="ascii") as stream:
+        stream.write(text)
+    report(f"  for players {len(text):,} bytes with variables in {file}")
 
 
 def arguments() -> argparse.Namespace:
     usage = "ggp-instantiate [--seconds N] [--large] [--folded | --unfolded] [--split] [--player-rules FILE] [FILE]"
-    words = argparse.ArgumentParser("ggp-instantiate", usage=usage, description=HELP, epilog="More is said in examples/games/general/README.md.")
+    words = argparse.ArgumentParser(COMMAND, usage=usage, description=HELP, epilog="More is said in examples/games/general/README.md.")
     told = f"the seconds of a processor that it may take, above 0 and up to {MOST_SECONDS:,} ({SECONDS})"
     words.add_argument("--seconds", type=seconds, default=SECONDS, metavar="N", help=told)
     words.add_argument("--large", action="store_true", help="do not try for the usual limits of ggp_manager: keep to those of ggp_manager --large")
@@ -83,32 +61,35 @@ def arguments() -> argparse.Namespace:
     told = "split the rules into parts with relations of their own (done where there are many instances)"
     words.add_argument("--split", action="store_true", help=told)
     words.add_argument("--player-rules", metavar="FILE", help="write the description with variables to this FILE, for players")
-    told = "the description with variables (standard input)"
-    words.add_argument("file", nargs="?", type=argparse.FileType("rb"), metavar="FILE", help=told)
-    given = words.parse_args()
-    if not given.file and not sys.stdin:
-        words.error("standard input is closed")
-    return given
+    words.add_argument("file", nargs="?", default="-", metavar="FILE", help="the description with variables (standard input, also as `-`)")
+    return words.parse_args()
 
 
 def say_suspicions(text: bytes) -> None:
     """Says what may be a mistake in the description."""
     for line in suspicions(text, None, SECONDS_OF_SEARCH).lines[:MOST_SUSPICIONS]:
-        say(f"  suspicious: {line}")
+        report(f"  suspicious: {line}")
 
 
-def main() -> None:
-    asked = arguments()
-    given = (asked.file or sys.stdin.buffer).read()
+def perform(asked: argparse.Namespace) -> int:
+    """Writes the ground description, or says why there is none."""
+    with opened(asked.file) as file:
+        given = file.read()
     made = Making(given.decode("latin-1"), asked.seconds, asked.folding, asked.split, asked.large)
     try:
         text = made.run()
         if asked.player_rules:
             write_player_rules(made, asked.player_rules)
-        put(text)
+        say(text, end="")
         say_suspicions(given)
     except Refused as why:
         say_suspicions(given)
-        file = f"{asked.file.name if asked.file else 'standard input'}: " if why.sentence is not None or isinstance(why, KifFault) else ""
-        sys.exit(f"ggp-instantiate: {file}{told(made.text, why)}")
+        name = STANDARD_INPUT if asked.file == "-" else asked.file
+        has_place = why.sentence is not None or isinstance(why, KifFault)
+        raise Ended(f"{name}: {told(made.text, why)}" if has_place else told(made.text, why), 1) from None
+    return 0
 
+
+def main() -> int:
+    asked = arguments()
+    return status_of(COMMAND, lambda: perform(asked), 1)

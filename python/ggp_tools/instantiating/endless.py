@@ -1,7 +1,7 @@
 """Whether the instances of a description have no end, where that can be told from one of its sentences."""
 
-from .sentences import Rule
-from ggp_tools.kif import Expression, put, relation, variables
+from ggp_tools.gdl import Rule
+from ggp_tools.kif import Expression, fits, put, relation, variables
 
 # What the grounder takes for true of what it has derived: a state's terms, and the moves.
 TURNED = {("next", 1): ("true", 1), ("init", 1): ("true", 1), ("legal", 2): ("does", 2)}
@@ -29,12 +29,3 @@ def is_endless(rule: Rule) -> bool:
 
 def arguments(atom: Expression) -> Expression:
     return () if isinstance(atom, str) else atom[1:]
-
-
-def fits(pattern: Expression, term: Expression, values: dict[str, Expression]) -> bool:
-    """Whether the pattern is the term for some values of its variables, whose number grows."""
-    if isinstance(pattern, str):
-        if pattern.startswith("?"):
-            return values.setdefault(pattern, term) == term
-        return pattern == term
-    return isinstance(term, tuple) and len(pattern) == len(term) and all(fits(wanted, given, values) for wanted, given in zip(pattern, term))

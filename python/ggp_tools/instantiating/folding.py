@@ -16,7 +16,7 @@ from typing import NamedTuple
 
 from .formulas import FALSE, TRUE, Formulas
 from ggp_tools.kif import Expression, Refused, atoms, fresh_before_digits, relation
-from .sentences import GAME, Rule
+from ggp_tools.gdl import GAME, Rule
 
 # A body, as the numbers of its formulas.
 Formed = frozenset[int]

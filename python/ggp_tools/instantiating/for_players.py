@@ -2,8 +2,8 @@
 
 from collections.abc import Iterator
 
-from ggp_tools.kif import Expression, Relation, relation, spelled
-from .sentences import Literal, Rule, each_of, ways_of
+from ggp_tools.kif import Expression, Relation, head_of, relation, spelled
+from ggp_tools.gdl import Literal, Rule, each_of, ways_of
 
 
 def text_for_players(sentences: list[Expression], rules: list[Rule]) -> str:
@@ -20,10 +20,6 @@ def text_for_players(sentences: list[Expression], rules: list[Rule]) -> str:
         moves = dict.fromkeys(rule.head[1:] for rule in rules if relation(rule.head) == ("legal", 2))
         found += [("input", *move) for move in moves]
     return "".join(f"{spelled(expression)}\n" for expression in found)
-
-
-def head_of(sentence: Expression) -> Expression:
-    return sentence[1] if isinstance(sentence, tuple) and sentence[0] == "<=" else sentence
 
 
 def relations_in(expression: Expression) -> Iterator[Relation]:

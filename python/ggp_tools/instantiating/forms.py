@@ -3,7 +3,7 @@
 from typing import NamedTuple
 
 from .gringo import MOST_INSTANCES
-from .sentences import Rule
+from ggp_tools.gdl import Rule
 from .splitting import split
 
 # Up to so many instances a description is tried as it stands. It folds best so, in seconds, and stays what it was.

@@ -11,7 +11,7 @@ from collections.abc import Iterable, Iterator
 from typing import TextIO
 
 from ggp_tools.kif import MOST_LEVELS, Expression, Refused, Relation, relation, variables
-from .sentences import GAME, Literal, Rule
+from ggp_tools.gdl import GAME, Literal, Rule
 
 # What the grounder may take and give before it is stopped.
 MEMORY, MOST_INSTANCES = 2 << 30, 1_000_000

@@ -3,7 +3,7 @@
 from collections.abc import Iterable, Sequence
 
 from ggp_tools.kif import Expression, place, put, relation
-from .sentences import GAME, Body, Literal, Rule
+from ggp_tools.gdl import GAME, Body, Literal, Rule
 
 # The rules that were grounded, each with the variables that an instance has terms for, and an instance: the number of its rule, and its terms.
 Kept = Sequence[tuple[Rule, Sequence[str]]]

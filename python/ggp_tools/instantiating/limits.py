@@ -5,7 +5,7 @@ from collections import Counter
 from collections.abc import Iterator, Sequence
 
 from ggp_tools.kif import MOST_LEVELS, Expression, Refused, levels, relation, spelled
-from .sentences import SECRET, Rule, cited
+from ggp_tools.gdl import SECRET, Rule, cited
 
 MOST = {"sentences": 8192, "atomic sentences": 16384, "roles": 16, "moves": 4096, "bytes": 1048576, "levels": MOST_LEVELS}
 # The limits of ggp_manager --large.

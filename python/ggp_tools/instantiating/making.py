@@ -1,18 +1,16 @@
 """From a description to its ground description: what is done one after the other, and what is said of it."""
 
-import contextlib
 import math
 import signal
-import sys
 import time
 from typing import NamedTuple
 
 from . import folding, for_players, gringo, grounding, limits, rounds
 from .endless import endless
 from ggp_tools.kif import Expression, Refused, expressions, relation, spelled
+from ggp_tools.streams import report
 from .forms import Form, forms
-from .relations import Relations
-from .sentences import Rule, all_rules, as_read, cited, lines_of
+from ggp_tools.gdl import Relations, Rule, all_rules, as_read, cited, lines_of
 
 # How a game is written: folded where it is past a limit otherwise, always, or never.
 WHERE_NEEDED, ALWAYS, NEVER = "where needed", "always", "never"
@@ -172,7 +170,7 @@ class Making:
         """Notes what is known of a form, which a run that goes on for long says at once."""
         self.known.append(words)
         if time.monotonic() - self.began > SOON:
-            say(f"  after {time.monotonic() - self.began:.0f} s: {words}")
+            report(f"  after {time.monotonic() - self.began:.0f} s: {words}")
 
     def explained(self, why: str) -> str:
         """The reason, with what is known of the instances so far."""
@@ -222,19 +220,19 @@ class Making:
 
     def reported(self, written: Written) -> str:
         """Says what was made, beside the limits, and refuses what is past one. Returns its text."""
-        say(f"ggp-instantiate: {len(self.sentences)} sentences gave {len(written.sentences):,} ground ones, in {time.monotonic() - self.began:.2f} s")
+        report(f"ggp-instantiate: {len(self.sentences)} sentences gave {len(written.sentences):,} ground ones, in {time.monotonic() - self.began:.2f} s")
         for note in written.notes:
-            say(f"  {note}")
+            report(f"  {note}")
         wide = max(len(name) for name, _, _ in written.figures)
         for name, count, most in written.figures:
-            say(f"  {name:{wide}} {count:>9,} of {most:>9,}" + (": PAST THE LIMIT" if count > most else ""))
+            report(f"  {name:{wide}} {count:>9,} of {most:>9,}" + (": PAST THE LIMIT" if count > most else ""))
         if limits.MOST_IN_A_WORD < len(written.text) and not written.past():
-            say(f"  one word of a command line holds {limits.MOST_IN_A_WORD:,} bytes on Linux, and this is longer")
+            report(f"  one word of a command line holds {limits.MOST_IN_A_WORD:,} bytes on Linux, and this is longer")
         if past := written.past():
             is_bytes = past[0][0] == "bytes"
             costs = written.game.costs(is_bytes) if written.game else limits.costs_of(written.sentences, is_bytes)
             for line in limits.dearest(costs, self.sentences, self.lines, is_bytes):
-                say(f"  dear: {line}")
+                report(f"  dear: {line}")
             listed = ", ".join(f"{name} ({count:,} of {most:,})" for name, count, most in past)
             raise Refused(f"nothing is written, since this is past the limit: {listed}")
         return written.text
@@ -246,10 +244,3 @@ class Making:
 
 def text_of(written: list[limits.Numbered], notes: list[str]) -> str:
     return "".join([*(f"; {note}\n" for note in notes), *(f"{spelled(sentence)}\n" for _, sentence in written)])
-
-
-def say(text: str) -> None:
-    """Writes a line to standard error, where that is open: to print, none is standard output."""
-    if sys.stderr:
-        with contextlib.suppress(OSError):
-            print(text, file=sys.stderr)

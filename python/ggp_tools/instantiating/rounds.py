@@ -13,7 +13,7 @@ has to come twice. The last round is the sentence itself, and what no later roun
 from collections.abc import Iterable, Iterator, Mapping
 
 from ggp_tools.kif import Expression, Refused, atoms, fresh, relation, spelled
-from .sentences import Literal, Rule
+from ggp_tools.gdl import Literal, Rule
 
 # The rules of each sentence.
 RulesFor = dict[Expression, list[Rule]]

@@ -10,8 +10,7 @@ from collections.abc import Iterable, Iterator, Sequence
 from typing import NamedTuple
 
 from ggp_tools.kif import Expression, atoms, fresh_before_digits, put, relation, variables
-from .relations import Relations
-from .sentences import Literal, Rule
+from ggp_tools.gdl import Literal, Relations, Rule
 
 # Longer bodies have too many parts to try them all. A rule of fewer variables joins nothing.
 MOST_LITERALS, FEW_VARIABLES = 13, 3

@@ -1,6 +1,6 @@
 """Sorts a mixed pile of records by game, has the program check each, and makes tables, pages, facts or matches of ggp-base of them.
 
-    ggp-records --rules FOLDER check PILE ..
+    ggp-records --rules FOLDER check [--explain] PILE ..
     ggp-records --rules FOLDER sqlite FILE PILE ..
     ggp-records --rules FOLDER csv DIR PILE ..
     ggp-records --rules FOLDER pages DIR PILE ..
@@ -8,10 +8,13 @@
     ggp-records --rules FOLDER facts [--log LOG ..] [--descriptions FOLDER] [--refereed-by TEXT] FILE PILE ..
     ggp-records log LOG ..
 
-A PILE is a file with a record on each line, as `season` and `run` write them; lines of accounts are skipped. FOLDER has the ground rules of
+A PILE is a file with a record on each line, as `season` and `run` write them, or `-` for standard input; either may be packed by gzip.
+Lines of accounts are skipped. Options may come anywhere. FOLDER has the ground rules of
 the games, a file NAME.kif each: a record is of the game with its roles and its first state. With --large the limits of the rules are those
 for large games. `check` writes a line for each record: the file, the line's number, the match, the game and the verdict, with a tab between
-each two. With --explain lines below one that is not lawful say what was expected and what was found. `ggp-base` writes a file for each
+each two. With --explain lines below one that is not lawful say what was expected and what was found. The tables of `sqlite` and `csv` have
+each record: `lawful` is 1 or 0, and `copy_of` has the number of an earlier record with the same bytes; the views `counted_players` and
+`counted_moves` of the database have only lawful records, each once. `ggp-base` writes a file for each
 record that is lawful, as ggp-base has a match, and names the others. URL/NAME/ is then the address of the game NAME. `facts` writes a line
 of JSON for each record that is lawful, with what it does not say itself, and names the others. LOG, a file or a folder of files, has the
 times of messages, as the folder `logs` of a competition. `log` prints logs as text, an event on each line, with at most 200 bytes of each
@@ -30,15 +33,22 @@ import sys
 from collections.abc import Iterable, Iterator
 
 from ggp_tools.match_log import event_of, text_of
+from ggp_tools.printable import counted, visible
 from ggp_tools.records.collection import Judged, Pile, judged_lines, known_games
-from ggp_tools.records.explain import explanation, json_lines
+from ggp_tools.records.explain import explanation
 from ggp_tools.records.facts import Facts, description_sums, version_beside, write_facts
 from ggp_tools.records.ggp_base import write_matches
 from ggp_tools.records.index import write_pages
 from ggp_tools.records.match_logs import MatchLogs, lines_of_logs
+from ggp_tools.records.record import json_lines
 from ggp_tools.records.tables import write_csv, write_sqlite
 from ggp_tools.referee import NoReferee, Referee, Unchecked, find_program
+from ggp_tools.streams import report, say, status_of
 
+COMMAND = "ggp-records"
+# What an action writes, and the options that only some have.
+OUTPUTS = {"check": None, "sqlite": "FILE", "csv": "DIR", "pages": "DIR", "ggp-base": "DIR", "facts": "FILE", "log": None}
+OWN = {"explain": ["check"], "log": ["ggp-base", "facts"], "games": ["ggp-base"], "descriptions": ["facts"], "refereed_by": ["facts"]}
 NOT_LAWFUL = "not lawful: "
 
 
@@ -55,16 +65,11 @@ class Count:
 
     def words(self, skipped: int) -> str:
         parts = [f"{count:,} {verdict}" for verdict, count in self.by_verdict.most_common()]
-        parts += [f"{skipped:,} {'line' if skipped == 1 else 'lines'} of accounts skipped"] * bool(skipped)
+        parts += [f"{counted(skipped, 'line')} of accounts skipped"] * bool(skipped)
         return ", ".join(parts) or "no records"
 
     def are_all_lawful(self) -> bool:
         return set(self.by_verdict) <= {"lawful"}
-
-
-def visible(text: str) -> str:
-    """Returns a text on one line of visible ASCII."""
-    return "".join(letter if " " <= letter <= "~" else f"\\u{{{ord(letter):x}}}" for letter in text)
 
 
 def row_of(judged: Judged) -> str:
@@ -77,24 +82,19 @@ def explained(judged: Judged) -> list[str]:
     """Returns why a line is no lawful record, as far as that is known."""
     if judged.game and judged.verdict.startswith(NOT_LAWFUL):
         return explanation(judged.verdict.removeprefix(NOT_LAWFUL), judged.game.rules, judged.line.data)
-    return json_lines(judged.line.data) if judged.line.record is None and judged.line.data else []
+    return json_lines(judged.line.data)[1:] if judged.line.record is None and judged.line.data else []
 
 
 def print_check(lines: Iterable[Judged], explains: bool) -> None:
     """Writes a line for each record, and below one that is not lawful why, if that is wanted."""
-    if sys.stdout is None:
-        raise OSError("standard output is closed")
     for judged in lines:
-        print(row_of(judged))
-        for said in explained(judged) if explains else ():
-            print(f"\t{said}")
-    sys.stdout.flush()
+        say("\n\t".join([row_of(judged), *(explained(judged) if explains else ())]))
 
 
 def name_others(others: Iterable[Judged]) -> None:
     """Names each line of which nothing is written."""
     for judged in others:
-        print(f"ggp-records: not written: {visible(judged.line.file)}, line {judged.line.number}: {visible(judged.verdict)}", file=sys.stderr)
+        report(f"{COMMAND}: not written: {visible(judged.line.file)}, line {judged.line.number}: {visible(judged.verdict)}")
 
 
 def facts_for(given: argparse.Namespace, referee: Referee, logs: MatchLogs) -> Facts:
@@ -104,34 +104,32 @@ def facts_for(given: argparse.Namespace, referee: Referee, logs: MatchLogs) -> F
 
 
 def arguments(words: list[str]) -> argparse.Namespace:
-    reader = argparse.ArgumentParser("ggp-records", description=__doc__, formatter_class=argparse.RawDescriptionHelpFormatter)
+    reader = argparse.ArgumentParser(COMMAND, description=__doc__, formatter_class=argparse.RawDescriptionHelpFormatter)
     reader.add_argument("--program", metavar="FILE", help="ggp_manager, if it is not beside this program or on the path")
     reader.add_argument("--rules", metavar="FOLDER", help="the games: a file NAME.kif of ground rules each")
     reader.add_argument("--large", action="store_true", help="the limits of the rules are those for large games")
     reader.add_argument("--jobs", type=int, default=len(os.sched_getaffinity(0)), metavar="N", help="at most N processes at a time")
     reader.add_argument("--explain", action="store_true", help="`check`: say why a record is not lawful")
-    actions = reader.add_subparsers(dest="action", required=True)
-    for action, output in (("check", None), ("sqlite", "FILE"), ("csv", "DIR"), ("pages", "DIR"), ("ggp-base", "DIR"), ("facts", "FILE")):
-        command = actions.add_parser(action)
-        if action in ("ggp-base", "facts"):
-            command.add_argument("--log", action="append", default=[], metavar="LOG", help="a log of matches, or a folder of logs; may be given again")
-        if action == "ggp-base":
-            command.add_argument("--games", metavar="URL", help="where the games are published: the game NAME at URL/NAME/")
-        if action == "facts":
-            command.add_argument("--descriptions", metavar="FOLDER", help="what the rules were made from, by the same names")
-            command.add_argument("--refereed-by", metavar="TEXT", help="the program that refereed the matches (as VERSION says beside FOLDER of --rules)")
-        if output:
-            command.add_argument("output", metavar=output, type=pathlib.Path)
-        command.add_argument("piles", metavar="PILE", nargs="+")
-    actions.add_parser("log").add_argument("logs", metavar="LOG", nargs="+")
-    given = reader.parse_args(words)
-    if given.action == "log":
-        return given
-    if given.rules is None:
-        reader.error("the following arguments are required: --rules")
+    reader.add_argument("--log", action="append", metavar="LOG", help="`ggp-base`, `facts`: a log of matches, or a folder of logs; may be given again")
+    reader.add_argument("--games", metavar="URL", help="`ggp-base`: where the games are published: the game NAME at URL/NAME/")
+    reader.add_argument("--descriptions", metavar="FOLDER", help="`facts`: what the rules were made from, by the same names")
+    told = "`facts`: the program that refereed the matches (as VERSION says beside FOLDER of --rules)"
+    reader.add_argument("--refereed-by", metavar="TEXT", help=told)
+    reader.add_argument("action", choices=OUTPUTS, help="what is done")
+    reader.add_argument("files", metavar="FILE", nargs="*", help="what is written, if it is not standard output; then each PILE, or each LOG of `log`")
+    given = reader.parse_intermixed_args(words)
+    for option, actions in OWN.items():
+        if getattr(given, option) and given.action not in actions:
+            reader.error(f"`{given.action}` has no option --{option.replace('_', '-')}")
+    output = OUTPUTS[given.action]
+    given.output = pathlib.Path(given.files.pop(0)) if output and given.files else None
+    missing = ["--rules"] * (given.rules is None and given.action != "log") + [output] * (output is not None and not given.output)
+    missing += [] if given.files else ["LOG" if given.action == "log" else "PILE"]
+    if missing:
+        reader.error(f"the following arguments are required: {', '.join(missing)}")
     if given.jobs < 1:
         reader.error("--jobs is at least 1")
-    if given.action != "check" and os.path.lexists(given.output):
+    if given.output and os.path.lexists(given.output):
         reader.error(f"{given.output} is there already")
     return given
 
@@ -143,25 +141,24 @@ def print_log(paths: list[str]) -> int:
         event = event_of(line)
         others += event is None
         if event:
-            print(text_of(event))
-    sys.stdout.flush()
+            say(text_of(event))
     if others:
-        print(f"ggp-records: {others:,} {'line is' if others == 1 else 'lines are'} not of a log", file=sys.stderr)
+        report(f"{COMMAND}: {others:,} {'line is' if others == 1 else 'lines are'} not of a log")
     return int(others > 0)
 
 
 def perform(given: argparse.Namespace) -> int:
     """Does what the words ask for. Returns the status."""
     if given.action == "log":
-        return print_log(given.logs)
-    referee, pile, count = Referee(find_program(given.program), given.large), Pile(given.piles), Count()
-    logs = MatchLogs(getattr(given, "log", ()))
+        return print_log(given.files)
+    referee, pile, count = Referee(find_program(given.program), given.large), Pile(given.files), Count()
+    logs = MatchLogs(given.log or ())
     facts = facts_for(given, referee, logs) if given.action == "facts" else None
     games, refused = known_games(given.rules, referee)
     for said in refused:
-        print(f"ggp-records: skipped: {visible(said)}", file=sys.stderr)
+        report(f"{COMMAND}: skipped: {visible(said)}")
     if not games:
-        print(f"ggp-records: {visible(given.rules)} has no rules of a game, in a file NAME.kif", file=sys.stderr)
+        report(f"{COMMAND}: {visible(given.rules)} has no rules of a game, in a file NAME.kif")
         return 3
     lines = count.over(judged_lines(referee, games, pile, given.jobs))
     match given.action:
@@ -178,19 +175,11 @@ def perform(given: argparse.Namespace) -> int:
         case "facts":
             name_others(write_facts(given.output, lines, facts))
             for match_id, why in facts.faults.items():
-                print(f"ggp-records: nothing of a log is written of {visible(match_id)}: {why}", file=sys.stderr)
-    print(f"ggp-records: {count.words(pile.skipped)}", file=sys.stderr)
+                report(f"{COMMAND}: nothing of a log is written of {visible(match_id)}: {why}")
+    report(f"{COMMAND}: {count.words(pile.skipped)}")
     return 0 if count.are_all_lawful() else 1
 
 
 def main() -> int:
     given = arguments(sys.argv[1:])
-    try:
-        return perform(given)
-    except KeyboardInterrupt:
-        return 130
-    except BrokenPipeError:
-        return 3
-    except (NoReferee, Unchecked, OSError, MemoryError, sqlite3.Error) as why:
-        print(f"ggp-records: {visible(str(why) or 'out of memory')}", file=sys.stderr)
-        return 3
+    return status_of(COMMAND, lambda: perform(given), 3, (NoReferee, Unchecked, sqlite3.Error))

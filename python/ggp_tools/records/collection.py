@@ -4,26 +4,25 @@ state. Lines of accounts are skipped."""
 import collections
 import concurrent.futures
 import hashlib
-import json
 import os
 import pathlib
 import re
 from collections.abc import Iterable, Iterator
 from dataclasses import dataclass
-from typing import BinaryIO
 
-from ggp_tools.ground_games import Game, text_of, texts_of
-from ggp_tools.kif import Refused, expressions, variables
-from ggp_tools.records.shapes import ACCOUNT_LINE
-from ggp_tools.records.show import LONGEST_RECORD
-from ggp_tools.referee import BadRules, Referee
+from ggp_tools.holding.game import Game
+from ggp_tools.holding.match import texts_of
+from ggp_tools.kif import Refused, has_variables, spelled, told
+from ggp_tools.records.record import ACCOUNT_LINE, LONGEST_RECORD, TOO_LONG, NoRecord, numbered_lines, parsed
+from ggp_tools.referee import LAWFUL, BadRules, Referee
+from ggp_tools.streams import opened
 
 # Records that one process of the program checks: their bytes.
 BATCH = 4 << 20
 # This many batches may wait beside those that are being checked.
 WAITING = 2
 SURROGATE = re.compile("[\ud800-\udfff]")
-LAWFUL, NO_GAME, NO_RECORD = "lawful", "no game has its roles", "no record: "
+NO_GAME, NO_RECORD = "no game has its roles", "no record: "
 
 
 @dataclass(frozen=True, eq=False)
@@ -49,6 +48,10 @@ class Line:
     said: str = ""
 
     @property
+    def is_too_long(self) -> bool:
+        return self.said == TOO_LONG
+
+    @property
     def match_id(self) -> str:
         found = self.record.get("matchId") if self.record else None
         return found if isinstance(found, str) else ""
@@ -72,14 +75,16 @@ def game_of(path: pathlib.Path) -> KnownGame:
     if SURROGATE.search(str(path)):
         raise Refused("its name is no UTF-8")
     data = path.read_bytes()
-    sentences = expressions(data.decode("latin-1"))
-    if any(variables(sentence) for sentence in sentences):
+    text = data.decode("latin-1")
+    if has_variables(text):
         raise Refused("it has variables: `ggp-instantiate` makes ground rules of it")
-    game = Game(sentences)
-    roles = tuple(map(text_of, game.roles))
-    if not roles:
+    try:
+        game = Game(text)
+    except Refused as why:
+        raise Refused(told(text, why)) from None
+    if not game.roles:
         raise Refused("it has no role")
-    return KnownGame(path.stem, str(path), hashlib.sha256(data).hexdigest(), game, roles, tuple(texts_of(game.initial())))
+    return KnownGame(path.stem, str(path), hashlib.sha256(data).hexdigest(), game, tuple(map(spelled, game.roles)), tuple(texts_of(game.initial)))
 
 
 def known_games(folder: str, referee: Referee) -> tuple[list[KnownGame], list[str]]:
@@ -95,8 +100,6 @@ def known_games(folder: str, referee: Referee) -> tuple[list[KnownGame], list[st
             games.append(game)
         except (Refused, BadRules) as why:
             refused.append(f"{path}: {why}")
-        except (RecursionError, LookupError, TypeError, ValueError):
-            refused.append(f"{path}: it is no description")
     return games, refused
 
 
@@ -112,25 +115,12 @@ def candidates(record: dict, games: list[KnownGame]) -> list[KnownGame]:
 def line_of(file: str, number: int, data: bytes) -> Line:
     """Returns a line that was read, with the record that it may be."""
     if len(data) > LONGEST_RECORD:
-        return Line(file, number, b"", None, "it is longer than 16 MiB")
+        return Line(file, number, b"", None, TOO_LONG)
     try:
-        record = json.loads(data)
-    except (ValueError, RecursionError) as why:
-        return Line(file, number, data, None, str(why) or "it nests too deep")
-    if not isinstance(record, dict):
-        return Line(file, number, data, None, "it is JSON, and no object")
-    return Line(file, number, data, record)
-
-
-def numbered_lines(lines: BinaryIO) -> Iterator[tuple[int, bytes]]:
-    """Gives the lines of a file with their numbers, and of one that is too long only so much that this shows."""
-    number, enough = 0, LONGEST_RECORD + 3
-    while data := lines.readline(enough):
-        number += 1
-        rest = data
-        while len(rest) == enough and not rest.endswith(b"\n"):
-            rest = lines.readline(enough)
-        yield number, data.rstrip(b"\r\n")
+        record = parsed(data)
+    except NoRecord as why:
+        return Line(file, number, data, None, str(why))
+    return Line(file, number, data, *((record, "") if isinstance(record, dict) else (None, "it is JSON, and not an object")))
 
 
 class Pile:
@@ -143,7 +133,7 @@ class Pile:
         """Gives the lines of all files in their order, some megabytes at a time."""
         held, size = [], 0
         for file in self.files:
-            with open(file, "rb") as lines:
+            with opened(file) as lines:
                 for number, data in numbered_lines(lines):
                     if ACCOUNT_LINE.fullmatch(data):
                         self.skipped += 1

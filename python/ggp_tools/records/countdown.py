@@ -1,7 +1,5 @@
 """The ground description of Countdown, the game that `ggp_manager` has built in, from any heap."""
 
-from ggp_tools.kif import Expression, expressions
-
 # All but what depends on the size of the first heap.
 RULES = """
 (role red) (role blue)
@@ -26,12 +24,12 @@ RULES = """
 TAKEN = {1: "one", 2: "two"}
 
 
-def countdown(heap: int) -> list[Expression]:
-    """Returns the sentences of Countdown from a heap of this size."""
+def countdown(heap: int) -> str:
+    """Returns the description of Countdown from a heap of this size."""
     nexts = [
         f"(<= (next (heap {size - count})) (true (heap {size})) {word})"
         for size in range(heap, 0, -1)
         for count, word in TAKEN.items()
         if count <= size
     ]
-    return expressions(f"{RULES} (init (heap {heap})) {' '.join(nexts)}")
+    return f"{RULES}(init (heap {heap}))\n{' '.join(nexts)}"

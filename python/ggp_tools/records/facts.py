@@ -3,7 +3,6 @@ what a log has: when it was played, how long each message took, and why an answe
 those that `matches.jsonl` of a competition has too mean the same."""
 
 import errno
-import hashlib
 import json
 import pathlib
 from collections.abc import Iterable, Iterator
@@ -14,6 +13,7 @@ from ggp_tools.match_log import BROKEN, KINDS
 from ggp_tools.records.collection import Judged
 from ggp_tools.records.ggp_base import ABORTED, COMPLETED
 from ggp_tools.records.match_logs import Beginning, MatchLogs, message_sum
+from ggp_tools.records.record import record_sum
 from ggp_tools.records.tables import made_whole
 from ggp_tools.referee import VERSION_LINE
 
@@ -38,11 +38,6 @@ def version_beside(rules: str) -> str | None:
     path = pathlib.Path(rules).absolute().parent / VERSION
     said = path.read_bytes() if path.is_file() else b""
     return said.decode("ascii").strip() if VERSION_LINE.fullmatch(said) else None
-
-
-def record_sum(data: bytes) -> str:
-    """Returns the sum of a record's line, with one LF at its end."""
-    return hashlib.sha256(data.rstrip(b"\r\n") + b"\n").hexdigest()
 
 
 def broken_answers(exchanges: "Exchanges", whys: dict[tuple[int, int], str]) -> list[dict[str, object]]:

@@ -5,7 +5,8 @@ import re
 from collections.abc import Iterable
 
 from ggp_tools.records.collection import Judged
-from ggp_tools.records.show import NoRecord, checked_record, page_of
+from ggp_tools.records.record import NoRecord, checked_record
+from ggp_tools.records.show import page_of
 from ggp_tools.templating import page
 
 # What a file's name may hold of a match's id.

@@ -10,6 +10,7 @@ from collections.abc import Iterable, Iterator
 from ggp_tools.match_log import BROKEN, ENDS, KINDS, PLAY, SHORTAGE, START, End, Event, Host, Message, Open, Other, Runs
 from ggp_tools.match_log import events, whole_lines
 from ggp_tools.moments import moment_at
+from ggp_tools.streams import opened
 
 # The names of logs that a competition keeps of matches that do not count.
 SET_ASIDE = re.compile(r".*\.(refused|unchecked|differs)(\.\d+)?")
@@ -28,7 +29,7 @@ def files_of(path: str) -> list[pathlib.Path]:
 def lines_of_logs(paths: Iterable[str]) -> Iterator[bytes]:
     """Gives the whole lines of logs, and of the logs of folders."""
     for file in itertools.chain.from_iterable(map(files_of, paths)):
-        with open(file, "rb") as log:
+        with opened(file) as log:
             yield from whole_lines(log)
 
 
@@ -135,7 +136,7 @@ class MatchLogs:
     def __init__(self, paths: Iterable[str]) -> None:
         self.found: dict[str, tuple[list[Beginning], list[Beginning]]] = {}
         for file in itertools.chain.from_iterable(map(files_of, paths)):
-            with open(file, "rb") as log:
+            with opened(file) as log:
                 for match_id, beginning in beginnings(events(log)):
                     known = self.found.setdefault(match_id, ([], []))[beginning.is_over()]
                     if len(known) < SEVERAL and beginning not in known:

@@ -2,19 +2,18 @@
 
 import argparse
 import functools
-import json
 import re
-import sys
 from collections.abc import Callable, Iterable, Iterator
 from dataclasses import dataclass
 from typing import TYPE_CHECKING, BinaryIO
 
 from ggp_tools.answers import Whys
-from ggp_tools.ground_games import Game
-from ggp_tools.records.lengths import USUAL_RECORD, first_states, without_states
+from ggp_tools.holding.game import Game
+from ggp_tools.printable import visible
 from ggp_tools.records.marks import PIECES, Mark, marks_of
-from ggp_tools.records.shapes import ACCOUNT_LINE
-from ggp_tools.templating import joined, macros, page, visible
+from ggp_tools.records.record import ACCOUNT_LINE, CAUSE, LONGEST_RECORD, TOO_LONG, NoRecord, numbered_lines, read_record
+from ggp_tools.streams import Ended, opened, put_bytes, status_of
+from ggp_tools.templating import joined, macros, page
 
 if TYPE_CHECKING:
     from markupsafe import Markup
@@ -26,11 +25,8 @@ ABOUT = (
     "with what is wrong with it. `ggp_manager verify` says whether a record is that of a lawful match; this command does not look at that."
 )
 STATUS = "status 0: the page is written. 1: the text is no record. 2: wrong use, or it can't be read, or the page can't be written."
-LONGEST_RECORD = USUAL_RECORD
-TOO_LONG = "it is longer than 16 MiB"
 RECORD_BEGINS = b'{"cause":'
 ONE_RECORD = "A page is of one record: `ggp-records pages` makes a page of each"
-VERSIONS = (1, 2)
 LONGEST_AXIS = 32
 # A page that would draw more boards, in all states together, lists their terms instead: a board is some hundred times as long as its terms.
 MOST_DRAWN = 32_768
@@ -52,7 +48,6 @@ CAUSES = {
     "toolong": "10,000 turns were played",
     "allretired": "all roles are retired",
 }
-CAUSE = re.compile(r"(asked|toolong|allretired)|(nolegal|nogoal) (0|[1-9][0-9]?)")
 ERRORS = {
     "TO": "no answer came in time",
     "CE": "the connection broke, or no whole reply came",
@@ -61,151 +56,29 @@ ERRORS = {
     "IL": "the answer was no legal move",
 }
 
-# ---- reading
-
-
-class NoRecord(Exception):
-    """What is wrong with a text that is no record."""
-
-
-# What says whether a value is of a kind, and what stands at each place of a board.
-Kind = Callable[[object], bool]
+# What stands at each place of a board.
 Places = dict[tuple[int, int], list[str]]
 
 
-def is_text(value: object) -> bool:
-    return isinstance(value, str)
-
-
-def is_whole(value: object) -> bool:
-    return isinstance(value, int) and not isinstance(value, bool) and value >= 0
-
-
-def is_text_or_null(value: object) -> bool:
-    return value is None or is_text(value)
-
-
-def list_of(is_one: Kind) -> Kind:
-    return lambda value: isinstance(value, list) and all(map(is_one, value))
-
-
-# The keys of a record: whether a value is of the key's kind, and what is said of one that is not.
-KEYS = {
-    "cause": (is_text_or_null, "neither null nor a text"),
-    "endMarks": (list_of(is_text_or_null), "no list of texts and nulls"),
-    "errors": (list_of(list_of(is_text)), "no list of lists of texts"),
-    "goalValues": (list_of(is_whole), "no list of whole numbers"),
-    "matchId": (is_text, "no text"),
-    "moves": (list_of(list_of(is_text)), "no list of lists of texts"),
-    "phase": (is_text, "no text"),
-    "playClock": (is_whole, "no whole number"),
-    "players": (list_of(is_text), "no list of texts"),
-    "roles": (list_of(is_text), "no list of texts"),
-    "startClock": (is_whole, "no whole number"),
-    "startMarks": (list_of(is_text_or_null), "no list of texts and nulls"),
-    "states": (list_of(list_of(is_text)), "no list of lists of texts"),
-}
-STRIKES = (is_whole, "no whole number")
-
-
-def parsed(data: bytes) -> object:
-    """Returns the JSON value that the bytes spell."""
-
-    def no_number(word: str) -> None:
-        raise ValueError(f"{word} is no number")
-
-    try:
-        return json.loads(data.decode("utf-8"), parse_constant=no_number)
-    except RecursionError:
-        raise NoRecord("it is not JSON: it nests too deep") from None
-    except ValueError as why:
-        raise NoRecord(f"it is not JSON: {why}") from None
-
-
-def check_key(record: dict, key: str, kind: tuple[Kind, str]) -> None:
-    is_of_kind, said = kind
-    if key not in record:
-        raise NoRecord(f"the key {key!r} is missing")
-    if not is_of_kind(record[key]):
-        raise NoRecord(f"the value of {key!r} is {said}")
-
-
-def check_lengths(record: dict, is_cut: bool) -> None:
-    """Looks that there is one of each for each role, and one state more than turns, or fewer in a record that is cut."""
-    roles, turns = len(record["roles"]), len(record["moves"])
-    if not roles:
-        raise NoRecord("it has no role")
-    for key in ("players", "startMarks", "endMarks"):
-        if len(record[key]) != roles:
-            raise NoRecord(f"the length of {key!r} is {len(record[key])}, and there are {roles} roles")
-    if len(record["goalValues"]) not in (0, roles):
-        raise NoRecord(f"the length of 'goalValues' is {len(record['goalValues'])}, which is neither 0 nor {roles}, the number of roles")
-    for key in ("moves", "errors"):
-        for turn, texts in enumerate(record[key]):
-            if len(texts) != roles:
-                raise NoRecord(f"turn {turn + 1} of {key!r} has {len(texts)} texts, and there are {roles} roles")
-    for key, wanted in (("errors", turns), ("states", turns + 1)):
-        if len(record[key]) != wanted and not (is_cut and key == "states" and 0 < len(record[key]) < wanted):
-            raise NoRecord(f"the length of {key!r} is {len(record[key])} and not {wanted}, for {turns} turns in 'moves'")
-
-
-def checked_record(record: object, is_cut: bool = False) -> dict:
-    """Returns a value that is a record by its shape, as far as a page needs it, or one without its last states. Version 1 is filled in."""
-    if not isinstance(record, dict):
-        raise NoRecord("it is JSON, and no object")
-    for key, kind in KEYS.items():
-        check_key(record, key, kind)
-    version = record.setdefault("version", 1)
-    if not is_whole(version) or version not in VERSIONS:
-        raise NoRecord("the value of 'version' is neither 1 nor 2")
-    if version >= 2:
-        check_key(record, "strikes", STRIKES)
-    if record["phase"] not in PHASES:
-        raise NoRecord("the value of 'phase' is no phase")
-    check_lengths(record, is_cut)
-    why = CAUSE.fullmatch(record["cause"] or "asked")
-    if not why or int(why[3] or 0) >= len(record["roles"]):
-        raise NoRecord("the value of 'cause' is no cause of a match with these roles")
-    return record
-
-
-def read_record(data: bytes) -> dict:
-    """Returns the keys of the record that the bytes spell. If it is longer than 16 MiB, `states` has the first ones, as many as these hold."""
-    # The end of its line is no part of the record.
-    if len(data) - data.endswith(b"\n") <= LONGEST_RECORD:
-        return checked_record(parsed(data))
-    rest = without_states(data)
-    if len(rest) > LONGEST_RECORD:
-        raise NoRecord(TOO_LONG)
-    record = parsed(rest)
-    if isinstance(record, dict):
-        record["states"] = first_states(data, LONGEST_RECORD)
-    return checked_record(record, is_cut=True)
-
-
-def lines_of(file: BinaryIO) -> Iterator[bytes]:
-    """Gives the lines of a file. What of a line is more than a record has stands in the next one."""
-    return iter(lambda: file.readline(LONGEST_RECORD + 2), b"")
-
-
-def of_usual_length(data: bytes) -> bytes:
-    """Returns the bytes of a record. If it is too long for a page of one file, only its beginning was read, so it is refused here."""
-    if len(data) - data.endswith(b"\n") > LONGEST_RECORD:
-        raise NoRecord(TOO_LONG)
-    return data
+# ---- reading
 
 
 def record_of(file: BinaryIO) -> bytes:
     """Returns the bytes of a file that has one record. The account that `run --history` writes behind it is read over."""
     first, second = file.readline(LONGEST_RECORD + 2), file.readline(LONGEST_RECORD + 2)
     if ACCOUNT_LINE.fullmatch(second.rstrip(b"\r\n")):
-        for number, line in enumerate(lines_of(file), 3):
-            if not ACCOUNT_LINE.fullmatch(line.rstrip(b"\r\n")):
-                raise NoRecord(f"line {number} is no line of its account. {ONE_RECORD}")
-        return of_usual_length(first)
-    if first.startswith(RECORD_BEGINS) and second.startswith(RECORD_BEGINS):
+        for number, line in numbered_lines(file):
+            if not ACCOUNT_LINE.fullmatch(line):
+                raise NoRecord(f"line {number + 2} is no line of its account. {ONE_RECORD}")
+        data = first
+    elif first.startswith(RECORD_BEGINS) and second.startswith(RECORD_BEGINS):
         raise NoRecord(f"line 2 has another one. {ONE_RECORD}")
-    return of_usual_length((first + second + file.read(LONGEST_RECORD + 2))[: LONGEST_RECORD + 2])
+    else:
+        data = (first + second + file.read(LONGEST_RECORD + 2))[: LONGEST_RECORD + 2]
+    # If it is too long for a page of one file, only its beginning was read.
+    if len(data) - data.endswith(b"\n") > LONGEST_RECORD:
+        raise NoRecord(TOO_LONG)
+    return data
 
 
 # ---- boards
@@ -405,42 +278,18 @@ def page_of(
     )
 
 
-def say(words: str) -> None:
-    """Writes to standard error, where that is open: to print, none is standard output."""
-    if sys.stderr:
-        print(words, file=sys.stderr)
-
-
-def parser() -> argparse.ArgumentParser:
-    reader = argparse.ArgumentParser("ggp-show-record", usage="ggp-show-record [RECORD] > page.html", description=ABOUT, epilog=STATUS)
-    reader.add_argument("record", metavar="RECORD", nargs="?", default=0, help="a file with one record, as `run` and `desk` print it, also with its account (standard input)")
-    return reader
+def perform(name: str) -> int:
+    """Writes the page of a file's record."""
+    try:
+        with opened(name) as file:
+            shown = page_of(read_record(record_of(file)))
+    except NoRecord as why:
+        raise Ended(f"no record: {why}", 1) from None
+    put_bytes(shown)
+    return 0
 
 
 def main() -> int:
-    asked = parser().parse_args()
-    try:
-        with open(asked.record, "rb") as file:
-            shown = page_of(read_record(record_of(file)))
-    except OSError as why:
-        say(f"ggp-show-record: the record can't be read: {why}")
-        return 2
-    except NoRecord as why:
-        say(f"ggp-show-record: no record: {why}")
-        return 1
-    except MemoryError:
-        say("ggp-show-record: out of memory")
-        return 2
-    return put(shown)
-
-
-def put(shown: bytes) -> int:
-    """Writes the page, and returns the status."""
-    try:
-        with open(1, "wb", closefd=False) as output:
-            output.write(shown)
-    except OSError as why:
-        say(f"ggp-show-record: standard output can't be written: {why.strerror}")
-        return 2
-    return 0
-
+    reader = argparse.ArgumentParser("ggp-show-record", usage="ggp-show-record [RECORD] > page.html", description=ABOUT, epilog=STATUS)
+    reader.add_argument("record", metavar="RECORD", nargs="?", default="-", help="a file with one record, as `run` and `desk` print it, also with its account (standard input, also as `-`)")
+    return status_of("ggp-show-record", lambda: perform(reader.parse_args().record), 2)

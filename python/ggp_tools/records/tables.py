@@ -1,4 +1,5 @@
-"""The records of a collection as tables: of matches, of players and of moves. They are written as one SQLite database, or as CSV."""
+"""The records of a collection as tables: of matches, of players and of moves. They are written as one SQLite database, or as CSV. Each row
+says whether its record is lawful, and of which earlier record it is a copy; the views have only lawful records, each once."""
 
 import contextlib
 import csv
@@ -10,18 +11,20 @@ import tempfile
 from collections.abc import Iterable, Iterator
 
 from ggp_tools.records.collection import SURROGATE, Judged
-from ggp_tools.records.show import NoRecord, checked_record
+from ggp_tools.records.record import NoRecord, checked_record, record_sum
 
 TABLES = {
     "matches": (
         "number INTEGER PRIMARY KEY, file TEXT, line INTEGER, match_id TEXT, game TEXT, rules_sum TEXT, verdict TEXT, phase TEXT, cause TEXT, "
-        "turns INTEGER, start_clock INTEGER, play_clock INTEGER, strikes INTEGER, version INTEGER"
+        "turns INTEGER, start_clock INTEGER, play_clock INTEGER, strikes INTEGER, version INTEGER, checksum TEXT, lawful INTEGER, copy_of INTEGER"
     ),
     "players": (
-        "match_number INTEGER, role_number INTEGER, role TEXT, player TEXT, goal INTEGER, substitutions INTEGER, start_mark TEXT, end_mark TEXT"
+        "match_number INTEGER, role_number INTEGER, role TEXT, player TEXT, goal INTEGER, substitutions INTEGER, start_mark TEXT, end_mark TEXT, "
+        "lawful INTEGER, copy_of INTEGER"
     ),
-    "moves": "match_number INTEGER, turn INTEGER, role_number INTEGER, move TEXT, error TEXT",
+    "moves": "match_number INTEGER, turn INTEGER, role_number INTEGER, move TEXT, error TEXT, lawful INTEGER, copy_of INTEGER",
 }
+COUNTED = ("players", "moves")
 Row = tuple[object, ...]
 
 
@@ -68,16 +71,21 @@ def move_rows(number: int, record: dict) -> Iterator[Row]:
             yield number, turn, role, move, error
 
 
-def rows_of(number: int, judged: Judged) -> Iterator[tuple[str, Row]]:
-    """Gives the rows of a line, each with its table. What is no record by its shape has a row of matches alone."""
-    try:
-        record = checked_record(dict(judged.line.record or {}))
-    except NoRecord:
-        yield "matches", stored_row(match_row(number, judged, {}))
-        return
-    yield "matches", stored_row(match_row(number, judged, record))
-    yield from (("players", stored_row(row)) for row in player_rows(number, record))
-    yield from (("moves", stored_row(row)) for row in move_rows(number, record))
+def all_rows(lines: Iterable[Judged]) -> Iterator[tuple[str, Row]]:
+    """Gives the rows of all lines, each with its table. What is no record by its shape has a row of matches alone."""
+    firsts: dict[str, int] = {}
+    for number, judged in enumerate(lines, 1):
+        found = record_sum(judged.line.data) if judged.line.data else None
+        first = firsts.setdefault(found, number) if found else number
+        marks = int(judged.is_lawful), first if first != number else None
+        try:
+            record = checked_record(dict(judged.line.record or {}))
+        except NoRecord:
+            record = {}
+        yield "matches", stored_row((*match_row(number, judged, record), found, *marks))
+        if record:
+            yield from (("players", stored_row((*row, *marks))) for row in player_rows(number, record))
+            yield from (("moves", stored_row((*row, *marks))) for row in move_rows(number, record))
 
 
 @contextlib.contextmanager
@@ -100,9 +108,10 @@ def write_sqlite(path: pathlib.Path, lines: Iterable[Judged]) -> None:
 def fill_database(database: sqlite3.Connection, lines: Iterable[Judged]) -> None:
     for table, columns in TABLES.items():
         database.execute(f"CREATE TABLE {table} ({columns})")
-    for number, judged in enumerate(lines, 1):
-        for table, row in rows_of(number, judged):
-            database.execute(f"INSERT INTO {table} VALUES ({', '.join('?' * len(row))})", row)
+    for table, row in all_rows(lines):
+        database.execute(f"INSERT INTO {table} VALUES ({', '.join('?' * len(row))})", row)
+    for table in COUNTED:
+        database.execute(f"CREATE VIEW counted_{table} AS SELECT * FROM {table} WHERE lawful = 1 AND copy_of IS NULL")
     database.execute("CREATE INDEX players_by_name ON players (player)")
     database.execute("CREATE INDEX moves_by_match ON moves (match_number)")
     database.commit()
@@ -116,9 +125,8 @@ def write_csv(folder: pathlib.Path, lines: Iterable[Judged]) -> None:
         writers = {table: csv.writer(file) for table, file in files.items()}
         for table, writer in writers.items():
             writer.writerow(names_of(table))
-        for number, judged in enumerate(lines, 1):
-            for table, row in rows_of(number, judged):
-                writers[table].writerow(row)
+        for table, row in all_rows(lines):
+            writers[table].writerow(row)
     finally:
         for file in files.values():
             file.close()

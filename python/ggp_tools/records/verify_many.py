@@ -16,6 +16,7 @@ It needs only Python 3.11 or later.
 """
 
 import argparse
+import concurrent.futures
 import contextlib
 import os
 import queue
@@ -25,7 +26,7 @@ import subprocess
 import sys
 import threading
 from collections.abc import Callable, Iterator
-from typing import BinaryIO, NamedTuple
+from dataclasses import dataclass
 
 LONGEST_LINE = 64 << 30
 PIECE = 4 << 20
@@ -33,8 +34,6 @@ MOST_PIECE = 1 << 30
 MOST_JOBS = 1_024
 # So many bytes are read or written at once.
 CHUNK = 1 << 20
-# This many pieces may be read, or wait until they are written, beside those that are being checked.
-WAITING = 2
 # What the program says of a piece that it has read to its end.
 COUNTS = re.compile(rb"(?:ggp_manager: lines of accounts skipped ([0-9]+)\n)?(?:ggp_manager: records not lawful ([0-9]+)\n)?")
 UNLAWFUL = re.compile(rb"^ggp_manager: records not lawful [0-9]+\n\Z", re.M)
@@ -52,15 +51,12 @@ class Fault(Exception):
         return 2 if self.status in (1, 3) and not UNLAWFUL.search(self.said) else self.status
 
 
-# A piece of the input in the parts in which it was read, or the fault that comes in its place.
-Piece = list[bytes] | Fault
-
-
-class Checked(NamedTuple):
+@dataclass
+class Checked:
     """What the check of a piece came to: the verdicts, how many lines are of accounts, how many others are no lawful records, and the
     fault that ended it, if one did."""
 
-    verdicts: BinaryIO | None
+    verdicts: bytes = b""
     skipped: int = 0
     unlawful: int = 0
     fault: Fault | None = None
@@ -78,11 +74,10 @@ def say(text: bytes) -> None:
         write_whole(2, text)
 
 
-def pieces(size: int) -> Iterator[Piece]:
-    """Gives standard input in pieces of whole lines, each in the parts in which it was read; where it fails, a fault comes last. The first
-    piece is empty, so that the program tells a fault of its words or of the rules before there is input. A line that is too long ends the
-    last piece, as far as it was read."""
-    yield []
+def pieces(size: int) -> Iterator[bytes]:
+    """Gives standard input in pieces of whole lines; where it fails, a fault comes last. The first piece is empty, so that the program tells
+    a fault of its words or of the rules before there is input. A line that is too long ends the last piece, as far as it was read."""
+    yield b""
     held, count, of_line = [], 0, 0
     try:
         while of_line <= LONGEST_LINE and (part := os.read(0, min(size, CHUNK))):
@@ -91,17 +86,15 @@ def pieces(size: int) -> Iterator[Piece]:
             held.append(part)
             count += len(part)
             if end and count >= size:
-                held[-1] = part[:end]
-                yield held
+                yield b"".join([*held[:-1], part[:end]])
                 held, count = [part[end:]], of_line
     except OSError:
         # What was read of the last line is lost.
         lines, end, _ = b"".join(held).rpartition(b"\n")
-        yield [lines, end]
-        yield Fault(b"ggp_manager: read fault\n")
-        return
+        yield lines + end
+        raise Fault(b"ggp_manager: read fault\n") from None
     if count:
-        yield held
+        yield b"".join(held)
 
 
 def own_words(text: str) -> bytes:
@@ -109,109 +102,58 @@ def own_words(text: str) -> bytes:
     return os.fsencode(f"ggp-verify-records: {text}\n")
 
 
-def in_memory(name: str) -> BinaryIO:
-    """Returns a new file that is kept in memory, to be written by a process."""
-    return open(os.memfd_create(name), "r+b", buffering=0)
-
-
-def hand_over(piece: Piece, pipe: BinaryIO) -> None:
-    """Writes a piece to a process, as far as that reads it: one that has found a fault reads no further."""
-    with contextlib.suppress(BrokenPipeError), pipe:
-        pipe.writelines(piece)
-
-
-def check(words: list[str], piece: Piece) -> Checked:
-    """Has a process of the program check a piece, if it is none but a fault of the input."""
-    if isinstance(piece, Fault):
-        return Checked(None, fault=piece)
+def check(words: list[str], piece: bytes) -> Checked:
+    """Has a process of the program check a piece."""
     try:
-        verdicts = in_memory("verdicts")
-        with in_memory("said") as errors:
-            with subprocess.Popen(words, stdin=subprocess.PIPE, stdout=verdicts, stderr=errors) as child:
-                hand_over(piece, child.stdin)
-            errors.seek(0)
-            said, status = errors.read(), child.returncode
+        ran = subprocess.run(words, input=piece, capture_output=True)
     except OSError as error:
-        return Checked(None, fault=Fault(own_words(f"{words[0]} can't be run: {error.strerror}"), 2))
-    counts = COUNTS.fullmatch(said)
-    if status < 0:
-        said += own_words(f"{words[0]} was ended by signal {-status}")
-        return Checked(verdicts, fault=Fault(said, 128 - status))
-    if counts and status == (1 if counts[2] else 0):
-        return Checked(verdicts, int(counts[1] or 0), int(counts[2] or 0))
-    return Checked(verdicts, fault=Fault(said, status) if status else None)
+        return Checked(fault=Fault(own_words(f"{words[0]} can't be run: {error.strerror}"), 2))
+    counts = COUNTS.fullmatch(ran.stderr)
+    if ran.returncode < 0:
+        return Checked(ran.stdout, fault=Fault(ran.stderr + own_words(f"{words[0]} was ended by signal {-ran.returncode}"), 128 - ran.returncode))
+    if counts and ran.returncode == (1 if counts[2] else 0):
+        return Checked(ran.stdout, int(counts[1] or 0), int(counts[2] or 0))
+    return Checked(ran.stdout, fault=Fault(ran.stderr, ran.returncode) if ran.returncode else None)
 
 
-def copy_out(file: BinaryIO) -> None:
-    """Writes a file to standard output, and closes it."""
-    with file:
-        file.seek(0)
-        while some := file.read(CHUNK):
-            try:
-                write_whole(1, some)
-            except OSError:
-                raise Fault(b"ggp_manager: write fault\n") from None
-
-
-class Checking:
-    """The check of all pieces by several threads. Each takes a piece, has it checked, and writes the verdicts when it is their turn, so
-    there are no more pieces at a time than threads."""
-
-    def __init__(self, words: list[str], jobs: int, size: int) -> None:
-        self.words, self.pieces = words, enumerate(pieces(size))
-        self.reading, self.running = threading.Lock(), threading.Semaphore(jobs)
-        self.turns, self.written, self.skipped, self.unlawful = threading.Condition(), 0, 0, 0
-        # What each thread came to: none where no piece was left.
-        self.ends = queue.SimpleQueue()
-
-    def take(self) -> tuple[int, Piece] | None:
-        """Returns the next piece with its place, none where no piece is left."""
-        with self.reading:
-            return next(self.pieces, None)
-
-    def write(self, place: int, checked: Checked) -> None:
-        """Writes the verdicts on a piece, once those on the pieces before it are written. Behind a fault no piece has its turn."""
-        with self.turns:
-            self.turns.wait_for(lambda: self.written == place)
-            if checked.verdicts:
-                copy_out(checked.verdicts)
-            if checked.fault:
-                raise checked.fault
-            self.skipped += checked.skipped
-            self.unlawful += checked.unlawful
-            self.written += 1
-            self.turns.notify_all()
-
-    def work(self) -> None:
-        """Does what one thread does."""
-        try:
-            for place, piece in iter(self.take, None):
-                with self.running:
-                    checked = check(self.words, piece)
-                self.write(place, checked)
-        except Exception as fault:
-            self.ends.put(fault)
-        else:
-            self.ends.put(None)
+def feed(words: list[str], jobs: int, size: int, checks: queue.Queue) -> None:
+    """Has each piece checked by one of so many threads, and passes on the checks in order, or what ends them: at last none."""
+    ended = concurrent.futures.Future()
+    try:
+        pool = concurrent.futures.ThreadPoolExecutor(jobs)
+        for piece in pieces(size):
+            checks.put(pool.submit(check, words, piece))
+    except RuntimeError:
+        # A thread that can't be made counts as out of memory.
+        ended.set_exception(MemoryError())
+    except (Fault, MemoryError) as why:
+        ended.set_exception(why)
+    else:
+        ended = None
+    checks.put(ended)
 
 
 def check_all(words: list[str], jobs: int, size: int) -> None:
-    """Checks standard input by `jobs` processes of the program at a time."""
-    checking, count = Checking(words, jobs, size), jobs + WAITING
+    """Checks standard input by `jobs` processes of the program at a time, and writes the verdicts in order. Behind a fault nothing is
+    written. So many pieces are in memory: those of the queue, one that is being read, and one that is being written."""
+    checks, skipped, unlawful = queue.Queue(jobs), 0, 0
     try:
-        for _ in range(count):
-            threading.Thread(target=checking.work, daemon=True).start()
+        threading.Thread(target=feed, args=(words, jobs, size, checks), daemon=True).start()
     except RuntimeError:
-        # A thread that can't be made counts as out of memory.
         raise MemoryError from None
-    for _ in range(count):
-        fault = checking.ends.get()
-        if fault:
-            raise fault
-    if checking.skipped:
-        say(f"ggp_manager: lines of accounts skipped {checking.skipped}\n".encode())
-    if checking.unlawful:
-        raise Fault(f"ggp_manager: records not lawful {checking.unlawful}\n".encode())
+    for found in iter(checks.get, None):
+        checked = found.result()
+        try:
+            write_whole(1, checked.verdicts)
+        except OSError:
+            raise Fault(b"ggp_manager: write fault\n") from None
+        if checked.fault:
+            raise checked.fault
+        skipped, unlawful = skipped + checked.skipped, unlawful + checked.unlawful
+    if skipped:
+        say(f"ggp_manager: lines of accounts skipped {skipped}\n".encode())
+    if unlawful:
+        raise Fault(f"ggp_manager: records not lawful {unlawful}\n".encode())
 
 
 def hold_closed_streams() -> None:

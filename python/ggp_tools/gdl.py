@@ -1,11 +1,11 @@
-"""The sentences of a description, their forms, and the rules without `or` and `and` that they come to."""
+"""The sentences of a description: their forms, the rules without `or` and `and` that they come to, and which relation depends on which."""
 
 import itertools
 import math
-from collections.abc import Iterator, Sequence
+from collections.abc import Callable, Iterable, Iterator, Mapping, Sequence
 from typing import NamedTuple
 
-from ggp_tools.kif import Expression, Refused, atoms, fresh_before_digits, relation, spelled, starts, variables
+from ggp_tools.kif import MOST_SHOWN, Expression, Refused, Relation, atoms, fresh_before_digits, head_of, relation, spelled, starts, variables
 
 # So many rules may come of the `or`s of one sentence. Past the first number each `or` that can be is a relation of its own.
 FEW_WAYS, MOST_WAYS = 100, 10000
@@ -131,15 +131,20 @@ def must_be_safe(rule: Rule) -> None:
             raise Refused(f"{name} is unsafe: no sentence of the body that is not negated has it", advice=advice)
 
 
-def rules_of(number: int, sentence: Expression, names: Iterator[str]) -> list[Rule]:
-    """The rules of one sentence, and where its `or`s can hold in many ways those of relations for them, by these names."""
-    is_rule = isinstance(sentence, tuple) and sentence[:1] == ("<=",)
-    if is_rule and len(sentence) < 2:
-        raise Refused("a rule without a head")
-    head, body = (sentence[1], sentence[2:]) if is_rule else (sentence, ())
+def parted(sentence: Expression) -> tuple[Expression, Expression]:
+    """The head of a sentence, and its body. Refuses what is none."""
+    if sentence == ("<=",):
+        raise Refused("a rule without a head", advice=f"write {form_of('<=')}")
+    head, body = head_of(sentence), sentence[2:] if sentence[:1] == ("<=",) else ()
     must_be_atomic(head, True)
     for literal in body:
         must_be_literal(literal)
+    return head, body
+
+
+def rules_of(number: int, sentence: Expression, names: Iterator[str]) -> list[Rule]:
+    """The rules of one sentence, and where its `or`s can hold in many ways those of relations for them, by these names."""
+    head, body = parted(sentence)
     ways, found = [ways_of(literal) for literal in body], []
     if math.prod(map(len, ways)) > FEW_WAYS:
         for place, own in enumerate(ways):
@@ -168,16 +173,83 @@ def lines_of(text: str) -> list[int]:
 def cited(number: int, sentences: Sequence[Expression], lines: Sequence[int] = ()) -> str:
     """A sentence as it is cited where something is wrong with it, with its line where the lines are known."""
     text, where = spelled(sentences[number]), f", line {lines[number]}: " if lines else ", "
-    return f"sentence {number}{where}{text[:100]}" + (".." if len(text) > 100 else "")
+    return f"sentence {number}{where}{text[:MOST_SHOWN]}" + (".." if len(text) > MOST_SHOWN else "")
 
 
-def all_rules(sentences: Sequence[Expression]) -> list[Rule]:
-    """The rules of all sentences."""
+def all_rules(sentences: Sequence[Expression], of_one: Callable = rules_of) -> list:
+    """The rules of all sentences; a refusal says by which one."""
     word = fresh_before_digits("either", set(atoms(tuple(sentences))))
     found, names = [], (f"{word}{count}" for count in itertools.count(1))
     for number, sentence in enumerate(sentences):
         try:
-            found += rules_of(number, as_read(sentence), names)
+            found += of_one(number, as_read(sentence), names)
         except Refused as why:
             raise Refused(str(why), number, why.advice) from None
     return found
+
+
+def refuse_dependence(asks: Mapping[Relation, Iterable[Relation]], source: Callable[[Relation, Relation], int]) -> None:
+    """Refuses what the program refuses: what is asked between turns may not depend on moves, nor roles and the first state on one. `source`
+    returns the sentence by which a relation asks for another."""
+    moving, fixed = "let `next` keep what the moves did, and ask for that by `true`", "it has to be known before the first state"
+    first = [("init", ["true", "does"], fixed), ("role", ["true", "does"], fixed)]
+    for name, others, advice in [("legal", ["does"], moving), ("goal", ["does"], moving), ("terminal", ["does"], moving), *first]:
+        for other in others:
+            if way := way_to((name, ARITIES[name]), (other, ARITIES[other]), asks):
+                by = f", by {', '.join(spelled(key[0]) for key in way[1:-1])}" if len(way) > 2 else ""
+                raise Refused(f"{name} depends on {other}{by}", source(way[-2], way[-1]), advice)
+
+
+def way_to(head: Relation, last: Relation, asks: Mapping[Relation, Iterable[Relation]]) -> list[Relation]:
+    """A shortest way by which a relation depends on another: empty if there is none."""
+    ways = {head: [head]}
+    left = [head]
+    for key in left:
+        others = asks.get(key, ())
+        if last in others:
+            return [*ways[key], last]
+        for asked in sorted(others, key=str):
+            if asked not in ways:
+                ways[asked] = [*ways[key], asked]
+                left.append(asked)
+    return []
+
+
+class Relations:
+    """Which relations a description's rules tie to which, by name and number of arguments."""
+
+    def __init__(self, rules: list[Rule]) -> None:
+        self.asks, self.denies, self.sources = {}, {}, {}
+        for rule in rules:
+            for literal in rule.body:
+                if not literal.same:
+                    head, asked = relation(rule.head), relation(literal.atom)
+                    self.asks.setdefault(head, set()).add(asked)
+                    self.sources.setdefault((head, asked), rule.sentence)
+                    if not literal.positive:
+                        self.denies.setdefault(head, set()).add(asked)
+        self.below = {head: self.reached([head]) for head in self.asks}
+
+    def reached(self, relations: Iterable[Relation]) -> set[Relation]:
+        """What these relations depend on."""
+        found, left = set(), list(relations)
+        while left:
+            for asked in self.asks.get(left.pop(), ()):
+                if asked not in found:
+                    found.add(asked)
+                    left.append(asked)
+        return found
+
+    def unsettled(self) -> set[Relation]:
+        """The relations that the grounder can't settle: they depend on the state or the moves, or on their own negation."""
+        first = {("true", 1), ("does", 2)}
+        first |= {head for head, denied in self.denies.items() for other in denied if head in self.below.get(other, ())}
+        return first | {head for head, others in self.below.items() if others & first}
+
+    def bearing(self) -> set[Relation]:
+        """The relations that bear on the game: its own, and what they ask for."""
+        own = [(name, ARITIES[name]) for name in GAME]
+        return {*own, ("true", 1), ("does", 2), *self.reached(own)}
+
+    def refuse_dependence(self) -> None:
+        refuse_dependence(self.asks, lambda head, asked: self.sources[head, asked])

@@ -1,10 +1,9 @@
-"""The interpreter of ground descriptions, in a game whose every state is written down here, and the phases of its matches."""
+"""Matches by ground descriptions, in a game whose every state is written down here, and the phases of its matches."""
 
 import unittest
 
-from ggp_tools import ground_games
-from ggp_tools.ground_games import Game, Match, texts_of
-from ggp_tools.kif import expressions
+from ggp_tools.holding.game import Game
+from ggp_tools.holding.match import MOST_TURNS, Match, texts_of
 
 # Each role shows a side once. Red goes on from 2 as well, but blue has no move there.
 SHOW = """
@@ -25,39 +24,54 @@ SHOW = """
 
 
 def game():
-    return Game(expressions(SHOW))
+    return Game(SHOW)
 
 
 class Rules(unittest.TestCase):
+    def position(self, *terms, moves=()):
+        found = game()
+        return found, found.position(frozenset(terms), moves)
+
     def test_roles_and_the_first_state(self):
-        self.assertEqual((game().roles, game().initial()), (["red", "blue"], {"1", ("side", "none")}))
-        self.assertEqual(texts_of(game().initial()), ["(side none)", "1"])
+        self.assertEqual((game().roles, game().initial), (["red", "blue"], {"1", ("side", "none")}))
+        self.assertEqual(texts_of(game().initial), ["(side none)", "1"])
 
     def test_moves_are_legal_in_the_order_of_the_description(self):
-        found, first = game(), game().initial()
-        self.assertEqual([found.legal(first, role) for role in ("red", "blue", "green")], [["head", "tail"], ["tail", "head"], []])
-        self.assertEqual([found.legal(frozenset({"2"}), role) for role in ("red", "blue")], [["wait"], []])
+        for term, moves in (("1", [["head", "tail"], ["tail", "head"], []]), ("2", [["wait"], [], []])):
+            found, position = self.position(term)
+            self.assertEqual([found.moves(position, role) for role in ("red", "blue", "green")], moves)
+        # A move has its place by the first sentence that can give it, whether that does so here or not.
+        found = Game("(role r) (<= (legal r b) (true t)) (legal r a) (<= (legal r b) (true s)) (<= (legal r c) (true s)) (init s)")
+        self.assertEqual(found.moves(found.position(found.initial), "r"), ["b", "a", "c"])
 
     def test_the_next_state_follows_from_the_state_and_the_moves(self):
-        found, first = game(), game().initial()
         for moves, state in ((("head", "head"), {"3", ("side", "head")}), (("head", "tail"), {"2", ("side", "head")}), (("tail", "head"), {"4"}), (("tail", "tail"), {"3"})):
-            self.assertEqual(found.next(first, dict(zip(("red", "blue"), moves))), state)
+            found, position = self.position("1", ("side", "none"), moves=moves)
+            self.assertEqual(set(found.following(position)), state)
 
     def test_the_end_and_the_goals(self):
-        found = game()
-        for term, is_over, goals in (("1", False, (None, 7)), ("2", False, (0, 7)), ("3", True, (100, None)), ("4", True, (None, 7))):
-            state = frozenset({term})
-            self.assertEqual((found.terminal(state), (found.goal(state, "red"), found.goal(state, "blue"))), (is_over, goals), term)
-
-    def test_each_state_is_asked_for_itself(self):
-        found = game()
-        one, two = frozenset({"3"}), frozenset({"1"})
-        self.assertEqual([found.terminal(state) for state in (one, two, one, frozenset({"1"}))], [True, False, True, False])
+        for term, is_over, goals in (("1", False, ([], [7])), ("2", False, ([0], [7])), ("3", True, ([100], [0, 7])), ("4", True, ([50, 60], [7]))):
+            found, position = self.position(term)
+            self.assertEqual((found.is_over(position), (found.goals(position, "red"), found.goals(position, "blue"))), (is_over, goals), term)
 
     def test_a_chain_of_rules_may_be_long(self):
         count = 300
         chain = "".join(f"(<= (p {at}) (p {at + 1}))" for at in range(count)) + f"(p {count}) (<= terminal (p 0))"
-        self.assertTrue(Game(expressions(chain)).terminal(frozenset()))
+        found = Game(chain)
+        self.assertTrue(found.is_over(found.position(frozenset())))
+
+    def test_a_body_asks_for_what_the_game_asks_too(self):
+        found = Game("(role r) (init s) (<= (legal r a) (true s)) (<= (legal r b) (not (legal r c)) (legal r a)) (<= (goal r 1) (role r) (not (goal r 2))) (<= terminal (not (not terminal_too))) (<= terminal_too terminal_three) terminal_three")
+        position = found.position(found.initial)
+        self.assertEqual((found.moves(position, "r"), found.goals(position, "r"), found.is_over(position)), (["a", "b"], [1], True))
+
+    def test_ors_in_one_another_are_tested_as_they_stand(self):
+        # As rules without `or` these would be 2 ** 40.
+        ors = " ".join(f"(or (and (true a{at}) (not (or (true b{at}) (true c{at})))) (true d{at}))" for at in range(40))
+        found = Game(f"(role r) (<= terminal {ors})")
+        state = {f"a{at}" for at in range(40)}
+        for more, is_over in (((), True), (("b7",), False), (("b7", "d7"), True), (("c39",), False)):
+            self.assertEqual(found.is_over(found.position(frozenset(state | set(more)))), is_over, more)
 
 
 class Matches(unittest.TestCase):
@@ -102,9 +116,9 @@ class Matches(unittest.TestCase):
         self.assertEqual(self.match.phase(), ("aborting", "nolegal 1"))
 
     def test_and_after_the_most_turns(self):
-        self.assertEqual(ground_games.MOST_TURNS, 10_000)
+        self.assertEqual(MOST_TURNS, 10_000)
         rules = "(role red) (init 1) (<= (next 1) (true 1)) (legal red on)"
-        match = Match(Game(expressions(rules)), "m", 1, 1, ["ann"])
+        match = Match(Game(rules), "m", 1, 1, ["ann"])
         match.marks["start"][0] = ""
         for count in range(1, 10_001):
             match.turn([("on", "")])
@@ -113,7 +127,7 @@ class Matches(unittest.TestCase):
 
     def test_the_record_of_a_match_that_is_over(self):
         rules = SHOW.replace("(<= (goal blue 0) (true 3))", "")
-        self.match = Match(Game(expressions(rules)), "m", 10, 5, ["ann", "bob"])
+        self.match = Match(Game(rules), "m", 10, 5, ["ann", "bob"])
         self.start()
         self.play("head", "head", errors=("", "IL ?"))
         self.assertEqual((self.match.phase(), self.match.record()["goalValues"], self.match.record()["endMarks"]), (("stopping", None), [100, 7], [None, None]))

@@ -1,0 +1,83 @@
+"""A match of a game, turn by turn, and its record."""
+
+from ggp_tools.kif import spelled
+
+from .game import Game
+from .positions import State
+from .reading import Term
+
+MOST_TURNS = 10_000
+
+
+def texts_of(state: State) -> list[str]:
+    """Returns the terms of a state as a record has them."""
+    return sorted(map(spelled, state))
+
+
+class Match:
+    """A match of a game: the judged turns so far, and the marks of START and of the end, by the numbers of roles."""
+
+    def __init__(self, game: Game, name: str, start: int, play: int, players: list[str]) -> None:
+        if len(players) != len(game.roles):
+            raise ValueError(f"{len(players)} players for {len(game.roles)} roles")
+        self.game, self.name, self.start, self.play, self.players = game, name, start, play, players
+        self.states, self.moves, self.errors = [game.initial], [], []
+        self.position = game.position(game.initial)
+        self.marks: dict[str, dict[int, str]] = {"start": {}, "end": {}}
+
+    def legal(self, role: Term) -> list[Term]:
+        return self.game.moves(self.position, role)
+
+    def phase(self) -> tuple[str, str | None]:
+        """Returns the phase, and the cause where the game aborts the match."""
+        if len(self.marks["start"]) < len(self.players):
+            return "starting", None
+        has_ended = len(self.marks["end"]) == len(self.players)
+        if self.game.is_over(self.position):
+            cause = next((f"nogoal {number}" for number, goal in enumerate(self.goals()) if goal is None), None)
+            if not cause:
+                return "finished" if has_ended else "stopping", None
+        else:
+            cause = "toolong" if len(self.moves) == MOST_TURNS else self.role_without_move()
+            if not cause:
+                return "playing", None
+        return "aborted" if has_ended else "aborting", cause
+
+    def role_without_move(self) -> str | None:
+        """Returns the cause where a role has no legal move."""
+        return next((f"nolegal {number}" for number, role in enumerate(self.game.roles) if not self.legal(role)), None)
+
+    def goals(self) -> list[int | None]:
+        """Returns the goal of each role, or none where it has not exactly one."""
+        found = [self.game.goals(self.position, role) for role in self.game.roles]
+        return [values[0] if len(values) == 1 else None for values in found]
+
+    def turn(self, judged: list[tuple[Term, str]]) -> None:
+        """Adds a turn: for each role its move, and the error that it stands for, if any."""
+        self.moves.append([move for move, _ in judged])
+        self.errors.append([error for _, error in judged])
+        self.position.move(list(zip(self.game.roles, self.moves[-1])))
+        self.states.append(frozenset(self.game.following(self.position)))
+        self.position = self.game.position(self.states[-1])
+
+    def record(self) -> dict:
+        """Returns the record of the match, as JSON has it."""
+        phase, cause = self.phase()
+        roles = range(len(self.players))
+        return {
+            "cause": cause,
+            "endMarks": [self.marks["end"].get(role) for role in roles],
+            "errors": self.errors,
+            "goalValues": self.goals() if phase in ("stopping", "finished") else [],
+            "matchId": self.name,
+            "moves": [list(map(spelled, turn)) for turn in self.moves],
+            "phase": phase,
+            "playClock": self.play,
+            "players": self.players,
+            "roles": list(map(spelled, self.game.roles)),
+            "startClock": self.start,
+            "startMarks": [self.marks["start"].get(role) for role in roles],
+            "states": list(map(texts_of, self.states)),
+            "strikes": 0,
+            "version": 2,
+        }

@@ -1,0 +1,125 @@
+"""What commands read and write: files, also packed ones, and the standard streams; and the words for what fails."""
+
+import argparse
+import contextlib
+import errno
+import gzip
+import os
+import pathlib
+import sys
+import zlib
+from collections.abc import Callable, Iterator
+from typing import BinaryIO, TextIO
+
+from ggp_tools.printable import visible
+
+STANDARD_INPUT, STANDARD_OUTPUT = "standard input", "standard output"
+PACKED = b"\x1f\x8b"
+MOST_SECONDS = 1_000_000
+
+
+class Ended(Exception):
+    """Why a command ends: what is said, and the exit status."""
+
+    def __init__(self, words: str, status: int) -> None:
+        super().__init__(words)
+        self.status = status
+
+
+@contextlib.contextmanager
+def opened(name: str | pathlib.Path) -> Iterator[BinaryIO]:
+    """Gives the bytes of a file, or of standard input for `-`; unpacked, if gzip has packed them. An error names the file."""
+    is_input = str(name) == "-"
+    where = STANDARD_INPUT if is_input else str(name)
+    try:
+        if is_input and not sys.stdin:
+            raise OSError(errno.EBADF, "it is closed")
+        with open(0 if is_input else name, "rb", closefd=not is_input) as file:
+            yield gzip.GzipFile(fileobj=file) if file.peek(2)[:2] == PACKED else file
+    except (EOFError, zlib.error, gzip.BadGzipFile):
+        raise OSError(errno.EINVAL, "what gzip has packed is cut off or damaged", where) from None
+    except OSError as why:
+        raise OSError(why.errno, why.strerror, why.filename or where) from None
+
+
+def lead_nowhere(output: TextIO | None) -> None:
+    """Has all that is written to an output from now on, and what it still holds, be lost."""
+    os.dup2(os.open(os.devnull, os.O_WRONLY), output.fileno())
+
+
+def ready_streams() -> None:
+    """Has a standard stream that is closed lead nowhere, so that no file takes its number, and spells out what an encoding lacks."""
+    for number, (name, mode) in enumerate((("stdin", "r"), ("stdout", "w"), ("stderr", "w"))):
+        if getattr(sys, name) is None:
+            found = os.open(os.devnull, os.O_RDWR)
+            if found != number:
+                os.dup2(found, number)
+                os.close(found)
+            os.set_inheritable(number, True)
+            setattr(sys, name, open(number, mode, closefd=False))
+    for stream in (sys.stdout, sys.stderr):
+        if stream.errors == "strict":
+            stream.reconfigure(errors="backslashreplace")
+
+
+def say(text: str, end: str = "\n") -> None:
+    """Writes to standard output, at once. An error names it, and what comes after it goes nowhere."""
+    if not sys.stdout:
+        raise OSError(errno.EBADF, "it is closed", STANDARD_OUTPUT)
+    try:
+        print(text, end=end, flush=True)
+    except OSError as why:
+        lead_nowhere(sys.stdout)
+        raise OSError(why.errno, why.strerror, STANDARD_OUTPUT) from None
+
+
+def put_bytes(data: bytes) -> None:
+    """Writes to standard output. An error names it."""
+    try:
+        with open(1, "wb", closefd=False) as output:
+            output.write(data)
+    except OSError as why:
+        raise OSError(why.errno, why.strerror, STANDARD_OUTPUT) from None
+
+
+def report(text: str) -> None:
+    """Writes to standard error, where that is open: to print, none is standard output."""
+    if sys.stderr:
+        with contextlib.suppress(OSError):
+            print(text.encode("ascii", "backslashreplace").decode(), file=sys.stderr)
+
+
+def error_words(why: OSError) -> str:
+    """Returns what is wrong with a file, after its name."""
+    return f"{why.filename}: {why.strerror}" if why.filename else str(why.strerror or why)
+
+
+def status_of(command: str, perform: Callable[[], int], failed: int, known: tuple[type[Exception], ...] = ()) -> int:
+    """Performs a command, and returns its exit status; `failed`, if a file, the memory or one of the known errors ends it."""
+    try:
+        return perform()
+    except Ended as why:
+        words, failed = str(why), why.status
+    except KeyboardInterrupt:
+        return 130
+    except BrokenPipeError:
+        return failed
+    except MemoryError:
+        words = "out of memory"
+    except OSError as why:
+        # The reader of the output has ended: nobody is left to say it to.
+        words = "" if why.errno == errno.EPIPE else error_words(why)
+    except known as why:
+        words = str(why)
+    if words:
+        # What the referee has said keeps its name.
+        report("\n".join(visible(line if line.startswith("ggp_manager: ") else f"{command}: {line}") for line in words.splitlines()))
+    return failed
+
+
+def seconds(text: str) -> float:
+    """Returns the seconds that a word says."""
+    with contextlib.suppress(ValueError):
+        if 0 < (found := float(text)) <= MOST_SECONDS:
+            return found
+    raise argparse.ArgumentTypeError(f"{text} is not a number above 0 and up to {MOST_SECONDS:,}")
