@@ -148,9 +148,9 @@ class Player:
                 return "busy" if self.seats else "available"
             case ("start", match_id, role, rules, _, _):
                 game = self.make_game(rules)
-                # Another match ends by this.
-                self.seats = {key: seat for key, seat in self.seats.items() if key[0] == match_id}
-                self.seats[match_id, receiver] = Seat(role, game, game.initial())
+                seat = Seat(role, game, game.initial())
+                # Another match ends by this. Rules that cannot be read or played have ended nothing.
+                self.seats = {key: other for key, other in self.seats.items() if key[0] == match_id} | {(match_id, receiver): seat}
                 return "ready"
             case ("play", match_id, moves) if seat := self.seats.get((match_id, receiver)):
                 if moves not in ("nil", ()):

@@ -156,7 +156,7 @@ class Serving(unittest.TestCase):
         heard, sent = [], [f"m{number:02}" for number in range(20)]
         with contextlib.ExitStack() as held:
             held.enter_context(unittest.mock.patch.object(player.queue, "SimpleQueue", Queue))
-            held.enter_context(unittest.mock.patch.object(player.Player, "answer", lambda _, text: answer(text)))
+            held.enter_context(unittest.mock.patch.object(player.Player, "answer", lambda _, text, receiver: answer(text)))
             port, _ = held.enter_context(server())
             for body in sent:
                 connection = held.enter_context(socket.create_connection(("127.0.0.1", port), SECONDS))
