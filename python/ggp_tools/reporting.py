@@ -4,8 +4,6 @@ import errno
 import os
 import pathlib
 import sys
-import time
-from collections.abc import Callable
 
 from ggp_tools.competition.results import Result, forfeit_words
 from ggp_tools.competition.schedule import Match
@@ -60,7 +58,6 @@ class Reporter:
     def __init__(self, journal: Journal | None = None) -> None:
         self.fault, self.journal = None, journal
         self.is_shown = sys.stderr.isatty()
-        self.drawn = 0.0
 
     def draw(self, text: str) -> None:
         """Rewrites the line of the terminal."""
@@ -115,11 +112,6 @@ class Reporter:
         said += [forfeit_words(result)] if result.forfeits() else []
         self.line(f"end {match.id} {match.game} {', '.join(said)}, {seconds:.1f} s")
 
-    def progress(self, over: int, open_count: int, to_come: int, left: Callable[[], float | None]) -> None:
-        """Shows how far the matches are, and how many seconds the rest takes, which is asked for only where it is shown."""
-        now = time.monotonic()
-        if not self.is_shown or now - self.drawn < REDRAWN:
-            return
-        self.drawn, seconds = now, left()
-        said = "unknown" if seconds is None else spell(seconds)
-        self.draw(f"over {over}, open {open_count}, to come {to_come}, left {said}")
+    def progress(self, over: int, open_count: int, to_come: int, left: float | None) -> None:
+        """Shows how far the matches are, and how many seconds the rest takes."""
+        self.draw(f"over {over}, open {open_count}, to come {to_come}, left {'unknown' if left is None else spell(left)}")

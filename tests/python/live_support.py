@@ -67,7 +67,7 @@ def begin(plan: Plan, match: object, log: str = "") -> pathlib.Path:
     """Has a match begin, and returns the file of its log."""
     room = plan.folder.open / match.id
     room.mkdir(parents=True, exist_ok=True)
-    for name in ("info-0", "players", "played"):
+    for name in ("asking", "players", "playing"):
         (room / name).touch()
     plan.folder.room_log(match.id).write_text(log)
     return plan.folder.room_log(match.id)

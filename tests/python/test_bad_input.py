@@ -285,7 +285,7 @@ class BadInput(InFolder):
 
         self.assertEqual(said("--version"), call("--version").decode().replace("ggp_manager", "ggp_competition"))
         whole = said("--help")
-        for name, told in COMMANDS.items():
+        for name, (told, _) in COMMANDS.items():
             self.assertRegex(whole, rf"\n +{name} +{told}\n")
             of_command = said(name, "--help")
             self.assertIn(f"\n{told[0].upper()}{told[1:]}.\n", of_command)

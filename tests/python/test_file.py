@@ -69,6 +69,9 @@ MISTAKES = [
     ('"[::1]:9148"', '"fe80%eth0:9148"', [(19, "players.address", "is no HOST:PORT")]),
     ('"[::1]:9148"', '"host:65536"', [(19, "players.address", "the port 65536")]),
     ('"[::1]:9148"', '"host:0"', [(19, "players.address", "the port 0")]),
+    ('address = "[::1]:9148"', 'address = "[::1]:9148"\nmem = "1G"', [(20, "players.mem", "no such key; there are name, address, concurrent, command, directory, environment, launcher, memory")]),
+    ('address = "[::1]:9148"', 'address = "[::1]:9148"\nlauncher = ["srun"]', [(20, "players.launcher", "only a player with a `command` has this key")]),
+    ('address = "[::1]:9148"', 'command = ["x", "{port}"]\nlauncher = []', [(20, "players.launcher", "at least one text is expected"), (17, "players.command", "launcher")]),
     ('address = "[::1]:9148"', 'address = "[::1]:9148"\nmemory = "1G"', [(20, "players.memory", "only a player with a `command` has this key")]),
     ('address = "[::1]:9148"', 'address = "[::1]:9148"\ncommand = ["x", "{port}"]', [(19, "players.address", "is started here"), (17, "players.command", "can't be reached by the matches of a launcher")]),
     *(('address = "[::1]:9148"', new, [(line, f"players.{key}", words), (17, "players.command", "launcher")]) for new, line, key, words in (
@@ -119,9 +122,12 @@ class CompetitionFile(unittest.TestCase):
         started = 'command = ["x", "--at", "{port}"]\ndirectory = "d"\nenvironment = {A = "1", B = ""}\nmemory = "512M"\nprocessors = 2\nrestart = "each_match"\nstart_seconds = 30'
         here = GOOD.replace('launcher = {command = ["srun", "-N1"], slots = 9}', "")
         found = read_competition(here.replace('address = "[::1]:9148"', started).encode()).players[1]
-        self.assertEqual((found.command, found.address), (Command(("x", "--at", "{port}"), "d", (("A", "1"), ("B", "")), 512 << 20, 2, "each_match", 30), ""))
+        self.assertEqual((found.command, found.address), (Command(("x", "--at", "{port}"), (), "d", (("A", "1"), ("B", "")), 512 << 20, 2, "each_match", 30), ""))
         plain = read_competition(here.replace('address = "[::1]:9148"', 'command = ["x"]\nenvironment = {PORT = "{port}"}').encode()).players
-        self.assertEqual((plain[0].command, plain[1].command), (None, Command(("x",), "", (("PORT", "{port}"),), 0, 0, "when_dead", 10)))
+        self.assertEqual((plain[0].command, plain[1].command), (None, Command(("x",), (), "", (("PORT", "{port}"),), 0, 0, "when_dead", 10)))
+        # One that is started elsewhere can be reached by the matches of a launcher.
+        launched = read_competition(GOOD.replace('address = "[::1]:9148"', 'command = ["x", "{port}"]\nlauncher = ["srun", "-c4"]').encode()).players[1]
+        self.assertEqual((launched.command.words, launched.command.launcher), (("x", "{port}"), ("srun", "-c4")))
         found = mistakes_of(here.replace('address = "[::1]:9148"', 'command = ["x", "{port}"]\nrestart = "each_match"\nconcurrent = 2').encode())
         self.assertEqual(found, [(20, "players.restart", "'each_match' would end the other matches of the player: it needs `concurrent = 1`")])
 

@@ -10,9 +10,7 @@ import sys
 import time
 
 import pytest
-from ggp_tools.competition.competition_file import Launcher
-from ggp_tools.competition.jobs import JOB, job_words
-from ggp_tools.competition.said_lines import OURS
+from ggp_tools.competition.children import JOB
 from players import TestPlayer
 from support import GAMES, TOP, InFolder, command_of, program, program_but, run, start
 
@@ -36,7 +34,7 @@ def test_a_job_reports_its_node_and_the_status_from_inside():
     for status in (0, 1, 3, -9):
         script = f"echo \"it's\"; echo why >&2; {f'kill {status} $$' if status < 0 else f'exit {status}'}"
         with started(env={**os.environ, "SLURMD_NODENAME": "n7"}) as job:
-            job.stdin.write(f"\n\n{json.dumps(['sh', '-c', script])}\n\n")
+            job.stdin.write(f"\n\n{json.dumps({'words': ['sh', '-c', script]})}\n\n")
             job.stdin.flush()
             # Its standard input is open until it has ended.
             out, said = job.stdout.read(), job.stderr.read()
@@ -47,7 +45,7 @@ def test_a_job_reports_its_node_and_the_status_from_inside():
 def test_a_job_says_something_every_two_seconds_but_not_within_a_line():
     with started() as job:
         assert [job.stderr.readline() for _ in range(3)] == [f"ggp_competition: node {NODE}\n", "ggp_competition: beat\n", "ggp_competition: beat\n"]
-        job.stdin.write(json.dumps(["sh", "-c", "printf half >&2; sleep 5; echo whole >&2"]) + "\n")
+        job.stdin.write(json.dumps({"words": ["sh", "-c", "printf half >&2; sleep 5; echo whole >&2"]}) + "\n")
         job.stdin.flush()
         said = [line for line in job.stderr.read().splitlines() if line != "ggp_competition: beat"]
         assert said == ["halfwhole", "ggp_competition: status 0"]
@@ -55,7 +53,7 @@ def test_a_job_says_something_every_two_seconds_but_not_within_a_line():
 
 def test_a_program_that_is_not_there():
     with started() as job:
-        job.stdin.write('["/none/of these"]\n')
+        job.stdin.write('{"words": ["/none/of these"]}\n')
         job.stdin.flush()
         assert (job.stderr.read().splitlines()[-1], job.wait()) == ("/none/of these: No such file or directory", 254)
 
@@ -63,7 +61,7 @@ def test_a_program_that_is_not_there():
 @pytest.mark.parametrize("hangs_up", [True, False])
 def test_a_job_ends_its_referee_if_it_hears_nothing(hangs_up):
     with started(silence=600 if hangs_up else 1) as job:
-        job.stdin.write(json.dumps(["sh", "-c", "echo $$ >&2; exec sleep 600"]) + "\n")
+        job.stdin.write(json.dumps({"words": ["sh", "-c", "echo $$ >&2; exec sleep 600"]}) + "\n")
         job.stdin.flush()
         job.stderr.readline()
         referee = job.stderr.readline().strip()
@@ -76,7 +74,7 @@ def test_a_job_ends_its_referee_if_it_hears_nothing(hangs_up):
 
 def test_a_referee_ends_with_its_job():
     with started() as job:
-        job.stdin.write(json.dumps(["sh", "-c", "echo $$ >&2; exec sleep 600"]) + "\n")
+        job.stdin.write(json.dumps({"words": ["sh", "-c", "echo $$ >&2; exec sleep 600"]}) + "\n")
         job.stdin.flush()
         job.stderr.readline()
         referee = job.stderr.readline().strip()
@@ -84,12 +82,6 @@ def test_a_referee_ends_with_its_job():
         job.wait()
         while command_of(referee):
             time.sleep(0.01)
-
-
-def test_the_command_of_a_job_has_nothing_to_quote():
-    words = job_words(Launcher(("srun", "--job-name={match}", "-n1"), 2), "cup-001")
-    assert words == ["srun", "--job-name=cup-001", "-n1", "python3", "-I", str(JOB), "20"]
-    assert OURS == b"ggp_competition: "
 
 
 # ---- competitions
@@ -113,7 +105,7 @@ class Launched(InFolder):
     def test_each_match_is_a_job(self):
         self.planned('echo $match >> $folder/jobs; exec "$@"', 6)
         status, out, said = run(self.folder, "play")
-        self.assertEqual((status, said), (0, ""), out)
+        self.assertEqual((status, said, lines(out, "lost"), lines(out, "back")), (0, "", [], []), out)
         self.assertEqual(collections.Counter((self.folder / "jobs").read_text().split()), collections.Counter(planned[0] for planned in self.schedule))
         self.assertEqual({line.rpartition(" ")[2] for line in lines(out, "begin")}, {NODE})
         self.assertEqual({json.loads(line)["host"] for line in (self.folder / "matches.jsonl").read_text().splitlines()}, {NODE})
@@ -131,7 +123,8 @@ class Launched(InFolder):
         os.mkfifo(self.folder / "queue")
         playing = start(self.folder, "play")
         self.assertEqual((self.folder / "queue").read_text(), "queued\n")
-        self.assertFalse((self.folder / "open/cup-001/info-0").exists())
+        journal = self.folder / "play.log"
+        self.assertFalse(journal.exists() and " info " in journal.read_text())
         (self.folder / "go").write_text("go\n")
         out, _ = playing.communicate(timeout=600)
         self.assertEqual((playing.returncode, len(lines(out, "end"))), (0, 1), out)

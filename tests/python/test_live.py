@@ -172,10 +172,11 @@ class Lines(InRoom):
     def test_stages_and_the_end(self):
         room, reader = self.plan.folder.open / self.match.id, self.reader()
         room.mkdir()
+        (room / "asking").touch()
         reader.look()
         self.assertEqual(reader.open[self.match.id].stage, "asking")
         begin(self.plan, self.match, started(self.match))
-        (room / "verified").touch()
+        (room / "checking").touch()
         reader.look()
         self.assertEqual(reader.open[self.match.id].stage, "checking")
         moves, errors = [["(take 1)", "noop"], ["noop", "(take 2)"]], [["", ""], ["IL x", ""]]
@@ -194,7 +195,7 @@ class Lines(InRoom):
         room.mkdir()
         reader, found = self.reader(), []
         with patch.object(live, "TICK", 3_600):
-            for name in ("info-0", "played", "verified"):
+            for name in ("asking", "playing", "checking"):
                 (room / name).touch()
                 os.utime(room, (moment, moment))
                 reader.look()
@@ -231,7 +232,7 @@ class Lines(InRoom):
         reader.look()
         self.assertEqual((reader.open, len(reader.waiting()), os.listdir(log.parent)), ({}, 6, ["players"]))
         # Its players are asked again.
-        (log.parent / "info-0").touch()
+        (log.parent / "asking").touch()
         reader.look()
         self.assertEqual(reader.open[self.match.id].stage, "asking")
 

@@ -15,7 +15,7 @@ import unittest
 
 from ggp_tools.competition.children import UNSAID, end_with
 from ggp_tools.competition.files import held
-from ggp_tools.competition.playing import MOST_LINES
+from ggp_tools.competition.command import MOST_LINES
 from players import TestPlayer
 from support import GAMES, InFolder, program, program_but, run, run_into_full, start
 
@@ -112,8 +112,7 @@ class Play(InFolder):
 
     def test_a_referee_that_ends_without_a_word(self):
         self.planned(["good", "good"])
-        # Status 1 without a word is that of a full disk, also where the log was written before.
-        for done, words, count in (("kill -9 $$", UNSAID.format(-9), 2), ("exit 1", UNSAID.format(1), 1)):
+        for done, words, count in (("kill -9 $$", UNSAID.format(-9), 2), ("exit 1", UNSAID.format(1), 2), ("echo 'ggp_manager: write fault' >&2; exit 1", "ggp_manager: write fault", 1)):
             faulty = program_but(self.folder / "faulty", '"$1" = run', f"for word; do case $word in --log=*) echo cut >> ${{word#--log=}};; esac; done; {done}")
             status, out, _ = run(self.folder, "play", "--at-once", "1", "--program", faulty)
             self.assertEqual((status, lines(out, "no record")), (1, [f"no record {planned[0]}: {words}" for planned in self.schedule[:count]]), out)
@@ -131,8 +130,8 @@ class Play(InFolder):
     def test_a_fault_of_info_is_not_the_player_s(self):
         self.planned(["good", "good"], head=HEAD + 'absent = "play"\n')
         write_fault = "ggp_manager: write fault"
-        # The disk may be full where a write fails, and where nothing can be said of it.
-        for done, words, count in ((f"echo '{write_fault}' >&2; exit 2", write_fault, 1), ("exit 2", UNSAID.format(2), 1), ("kill -9 $$", UNSAID.format(-9), 2)):
+        # The disk may be full where a write fails.
+        for done, words, count in ((f"echo '{write_fault}' >&2; exit 2", write_fault, 1), ("exit 2", UNSAID.format(2), 2), ("kill -9 $$", UNSAID.format(-9), 2)):
             faulty = program_but(self.folder / "faulty", f'"$1" = info && "$4" = p0*', done)
             status, out, _ = run(self.folder, "play", "--at-once", "1", "--program", faulty)
             told = [f"no record {planned[0]}: p0 could not be asked: {words}" for planned in self.schedule]
@@ -325,7 +324,7 @@ class Play(InFolder):
             time.sleep(0.01)
 
     def test_a_match_begun_as_its_run_is_killed_is_not_played(self):
-        with subprocess.Popen(["sleep", "60"], preexec_fn=lambda: end_with(0, None)) as orphan:
+        with subprocess.Popen(["sleep", "60"], preexec_fn=lambda: end_with(0)) as orphan:
             self.assertEqual(orphan.wait(), -signal.SIGKILL)
 
     def test_an_abort_without_an_answer_is_due_until_it_is_answered(self):
@@ -344,7 +343,7 @@ class Play(InFolder):
         self.assertEqual((status, lines(out, "no answer"), players.exists()), (1, unanswered, True), out)
         for number in (signal.SIGTERM, signal.SIGINT):
             playing = start(self.folder, "play", "--program", program_but(self.folder / "slow", '"$1" = info', "sleep 60"))
-            while not (self.folder / "open/cup-001/info-1").exists() or playing.stdout.readline() != f"{unanswered[0]}\n":
+            while not (self.folder / "open/cup-001/asking").exists() or playing.stdout.readline() != f"{unanswered[0]}\n":
                 time.sleep(0.02)
             playing.send_signal(number)
             out, _ = playing.communicate(timeout=600)
@@ -489,14 +488,14 @@ class Play(InFolder):
         ended = program_but(self.folder / "short", '"$1" = replay', "kill -9 $$")
         status, out, _ = run(self.folder, "play", "--program", ended)
         self.assertEqual((status, len(lines(out, "no record"))), (1, 2))
-        self.assertTrue(all("it ended with status -9" in line for line in lines(out, "no record")), out)
+        self.assertTrue(all("it said nothing, status -9" in line for line in lines(out, "no record")), out)
 
     def test_a_match_that_was_played_and_not_checked_is_kept_aside(self):
         self.planned(["good", "good"])
         short = "echo 'ggp_manager: want of memory' >&2; exit 3"
         played = ("records/cup-001.json", "accounts/cup-001.txt", "logs/cup-001.jsonl")
         # With an empty input `verify` only says whether the rules are accepted, as the plan is read.
-        record = '"$1" = verify && -s /dev/stdin'
+        record = '"$1" = verify && -n $(head -c 1)'
         shortages = [(record, short, "want of memory"), (record, "kill -9 $$", "status -9"), ('"$1" = replay', short, "want of memory")]
         for (asked, done, words), ending in zip(shortages, ("unchecked", "unchecked.2", "unchecked.3")):
             before = self.files() if (self.folder / "records").exists() else {}

@@ -14,14 +14,14 @@ import types
 import unittest
 from unittest import mock
 
-from ggp_tools.competition import playing
+from ggp_tools.competition import playing, resuming
+from ggp_tools.competition.command import said_of_missing
 from ggp_tools.competition.competition_file import Launcher
 from ggp_tools.competition.files import Refused
-from ggp_tools.competition.playing import Playing, abort_matches, allow_descriptors, interrupts_counted, places_in, rooms, said_of_missing, says_full
+from ggp_tools.competition.playing import Playing
+from ggp_tools.competition.resuming import left_open
 from ggp_tools.competition.seats import Seats
 from live_support import plan_in
-
-UNSAID = "it ended with status {} and no word, as where it is killed or the disk is full"
 
 
 class Said:
@@ -38,7 +38,7 @@ class Said:
         self.ended.append((result, seconds))
 
     def progress(self, over, open_count, to_come, left):
-        self.shown.append((over, open_count, to_come, left()))
+        self.shown.append((over, open_count, to_come, left))
 
     def draw(self, text):
         self.drawn.append(text)
@@ -54,8 +54,8 @@ class Standing:
     laid_down: dict = {}
     begun: list = []
 
-    def __init__(self, shared, match):
-        self.shared, self.match = shared, match
+    def __init__(self, playing, match):
+        self.playing, self.match = playing, match
         self.stage, self.places, self.seconds, self.seated = "asking", [f"{player}@h" for player in match.players], 1.5, 0.0
         self.result, self.why = None, None
         self.is_broken, self.stops_game, self.is_seated, self.goes_on, self.is_ended = False, False, True, False, False
@@ -73,8 +73,8 @@ class Standing:
     def leave(self):
         if self.is_seated:
             self.is_seated = False
-            self.shared.seats.leave(self.match)
-            self.shared.has_left()
+            self.playing.seats.leave(self.match)
+            self.playing.news.set()
 
 
 def over(**more):
@@ -115,7 +115,7 @@ class WithMatches(unittest.TestCase):
     def go(self, **laid_down):
         """Plays all matches, each as is laid down for its id."""
         Standing.laid_down |= {match.replace("_", "-"): steps for match, steps in laid_down.items()}
-        self.playing.add(self.plan.matches)
+        self.playing.waiting.extend(self.plan.matches)
         asyncio.run(self.playing.go())
 
     def begun(self):
@@ -209,7 +209,7 @@ class Going(WithMatches):
         why = "heap is not played on, since cup-001 is no match of its description"
         left = {match.id: why for match in self.plan.matches[:6]} | {"cup-001": "differs", "cup-003": "differs too"}
         self.assertEqual((self.playing.left, self.playing.stopped), (left, {"heap": why}))
-        self.assertEqual((set(self.playing.results), self.playing.may_still_begin(self.plan.matches[0])), ({match.id for match in self.plan.matches[6:]}, False))
+        self.assertEqual((set(self.playing.results), self.playing.may_begin(self.plan.matches[0])), ({match.id for match in self.plan.matches[6:]}, False))
         self.assertEqual(self.reporter.lines, ["no record cup-001: differs", f"stopped {why}; 4 matches of it do not begin", "no record cup-003: differs too"])
 
     def test_if_a_file_can_not_be_written_no_more_matches_begin(self):
@@ -223,7 +223,7 @@ class Going(WithMatches):
                     raise error
 
                 self.go(cup_001=[stage, fail])
-                self.assertEqual((self.playing.left, self.playing.is_full, self.playing.may_go_on(), self.begun(), self.aborted), ({"cup-001": words}, True, False, ["cup-001"], aborted))
+                self.assertEqual((self.playing.left, self.playing.is_full, self.playing.may_begin(), self.begun(), self.aborted), ({"cup-001": words}, True, False, ["cup-001"], aborted))
                 self.assertEqual(self.playing.seats.free, dict.fromkeys(self.NAMES, 1))
 
     def test_another_error_is_not_taken_for_one_of_the_disk(self):
@@ -237,17 +237,11 @@ class Going(WithMatches):
         self.begin(at_once=1)
         self.go(cup_001=[over(why="ggp_manager: write fault")])
         self.assertEqual((self.begun(), self.playing.is_full), (["cup-001"], True))
-        self.assertEqual([says_full(why, on_host) for why, on_host in (("x: write fault", True), ("x: write fault", False), (UNSAID.format(1), False), (UNSAID.format(1), True), (UNSAID.format(3), False), ("write fault ", False), (UNSAID.format(2), False))],
-                         [True, True, True, False, False, False, True])
-        for launcher, is_broken, is_full in ((Launcher(("x",), 4), True, False), (Launcher(("x",), 4), False, True), (None, True, True)):
-            self.begin(launcher=launcher)
-            self.go(cup_001=[over(why=UNSAID.format(1), is_broken=is_broken)])
-            self.assertEqual(bool(self.playing.is_full), is_full, (launcher, is_broken))
 
     def test_after_one_interrupt_open_matches_are_played_to_their_ends(self):
         self.begin(at_once=3)
         may_begin = []
-        self.go(cup_001=["playing", self.interrupt(1), "playing", won], cup_003=["playing", "playing", lambda match: may_begin.append(self.playing.may_still_begin(match.match)), won])
+        self.go(cup_001=["playing", self.interrupt(1), "playing", won], cup_003=["playing", "playing", lambda match: may_begin.append(self.playing.may_begin(match.match)), won])
         self.assertEqual((sorted(self.begun()), sorted(self.playing.results), may_begin), (["cup-001", "cup-003"], ["cup-001", "cup-003"], [False]))
         self.assertEqual(self.reporter.lines, ["no more matches begin; 2 are played to their ends, or ended by one more Ctrl-C"])
 
@@ -294,7 +288,7 @@ class Going(WithMatches):
     def test_without_a_reader_of_its_lines_no_more_begin(self):
         self.begin(at_once=1)
         self.go(cup_001=["playing", lambda match: setattr(self.reporter, "fault", OSError()), won])
-        self.assertEqual((self.begun(), self.playing.interrupts, self.playing.may_go_on(), list(self.playing.results)), (["cup-001"], 1, False, ["cup-001"]))
+        self.assertEqual((self.begun(), self.playing.interrupts, list(self.playing.results)), (["cup-001"], 1, ["cup-001"]))
 
     def test_without_a_journal_no_more_begin(self):
         self.begin(at_once=1)
@@ -307,22 +301,7 @@ class Going(WithMatches):
         Standing.laid_down = {match.id: [lambda match: most.append(sum(standing.is_seated for standing in Standing.begun)), won] for match in self.plan.matches}
         self.go()
         self.assertEqual((max(most), len(self.playing.results)), (1, 12))
-        self.assertIsNotNone(self.playing.seconds_left())
-
-    def test_what_may_begin(self):
-        self.assertTrue(self.playing.may_begin() and self.playing.may_go_on())
-        for name, value in (("interrupts", 1), ("is_full", True)):
-            self.begin()
-            setattr(self.playing, name, value)
-            self.assertFalse(self.playing.may_begin() or self.playing.may_go_on() or self.playing.may_still_begin(self.plan.matches[0]), name)
-        self.begin()
-        self.reporter.fault = OSError()
-        self.assertEqual((self.playing.may_begin(), self.playing.may_go_on()), (True, False))
-
-    def test_further_matches_are_looked_for_again(self):
-        self.playing.seats.idle_until = 1e9
-        self.playing.add(self.plan.matches[:2])
-        self.assertEqual((list(self.playing.waiting), self.playing.seats.idle_until), (self.plan.matches[:2], 0.0))
+        self.assertIsNotNone(self.reporter.shown[0])
 
 
 class Before(WithMatches):
@@ -331,7 +310,7 @@ class Before(WithMatches):
     def setUp(self):
         super().setUp()
         self.looked = ({}, {}, {})
-        self.enterContext(mock.patch.object(playing, "look_at_records", lambda plan, referee: self.looked))
+        self.enterContext(mock.patch.object(resuming, "look_at_records", lambda plan, referee: self.looked))
 
     def room(self, name, players="ann@h:1\nbob@h:2\n"):
         room = self.plan.folder.open / name
@@ -343,7 +322,7 @@ class Before(WithMatches):
     def test_all_that_have_no_result_wait(self):
         self.plan.matches[1] = dataclasses.replace(self.plan.matches[1], again="cup-013")
         self.looked = ({"cup-003": "its result"}, {}, {})
-        playing.prepared(self.playing)
+        resuming.prepare(self.playing)
         self.assertEqual([match.id for match in self.playing.waiting], [match.id for match in self.plan.matches if match.id not in ("cup-002", "cup-003")])
         self.assertEqual((self.playing.results, self.reporter.lines, self.reporter.drawn), ({"cup-003": "its result"}, [], ["looking at the records"]))
 
@@ -354,7 +333,7 @@ class Before(WithMatches):
         folder.account("cup-002").write_text("x")
         folder.log("cup-003").write_text("x")
         self.looked = ({"cup-003": "its result"}, {"cup-001": "not lawful: goals"}, {})
-        playing.prepared(self.playing)
+        resuming.prepare(self.playing)
         self.assertEqual(self.reporter.lines, [
             "refused cup-001: not lawful: goals; its files are set aside, and it is played again",
             "aside cup-002: it has no record; its other files are set aside, and it is played",
@@ -381,14 +360,14 @@ class Before(WithMatches):
         for name, more in (("x.json", ""), ("y.json", ", and 1 more")):
             (records / name).touch()
             with self.assertRaises(Refused) as why:
-                playing.prepared(self.playing)
+                resuming.prepare(self.playing)
             self.assertEqual(str(why.exception), f"{records}/x.json is of no match of the schedule{more}: move what is of no match out of {records}, and play again")
         for file in records.iterdir():
             file.unlink()
         self.looked = ({}, {"cup-002": "not lawful: goals"}, {"cup-001": "its matchId is 'x'"})
         self.plan.folder.record("cup-002").touch()
         with self.assertRaises(Refused) as why:
-            playing.prepared(self.playing)
+            resuming.prepare(self.playing)
         self.assertEqual(str(why.exception), f"{records}/cup-001.json is lawful, and of another match: its matchId is 'x'")
         # Until that is put right nothing is set aside.
         self.assertEqual([file.name for file in records.iterdir()], ["cup-002.json"])
@@ -403,7 +382,7 @@ class Before(WithMatches):
         self.plan.rounds = ["the first", "the second"]
         self.looked = ({match.id: "its result" for match in self.plan.matches[3:]}, {"cup-001": "not lawful: goals"}, {})
         with self.assertRaises(Refused) as why:
-            playing.prepared(self.playing)
+            resuming.prepare(self.playing)
         self.assertIn("cup-001 has no record that counts, and a later round was paired by it", str(why.exception))
         # Until that is put right nothing is set aside, nobody is told anything, and nothing waits.
         self.assertEqual([file.name for kind in (folder.records, folder.accounts) for file in kind.iterdir()], ["cup-001.json", "cup-002.txt"])
@@ -411,7 +390,7 @@ class Before(WithMatches):
 
     def test_a_folder_that_can_not_be_written(self):
         with mock.patch.object(self.plan.folder, "make", side_effect=OSError(errno.EROFS, "x", "f")), self.assertRaises(Refused) as why:
-            playing.prepared(self.playing)
+            resuming.prepare(self.playing)
         self.assertEqual(str(why.exception), f"{self.plan.folder.path} can't be written: f: Read-only file system")
 
     def test_players_of_matches_that_were_open_are_freed(self):
@@ -421,7 +400,7 @@ class Before(WithMatches):
         (self.plan.folder.open / "file").touch()
         self.looked = ({"cup-002": "its result"}, {}, {})
         self.plan.folder.record("cup-002").touch()
-        playing.prepared(self.playing)
+        resuming.prepare(self.playing)
         places = ["ann@h:1", "bob@h:2"]
         self.assertEqual(self.aborted, [({"cup-001": places, "old-007": places}, None)])
         self.assertEqual([room.exists() for room in (first, over_one, other, plain, empty, wrong)], [False, False, False, True, False, True])
@@ -433,8 +412,8 @@ class Before(WithMatches):
         self.room("a", "ann@h:1 bob@h:2\n")
         self.room("c", "ann\n")
         (self.room("d") / "players").write_bytes(b"\xff@h:1")
-        self.assertEqual([room.name for room in rooms(self.plan)], ["a", "b", "cup-001"])
-        self.assertEqual([places_in(self.plan.folder.open / name) for name in ("a", "b", "c", "d", "none", "cup-001")], [["ann@h:1", "bob@h:2"], ["ann@h:1"], [], [], [], []])
+        found = {room.name: places for room, places in left_open(self.plan).items()}
+        self.assertEqual(found, {"a": ["ann@h:1", "bob@h:2"], "b": ["ann@h:1"], "cup-001": []})
 
     def test_a_room_is_kept_where_a_player_does_not_answer_abort(self):
         first, second, third = [self.room(f"cup-00{at}") for at in (1, 2, 3)]
@@ -442,7 +421,7 @@ class Before(WithMatches):
             (room / "played").touch()
         self.silent = {"cup-002": ["bob@h:2"]}
         places = {"cup-001": ["ann@h:1"], "cup-002": ["ann@h:1", "bob@h:2"], "cup-003": ["cid@h:3"]}
-        asyncio.run(abort_matches("referee", places, self.plan.folder, self.reporter, 4, {"cup-003"}))
+        asyncio.run(self.playing.abort(places, 4, {"cup-003"}))
         self.assertEqual((self.aborted[0][1], first.exists(), *([file.name for file in room.iterdir()] for room in (second, third))), (4, False, ["players"], ["players"]))
         lines = ["abort cup-001: ann@h:1", "abort cup-002: ann@h:1, bob@h:2", "no answer to abort cup-002: bob@h:2", "abort cup-003: cid@h:3"]
         self.assertEqual(self.reporter.lines, lines)
@@ -457,9 +436,9 @@ class Before(WithMatches):
             return found
 
         Standing.laid_down = {"cup-004": [over(why="ann is silent")]}
-        with mock.patch.object(playing, "plan_next_round", next_round), mock.patch.object(playing, "round_words", lambda plan, found: f"round of {found[0].id}"), mock.patch.object(playing, "allow_descriptors") as allowed:
+        with mock.patch.object(playing, "plan_next_round", next_round), mock.patch.object(playing, "round_words", lambda plan, found: f"round of {found[0].id}"):
             self.assertEqual(playing.play(self.playing), {"cup-004": "ann is silent"})
-        self.assertEqual(([line for line in self.reporter.lines if line.startswith("round")], allowed.call_count, rest), (["round of cup-003", "round of cup-005"], 1, []))
+        self.assertEqual(([line for line in self.reporter.lines if line.startswith("round")], rest), (["round of cup-003", "round of cup-005"], []))
         self.assertEqual(sorted(self.begun()), [f"cup-00{at}" for at in range(1, 6)])
 
     def test_what_was_not_begun_is_missing(self):
@@ -481,42 +460,42 @@ class Words(unittest.TestCase):
         self.assertEqual(list(said_of_missing({**eleven, "x": "else"})), ["missing 11 matches, m0 to m10: why", "missing x: else"])
         self.assertEqual(list(said_of_missing({f"m{at}": "it was not begun" for at in range(1_200)})), ["missing 1,200 matches, m0 to m1199: it was not begun"])
 
-    def counted(self, *signals):
-        """Returns how many interrupts there were after each of these signals, while they are counted."""
-        counts, total = [], [0]
 
-        def interrupt(count):
-            total[0] += count
+class Signals(WithMatches):
+    def counted(self, number):
+        """Returns how many interrupts there were after a signal, while a match was open."""
+        async def play():
+            await self.playing.play_rounds()
 
-        async def raise_all():
-            with interrupts_counted(types.SimpleNamespace(interrupt=interrupt)):
-                for number in signals:
-                    signal.raise_signal(number)
-                    before = total[0]
-                    for _ in range(1_000):
-                        await asyncio.sleep(0)
-                        if total[0] > before:
-                            break
-                    counts.append(total[0])
+        def send(match):
+            signal.raise_signal(number)
 
-        asyncio.run(raise_all())
-        return counts
+        # The loop hears of a signal a little later.
+        Standing.laid_down = {"cup-001": ["playing", send, *["playing"] * 1_000, won]}
+        self.playing.waiting.extend(self.plan.matches[:1])
+        with mock.patch.object(playing, "plan_next_round", lambda plan, results: []):
+            asyncio.run(play())
+        return self.playing.interrupts
 
     def test_signals_are_counted(self):
         self.addCleanup(signal.signal, signal.SIGHUP, signal.getsignal(signal.SIGHUP))
-        # A hang-up is ignored under nohup.
-        signal.signal(signal.SIGHUP, signal.SIG_DFL)
-        self.assertEqual(self.counted(signal.SIGINT, signal.SIGTERM, signal.SIGHUP), [1, 3, 5])
+        for number, count in ((signal.SIGINT, 1), (signal.SIGTERM, 2), (signal.SIGHUP, 2)):
+            # A hang-up is ignored under nohup.
+            signal.signal(signal.SIGHUP, signal.SIG_DFL)
+            self.begin()
+            self.assertEqual(self.counted(number), count)
         self.assertEqual([signal.getsignal(number) for number in (signal.SIGINT, signal.SIGTERM, signal.SIGHUP)], [signal.default_int_handler, signal.SIG_DFL, signal.SIG_DFL])
 
     def test_a_hang_up_that_is_ignored_stays_so(self):
         self.addCleanup(signal.signal, signal.SIGHUP, signal.getsignal(signal.SIGHUP))
         signal.signal(signal.SIGHUP, signal.SIG_IGN)
-        self.assertEqual((self.counted(signal.SIGHUP), signal.getsignal(signal.SIGHUP)), ([0], signal.SIG_IGN))
+        self.assertEqual((self.counted(signal.SIGHUP), signal.getsignal(signal.SIGHUP)), (0, signal.SIG_IGN))
 
     def test_so_many_files_may_be_open(self):
         endless = resource.RLIM_INFINITY
-        for limits, wanted in (((1_024, 20_000), (16_384, 20_000)), ((1_024, endless), (16_384, endless)), ((1_024, 2_000), (2_000, 2_000)), ((16_384, 20_000), None), ((17_000, 20_000), None), ((2_000, 2_000), None), ((endless, endless), None)):
-            with mock.patch("resource.getrlimit", lambda _, limits=limits: limits), mock.patch("resource.setrlimit") as changed:
-                allow_descriptors()
-            self.assertEqual([call.args for call in changed.call_args_list], [(resource.RLIMIT_NOFILE, wanted)] if wanted else [], limits)
+        for limits, wanted in (((1_024, 20_000), 16_384), ((1_024, 2_000), 2_000), ((17_000, 20_000), 17_000), ((endless, 20_000), 16_384)):
+            with mock.patch("resource.getrlimit", lambda _, limits=limits: limits), mock.patch("resource.setrlimit") as changed, mock.patch.object(playing, "prepare"):
+                self.begin()
+                self.plan.matches = []
+                playing.play(self.playing)
+            self.assertEqual([call.args for call in changed.call_args_list], [(resource.RLIMIT_NOFILE, (wanted, limits[1]))], limits)

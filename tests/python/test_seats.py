@@ -61,7 +61,7 @@ class SomeSeats(unittest.TestCase):
         self.assertEqual(self.begins(1.0), (None, 0))
         self.waiting = later
         self.assertEqual(self.begins(1.0), (None, 0))
-        self.seats.look_again()
+        self.seats.idle_until = 0.0
         self.assertTrue(self.begins(1.0)[0])
 
     def test_the_queue_is_looked_through_again_when_a_player_is_rested(self):

@@ -3,6 +3,7 @@
 import json
 import os
 import pathlib
+import re
 import shutil
 import signal
 import socket
@@ -12,7 +13,7 @@ import time
 
 import pytest
 from players import TestPlayer
-from support import GAMES, InFolder, run, start
+from support import GAMES, TOP, InFolder, run, start, toml
 
 NODES, MATCHES = ("n1", "n2", "n3"), 60
 CONF = """
@@ -165,3 +166,28 @@ class Slurm(InFolder):
         self.assert_sound(schedule)
         self.assertEqual([run(self.folder, *words)[0] for words in (("publish",), ("check", "cup.tar.gz"))], [0, 0])
         print("\n".join(line for line in out.splitlines() if line.startswith("lost ")), time.monotonic())
+
+    def test_players_that_are_jobs_of_which_one_loses_its_node(self):
+        # An example player that listens at all addresses of its node.
+        example = self.folder / "player.py"
+        example.write_text((TOP / "examples/players/player.py").read_text().replace('("127.0.0.1", port)', '("", port)'))
+        example.chmod(0o755)
+        launcher = 'launcher = ["srun", "--nodes=1", "--ntasks=1", "--quiet", "--job-name={player}"]\nstart_seconds = 600'
+        players = "".join(f'\n[[players]]\nname = "{name}"\ncommand = ["./player.py", "{{port}}", "1"]\n{launcher}\n' for name in ("ann", "bob"))
+        form = f'kind = "schedule"\nlines = {json.dumps(["countdown ann bob"] * 6)}'
+        text = toml([], [("countdown", GAMES / "countdown.kif")], form, HEAD)
+        (self.folder / "competition.toml").write_text(text + players)
+        self.assertEqual(run(self.folder, "plan", env=self.cluster.environment)[::2], (0, ""))
+        playing = start(self.folder, "play", env=self.cluster.environment)
+        out = ""
+        while line := playing.stdout.readline():
+            out += line
+            if out.count("\nend ") == 1 and line.startswith("end "):
+                self.cluster.kill(re.search(r" start cup-001 ann: process \d+, port \d+ on (n[123])", (self.folder / "play.log").read_text())[1])
+        said = playing.stderr.read()
+        playing.stdout.close()
+        playing.stderr.close()
+        self.assertEqual((playing.wait(), said, out.splitlines()[-1]), (0, "", "6 of 6 matches have a lawful record"), out)
+        self.assertRegex(out, r"restart cup-00\d ann: process \d+, port \d+ on n[123]")
+        self.assertRegex(run(self.folder, "why", ".", "cup-001", "bob")[1], r"Z start cup-001 bob: process \d+, port \d+ on n[123]\n")
+        self.assertEqual(subprocess.run(["pgrep", "-f", f"{example}"]).returncode, 1)

@@ -7,15 +7,14 @@ import signal
 import socket
 import subprocess
 import sys
+import time
 import types
 
 import pytest
-from ggp_tools.competition import player_logs, started_players
+from ggp_tools.competition import children, job, started_players
 from ggp_tools.competition.competition_file import Command, Player
 from ggp_tools.competition.files import Folder
-from ggp_tools.competition.owned_processes import VARIABLE, Owned, boot, end_owned, keep_owned, owned
-from ggp_tools.competition.player_logs import PlayerLog
-from ggp_tools.competition.started_players import StartedPlayer, StartedPlayers, end_left_players, free_port
+from ggp_tools.competition.started_players import PlayerLog, StartedPlayer, StartedPlayers
 from support import GAMES, TOP, InFolder, command_of, program, program_but, run, start, toml
 
 ANSWERS, SILENT = ["true"], ["false"]
@@ -29,7 +28,7 @@ class Said:
 
 def command(script, **more):
     return Command(**{
-        "words": ("sh", "-c", script), "directory": "", "environment": (), "memory": 0, "processors": 0, "restart": "when_dead", "start_seconds": 600, **more,
+        "words": ("sh", "-c", script), "launcher": (), "directory": "", "environment": (), "memory": 0, "processors": 0, "restart": "when_dead", "start_seconds": 600, **more,
     })
 
 
@@ -45,6 +44,11 @@ def is_alive(process):
     return bool(command_of(process))
 
 
+def process_of(started):
+    """Returns the process of a player, none if it does not run."""
+    return int(started.job.player.split()[0]) if started.is_running() else None
+
+
 def run_for(*players_and_matches):
     """Has a player be ready for each of these matches, and ends it. Returns its processes."""
     async def play():
@@ -52,7 +56,7 @@ def run_for(*players_and_matches):
         found = []
         for match in matches:
             await started.ready(match)
-            found.append(started.process and started.process.pid)
+            found.append(process_of(started))
             started.matches.clear()
         await started.end()
         return found
@@ -79,11 +83,15 @@ def test_it_is_limited(tmp_path):
     assert (tmp_path / "players/ann.log").read_text() == f"({1 << 30}, {1 << 30}) 1\n"
 
 
-def test_different_players_get_different_processors(tmp_path):
+def test_different_players_get_different_processors(monkeypatch):
     there = sorted(os.sched_getaffinity(0))
-    found = [StartedPlayer(Folder(tmp_path), Player("x", "", 1, 1, command("", processors=1)), number, None, Said()).processors for number in range(len(there) + 1)]
-    assert found == [[processor] for processor in (*there, there[0])]
-    assert StartedPlayer(Folder(tmp_path), Player("x", "", 1, 1, command("", processors=4_096)), 0, None, Said()).processors == there
+    found = []
+    monkeypatch.setattr(os, "sched_setaffinity", lambda process, processors: found.append(processors))
+    for number in range(len(there) + 1):
+        job.limit(0, 1, number)
+    job.limit(0, 4_096, 0)
+    job.limit(0, 0, 0)
+    assert found == [*([processor] for processor in (*there, there[0])), there]
 
 
 @pytest.mark.parametrize(("restart", "is_new"), [("when_dead", False), ("never", False), ("each_match", True)])
@@ -100,7 +108,7 @@ def test_a_player_that_dies_is_reported_with_its_last_words(tmp_path, restart, c
 
     async def play():
         await ann.ready("cup-001")
-        first = ann.process
+        first = process_of(ann)
         (tmp_path / "wait").write_text("go\n")
         await ann.watching
         ann.matches.clear()
@@ -115,7 +123,7 @@ def test_a_player_that_dies_is_reported_with_its_last_words(tmp_path, restart, c
     said = ann.reporter.lines[1:] + ann.reporter.notes[1:]
     assert [line.rpartition(",")[0].rpartition(" ")[0] for line in said] == ["restart cup-002 ann: process"] * comes_again
     assert (ann.reporter.lines[1:] == said) == (restart != "each_match")
-    assert not is_alive(first.pid)
+    assert not is_alive(first)
 
 
 def test_a_player_that_does_not_come_up_is_reported_with_the_end_of_its_log(tmp_path):
@@ -133,22 +141,30 @@ def test_a_player_that_does_not_come_up_is_reported_with_the_end_of_its_log(tmp_
 def test_a_program_that_can_not_be_started(tmp_path):
     ann = player(tmp_path, "", words=("./none", "{port}"))
     assert run_for(ann, "cup-001") == [None]
-    assert ann.reporter.lines[0].startswith("down cup-001 ann: it can't be started: ")
-    assert not list((tmp_path / "players").glob("*.process"))
+    assert ann.reporter.lines == [
+        f"down cup-001 ann: it can't be started; the end of {ann.log.path}:", f"down cup-001 ann: | {tmp_path}/none: No such file or directory",
+    ]
 
 
-def test_an_answer_of_another_program_at_its_port_is_not_its_own(tmp_path):
-    ann = player(tmp_path, "exit 1", ["sh", "-c", "sleep 0.2"])
+def test_an_answer_of_another_program_at_its_port_is_not_its_own(tmp_path, monkeypatch):
+    ann = player(tmp_path, "exit 1")
+
+    async def answered_later(words, seconds):
+        await asyncio.wait([ann.job.running])
+        return children.Done(0, b"", b"", 0.0)
+
+    monkeypatch.setattr(started_players, "run", answered_later)
     run_for(ann, "cup-001")
     assert ann.reporter.lines == [f"down cup-001 ann: it ended with status 1; {ann.log.path} is empty"]
 
 
 def test_a_port_that_is_taken_is_left_for_another(tmp_path):
     ann = player(tmp_path, "exec sleep 600")
-    with socket.create_server(("127.0.0.1", ann.port)) as taken:
+    with socket.create_server(("127.0.0.1", 0)) as taken:
+        ann.port = taken.getsockname()[1]
         run_for(ann, "cup-001")
         assert ann.port != taken.getsockname()[1]
-    assert free_port(ann.port) == ann.port
+    assert job.free_port(ann.port) == ann.port
 
 
 def test_all_that_a_player_has_started_is_ended(tmp_path):
@@ -159,7 +175,7 @@ def test_all_that_a_player_has_started_is_ended(tmp_path):
 
     async def play():
         await ann.ready("cup-001")
-        first = ann.process.pid
+        first = process_of(ann)
         await ann.end()
         return first
 
@@ -167,7 +183,6 @@ def test_all_that_a_player_has_started_is_ended(tmp_path):
     processes = [first, *map(int, (tmp_path / "players/ann.log").read_text().split())]
     assert len(processes) == 4
     assert [process for process in processes if is_alive(process)] == []
-    assert not list((tmp_path / "players").glob("*.process"))
 
 
 def test_only_players_with_a_command_are_started(tmp_path):
@@ -191,52 +206,107 @@ def test_only_players_with_a_command_are_started(tmp_path):
     assert (places, len(reporter.notes)) == ([f"ann@127.0.0.1:{port}", "bob@h:1"], 1)
 
 
-# ---- players that are left
+# It starts a player that has processes of its own, says that it is there, and waits.
+PLAYING = """
+import asyncio, sys
+sys.path.insert(0, sys.argv[1])
+from ggp_tools.competition.children import Job
 
-@pytest.fixture
-def sleeper():
-    """A process with a token, which nobody here waits for."""
-    with subprocess.Popen(["sleep", "600"], env={VARIABLE: "token"}, start_new_session=True) as process:
-        yield process.pid
-        process.kill()
+async def take(data):
+    print(data.decode(), end="", flush=True)
 
+async def play():
+    job = Job(take, print, "player")
+    limits = {"memory": 0, "processors": 0, "number": 0}
+    words = ["sh", "-c", "setsid sleep 600 & echo $!; (setsid env -i sleep 600 & echo $!); echo $$; exec sleep 600"]
+    job.start([], {"words": words, "player": {"host": "", "port": 0, "environment": {}, "directory": "/", **limits}})
+    await job.running
 
-def left(room, found):
-    folder = Folder(room)
-    folder.make(folder.players)
-    keep_owned(folder.players / "ann.process", found)
-    lines = []
-    end_left_players(folder, lines.append)
-    assert not list(folder.players.iterdir())
-    return lines
-
-
-@pytest.mark.parametrize("known", [lambda process: owned("token", process), lambda process: Owned("token", boot()), lambda process: owned("another", process)])
-def test_a_player_that_is_left_is_ended(tmp_path, sleeper, known):
-    assert left(tmp_path, known(sleeper)) == ["ended the player ann, which a play before this one had started: 1 processes"]
-    assert not is_alive(sleeper)
+asyncio.run(play())
+"""
 
 
-@pytest.mark.parametrize("stranger", [
-    lambda process: Owned("another", boot(), process, owned("", process).started - 1), lambda process: Owned("token", "another boot", process, owned("", process).started),
-    lambda process: Owned("another", boot()), lambda process: Owned("", boot()),
-])
-def test_a_stranger_is_not_ended(tmp_path, sleeper, stranger):
-    assert left(tmp_path, stranger(sleeper)) == []
-    assert is_alive(sleeper)
+def test_a_player_ends_with_play_with_all_that_it_has_started():
+    with subprocess.Popen([sys.executable, "-c", PLAYING, TOP / "python"], stdout=subprocess.PIPE, text=True) as playing:
+        processes = [int(playing.stdout.readline()) for _ in range(3)]
+        assert all(map(is_alive, processes))
+        playing.kill()
+    while any(map(is_alive, processes)):
+        time.sleep(0.01)
 
 
-def test_a_file_of_another_form_names_no_process(tmp_path):
-    for text in ("", "5", "[]", "{}", '{"token": "x", "boot": "y", "more": 1}', "\0"):
-        (tmp_path / "x").write_text(text)
-        assert end_owned(tmp_path / "x") == []
-        assert not (tmp_path / "x").exists()
+def test_a_player_that_forks_without_end_is_ended(tmp_path):
+    ann = player(tmp_path, "while :; do sleep 6543 & setsid sleep 6543 & sleep 0.05; done")
+    ann.referee.info_words = lambda place: ["sh", "-c", "until pgrep -cf '^sleep 6543$' > /dev/null; do :; done"]
+    run_for(ann, "cup-001")
+    assert subprocess.run(["pgrep", "-f", "^sleep 6543$"]).returncode == 1
+
+
+# ---- launchers
+
+def launched(room, script, launcher):
+    """Returns a player with a launcher, which is a script on this computer."""
+    path = room / "launch"
+    path.write_text(f"#!/bin/bash\n{launcher}\n")
+    path.chmod(0o755)
+    return player(room, script, launcher=(str(path), "{player}"))
+
+
+def test_a_launcher_runs_the_player_and_reports_where(tmp_path, monkeypatch):
+    monkeypatch.setenv("SLURMD_NODENAME", "n7")
+    ann = launched(tmp_path, "echo {port} $X >&2; exec sleep 600", 'echo for $1 > launched; shift; exec "$@"')
+    monkeypatch.chdir(tmp_path)
+
+    async def play():
+        await ann.ready("cup-001")
+        found = process_of(ann), ann.place()
+        await ann.end()
+        return found
+
+    process, place = asyncio.run(play())
+    assert (place, (tmp_path / "launched").read_text()) == (f"ann@{socket.gethostname()}:{ann.port}", "for ann\n")
+    assert ann.reporter.notes == [f"start cup-001 ann: process {process}, port {ann.port} on n7"]
+    assert ((tmp_path / "players/ann.log").read_text(), is_alive(process)) == (f"{ann.port}\n", False)
+
+
+def test_a_launcher_that_fails_is_reported(tmp_path):
+    ann = launched(tmp_path, "exec sleep 600", "echo 'srun: no such partition' >&2; exit 1")
+    assert run_for(ann, "cup-001") == [None]
+    assert ann.reporter.lines == [f"down cup-001 ann: it can't be started; the end of {ann.log.path}:", "down cup-001 ann: | srun: no such partition"]
+
+
+def test_a_launched_player_whose_node_is_lost_is_reported(tmp_path, monkeypatch):
+    monkeypatch.setattr(children, "LOST_SECONDS", 1)
+    ann = launched(tmp_path, "exec sleep 600", 'shift; exec 3<&0; "$@" <&3 2> >(head -n 2 >&2; exec sleep 600)')
+
+    async def play():
+        await ann.ready("cup-001")
+        await ann.watching
+
+    asyncio.run(play())
+    assert ann.reporter.lines == ["died cup-001 ann: nothing was heard of it for 1 s"]
+
+
+# ---- memory
+
+def test_the_memory_of_all_processes_is_bounded_where_systemd_takes_it(tmp_path, monkeypatch):
+    systemd = tmp_path / "systemd-run"
+    systemd.write_text(f'#!/bin/bash\necho "$*" >> {tmp_path}/asked\nuntil [ "$1" = -- ]; do shift; done\nshift\nexec "$@"\n')
+    systemd.chmod(0o755)
+    monkeypatch.setenv("PATH", f"{tmp_path}:{os.environ['PATH']}")
+    run_for(player(tmp_path, "echo up; exec sleep 600", memory=1 << 30), "cup-001")
+    user = "" if os.geteuid() == 0 else "--user "
+    words = f"{user}--scope --quiet --property=MemoryMax={1 << 30} --property=MemorySwapMax=0 --"
+    assert (tmp_path / "asked").read_text().splitlines() == [f"{words} true", f"{words} sh -c echo up; exec sleep 600"]
+    # A systemd-run that does not work, as where systemd does not run, is not used.
+    systemd.write_text("#!/bin/sh\nexit 1\n")
+    assert (job.bounded(1 << 30), job.bounded(0)) == ([], [])
 
 
 # ---- logs
 
 def test_a_log_is_rotated(tmp_path, monkeypatch):
-    monkeypatch.setattr(player_logs, "MOST_BYTES", 100)
+    monkeypatch.setattr(started_players, "MOST_BYTES", 100)
     log = PlayerLog(tmp_path / "ann.log")
     for number in range(10):
         log.write(f"{number}".encode() * 60)
@@ -248,7 +318,7 @@ def test_a_log_is_rotated(tmp_path, monkeypatch):
 
 
 def test_a_player_that_floods_its_output_holds_nothing_up(tmp_path, monkeypatch):
-    monkeypatch.setattr(player_logs, "MOST_BYTES", 100_000)
+    monkeypatch.setattr(started_players, "MOST_BYTES", 100_000)
 
     async def play():
         ann = player(tmp_path, "exec yes")
@@ -315,14 +385,13 @@ class Started(InFolder):
         self.assertEqual((len(processes), [process for process in processes if is_alive(process)]), (2, []), out)
         self.assertNotIn("no answer", out)
 
-    def test_after_a_kill_the_next_play_ends_them(self):
+    def test_after_a_kill_they_end_too(self):
         schedule = self.planned()
         _, processes = self.ended(signal.SIGKILL)
-        self.assertEqual([is_alive(process) for process in processes], [True, True])
+        while any(map(is_alive, processes)):
+            time.sleep(0.01)
         status, out, _ = run(self.folder, "play")
         self.assertEqual((status, [line for line in out.splitlines() if "abort" in line]), (0, []), out)
-        for name in ("ann", "bob"):
-            self.assertIn(f"ended the player {name}, which a play before this one had started: ", out)
         self.assertEqual([process for process in (*processes, *self.processes()) if is_alive(process)], [])
         self.assert_sound(schedule)
 
@@ -346,7 +415,6 @@ class Started(InFolder):
         file.write_text(file.read_text().replace('"{port}", "1"]', '"{port}", "no seed"]', 1))
         status, out, said = run(self.folder, "try", "competition.toml", "ann")
         self.assertEqual((status, out.partition(";")[0]), (1, "down try ann: it ended with status 2"), said)
-        self.assertEqual(list((self.folder / "players").glob("*.process")), [])
 
     def test_a_program_or_a_directory_that_is_not_there_is_refused(self):
         self.planned()

@@ -6,7 +6,7 @@ import unittest
 
 from ggp_tools.competition.competition_file import read_competition
 from ggp_tools.competition.seats import Seats
-from ggp_tools.competition.time_left import TimeLeft
+from ggp_tools.competition.time_left import seconds_left
 from planning import planned
 from support import toml
 
@@ -29,17 +29,15 @@ def told_and_true(players, form, concurrent, at_once, lengths):
     who = [(f"p{number}", f"h:{number + 1}", f"concurrent = {concurrent}") for number in range(players)]
     competition = read_competition(toml(who, [(game, "f") for game in lengths], form).encode())
     matches, chance = planned(competition, dict.fromkeys(lengths, 2)), random.Random(1)
-    seats, left, waiting, now, open_matches, told = Seats(competition), TimeLeft(competition), collections.deque(matches), 1.0, [], []
-    for match in matches:
-        left.add(match)
+    seats, waiting, now, open_matches, told, took = Seats(competition), collections.deque(matches), 1.0, [], [], collections.defaultdict(list)
+    concurrent = {player.name: player.concurrent for player in competition.players}
     while open_matches or waiting:
         while len(open_matches) < at_once and (match := seats.next_match(waiting, now)):
-            left.add(match, -1)
             open_matches.append((now + chance.uniform(*lengths[match.game]), now, match))
         now, began, match = open_matches.pop(open_matches.index(min(open_matches, key=lambda found: found[0])))
         seats.leave(match)
-        left.ended(match, now - began)
-        told.append((now, left.left([(other, now - since) for _, since, other in open_matches], at_once)))
+        took[match.game].append(now - began)
+        told.append((now, seconds_left(waiting, [(other, now - since) for _, since, other in open_matches], took, concurrent, at_once)))
     return [(number / len(matches), seconds, now - when) for number, (when, seconds) in enumerate(told, 1)]
 
 
@@ -50,19 +48,12 @@ class Left(unittest.TestCase):
                 found = [(told, true) for part, told, true in told_and_true(*words) if 0.1 <= part <= 0.9]
                 self.assertEqual([(told, true) for told, true in found if not true * 2 / 3 <= told <= true * 4 / 3], [])
 
-    def test_nothing_is_known_before_a_match_is_over(self):
+    def test_few_matches(self):
         competition = read_competition(toml([("a", "h:1"), ("b", "h:2")], [("one", "f")]).encode())
-        left, matches = TimeLeft(competition), planned(competition, {"one": 2})
-        for match in matches:
-            left.add(match)
-        self.assertIsNone(left.left([], 4))
-        left.add(matches[0], -1)
-        self.assertIsNone(left.left([(matches[0], 1.0)], 4))
-        left.ended(matches[0], 8.0)
-        self.assertEqual((left.left([], 4), left.left([(matches[0], 5.0)], 4)), (8.0, 11.0))
-
-    def test_a_match_that_takes_longer_than_others_is_about_to_end(self):
-        competition = read_competition(toml([("a", "h:1"), ("b", "h:2")], [("one", "f")]).encode())
-        left, matches = TimeLeft(competition), planned(competition, {"one": 2})
-        left.ended(matches[0], 8.0)
-        self.assertEqual(left.left([(matches[1], 20.0)], 1), 0.0)
+        matches, concurrent = planned(competition, {"one": 2}), {"a": 1, "b": 1}
+        self.assertIsNone(seconds_left(matches, [], {}, concurrent, 4))
+        self.assertIsNone(seconds_left([], [(matches[0], 1.0)], {}, concurrent, 4))
+        found = [seconds_left(matches[1:], [], {"one": [8.0]}, concurrent, 4), seconds_left(matches[1:], [(matches[0], 5.0)], {"one": [8.0]}, concurrent, 4)]
+        self.assertEqual((found, seconds_left([], [], {"one": [8.0]}, concurrent, 4)), ([8.0, 11.0], 0.0))
+        # One that takes longer than others is about to end.
+        self.assertEqual(seconds_left([], [(matches[1], 20.0)], {"one": [8.0]}, concurrent, 1), 0.0)

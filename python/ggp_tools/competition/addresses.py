@@ -1,9 +1,7 @@
 """The addresses of the players: which of them the system refuses, and which lead to one player."""
 
-import contextlib
 import errno
 import ipaddress
-import queue
 import socket
 import threading
 import time
@@ -12,7 +10,7 @@ from collections.abc import Iterable, Iterator
 from ggp_tools.competition.competition_file import Competition, Mistake, Player
 
 # Names are looked up side by side, for so many seconds in all: a resolver may not answer.
-AT_ONCE, SECONDS = 32, 10
+SECONDS = 10
 LOOPBACK = {4: "127.0.0.1", 6: "::1"}
 # An address of a computer, with the interface if it needs one, and a port.
 Place = tuple[str, int]
@@ -39,17 +37,12 @@ def addresses_of(host: str, flags: int = 0) -> list[str]:
 def looked_up(hosts: Iterable[str]) -> dict[str, list[str]]:
     """Returns the addresses of hosts: of those with a name as far as they are known within some seconds."""
     found = {host: addresses_of(host, socket.AI_NUMERICHOST) for host in hosts}
-    names: queue.SimpleQueue[str] = queue.SimpleQueue()
-    for name in [host for host, addresses in found.items() if not addresses]:
-        names.put(name)
 
-    def work() -> None:
-        with contextlib.suppress(queue.Empty):
-            while True:
-                name = names.get_nowait()
-                found[name] = addresses_of(name)
+    def look_up(name: str) -> None:
+        found[name] = addresses_of(name)
 
-    threads = [threading.Thread(target=work, daemon=True) for _ in range(min(AT_ONCE, names.qsize()))]
+    # A thread whose resolver does not answer is left behind.
+    threads = [threading.Thread(target=look_up, args=(host,), daemon=True) for host, addresses in found.items() if not addresses]
     until = time.monotonic() + SECONDS
     for thread in threads:
         thread.start()

@@ -5,7 +5,7 @@ import collections
 import os
 import pathlib
 import sys
-from collections.abc import Callable, Iterable
+from collections.abc import Callable, Iterable, Iterator
 
 from ggp_tools import VERSION
 from ggp_tools.competition.again import order_again
@@ -17,12 +17,12 @@ from ggp_tools.competition.known import Known
 from ggp_tools.competition.log_faults import faults_of_logs
 from ggp_tools.competition.pages import Pages
 from ggp_tools.competition.plan import WRITES, Plan, faults_of_descriptions, make_plan, read_plan, round_words, rounds_left
-from ggp_tools.competition.playing import Playing, play, said_of_missing
+from ggp_tools.competition.playing import Playing, play
 from ggp_tools.competition.results import Result
 from ggp_tools.competition.schedule import Match
 from ggp_tools.referee import NoReferee, Referee, Unchecked, find_program
 from ggp_tools.competition.seats import Seats
-from ggp_tools.competition.serving import add_serve, run_serve
+from ggp_tools.competition.serving import add_serve, run_serve, whole
 from ggp_tools.competition.table import tables_of
 from ggp_tools.competition.table_text import in_order, table_files, table_text
 from ggp_tools.competition.trying import try_player
@@ -32,29 +32,12 @@ from ggp_tools.reporting import Journal, Reporter
 from ggp_tools.streams import ready_streams, say
 
 MOST_AT_ONCE = 1_024
+# Up to so many matches that are missing for one reason have a line each. Of more only the number is reported.
+MOST_LINES = 10
 HELP = "A competition in one folder, of which competition.toml says what is played."
-COMMANDS = {
-    "plan": "writes the rules and schedule.tsv, as competition.toml says",
-    "again": "orders a match to be played again: the one in its place counts, and both are kept",
-    "play": "plays the matches that have no lawful record yet",
-    "table": "prints the table, and writes it as table.txt, table.csv, crosstable.csv and table.json",
-    "pages": "writes the folder `pages`, to be opened in a browser",
-    "publish": "writes one archive of the whole competition, with sums",
-    "serve": "serves live pages of the matches, the standings and the players to browsers, read only",
-    "why": "tells what happened to the players of a match, turn by turn, with the times",
-    "try": "starts one player that has a command, and plays a match with it in each role",
-    "check": "checks an archive that `publish` has written, by what is in it alone",
-}
 STATUS = """status 0: all is well; of `play`, each match has a lawful record. 1: it is not. 2: the command or competition.toml is wrong. 3: the
 referee could not check what is there, as where memory is short; no file of a match was touched.
 """
-
-
-def count(text: str) -> int:
-    found = int(text)
-    if not 1 <= found <= MOST_AT_ONCE:
-        raise argparse.ArgumentTypeError(f"{found} is not from 1 to {MOST_AT_ONCE:,}")
-    return found
 
 
 def add_program(parser: argparse.ArgumentParser, **more: object) -> None:
@@ -62,41 +45,49 @@ def add_program(parser: argparse.ArgumentParser, **more: object) -> None:
     parser.add_argument("--program", metavar="FILE", help=text, **more)
 
 
+def add_options(command: argparse.ArgumentParser, name: str) -> None:
+    """Adds what a command takes."""
+    if name == "check":
+        command.add_argument("archive", metavar="ARCHIVE", help="the file of the archive")
+        return
+    if name == "try":
+        command.add_argument("file", metavar="FILE", help="competition.toml")
+        command.add_argument("player", metavar="PLAYER", help="the name of the player")
+        command.add_argument("--game", metavar="NAME", help="the game (the first one)")
+        return
+    if name == "why":
+        command.add_argument("folder", metavar="FOLDER", help="the folder of the competition, or of an archive that was unpacked")
+        command.add_argument("match", metavar="MATCH", help="the id of the match")
+        command.add_argument("player", nargs="?", metavar="PLAYER", help="the name of a player (all of the match)")
+        return
+    text = "the folder of the competition, with competition.toml (the present one)"
+    command.add_argument("folder", nargs="?", default=".", metavar="FOLDER", help=text)
+    if name == "again":
+        command.add_argument("match", metavar="MATCH", help="the match, which has a lawful record")
+        command.add_argument("--reason", required=True, metavar="TEXT", help="why: it stands in the table, the pages and the archive")
+    if name == "play":
+        command.add_argument("--at-once", type=whole(1, MOST_AT_ONCE), default=4, metavar="N", help="at most N matches at once (4)")
+        command.add_argument("--watch", action="store_true", help="write the pages anew as matches end")
+    if name == "serve":
+        add_serve(command)
+    if name == "publish":
+        command.add_argument("--to", metavar="FILE", help="the archive (NAME.tar.gz in the folder)")
+        command.add_argument("--gaps", action="store_true", help="also if matches have no record; the archive names them")
+
+
 def arguments(words: list[str]) -> argparse.Namespace:
     parser = argparse.ArgumentParser("ggp_competition", description=HELP, epilog=STATUS)
     parser.add_argument("--version", action="version", version=f"%(prog)s {VERSION}")
     add_program(parser)
-    commands = parser.add_subparsers(dest="command", required=True, metavar="COMMAND", title="commands")
-    for name, text in COMMANDS.items():
+    commands = parser.add_subparsers(required=True, metavar="COMMAND", title="commands")
+    for name, (text, run) in COMMANDS.items():
         command = commands.add_parser(name, help=text, description=f"{text[0].upper()}{text[1:]}.")
         add_program(command, default=argparse.SUPPRESS)
-        if name == "check":
-            command.add_argument("archive", metavar="ARCHIVE", help="the file of the archive")
-            continue
-        if name == "try":
-            command.add_argument("file", metavar="FILE", help="competition.toml")
-            command.add_argument("player", metavar="PLAYER", help="the name of the player")
-            command.add_argument("--game", metavar="NAME", help="the game (the first one)")
-            continue
-        text = "the folder of the competition, with competition.toml (the present one)"
-        if name == "why":
-            command.add_argument("folder", metavar="FOLDER", help="the folder of the competition, or of an archive that was unpacked")
-            command.add_argument("match", metavar="MATCH", help="the id of the match")
-            command.add_argument("player", nargs="?", metavar="PLAYER", help="the name of a player (all of the match)")
-            continue
-        command.add_argument("folder", nargs="?", default=".", metavar="FOLDER", help=text)
-        if name == "again":
-            command.add_argument("match", metavar="MATCH", help="the match, which has a lawful record")
-            command.add_argument("--reason", required=True, metavar="TEXT", help="why: it stands in the table, the pages and the archive")
-        if name == "play":
-            command.add_argument("--at-once", type=count, default=4, metavar="N", help="at most N matches at once (4)")
-            command.add_argument("--watch", action="store_true", help="write the pages anew as matches end")
-        if name == "serve":
-            add_serve(command)
-        if name == "publish":
-            command.add_argument("--to", metavar="FILE", help="the archive (NAME.tar.gz in the folder)")
-            command.add_argument("--gaps", action="store_true", help="also if matches have no record; the archive names them")
-    add_program(add_game(commands), default=argparse.SUPPRESS)
+        add_options(command, name)
+        command.set_defaults(run=run)
+    game = add_game(commands)
+    add_program(game, default=argparse.SUPPRESS)
+    game.set_defaults(run=run_game)
     return parser.parse_args(words)
 
 
@@ -165,10 +156,14 @@ def run_again(asked: argparse.Namespace, referee: Referee) -> int:
     return 0
 
 
-def run_play(asked: argparse.Namespace, referee: Referee) -> int:
-    # From before the plan is read until what follows from it is written no other run may change it.
-    with held(asked.folder):
-        return run_held_play(asked, referee)
+def alone(run: Callable[[argparse.Namespace, Referee], int]) -> Callable[[argparse.Namespace, Referee], int]:
+    """Has no other run change the plan, from before it is read until what follows from it is written."""
+
+    def run_alone(asked: argparse.Namespace, referee: Referee) -> int:
+        with held(asked.folder):
+            return run(asked, referee)
+
+    return run_alone
 
 
 def error_of_pages(write: Callable[[], None]) -> str | None:
@@ -180,7 +175,20 @@ def error_of_pages(write: Callable[[], None]) -> str | None:
         return f"pages are not written: {why.filename or 'a file'}: {why.strerror}"
 
 
-def run_held_play(asked: argparse.Namespace, referee: Referee) -> int:
+def said_of_missing(missing: dict[str, str]) -> Iterator[str]:
+    """Gives lines that say which matches are missing, and why: only their number if many are missing for one reason."""
+    by_reason: dict[str, list[str]] = {}
+    for match, why in missing.items():
+        by_reason.setdefault(why, []).append(match)
+    for why, matches in by_reason.items():
+        if len(matches) > MOST_LINES:
+            yield f"missing {len(matches):,} matches, {matches[0]} to {matches[-1]}: {why}"
+        else:
+            yield from (f"missing {match}: {why}" for match in matches)
+
+
+@alone
+def run_play(asked: argparse.Namespace, referee: Referee) -> int:
     plan = read_plan(asked.folder, referee)
     reporter = Reporter(Journal(plan.folder.journal))
     playing = Playing(plan, referee, Seats(plan.competition), reporter, asked.at_once)
@@ -245,13 +253,8 @@ def archive_path(plan: Plan, to: str | None) -> pathlib.Path:
     return path
 
 
+@alone
 def run_publish(asked: argparse.Namespace, referee: Referee) -> int:
-    # Until all is written no other run may change what is published.
-    with held(asked.folder):
-        return run_held_publish(asked, referee)
-
-
-def run_held_publish(asked: argparse.Namespace, referee: Referee) -> int:
     plan = read_plan(asked.folder, referee)
     path, pages = archive_path(plan, asked.to), plan.folder.pages
     if pages.is_symlink():
@@ -301,18 +304,17 @@ def run_check(asked: argparse.Namespace, referee: Referee) -> int:
     return bool(faults)
 
 
-RUNS: dict[str, Callable[[argparse.Namespace, Referee], int]] = {
-    "plan": run_plan,
-    "again": run_again,
-    "play": run_play,
-    "table": run_table,
-    "pages": run_pages,
-    "publish": run_publish,
-    "serve": run_serve,
-    "why": run_why,
-    "try": run_try,
-    "check": run_check,
-    "game": run_game,
+COMMANDS = {
+    "plan": ("writes the rules and schedule.tsv, as competition.toml says", run_plan),
+    "again": ("orders a match to be played again: the one in its place counts, and both are kept", run_again),
+    "play": ("plays the matches that have no lawful record yet", run_play),
+    "table": ("prints the table, and writes it as table.txt, table.csv, crosstable.csv and table.json", run_table),
+    "pages": ("writes the folder `pages`, to be opened in a browser", run_pages),
+    "publish": ("writes one archive of the whole competition, with sums", run_publish),
+    "serve": ("serves live pages of the matches, the standings and the players to browsers, read only", run_serve),
+    "why": ("tells what happened to the players of a match, turn by turn, with the times", run_why),
+    "try": ("starts one player that has a command, and plays a match with it in each role", run_try),
+    "check": ("checks an archive that `publish` has written, by what is in it alone", run_check),
 }
 
 
@@ -320,10 +322,9 @@ def main() -> int:
     ready_streams()
     asked = arguments(sys.argv[1:])
     # An archive that can't be read, or is not looked at to its end, is none that fails the check.
-    broken_off = 3 if asked.command == "check" else 1
+    broken_off = 3 if asked.run is run_check else 1
     try:
-        referee = Referee(find_program(asked.program))
-        return int(RUNS[asked.command](asked, referee))
+        return int(asked.run(asked, Referee(find_program(asked.program))))
     except (Refused, NoReferee) as why:
         print(f"ggp_competition: {why}" if "\n" not in str(why) else why, file=sys.stderr)
         return 2

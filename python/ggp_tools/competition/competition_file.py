@@ -21,8 +21,9 @@ MOST_SECONDS, MOST_STRIKES, MOST_PLAYERS, MOST_ROUNDS, MOST_PORT = 86_400, 255, 
 # When a player is started again that the competition starts: if it is dead, for each match, or never.
 RESTARTS = WHEN_DEAD, EACH_MATCH, NEVER = "when_dead", "each_match", "never"
 PORT = "{port}"
+RUNS_ELSEWHERE = "a program that runs its arguments on another machine"
 MEMORY = re.compile(r"([1-9][0-9]{0,5})([KMGT])")
-COMMAND_KEYS = ("directory", "environment", "memory", "processors", "restart", "start_seconds")
+COMMAND_KEYS = ("directory", "environment", "launcher", "memory", "processors", "restart", "start_seconds")
 MOST_PROCESSORS, MOST_START_SECONDS = 4_096, 3_600
 # The seconds in which a description is instantiated, where no others are given, and the most of them.
 INSTANTIATING, MOST_INSTANTIATING = 60, 1_000_000
@@ -88,10 +89,11 @@ class Game:
 
 @dataclass(frozen=True)
 class Command:
-    """How the competition starts a player: `{port}` stands for its port in the command and in the environment. Of memory and processors 0 is
-    no limit."""
+    """How the competition starts a player: `{port}` stands for its port in the command and in the environment. It is started on this computer
+    if it has no launcher. Of memory and processors 0 is no limit."""
 
     words: tuple[str, ...]
+    launcher: tuple[str, ...]
     directory: str
     environment: tuple[tuple[str, str], ...]
     memory: int
@@ -240,6 +242,14 @@ class Section:
                 self.mistake(key, "a text in quotes is wanted", line)
         return found
 
+    def words(self, key: str, what: str) -> tuple[str, ...]:
+        """Returns the words of a command, none if it can't be one."""
+        words = tuple(word.text for word in self.texts(key))
+        if words and words[0] and not any("\0" in word for word in words):
+            return words
+        self.mistake(key, f"at least one text is expected: {what}")
+        return ()
+
     def sections(self, key: str) -> list["Section"]:
         """Returns a section for each table of an array of tables, of which there has to be one."""
         tables = self.table.get(key)
@@ -323,16 +333,15 @@ def command_of(section: Section) -> Command | None:
             if key in section.table:
                 section.mistake(key, "only a player with a `command` has this key")
         return None
-    words = tuple(word.text for word in section.texts("command"))
+    words = section.words("command", "the program, then its arguments")
+    launcher = section.words("launcher", RUNS_ELSEWHERE) if "launcher" in section.table else ()
     environment = environment_of(section)
-    if not words or not words[0] or any("\0" in word for word in words):
-        section.mistake("command", "at least one text is expected: the program, then its arguments")
-    elif not any(PORT in text for text in (*words, *(value for _, value in environment))):
+    if words and not any(PORT in text for text in (*words, *(value for _, value in environment))):
         section.mistake("command", f"the player must get its port: {PORT} is expected in the command or in the environment")
     directory = section.path_of_file("directory") if "directory" in section.table else ""
     processors = section.number("processors", 0, MOST_PROCESSORS, 0)
     restart, seconds = section.word("restart", RESTARTS, WHEN_DEAD), section.number("start_seconds", 1, MOST_START_SECONDS, 10)
-    return Command(words, directory, environment, memory_of(section), processors, restart, seconds)
+    return Command(words, launcher, directory, environment, memory_of(section), processors, restart, seconds)
 
 
 def player_of(section: Section) -> Player:
@@ -355,8 +364,9 @@ def players_of(root: Section) -> list[Player]:
     if len(found) > MOST_PLAYERS:
         root.mistake("players", f"there are {len(found):,} players, and at most {MOST_PLAYERS:,} are taken")
     for player in found:
-        if player.command and "launcher" in root.table:
-            root.mistake("players.command", "a player that is started here can't be reached by the matches of a launcher", player.line)
+        if player.command and not player.command.launcher and "launcher" in root.table:
+            words = "a player that is started here can't be reached by the matches of a launcher: give it a `launcher` too"
+            root.mistake("players.command", words, player.line)
     return found
 
 
@@ -402,10 +412,7 @@ def launcher_of(root: Section) -> Launcher | None:
         return None
     section = root.section("launcher")
     section.refuse_others(("command", "slots"))
-    words = tuple(word.text for word in section.texts("command"))
-    if not words or not words[0] or any("\0" in word for word in words):
-        section.mistake("command", "at least one text is expected: a program that runs its arguments on another machine")
-    return Launcher(words, section.number("slots", 1, MOST_AT_A_TIME))
+    return Launcher(section.words("command", RUNS_ELSEWHERE), section.number("slots", 1, MOST_AT_A_TIME))
 
 
 def root_of(data: bytes, mistakes: list[Mistake]) -> Section:

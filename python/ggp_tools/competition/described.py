@@ -53,11 +53,11 @@ def held_records(path: pathlib.Path, records: Sequence[bytes]) -> list[str]:
     return found
 
 
-def write_report(plan: Plan, match: Match, description: bytes, files: dict[str, bytes]) -> pathlib.Path:
+def write_report(plan: Plan, match: Match, files: dict[str, bytes]) -> pathlib.Path:
     """Writes all that shows how a match differs from the description of its game, and returns the file."""
     path = plan.folder.path / REPORT.format(match.id)
     with tarfile.open(path, "w:gz") as archive:
-        for name, data in {"description.kif": description, "rules.kif": plan.rules[match.game].text, **files}.items():
+        for name, data in {**files, "rules.kif": plan.rules[match.game].text}.items():
             member = tarfile.TarInfo(f"{match.id}/{name}")
             member.size, member.mode = len(data), 0o644
             archive.addfile(member, io.BytesIO(data))

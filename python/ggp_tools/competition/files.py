@@ -18,6 +18,8 @@ if TYPE_CHECKING:
 UNFINISHED = ".unfinished-"
 # The file of an open match's room that names the players who are sent ABORT where no referee plays the match any more.
 PLAYERS = "players"
+# What happens to an open match: an empty file of this name in its room says it to others.
+STAGES = ASKING, PLAYING, CHECKING = "asking", "playing", "checking"
 
 
 class Refused(Exception):

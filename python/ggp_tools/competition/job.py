@@ -1,13 +1,16 @@
-"""Runs the referee of a match where a launcher has started this program. It needs nothing but Python's standard library.
+"""Runs a referee or a player where a launcher has started this program. It needs nothing but Python's standard library.
 
-It first says the name of its node, on standard error, and then a line every two seconds. It gets the command of the referee as a line of
-JSON on standard input, runs it, passes on what it says, and reports its exit status in the end. If nothing comes on standard input for so many
-seconds as it is told, or that is closed, it ends the referee.
-"""
+It first says the name of its node, on standard error, and then a line every two seconds. It gets its task as a line of JSON on standard input,
+runs it, passes on what it says, and reports its exit status in the end. If nothing comes on standard input for so many seconds as it is told,
+or that is closed, it ends what it runs. A player gets a free port and its limits, and is ended with all that it has started."""
 
+import contextlib
 import ctypes
 import json
 import os
+import pathlib
+import resource
+import select
 import selectors
 import signal
 import socket
@@ -15,23 +18,68 @@ import subprocess
 import sys
 import time
 
-OURS = "ggp_competition: "
+OURS, PORT = b"ggp_competition: ", "{port}"
 BEAT, ENDED = 2, 254
 MOST = 1 << 16
-END_WITH_PARENT = 1
+END_WITH_PARENT, ADOPT_ORPHANS = 1, 36
+# A player has so many seconds to end by itself when it gets SIGTERM.
+END_SECONDS = 2
+LIBRARY = ctypes.CDLL(None)
+
+
+def free_port(before: int) -> int:
+    """Returns a port that nobody listens on: if it is free, that of before."""
+    for port in (before, 0):
+        with contextlib.suppress(OSError), socket.socket() as found:
+            found.setsockopt(socket.SOL_SOCKET, socket.SO_REUSEADDR, 1)
+            found.bind(("", port))
+            return found.getsockname()[1]
+    raise OSError("no port is free")
+
+
+def bounded(memory: int) -> list[str]:
+    """Returns the command that bounds the memory of all processes of a player together, where systemd takes it."""
+    user = ["--user"] if os.geteuid() else []
+    words = ["systemd-run", *user, "--scope", "--quiet", f"--property=MemoryMax={memory}", "--property=MemorySwapMax=0", "--"]
+    with contextlib.suppress(OSError):
+        null = subprocess.DEVNULL
+        if memory and not subprocess.run([*words, "true"], stdin=null, stdout=null, stderr=null).returncode:
+            return words
+    return []
+
+
+def limit(memory: int, processors: int, number: int) -> None:
+    """Limits the process that calls it: the memory of each of its processes, and the processors of all of them. Different players get
+    different processors, as far as there are any."""
+    if memory:
+        resource.setrlimit(resource.RLIMIT_DATA, (memory, memory))
+    there = sorted(os.sched_getaffinity(0))
+    if count := min(processors, len(there)):
+        os.sched_setaffinity(0, [there[(number * count + at) % len(there)] for at in range(count)])
+
+
+def children() -> list[int]:
+    """Returns the processes whose parent is this one."""
+    found = []
+    for place in pathlib.Path("/proc").glob("[0-9]*/stat"):
+        with contextlib.suppress(OSError):
+            if place.read_text("ascii", "replace").rpartition(")")[2].split()[1] == str(os.getpid()):
+                found.append(int(place.parent.name))
+    return found
 
 
 class Job:
-    """A referee, and what it says. Lines of the job are not put between the parts of a line of the referee."""
+    """A referee or a player, and what it says. Lines of the job are not put between the parts of a line of the referee."""
 
     def __init__(self, silence: float) -> None:
         self.silence, self.given = silence, b""
         self.heard = self.said = time.monotonic()
-        self.referee: subprocess.Popen | None = None
-        self.selector, self.is_at_line = selectors.DefaultSelector(), True
+        self.process: subprocess.Popen | None = None
+        self.pipe, self.exit = None, -1
+        self.selector, self.is_at_line, self.is_player = selectors.DefaultSelector(), True, False
 
     def say(self, text: str) -> None:
-        os.write(2, f"{OURS}{text}\n".encode("ascii", "replace"))
+        os.write(2, OURS + f"{text}\n".encode("ascii", "replace"))
         self.said = time.monotonic()
 
     def hear(self) -> bool:
@@ -40,61 +88,99 @@ class Job:
         self.given += data
         *lines, self.given = self.given.split(b"\n")
         for line in filter(None, lines):
-            if not self.referee:
-                self.start(json.loads(line))
+            if not self.process:
+                self.start(**json.loads(line))
         return bool(data)
 
-    def start(self, words: list[str]) -> None:
-        library = ctypes.CDLL(None)
-        self.referee = subprocess.Popen(
-            words, stdin=subprocess.DEVNULL, stderr=subprocess.PIPE, bufsize=0, preexec_fn=lambda: library.prctl(END_WITH_PARENT, signal.SIGKILL)
-        )
-        self.selector.register(self.referee.stderr, selectors.EVENT_READ)
+    def start(self, words: list[str], player: dict | None = None) -> None:
+        parent, limits, more = os.getpid(), (0, 0, 0), {"stderr": subprocess.PIPE}
+        if player:
+            LIBRARY.prctl(ADOPT_ORPHANS, 1)
+            self.is_player, port = True, str(free_port(player["port"]))
+            environment = {name: value.replace(PORT, port) for name, value in player["environment"].items()}
+            limits = player["memory"], player["processors"], player["number"]
+            words = [*bounded(player["memory"]), *(word.replace(PORT, port) for word in words)]
+            more = {"stdout": subprocess.PIPE, "stderr": subprocess.STDOUT, "cwd": player["directory"], "env": {**os.environ, **environment}}
 
-    def pass_on(self) -> bool:
-        """Passes on what the referee has said. Returns whether more may come."""
-        data = os.read(self.referee.stderr.fileno(), MOST)
-        left = data
+        def ready() -> None:
+            LIBRARY.prctl(END_WITH_PARENT, signal.SIGKILL)
+            limit(*limits)
+            if os.getppid() != parent:
+                os.kill(os.getpid(), signal.SIGKILL)
+
+        self.process = subprocess.Popen(words, stdin=subprocess.DEVNULL, bufsize=0, start_new_session=self.is_player, preexec_fn=ready, **more)
+        self.pipe, self.exit = self.process.stdout or self.process.stderr, os.pidfd_open(self.process.pid)
+        for descriptor in (self.pipe, self.exit):
+            self.selector.register(descriptor, selectors.EVENT_READ)
+        if player:
+            self.say(f"player {self.process.pid} {player['host'] or socket.gethostname()}:{port}")
+
+    def pass_on(self) -> None:
+        """Passes on what the process has said."""
+        data = left = os.read(self.pipe.fileno(), MOST)
         while left:
-            left = left[os.write(2, left) :]
-        self.is_at_line = data.endswith(b"\n") if data else True
-        self.said = time.monotonic()
-        return bool(data)
+            left = left[os.write(1 if self.is_player else 2, left) :]
+        if not data:
+            self.selector.unregister(self.pipe)
+        if not self.is_player:
+            self.is_at_line, self.said = not data or data.endswith(b"\n"), time.monotonic()
+
+    def status(self) -> int:
+        """Returns the status of a process that has ended, and passes on the rest: a pipe holds no more than is read at once. The process is
+        not waited for, so that no other one gets its number."""
+        os.set_blocking(self.pipe.fileno(), False)
+        with contextlib.suppress(BlockingIOError, KeyError):
+            self.pass_on()
+        found = os.waitid(os.P_PID, self.process.pid, os.WEXITED | os.WNOWAIT)
+        return found.si_status if found.si_code == os.CLD_EXITED else -found.si_status
 
     def run(self) -> int | None:
-        """Runs the referee, and returns its status; none if nobody hears the job any more."""
+        """Runs the process, and returns its status; none if nobody hears the job any more."""
         self.say(f"node {os.environ.get('SLURMD_NODENAME') or socket.gethostname()}")
         self.selector.register(0, selectors.EVENT_READ)
         while time.monotonic() < self.heard + self.silence:
-            ready = self.selector.select(max(0, min(self.said + BEAT, self.heard + self.silence) - time.monotonic()))
-            for key, _ in ready:
-                if key.fileobj == 0:
-                    if not self.hear():
-                        return None
-                elif not self.pass_on():
-                    return self.referee.wait()
+            for key, _ in self.selector.select(max(0, min(self.said + BEAT, self.heard + self.silence) - time.monotonic())):
+                if key.fd == 0 and not self.hear():
+                    return None
+                if key.fileobj is self.pipe:
+                    self.pass_on()
+                if key.fd == self.exit:
+                    return self.status()
             if self.is_at_line and time.monotonic() >= self.said + BEAT:
                 self.say("beat")
         return None
 
+    def end(self) -> None:
+        """Ends what it runs. All that a player has started is, or becomes, a child of this process."""
+        for number in (signal.SIGTERM, signal.SIGKILL) if self.is_player else (signal.SIGKILL,):
+            with contextlib.suppress(ProcessLookupError):
+                (os.killpg if self.is_player else os.kill)(self.process.pid, number)
+            select.select([self.exit], [], [], END_SECONDS)
+        with contextlib.suppress(ChildProcessError):
+            while True:
+                for child in children():
+                    with contextlib.suppress(ProcessLookupError):
+                        os.kill(child, signal.SIGKILL)
+                os.waitpid(-1, 0)
+                while os.waitpid(-1, os.WNOHANG)[0]:
+                    pass
+
 
 def main() -> int:
-    job = Job(float(sys.argv[1]))
+    job, status = Job(float(sys.argv[1])), None
+    signal.signal(signal.SIGTERM, lambda *_: sys.exit(ENDED))
     try:
         status = job.run()
-        if status is None:
-            return ENDED
-        job.say(f"status {status}")
-        return status % 256
+        if status is not None:
+            job.say(f"status {status}")
     except OSError as why:
-        # The referee can't be run, or nobody hears the job any more.
-        if not job.referee:
-            os.write(2, f"{why.filename}: {why.strerror}\n".encode("ascii", "replace"))
-        return ENDED
+        # The program can't be run, or nobody hears the job any more.
+        if not job.process:
+            os.write(2, f"{why.filename}: {why.strerror or why}\n".encode("ascii", "replace"))
     finally:
-        if job.referee:
-            job.referee.kill()
-            job.referee.wait()
+        if job.process:
+            job.end()
+    return ENDED if status is None else status % 256
 
 
 if __name__ == "__main__":

@@ -103,17 +103,6 @@ def result_in_file(folder: Folder, competition: Competition, rules: Mapping[str,
     return result_of({"cause": None, **record}, match, competition.forfeit)
 
 
-def judge_of(plan: "Plan", referee: Referee, game: str) -> list[bytes] | None:
-    """Returns what says whether a record is right beside it and its account: the sums of the program and of the rules, and the strikes.
-    None where a sum is not known."""
-    sums = sum_or_none(referee.path), sum_or_none(plan.folder.rules_of(game))
-    return None if None in sums else [*(found.encode() for found in sums), b"%d" % plan.competition.strikes]
-
-
-def match_bytes(match: Match) -> bytes:
-    return repr(match).encode()
-
-
 def judged(plan: "Plan", referee: Referee, game: str, records: Sequence[bytes], accounts: Sequence[bytes]) -> list[str | None]:
     """Returns for each record and its account why they are wrong, none where they are right."""
     rules, referee = plan.folder.rules_of(game), plan.judge(referee, game)
@@ -141,8 +130,12 @@ def looked_at(plan: "Plan", referee: Referee, game: str, matches: list[Match], k
     most = most_of_record(rules, max(size_of(plan.folder.record(match.id)) for match in matches))
     records = [file_bytes(plan.folder.record(match.id), most + 2) for match in matches]
     accounts = [read_or_none(plan.folder.account(match.id), LONGEST_ACCOUNT) for match in matches]
-    judge = judge_of(plan, referee, game) if known else None
-    keys = [known.key(*judge, match_bytes(match), record, account or b"") for match, record, account in zip(matches, records, accounts)] if judge else []
+    # What says whether a record is right beside it and its account: the program, the rules and the strikes.
+    judge = known and [sum_or_none(referee.path), sum_or_none(plan.folder.rules_of(game)), str(plan.competition.strikes)]
+    is_known = bool(judge) and None not in judge
+    parts = [part.encode() for part in judge] if is_known else []
+    files = zip(matches, records, accounts) if is_known else ()
+    keys = [known.key(*parts, repr(match).encode(), record, account or b"") for match, record, account in files]
     values = [known.get("results", key) for key in keys] or [None] * len(matches)
     # What is known was of files without a fault.
     faults = [value is None and fault_of_files(*files, rules) or None for value, *files in zip(values, records, accounts)]
@@ -151,7 +144,7 @@ def looked_at(plan: "Plan", referee: Referee, game: str, matches: list[Match], k
         for at, fault in zip(whole, judged(plan, referee, game, [records[at] for at in whole], [accounts[at] for at in whole])):
             faults[at] = fault
     # Where the rules or the program are others by now, nobody knows by which it was judged.
-    is_same = bool(judge) and judge == judge_of(plan, referee, game)
+    is_same = is_known and judge[:2] == [sum_or_none(referee.path), sum_or_none(plan.folder.rules_of(game))]
     for at, match in enumerate(matches):
         if values[at] is not None:
             yield match, None, None, result_of_values(values[at], match, plan.competition.forfeit)
@@ -165,36 +158,25 @@ def looked_at(plan: "Plan", referee: Referee, game: str, matches: list[Match], k
 def look_at_records(plan: "Plan", referee: Referee, known: Known | None = None) -> tuple[dict, dict, dict]:
     """Returns the results of the matches that count, by their ids; of the others that have records why their files are wrong; and of
     those whose files are right in what they are not those of the match."""
-    try:
-        return all_looked_at(plan, referee, known)
-    except MemoryError:
-        raise Unchecked("records and accounts can't be checked: out of memory") from None
-
-
-def looked_at_batch(plan: "Plan", referee: Referee, game: str, batch: list[Match], known: Known | None) -> list[tuple]:
-    """Returns what `looked_at` gives, of one large match at a time."""
-    sizes = (size_of(file(match.id)) for match in batch for file in (plan.folder.record, plan.folder.account))
-    with LARGE if sum(sizes) > BYTES_TOGETHER else contextlib.nullcontext():
-        return list(looked_at(plan, referee, game, batch, known))
-
-
-def all_looked_at(plan: "Plan", referee: Referee, known: Known | None) -> tuple[dict, dict, dict]:
-    results, faults, misfits, by_game = {}, {}, {}, {}
+    by_game: dict[str, list[Match]] = {}
     for match in plan.matches:
         if plan.folder.record(match.id).exists():
             by_game.setdefault(match.game, []).append(match)
+
+    def look_at(part: tuple[str, list[Match]]) -> list[tuple]:
+        sizes = (size_of(file(match.id)) for match in part[1] for file in (plan.folder.record, plan.folder.account))
+        with LARGE if sum(sizes) > BYTES_TOGETHER else contextlib.nullcontext():
+            return list(looked_at(plan, referee, *part, known))
+
     parts = [(game, batch) for game, matches in by_game.items() for batch in batches(plan.folder, matches)]
-    # The referee takes most of the time, in a process for each.
-    with concurrent.futures.ThreadPoolExecutor(PROCESSORS) as at_once:
-        for found in at_once.map(lambda part: looked_at_batch(plan, referee, *part, known), parts):
-            for match, fault, misfit, result in found:
-                if fault:
-                    faults[match.id] = fault
-                elif misfit:
-                    misfits[match.id] = misfit
-                else:
-                    results[match.id] = result
-    return results, faults, misfits
+    try:
+        # The referee takes most of the time, in a process for each.
+        with concurrent.futures.ThreadPoolExecutor(PROCESSORS) as at_once:
+            found = list(itertools.chain.from_iterable(at_once.map(look_at, parts)))
+    except MemoryError:
+        raise Unchecked("records and accounts can't be checked: out of memory") from None
+    results = {match.id: result for match, _, _, result in found if result}
+    return results, {match.id: fault for match, fault, _, _ in found if fault}, {match.id: misfit for match, _, misfit, _ in found if misfit}
 
 
 def strangers(plan: "Plan") -> list[str]:

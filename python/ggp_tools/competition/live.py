@@ -16,7 +16,7 @@ from collections.abc import Container
 from dataclasses import dataclass
 from typing import NamedTuple
 
-from ggp_tools.competition.files import PLAYERS, Folder, lock_place
+from ggp_tools.competition.files import STAGES, Folder, lock_place
 from ggp_tools.competition.live_board import Labels, LiveBoard
 from ggp_tools.competition.plan import Plan
 from ggp_tools.competition.playing import NOT_BEGUN
@@ -215,11 +215,7 @@ class Seen:
 
 def stage_of(names: set[str]) -> str:
     """Returns what happens to a match, by the files of its room. It waits where only the players of a run before are named."""
-    if "verified" in names:
-        return "checking"
-    if "played" in names:
-        return "playing"
-    return WAITING if PLAYERS in names and "info-0" not in names else "asking"
+    return next((stage for stage in reversed(STAGES) if stage in names), WAITING)
 
 
 def settled(changed: int) -> int:

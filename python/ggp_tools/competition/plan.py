@@ -14,10 +14,10 @@ from ggp_tools.competition.files import UNFINISHED, Folder, Refused, file_bytes,
 from ggp_tools.competition.growth import Growing, History, Misfit, grown, refuse_changes, refuse_unchanged, shape
 from ggp_tools.competition.history import competition_of_file, history_files, read_history, read_key
 from ggp_tools.competition.kept import look_at_records, most_of_record, result_in_file, size_of
-from ggp_tools.competition.player_programs import mistakes_of_programs
 from ggp_tools.competition.results import Result
 from ggp_tools.competition.rounds import Round, is_by_rounds, rounds_of
 from ggp_tools.competition.schedule import Match, id_of, matches_in, schedule_text
+from ggp_tools.competition.started_players import mistakes_of_programs
 from ggp_tools.competition.trial import trial
 from ggp_tools.descriptions.loading import NoDescription, Rules, Stopped, has_variables, load_described, load_description, rules_of, sum_of
 from ggp_tools.referee import Referee, Unchecked

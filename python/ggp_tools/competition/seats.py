@@ -28,12 +28,8 @@ class Seats:
         for player in match.players:
             self.free[player] -= 1
 
-    def look_again(self) -> None:
-        """Has the waiting matches be looked through again: there are others."""
-        self.idle_until = 0.0
-
     def leave(self, match: Match) -> None:
-        self.look_again()
+        self.idle_until = 0.0
         for player in match.players:
             self.free[player] += 1
 

@@ -1,70 +1,78 @@
-"""The players that the competition starts itself: each with a port, limits, a log, and an end."""
+"""The players that the competition starts itself, here or by launchers: each with a port, limits, a log, and an end."""
 
 import asyncio
 import contextlib
 import os
-import resource
-import secrets
-import signal
-import socket
+import pathlib
+import shutil
 import time
-from collections.abc import Callable
+from collections.abc import Iterator
 
-from ggp_tools.competition.aborts import succeeds
-from ggp_tools.competition.competition_file import EACH_MATCH, NEVER, PORT, Command, Competition, Player
-from ggp_tools.competition.files import Folder
-from ggp_tools.competition.owned_processes import VARIABLE, Owned, boot, end_owned, keep_owned, owned
-from ggp_tools.competition.player_logs import PlayerLog
-from ggp_tools.competition.player_programs import program_of
+from ggp_tools.competition.children import Job, run
+from ggp_tools.competition.competition_file import EACH_MATCH, NEVER, Competition, Mistake, Player
+from ggp_tools.competition.files import Folder, file_bytes, new_file
+from ggp_tools.printable import MOST_READ, message_lines
 from ggp_tools.referee import Referee
 from ggp_tools.reporting import Reporter
 
-HOST = "127.0.0.1"
-# A player has so many seconds to end by itself when it is asked to by SIGTERM.
-END_SECONDS = 2
+# The address of a player that is not there: nobody answers at this port.
+HERE, NOWHERE = "127.0.0.1", "127.0.0.1:1"
+# A player has so many seconds to end.
+END_SECONDS = 15
 # Between two INFO to a player that comes up there is a pause: this one first, then twice the one before, up to a second.
 FIRST_PAUSE, LONGEST_PAUSE = 0.05, 1.0
-OWNED = ".process"
+# A log that has more bytes is renamed, and a new one begun; the one that was renamed before is lost.
+MOST_BYTES = 1 << 20
+# A player that says so many bytes at once is read again after a pause, so that it holds up no match.
+CHUNK, CHUNK_PAUSE = 1 << 16, 0.02
+# So many last lines show why a player does not come up.
+LAST_LINES = 5
 
 
-def free_port(before: int = 0) -> int:
-    """Returns a port that nobody listens on: if it is free, that of before."""
-    for port in dict.fromkeys((before, 0)):
-        with contextlib.suppress(OSError), socket.socket() as found:
-            found.setsockopt(socket.SOL_SOCKET, socket.SO_REUSEADDR, 1)
-            found.bind((HOST, port))
-            return found.getsockname()[1]
-    raise OSError(f"no port of {HOST} is free")
+class PlayerLog:
+    """The file NAME.log, which has what a player prints and says."""
 
+    def __init__(self, path: pathlib.Path) -> None:
+        self.path, self.size = path, path.stat().st_size if path.exists() else 0
 
-def limit(command: Command, processors: list[int]) -> None:
-    """Limits the process that calls it: the memory of each of its processes, and the processors of all of them."""
-    if command.memory:
-        resource.setrlimit(resource.RLIMIT_DATA, (command.memory, command.memory))
-    if processors:
-        os.sched_setaffinity(0, processors)
+    async def take(self, data: bytes) -> None:
+        self.write(data)
+        if len(data) >= CHUNK:
+            await asyncio.sleep(CHUNK_PAUSE)
+
+    def write(self, data: bytes) -> None:
+        """Adds what has come. What can't be written is lost: a full disk ends no player."""
+        with contextlib.suppress(OSError):
+            if self.size > MOST_BYTES:
+                os.replace(self.path, f"{self.path}.1")
+            # Like all of an open match, only the user who plays it reads it.
+            with open(self.path, "ab", buffering=0) if self.path.exists() else new_file(self.path) as file:
+                file.write(data)
+                self.size = file.tell()
+
+    def last_lines(self) -> list[str]:
+        """Returns the last lines, none if there is nothing."""
+        try:
+            return message_lines(file_bytes(self.path)[-MOST_READ:])[-LAST_LINES:]
+        except OSError:
+            return []
 
 
 class StartedPlayer:
     """A player with a command. `matches` are those that it plays now."""
 
     def __init__(self, folder: Folder, player: Player, number: int, referee: Referee, reporter: Reporter) -> None:
-        self.folder, self.name, self.command, self.referee, self.reporter = folder, player.name, player.command, referee, reporter
-        self.log, self.file = PlayerLog(folder.players / f"{player.name}.log"), folder.players / f"{player.name}{OWNED}"
-        self.port, self.process, self.owned, self.was_started = free_port(), None, None, False
-        self.lock, self.matches = asyncio.Lock(), set()
+        self.folder, self.name, self.command, self.number = folder, player.name, player.command, number
+        self.referee, self.reporter, self.log = referee, reporter, PlayerLog(folder.players / f"{player.name}.log")
+        self.job, self.address, self.port, self.was_started = None, NOWHERE, 0, False
+        self.lock, self.matches, self.shown = asyncio.Lock(), set(), []
         self.watching: asyncio.Task | None = None
-        self.shown: list[str] = []
-        # So different players get different processors, as far as there are any.
-        there = sorted(os.sched_getaffinity(0))
-        count = min(self.command.processors, len(there))
-        self.processors = [there[(number * count + at) % len(there)] for at in range(count)]
 
     def place(self) -> str:
-        return f"{self.name}@{HOST}:{self.port}"
+        return f"{self.name}@{self.address}"
 
     def is_running(self) -> bool:
-        return self.process is not None and self.process.returncode is None
+        return self.job is not None and not self.job.running.done()
 
     async def ready(self, match: str) -> None:
         """Starts the player for a match, unless it runs. If it does not come up, that is reported, and it is asked in vain."""
@@ -80,18 +88,17 @@ class StartedPlayer:
         """Starts the player, and waits until it answers INFO."""
         is_again, self.was_started = self.was_started, True
         try:
-            self.port = free_port(self.port)
-            await self.begin()
-        except OSError as why:
-            self.reporter.line(f"down {match} {self.name}: it can't be started: {why.filename or ''}: {why.strerror}")
-            return
-        if why := await self.not_up():
+            why = await self.came_up()
+        except OSError as error:
+            why = f"it can't be started: {error.filename or ''}: {error.strerror}"
+        if why:
             await self.end()
             self.report_down(match, why)
             return
         note = self.reporter.line if is_again and self.command.restart != EACH_MATCH else self.reporter.note
-        note(f"{'restart' if is_again else 'start'} {match} {self.name}: process {self.process.pid}, port {self.port}")
-        self.watching = asyncio.create_task(self.watch(self.process))
+        process, place = self.job.player.split()[0], f" on {self.job.node}" if self.command.launcher else ""
+        note(f"{'restart' if is_again else 'start'} {match} {self.name}: process {process}, port {self.port}{place}")
+        self.watching = asyncio.create_task(self.watch(self.job))
 
     def report_down(self, match: str, why: str) -> None:
         """Reports that the player did not come up, with the last lines of its log unless they were reported before."""
@@ -102,63 +109,47 @@ class StartedPlayer:
         for line in last if last != before else ():
             self.reporter.line(f"down {match} {self.name}: | {line}")
 
-    async def begin(self) -> None:
-        """Starts the process. Before it is there its token is on the disk: so it is found also if this process is killed meanwhile."""
-        token = secrets.token_hex(16)
-        self.owned = Owned(token, boot())
-        keep_owned(self.file, self.owned)
-        port = str(self.port)
-        given = {name: value.replace(PORT, port) for name, value in self.command.environment}
-        said = self.log.begin()
-        try:
-            self.process = await asyncio.create_subprocess_exec(
-                program_of(self.folder, self.command), *(word.replace(PORT, port) for word in self.command.words[1:]),
-                cwd=self.folder.path / self.command.directory, env={**os.environ, **given, VARIABLE: token},
-                stdin=asyncio.subprocess.DEVNULL, stdout=said, stderr=said,
-                start_new_session=True, preexec_fn=lambda: limit(self.command, self.processors),
-            )
-        finally:
-            os.close(said)
-        self.owned = owned(token, self.process.pid)
-        keep_owned(self.file, self.owned)
+    async def came_up(self) -> str:
+        """Starts the process, and waits until it answers INFO. Returns why it does not, or nothing."""
+        command, launcher = self.command, [word.replace("{player}", self.name) for word in self.command.launcher]
+        job = Job(self.log.take, lambda line: self.log.write(line + b"\n"), "player", END_SECONDS)
+        self.job = job
+        job.start(launcher, {"words": [program_of(self.folder, self.command.words[0]), *command.words[1:]], "player": {
+            "host": None if launcher else HERE, "port": self.port, "environment": dict(command.environment),
+            "directory": str(self.folder.path.absolute() / command.directory), "memory": command.memory, "processors": command.processors, "number": self.number,
+        }})
+        if await job.came_up():
+            self.address, until, pause = job.player.split()[-1], time.monotonic() + command.start_seconds, FIRST_PAUSE
+            self.port = int(self.address.rpartition(":")[2])
+            while not job.running.done() and (left := until - time.monotonic()) > 0:
+                if (await run(self.referee.info_words(self.place()), seconds=left)).status == 0 and job.status is None and not job.running.done():
+                    return ""
+                await asyncio.wait([job.running], timeout=min(pause, left))
+                pause = min(2 * pause, LONGEST_PAUSE)
+        if job.running.done():
+            job.running.result()
+            return ended_words(job)
+        return f"it did not answer INFO within {command.start_seconds} s"
 
-    async def not_up(self) -> str:
-        """Waits until the player answers INFO. Returns why it does not, or nothing."""
-        ended = asyncio.create_task(self.process.wait())
-        until, pause = time.monotonic() + self.command.start_seconds, FIRST_PAUSE
-        while (left := until - time.monotonic()) > 0:
-            if await succeeds(self.referee.info_words(self.place()), left) and not ended.done():
-                return ""
-            await asyncio.wait([ended], timeout=min(pause, left))
-            if ended.done():
-                return f"it ended with status {ended.result()}"
-            pause = min(2 * pause, LONGEST_PAUSE)
-        ended.cancel()
-        return f"it did not answer INFO within {self.command.start_seconds} s"
-
-    async def watch(self, process: asyncio.subprocess.Process) -> None:
+    async def watch(self, job: Job) -> None:
         """Reports if the player ends by itself, for each match that it plays."""
-        status = await process.wait()
+        await asyncio.wait([job.running])
         last = "".join(f": {line}" for line in self.log.last_lines()[-1:])
         for match in sorted(self.matches):
-            self.reporter.line(f"died {match} {self.name}: it ended with status {status}{last}")
+            self.reporter.line(f"died {match} {self.name}: {ended_words(job)}{last}")
 
     async def end(self) -> None:
         """Ends the player, with all that it has started."""
         if self.watching:
             self.watching.cancel()
-        if self.is_running():
-            for number, seconds in ((signal.SIGTERM, END_SECONDS), (signal.SIGKILL, None)):
-                with contextlib.suppress(ProcessLookupError):
-                    os.killpg(self.process.pid, number)
-                # Before Python 3.12, `asyncio.timeout` does not work in a task that is being cancelled.
-                if (await asyncio.wait([asyncio.create_task(self.process.wait())], timeout=seconds))[0]:
-                    break
-        if self.owned:
-            self.owned.end(session_is_ours=True)
-            self.file.unlink(missing_ok=True)
-        self.process, self.owned = None, None
-        self.log.end()
+        if self.job:
+            await self.job.end()
+        self.job, self.address = None, NOWHERE
+
+
+def ended_words(job: Job) -> str:
+    """Returns how a player has ended."""
+    return job.why or ("it can't be started" if job.status is None else f"it ended with status {job.status}")
 
 
 class StartedPlayers:
@@ -169,6 +160,9 @@ class StartedPlayers:
         players = [player for player in competition.players if player.command]
         self.players = {player.name: StartedPlayer(folder, player, number, referee, reporter) for number, player in enumerate(players)}
 
+    def of(self, names: tuple[str, ...]) -> list[StartedPlayer]:
+        return [self.players[name] for name in names if name in self.players]
+
     def place(self, name: str) -> str:
         """Returns the name and the address of a player: one that is started again may get another port."""
         return self.players[name].place() if name in self.players else self.competition.player(name).place()
@@ -176,23 +170,30 @@ class StartedPlayers:
     async def ready(self, match: str, names: tuple[str, ...]) -> None:
         """Has those players of a match run that have a command."""
         async with asyncio.TaskGroup() as group:
-            for name in names:
-                if name in self.players:
-                    group.create_task(self.players[name].ready(match))
+            for player in self.of(names):
+                group.create_task(player.ready(match))
 
     def leave(self, match: str, names: tuple[str, ...]) -> None:
-        for name in names:
-            if name in self.players:
-                self.players[name].matches.discard(match)
+        for player in self.of(names):
+            player.matches.discard(match)
 
     async def end(self) -> None:
-        async with asyncio.TaskGroup() as group:
-            for player in self.players.values():
-                group.create_task(player.end())
+        await asyncio.gather(*(player.end() for player in self.players.values()))
 
 
-def end_left_players(folder: Folder, report: Callable[[str], None]) -> None:
-    """Ends the players that a `play` before this one has started and could not end, since it was killed."""
-    for file in sorted(folder.players.glob(f"*{OWNED}")) if folder.players.is_dir() else ():
-        if ended := end_owned(file):
-            report(f"ended the player {file.name.removesuffix(OWNED)}, which a play before this one had started: {len(ended)} processes")
+def program_of(folder: Folder, word: str) -> str:
+    """Returns a program. A path is relative to the directory of the competition; a name is looked for as the shell does."""
+    return str((folder.path / word).absolute()) if "/" in word else word
+
+
+def mistakes_of_programs(folder: Folder, competition: Competition) -> Iterator[Mistake]:
+    """Gives each player that can't be started, since its program, launcher or directory is not there."""
+    for player in competition.players:
+        if not player.command:
+            continue
+        words = player.command.launcher or player.command.words
+        program, directory = program_of(folder, words[0]), folder.path / player.command.directory
+        if not shutil.which(program):
+            yield Mistake(player.line, f"players.{'launcher' if player.command.launcher else 'command'}", f"{program} is not a program that can be run")
+        if not os.path.isdir(directory):
+            yield Mistake(player.line, "players.directory", f"{directory} is not a directory")

@@ -9,7 +9,7 @@ from ggp_tools.competition.competition_file import Competition, Game, Player
 from ggp_tools.competition.files import Folder, Refused, held
 from ggp_tools.competition.history import competition_of_file
 from ggp_tools.competition.plan import loaded_games, read_file, refuse_addresses
-from ggp_tools.competition.started_players import StartedPlayer, end_left_players
+from ggp_tools.competition.started_players import StartedPlayer
 from ggp_tools.descriptions.loading import Rules
 from ggp_tools.referee import Referee
 from ggp_tools.reporting import Reporter
@@ -58,6 +58,5 @@ def try_player(file: str, name: str, game_name: str | None, referee: Referee) ->
     # A `play` would start the same player.
     with held(folder.path):
         folder.make(folder.players)
-        end_left_players(folder, reporter.line)
         started = StartedPlayer(folder, player, 0, referee, reporter)
         return asyncio.run(checked(started, referee.taking(rules.is_large), game, rules))
