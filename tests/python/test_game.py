@@ -281,9 +281,10 @@ class Game(InFolder):
         self.assertRegex(lines[1], r"^suspicious: line 5, column 1: no player can make this move: ")
 
     def test_rules_that_are_too_deep_for_the_interpreter(self):
-        chain = "".join(f"(<= p{number} (or (or (or p{number + 1}))))\n" for number in range(7_000))
-        status, lines = self.look(SOUND + chain + "p7000 (<= terminal (not p0))")
-        self.assertEqual((status, lines[2:]), (0, ["the interpreter can't play it: its rules ask for one another too deeply"]))
+        # One call for each, of which there may be 20,000: past the usual limits of the program too.
+        chain = "".join(f"(<= p{number} (or (or (or p{number + 1}))))\n" for number in range(21_000))
+        status, lines = self.look(SOUND + chain + "p21000 (<= terminal (not p0))")
+        self.assertEqual((status, lines[-1]), (0, "the interpreter can't play it: its rules ask for one another too deeply"))
 
     def test_rules_that_are_deep(self):
         chain = "".join(f"(<= p{number} (or q p{number + 1}))\n" for number in range(2_000))

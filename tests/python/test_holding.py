@@ -296,7 +296,7 @@ class Records(unittest.TestCase):
 
     def test_lists_in_one_another_have_little_room(self):
         self.addCleanup(sys.setrecursionlimit, sys.getrecursionlimit())
-        for limit, wanted in ((5_000, 1_000), (900, 900)):
+        for limit, wanted in ((20_001, 1_000), (20_000, 20_000), (900, 900)):
             sys.setrecursionlimit(limit)
             with mock.patch("json.loads", lambda *_, **__: sys.getrecursionlimit()):
                 self.assertEqual((parsed("1"), sys.getrecursionlimit()), (wanted, limit))

@@ -2,6 +2,7 @@
 right: where variables leave open what a sentence comes to, it counts as right."""
 
 import difflib
+import itertools
 import math
 import time
 from collections import Counter
@@ -84,6 +85,16 @@ def may_be(left: Expression, right: Expression) -> bool:
     return len(left) == len(right) and all(map(may_be, left, right))
 
 
+def places(atom: Expression, way: Way = ()) -> Iterator[tuple[Way, object]]:
+    """Gives each place in an atomic sentence with what stands there: an atom, the length of a list, or None for a variable."""
+    if isinstance(atom, str):
+        yield way, None if atom.startswith("?") else atom
+        return
+    yield way, len(atom)
+    for number, member in enumerate(atom):
+        yield from places(member, (*way, number))
+
+
 def without_names(term: Expression) -> Expression:
     """Returns the term with the same variable in the place of each."""
     if isinstance(term, str):
@@ -91,13 +102,36 @@ def without_names(term: Expression) -> Expression:
     return tuple(map(without_names, term))
 
 
-class Atoms:
-    """Atomic sentences, found by their relations: those without variables, and the others."""
+class Index:
+    """Atomic sentences, found by what stands at one place of them."""
 
     def __init__(self, atoms: Iterable[Expression]) -> None:
-        self.plain, self.open, self.answers = {}, {}, {}
+        self.table = {}
+        for atom in atoms:
+            for place in places(atom):
+                self.table.setdefault(place, []).append(atom)
+
+    def alike(self, atom: Expression) -> Iterable[Expression]:
+        """Returns those that may have what this one has at one place: at that one where they are fewest."""
+        best, least = (), None
+        for way, word in places(atom):
+            if word is not None:
+                # What has a variable there, or where a list stands that has this place in it, may have all.
+                found = [self.table.get((way[:length], None), ()) for length in range(len(way) + 1)] + [self.table.get((way, word), ())]
+                count = sum(map(len, found))
+                if least is None or count < least:
+                    best, least = found, count
+        return itertools.chain(*best)
+
+
+class Atoms:
+    """Atomic sentences, found by their relations."""
+
+    def __init__(self, atoms: Iterable[Expression]) -> None:
+        self.plain, self.open = {}, {}
         for atom in dict.fromkeys(atoms):
             (self.open if variables(atom) else self.plain).setdefault(relation(atom), {})[atom] = None
+        self.indexes, self.answers = {}, {}
 
     def relations(self) -> set[Relation]:
         return {*self.plain, *self.open}
@@ -107,8 +141,11 @@ class Atoms:
         key, is_open = relation(atom), bool(variables(atom))
         if not is_open and atom in self.plain.get(key, ()):
             yield atom
-        yield from (other for other in self.open.get(key, ()) if may_be(other, atom))
-        yield from (other for other in self.plain.get(key, ()) if may_be(other, atom)) if is_open else ()
+        for name, atoms in (("open", self.open), ("plain", self.plain))[: 1 + is_open]:
+            if key in atoms:
+                if (name, key) not in self.indexes:
+                    self.indexes[name, key] = Index(atoms[key])
+                yield from (candidate for candidate in self.indexes[name, key].alike(atom) if may_be(candidate, atom))
 
     def may_give(self, atom: Expression) -> bool:
         """Returns whether one of them may be this one."""

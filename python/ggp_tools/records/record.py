@@ -20,8 +20,9 @@ CAUSE = re.compile(r"(asked|toolong|allretired)|(nolegal|nogoal) (0|[1-9][0-9]?)
 # The program goes by the same form. No reply ends as a record does, which may have been joined to a line that was cut.
 ACCOUNT_LINE = re.compile(rb"[0-9]+\t(?:open|strict|next|submit|miss|query|abort)(?: [^\t]*)?\t[^\t]*[0-9A-Za-z)]")
 MOST_LISTS, LONGEST_EXPRESSION, MOST_OF_VALUE = 64, 8_192, 80
-# JSON is read by calls in calls, which have no room for as many as the rules of a game may take. A record has three lists in one another.
-MOST_CALLS = 1_000
+# JSON is read by calls in calls, which have no room for more than the first number. A record has three lists in one another. The limit holds
+# for all threads, so it is lowered only where a command has raised it that far, which has no threads.
+ROOM, MOST_CALLS = 20_000, 1_000
 TOKEN = re.compile(r"[()]|[^() ]+|.")
 # Printable ASCII without capitals and `;`, with one space between members and none beside a parenthesis inside of it.
 SPACED = re.compile(r"(?!.*(^ | $|  |\( | \)|[^ (]\(|\)[^ )]))[!-:<-@\[-~ ]+")
@@ -49,7 +50,7 @@ def parsed(data: bytes | str) -> object:
     """Returns the JSON value that a text spells."""
     most = sys.getrecursionlimit()
     try:
-        sys.setrecursionlimit(min(most, MOST_CALLS))
+        sys.setrecursionlimit(MOST_CALLS if most > ROOM else most)
         return json.loads(data if isinstance(data, str) else data.decode("utf-8"), parse_constant=json_constant)
     except (ValueError, RecursionError):
         raise NoRecord(f"it is not JSON: {json_lines(data if isinstance(data, bytes) else data.encode())[0]}") from None
