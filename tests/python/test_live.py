@@ -95,9 +95,11 @@ class Lines(InRoom):
         # That one has answered is known here, and changes no page.
         self.assertEqual((seen.turn(), seen.awaited(), reader.version, seen.since), (1, [1], *before))
         self.assertEqual(awaited_text(seen, ""), "the answers to turn 1")
+        # The time of day in the log may be wrong.
         self.say(log, line(self.match, 1, 2, f"(PLAY {self.match.id} NIL)", SILENT, 5_000, 1_195_000))
-        self.look(reader)
-        self.assertEqual(seen.since, 1_200.0)
+        with patch.object(time, "time", lambda: 1_300.0):
+            self.look(reader)
+        self.assertEqual(seen.since, 1_300.0)
         self.assertEqual((seen.turn(), seen.awaited(), seen.missed), (2, [0, 1], {1: 1}))
         self.assertEqual([(entry.player, entry.turn, entry.error, entry.move) for entry, _ in reader.last_replaced()], [(self.match.players[1], 1, "TO", "noop")])
         seen.is_late = True
@@ -129,15 +131,26 @@ class Lines(InRoom):
         seen = self.seen_after(self.play(2, "NIL", [SILENT, "a b"]), line(self.match, 1, 3, f"(ABORT {self.match.id})", "ready"), strikes=1)
         self.assertEqual((seen.awaited(), seen.is_ending()), ([0], True))
 
-    def test_a_shortage_of_the_referee_ends_no_turn(self):
+    def test_a_shortage_of_the_referee_counts_as_a_broken_connection_and_against_nobody(self):
         log = self.play(2, "NIL", ["(take 1)", Missed("lost (out of ports)")])
-        seen = self.seen_after(log, strikes=1)
-        self.assertEqual((seen.turn(), len(seen.board.position.moves), seen.missed, seen.replaced), (1, 0, {}, []))
-        seen = self.seen_after(log, line(self.match, 0, 3, f"(ABORT {self.match.id})", "done"), strikes=1)
-        self.assertEqual((seen.awaited(), seen.is_ending(), len(seen.board.position.moves)), ([1], True, 0))
+        seen = self.seen_after(log)
+        self.assertEqual((seen.turn(), seen.board.position.moves, seen.missed, seen.replaced), (2, [["(take 1)", "noop"]], {}, []))
+        self.assertEqual(seen.board.turns()[0].errors, ("", "lost (out of ports)"))
+        # The match goes on, also if that retires the player.
+        seen = self.seen_after(log, self.play(3, "((take 1) noop)", ["noop"], [0]), strikes=1)
+        self.assertEqual((seen.turn(), seen.awaited()), (3, [0]))
         # The player may answer with these words.
         seen = self.seen_after(self.play(2, "NIL", ["(take 1)", "lost (out of ports)"]), strikes=1)
         self.assertEqual([(move.turn, move.error, move.move) for move in seen.replaced], [(1, "IL ?", "noop")])
+
+    def test_the_open_round_of_a_match_that_is_aborted_is_never_shown(self):
+        aborts = [line(self.match, role, 3, f"(ABORT {self.match.id})", "done") for role in (0, 1)]
+        one = self.play(2, "NIL", ["(take 1)"], [0])
+        seen = self.seen_after(one, aborts[0])
+        self.assertEqual((seen.turn(), seen.is_ending(), seen.last[0].kind), (1, False, "START"))
+        seen = self.seen_after(one, *aborts)
+        self.assertEqual((seen.awaited(), seen.is_ending(), seen.board.position.moves), ([], True, []))
+        self.assertEqual([message.kind for message in seen.last.values()], ["ABORT", "ABORT"])
 
     def test_players_that_begin_again_in_another_order(self):
         start, first, second = started(self.match).splitlines(keepends=True)
@@ -145,6 +158,25 @@ class Lines(InRoom):
         self.assertEqual(self.seen_after(start=start + first + second + start + second).awaited(), [0])
         seen = self.seen_after(self.play(2, "NIL", ["noop", "noop"]), start + second)
         self.assertEqual((seen.turn(), seen.awaited(), seen.board.position.moves), (0, [0], []))
+
+    def test_a_match_that_begins_again_has_its_own_clock(self):
+        log, reader = begin(self.plan, self.match, started(self.match).splitlines(keepends=True)[0]), self.reader()
+        moment = live.clock()
+        for said in ("", started(self.match).splitlines(keepends=True)[0]):
+            with patch.object(live, "clock", lambda: moment):
+                self.say(log, said)
+                self.look(reader)
+                self.assertFalse(reader.open[self.match.id].is_late)
+            moment += 6
+            with patch.object(live, "clock", lambda: moment):
+                self.look(reader)
+                self.assertTrue(reader.open[self.match.id].is_late)
+
+    def test_a_run_that_no_line_announces_is_shown_once_its_start_is_finished(self):
+        again = started(self.match).splitlines(keepends=True)[1:]
+        turn = self.play(2, "NIL", ["(take 1)", "noop"])
+        self.assertEqual(self.seen_after(turn, again[0]).turn(), 2)
+        self.assertEqual(self.seen_after(turn, *again).turn(), 1)
 
     def test_lines_of_other_matches_and_players(self):
         other, stranger = self.plan.matches[1], Match(self.match.id, "heap", 10, 5, ("bob", "ann", "cid"))
@@ -339,11 +371,13 @@ class States(InRoom):
     def test_a_log_that_lacks_a_line(self):
         log = self.play(2, "NIL", ["(take 1)", "noop"]) + self.play(3, "((take 1) noop)", ["noop"], [0]) + self.play(4, "(noop (take 1))", ["noop"], [0])
         board = self.board(log)
+        # The answer may yet come, so far as is known, and who has answered the next turn is not shown.
+        self.assertEqual((len(board.position.moves), board.trouble), (1, ""))
+        self.follow(board, self.play(4, "(noop (take 1))", ["", "(take 1)"], [1]))
         self.assertEqual((len(board.position.moves), board.trouble), (1, NO_LINE))
         self.assertIn(html.escape(NO_LINE), str(board_html(board)))
-        # It is not asked again for each answer, and goes on once the line is there.
-        self.follow(board, self.play(4, "(noop (take 1))", ["", "(take 1)"], [1]))
-        self.assertEqual(len(board.position.moves), 1)
+        self.assertFalse(board.is_due())
+        # It goes on once the line is there.
         self.follow(board, self.play(3, "((take 1) noop)", ["", "(take 1)"], [1]) + self.play(5, "(noop (take 1))", ["noop"], [0]))
         self.assertEqual((len(board.position.moves), board.trouble), (3, ""))
 
@@ -366,7 +400,7 @@ class States(InRoom):
         board = self.board(strikes=3)
         for number, moves, answers in ((2, "NIL", ["x" * 4_000, "; " * 1_500]), (3, "((take 1) noop)", ["y" * 4_000, "(take 1)"])):
             self.follow(board, self.play(number, moves, answers))
-        self.assertLess(len(board.script()), 400)
+        self.assertLess(len(board.script({})), 400)
         self.follow(board, self.play(4, "(noop (take 1))", ["z", SILENT]))
         self.assertEqual(board.position.errors, [[f"IL {'x' * 4_000}", "IL ?"], [f"IL {'y' * 4_000}", ""], ["IL z", "TO"]])
         self.assertEqual((self.heap(board), board.position.phase), ("(heap 0)", "stopping"))

@@ -106,7 +106,7 @@ class Matches(InFolder):
         for line in lines:
             with open(log, "ab") as file:
                 file.write(line)
-            seen.look(Room("playing", 0.0), 0.0)
+            seen.look(Room("playing", log.stat().st_size), 0.0)
             count += isinstance(event_of(line), Message)
             if board.is_due():
                 seen.judge(referee)

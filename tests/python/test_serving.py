@@ -5,12 +5,14 @@ import contextlib
 import http.client
 import inspect
 import io
+import itertools
 import json
 import os
 import queue
 import re
 import signal
 import socket
+import struct
 import sys
 import tempfile
 import threading
@@ -38,9 +40,12 @@ class Served(unittest.TestCase):
     STRIKES = ""
 
     def setUp(self):
-        # On a busy computer a look at the records, and the referee, may take long. Here nothing waits for that.
-        for module, name, value in ((live, "SHARE", 0), (live, "READING", 1e9), (live, "JUDGING_SHARE", 0), (live_site, "FOLLOW", 1e9)):
-            self.enterContext(patch.object(module, name, value))
+        # On a busy computer a look at the records, and the referee, may take long. Here nothing waits for that, and nothing is late.
+        self.enterContext(patch.object(live, "clock", lambda: 1_000.0))
+        for name, value in (("SHARE", 0), ("LOOK_AGAIN", 0), ("JUDGING_SHARE", 0), ("READING", 1e9)):
+            self.enterContext(patch.object(live, name, value))
+        for name, value in (("SHARE", 0), ("FOLLOW", 1e9)):
+            self.enterContext(patch.object(live_site, name, value))
         self.plan = plan_in(self.enterContext(tempfile.TemporaryDirectory()), ["ann", "bob", "cid"], head=self.STRIKES)
         self.site = LiveSite(self.plan, Referee(program()), lambda: self.plan)
         self.site.look()
@@ -123,7 +128,7 @@ class Pages(Served):
         self.say(log, self.play(match, 3, "((take 2) noop)", [SILENT]))
         self.assertNotIn("no answer came in time", self.page("/"))
         # Once half of the clock is over the page names who is awaited.
-        self.site.reader.open[match.id].since -= 1_000
+        self.site.reader.open[match.id].began -= 1_000
         self.look()
         now = parsed(self.page(f"/matches/{match.id}.html")).find(id="now")
         self.assertRegex(text_of(now), r"awaited: bob: turn 2 \(")
@@ -309,14 +314,20 @@ class Pages(Served):
 
 
 class Delayed(Served):
-    """What is shown so many seconds late. The tests move the time of day."""
+    """What is shown so many seconds late. The tests move the clock and the time of day."""
 
     def setUp(self):
         super().setUp()
         self.moment = time.time()
         self.enterContext(patch.object(time, "time", lambda: self.moment))
+        self.enterContext(patch.object(live, "clock", lambda: self.moment))
         self.enterContext(patch.object(live, "LOOK_AGAIN", 0))
-        self.site = self.server.site = LiveSite(self.plan, Referee(program()), lambda: self.plan, delay=60)
+        self.begin_late()
+
+    def begin_late(self):
+        """Serves another folder."""
+        plan = self.plan = plan_in(self.enterContext(tempfile.TemporaryDirectory()), ["ann", "bob", "cid"])
+        self.site = self.server.site = LiveSite(plan, Referee(program()), lambda: plan, delay=60)
         self.look()
 
     def look_at(self, seconds):
@@ -326,18 +337,23 @@ class Delayed(Served):
         first = self.page("/")
         return re.search("[0-9]+ match(es are| is) open", first)[0], re.search("[0-9]+ of 6", first)[0]
 
-    def now(self):
-        return int(self.moment * 1_000)
-
     def test_everything_is_shown_late(self):
+        # The log may have any time of day, or none, and so may the record.
+        for time_of_day in (None, 0, 10**12, 10**14):
+            with self.subTest(time_of_day):
+                self.begin_late()
+                self.look_at_a_match(time_of_day)
+
+    def look_at_a_match(self, time_of_day):
         match = self.plan.matches[0]
-        log = begin(self.plan, match, started(match, self.now()) + self.play(match, 2, "NIL", ["(take 2)", "noop"], self.now()))
+        log = begin(self.plan, match, started(match, time_of_day) + self.play(match, 2, "NIL", ["(take 2)", "noop"], time_of_day))
         self.assertEqual(self.look_at(1), ("0 matches are open", "0 of 6"))
         self.assertEqual(self.look_at(58), ("0 matches are open", "0 of 6"))
         # It is over before anything of it is shown.
-        lines = self.play(match, 3, "((take 2) noop)", ["noop", "(take 1)"], self.now())
+        lines = self.play(match, 3, "((take 2) noop)", ["noop", "(take 1)"], time_of_day)
         end(self.plan, match, record_of(match, [["(take 2)", "noop"], ["noop", "(take 1)"]], [["", ""]] * 2, [0, 100]), log.read_text() + lines)
-        os.utime(self.plan.folder.record(match.id), (self.moment, self.moment))
+        moment = self.moment if time_of_day is None else time_of_day / 1_000
+        os.utime(self.plan.folder.record(match.id), (moment, moment))
         self.assertEqual(self.look_at(3), ("1 match is open", "0 of 6"))
         page = self.page(f"/matches/{match.id}.html")
         self.look()
@@ -351,8 +367,10 @@ class Delayed(Served):
 
     def test_a_plan_is_shown_late(self):
         self.plan.folder.schedule.write_text("another")
-        os.utime(self.plan.folder.schedule, (self.moment, self.moment))
+        # Whatever time the file has.
+        os.utime(self.plan.folder.schedule, (0, 0))
         token = self.site.token
+        self.look()
         self.look_at(59)
         self.assertEqual(self.site.token, token)
         self.look_at(2)
@@ -460,13 +478,60 @@ class Limits(Served):
                 taken = sum(map(len, iter(lambda: slow.recv(1 << 20), b"")))
             self.assertLess(taken, 64 << 20)
 
+    def ask_and_leave(self, path):
+        """Asks for something, and resets the connection."""
+        asking = socket.create_connection(("127.0.0.1", self.port), timeout=60)
+        asking.setsockopt(socket.SOL_SOCKET, socket.SO_LINGER, struct.pack("ii", 1, 0))
+        asking.sendall(f"GET {path} HTTP/1.1\r\nHost: localhost\r\n\r\n".encode())
+        self.until(lambda: any(connection.asking for connection in self.visitors.connections))
+        asking.close()
+        self.until(lambda: not self.visitors.connections)
+
+    def test_who_is_gone_is_not_answered(self):
+        made, held = [], threading.Event()
+        self.addCleanup(held.set)
+
+        def page(path):
+            made.append(path)
+            held.wait(60)
+
+        with patch.object(self.site, "page", page):
+            for at in range(20):
+                self.ask_and_leave(f"/{at}")
+            # The first one was in hand. Nobody waits for the others.
+            held.set()
+            self.assertEqual(self.ask("/last")[0], 404)
+        self.assertEqual(made, ["/0", "/last"])
+
+    def test_of_each_client_one_thing_at_a_time_waits_for_the_thread(self):
+        made, held = [], threading.Event()
+        self.addCleanup(held.set)
+
+        async def ask():
+            asked = [asyncio.create_task(self.server.for_client(client, made.append, client)) for client in "aaaabb"]
+            await asyncio.sleep(0)
+            held.set()
+            await asyncio.gather(*asked)
+
+        self.server.thread.submit(held.wait)
+        self.in_loop(ask)
+        self.assertEqual("".join(made), "ababaa")
+        self.assertFalse(self.server.turns)
+
     def test_one_address_does_not_take_all_connections(self):
-        for address, has_room in (("192.0.2.1", [True] * 4 + [False]), ("127.0.0.1", [True] * 8 + [False])):
+        half, whole = [True] * 4 + [False], [True] * 8 + [False]
+        # A host with an IPv6 address has many, and an IPv4 address may be written as one of IPv6.
+        cases = (
+            (["192.0.2.1"], half), (["127.0.0.1"], whole), (["::1", "::ffff:127.0.0.2", "127.0.0.1"], whole),
+            ([f"2001:db8::{at:x}:{at:x}" for at in range(1, 9)], half), (["192.0.2.1", "::ffff:192.0.2.1"], half),
+            ([f"fe80::{at:x}%eth{at}" for at in range(1, 9)], half), ([f"2001:db8:0:{at:x}::1" for at in range(1, 9)], whole),
+        )
+        for addresses, has_room in cases:
             visitors, found = http_server.Visitors(8), []
-            for _ in has_room:
-                found.append(visitors.has_room_for(address))
-                visitors.come(Mock(address=address, is_idle=False))
-            self.assertEqual(found, has_room)
+            for client, _ in zip(itertools.cycle(map(http_server.client_of, addresses)), has_room):
+                found.append(visitors.has_room_for(client))
+                visitors.come(Mock(client=client, is_idle=False))
+            self.assertEqual(found, has_room, addresses)
         with contextlib.ExitStack() as viewers:
             found = [viewers.enter_context(self.visitors.viewing("192.0.2.1")) for _ in range(5)]
             found += [viewers.enter_context(self.visitors.viewing("192.0.2.2")) for _ in range(4)]

@@ -1,15 +1,24 @@
 """A player that reads all that the live pages serve while a turn is open, which it has yet to answer: it finds nothing of what the others
 have answered, and not that they have."""
 
+import contextlib
+import itertools
 import os
 import re
 import stat
 import tempfile
 import threading
+from collections import Counter
+from dataclasses import dataclass
+from unittest.mock import patch
 
+from ggp_tools.competition import live, live_board, live_site
 from ggp_tools.competition.live_site import LiveSite
+from ggp_tools.match_log import Host, line_of
 from ggp_tools.referee import Referee
-from live_support import SILENT, Missed, begin, line, plan_in
+from hypothesis import given, settings
+from hypothesis import strategies as st
+from live_support import SILENT, Missed, begin, line, opened, plan_in
 from players import TestPlayer
 from support import GAMES, InFolder, program, start
 from test_serving import Served
@@ -101,12 +110,148 @@ class Spying(Served):
             self.begin_with(3)
             self.say(self.log, "".join(self.lines(1, self.start(), ["ready"] * 3)))
             self.say(self.log, self.lines(2, f"(PLAY {self.match.id} NIL)", [filled(answer, 1, 0)])[0])
-            self.site.reader.open[self.match.id].since = 1_000.0
+            seen = self.site.reader.open[self.match.id]
+            seen.since = seen.began = 0.0
             self.site.look()
             pages = self.all_pages()
             self.assertIn(f"{self.match.players[1]}</a>, <a", pages[f"/matches/{self.match.id}.html"])
             shown.add(re.sub("after=[^\"]*|zq1x0|cid</a>|, [0-9] ms", "", str(pages)).replace("zq1", ""))
         self.assertEqual(len(shown), 1)
+
+
+@dataclass(frozen=True)
+class Step:
+    """What the log gets once a role has answered, nothing if the line is lost; the round of that and how many answer it; what happens until
+    the next step: seconds go by, and looks at the folder, in which the referee may be asked or not."""
+
+    round: int
+    needed: int
+    text: str
+    seconds: float
+    looks: tuple[bool, ...]
+
+
+ANSWER = st.sampled_from((LEGAL, LEGAL, *ILLEGAL))
+# The log has the time of day of the host, which may be wrong, or none.
+TIMES = st.sampled_from((None, 0, 1_000, 1_795_000_000_000, 9_000_000_000_000))
+
+
+@st.composite
+def steps(draw, match, strikes):
+    """Gives the steps of a match that may be aborted within a turn, and begin again, in whatever order its roles answer."""
+    found, number = [], itertools.count()
+    for run in range(draw(st.integers(1, 2))):
+        rounds = [(1, [line_of(Host(match.id, "h")).decode()])] if run and draw(st.booleans()) else []
+        for needed, lines in (*rounds, *draw(rounds_of(match, strikes))):
+            at = next(number)
+            for text in lines:
+                looks = draw(st.lists(st.booleans(), min_size=1, max_size=2))
+                found.append(Step(at, needed, text if draw(st.integers(0, 11)) else "", draw(st.sampled_from((0.0, 1.0, 7.0))), tuple(looks)))
+    return found
+
+
+@st.composite
+def rounds_of(draw, match, strikes):
+    """Gives the rounds of a run: how many roles answer, and the lines of those that do, in their order."""
+    roles, missed = range(len(match.players)), Counter()
+
+    def said(number, message, role, answer):
+        return line(match, role, number, message, answer, 5, draw(TIMES))
+
+    lines = [said(1, f"(START {match.id} ... 600 600)", role, "ready") for role in draw(st.permutations(roles))]
+    rounds = [(1, [opened(match)]), (len(roles), lines)]
+    for turn in range(1, draw(st.integers(0, 3)) + 1):
+        playing = [role for role in draw(st.permutations(roles)) if not strikes or missed[role] < strikes]
+        if not playing:
+            break
+        answers = {role: draw(ANSWER) for role in playing}
+        for role, answer in answers.items():
+            missed[role] = 0 if answer == LEGAL else missed[role] + 1
+        rounds.append((len(playing), [said(turn + 1, f"(PLAY {match.id} x)", role, filled(answer, turn, role)) for role, answer in answers.items()]))
+    if draw(st.booleans()):
+        # Some do not answer the last turn, and all are sent ABORT.
+        needed, lines = rounds.pop()
+        rounds.append((needed, lines[: draw(st.integers(0, needed - 1))]))
+        rounds.append((len(roles), [said(len(rounds) + 1, f"(ABORT {match.id})", role, "done") for role in draw(st.permutations(roles))]))
+    return rounds
+
+
+class Desk:
+    """In the place of the referee, whom many tests would ask too often: a desk for the game in which all roles may always say something."""
+
+    def desk(self, _, script):
+        first, *calls = (row.split(" ", 4) for row in script.decode("latin-1").splitlines())
+        strikes, roles = int(first[4].split()[1]), len(first[4].split()) - 2
+        answers = {(int(at), int(role)): word == "submit" and (at == "0" or bool(re.fullmatch(r"\(say \w+\) *", rest[0]))) for word, _, role, at, *rest in calls if word != "next"}
+        errors, missed, at = [], Counter(), 0
+        playing = set(range(roles))
+        while playing and all((at, role) in answers for role in playing):
+            if at:
+                errors.append(["RT" if role not in playing else "" if answers[at, role] else "IL x" for role in range(roles)])
+                missed = Counter({role: 0 if not error else missed[role] + 1 for role, error in enumerate(errors[-1])})
+                playing = {role for role in playing if not strikes or missed[role] < strikes}
+            at += 1
+        phase = "starting" if not at else "playing" if playing else "aborting"
+        record = {"phase": phase, "errors": errors, "moves": [[f"(say zq{turn}x{role})" for role in range(roles)] for turn in range(1, len(errors) + 1)]}
+        replies = ["opened", *("taken" for word, *_ in calls if word != "next"), *("owe x" if role in playing or not playing else "hold" for role in range(roles))]
+        return replies, record | {"states": [[f"(step {turn})"] for turn in range(len(errors) + 1)]}
+
+    def taking(self, _):
+        return self
+
+
+class Watched:
+    """A match in a folder, and all that is served of it."""
+
+    def __init__(self, room, head, roles, delay):
+        self.plan = plan_in(room, NAMES, head=head, rules=rules_of(roles), roles=roles)
+        self.log = begin(self.plan, self.plan.matches[0])
+        self.site = LiveSite(self.plan, Desk(), lambda: self.plan, delay=delay)
+        self.site.token = "token"
+        self.paths = ["/index.html", f"/matches/{self.plan.matches[0].id}.html", f"/players/player-{self.plan.matches[0].players[0]}.html"]
+
+    def look(self, is_judged):
+        self.site.reader.next_judging = 0.0 if is_judged else float("inf")
+        self.site.look()
+
+    def served(self):
+        """Returns all pages, and what those who have them open are told of."""
+        pages = {path: self.site.page(path) for path in self.paths}
+        for page in self.site.pages.values():
+            page.viewers = 1
+        return pages, {path: page.events for path, page in self.site.pages.items()}
+
+
+class Whatever(InFolder):
+    """Two sites that differ in nothing but the answers of rounds that are not finished: one has none of them in its log."""
+
+    @settings(max_examples=25)
+    @given(st.data(), st.integers(2, 3), st.sampled_from((0, 2)), st.sampled_from((0, 0, 5)), st.sampled_from((1 << 20, 1 << 20, 700)))
+    def test_what_is_served_follows_from_finished_rounds(self, data, roles, strikes, delay, most_of_script):
+        names = tuple(f"r{at}" for at in range(roles))
+        head = f"start = 600\nplay = 600\n{f'strikes = {strikes}' if strikes else ''}"
+        self.moment = 1_000_000.0
+        with contextlib.ExitStack() as patches:
+            for module, name, value in (
+                (live, "clock", lambda: self.moment), (live, "SHARE", 0), (live, "JUDGING_SHARE", 0), (live_site, "FOLLOW", 1e9),
+                (live_board, "MOST_OF_SCRIPT", most_of_script), (live.time, "time", lambda: self.moment),
+            ):
+                patches.enter_context(patch.object(module, name, value))
+            one, other = (Watched(patches.enter_context(tempfile.TemporaryDirectory()), head, names, delay) for _ in range(2))
+            counts, held = Counter(), {}
+            for step in data.draw(steps(one.plan.matches[0], strikes)):
+                counts[step.round] += 1
+                held.setdefault(step.round, []).append(step.text)
+                with open(one.log, "a") as log:
+                    log.write(step.text)
+                if counts[step.round] == step.needed:
+                    with open(other.log, "a") as log:
+                        log.write("".join(held.pop(step.round)))
+                self.moment += step.seconds
+                for is_judged in step.looks:
+                    one.look(is_judged)
+                    other.look(is_judged)
+                    self.assertEqual(one.served(), other.served())
 
 
 class Files(InFolder):

@@ -8,6 +8,7 @@ import logging
 import socket
 import sys
 import time
+import weakref
 from collections import Counter
 from collections.abc import Callable, Iterator
 from http import HTTPStatus
@@ -38,14 +39,22 @@ SILENT = logging.Logger("requests")
 SILENT.addHandler(logging.NullHandler())
 
 
-def is_loopback(address: str) -> bool:
-    """Returns whether only this computer can reach an address. An IPv4 address may be written as one of IPv6."""
+# The visitors of this computer, whose addresses are loopback addresses.
+THIS_COMPUTER = "this computer"
+
+
+def client_of(address: str) -> str:
+    """Returns whom an address counts for. A host with an IPv6 address mostly has all addresses with the same 64 bits, and an IPv4 address may
+    be written as one of IPv6."""
     found = ipaddress.ip_address(address.partition("%")[0])
-    return (getattr(found, "ipv4_mapped", None) or found).is_loopback
+    found = getattr(found, "ipv4_mapped", None) or found
+    if found.is_loopback:
+        return THIS_COMPUTER
+    return str(found if found.version == 4 else ipaddress.ip_network((int(found), 64), strict=False))
 
 
 class Visitors:
-    """The connections, at most so many at once. One address has at most half of them, except this computer, which may be a proxy."""
+    """The connections, at most so many at once. One client has at most half of them, except this computer, which may be a proxy."""
 
     def __init__(self, most: int) -> None:
         self.most = most
@@ -54,61 +63,62 @@ class Visitors:
         self.counts: Counter[str] = Counter()
         self.viewers: Counter[str] = Counter()
 
-    def most_of(self, address: str) -> int:
-        return self.most if is_loopback(address) else max(1, self.most // 2)
+    def most_of(self, client: str) -> int:
+        return self.most if client == THIS_COMPUTER else max(1, self.most // 2)
 
-    def has_room_for(self, address: str) -> bool:
-        """Returns whether one more connection of an address is served. If there are too many, the oldest one that has asked for nothing
-        gives way, of the address that has most of these."""
-        if self.counts[address] >= self.most_of(address) < self.most:
+    def has_room_for(self, client: str) -> bool:
+        """Returns whether one more connection of a client is served. If there are too many, the oldest one that has asked for nothing
+        gives way, of the client that has most of these."""
+        if self.counts[client] >= self.most_of(client) < self.most:
             return False
         if len(self.connections) < self.most:
             return True
         idle = [connection for connection in self.connections if connection.is_idle]
         if not idle:
             return False
-        counts = Counter(connection.address for connection in idle)
+        counts = Counter(connection.client for connection in idle)
         worst = max(counts, key=counts.__getitem__)
-        next(connection for connection in idle if connection.address == worst).end()
+        next(connection for connection in idle if connection.client == worst).end()
         return True
 
     def come(self, connection: "Connection") -> None:
         self.connections[connection] = None
-        self.counts[connection.address] += 1
+        self.counts[connection.client] += 1
 
     def go(self, connection: "Connection") -> None:
         if connection in self.connections:
             del self.connections[connection]
-            self.counts[connection.address] -= 1
+            self.counts[connection.client] -= 1
             self.counts += Counter()
 
     @contextlib.contextmanager
-    def viewing(self, address: str) -> Iterator[bool]:
-        """Gives whether an address may have one more page open that gets changes. The last eighth of all connections, and of those of an
-        address, is for loading pages."""
-        counts = (self.viewers.total(), self.most), (self.viewers[address], self.most_of(address))
+    def viewing(self, client: str) -> Iterator[bool]:
+        """Gives whether a client may have one more page open that gets changes. The last eighth of all connections, and of those of an
+        client, is for loading pages."""
+        counts = (self.viewers.total(), self.most), (self.viewers[client], self.most_of(client))
         has_room = all(count < most - most // 8 for count, most in counts)
-        self.viewers[address] += has_room
+        self.viewers[client] += has_room
         try:
             yield has_room
         finally:
-            self.viewers[address] -= has_room
+            self.viewers[client] -= has_room
             self.viewers += Counter()
 
 
 class Connection(web.RequestHandler):
-    """A connection, which has one request. `is_idle` is whether its head is still to come."""
+    """A connection, which has one request. `is_idle` is whether its head is still to come. What it has asked for ends with it."""
 
-    __slots__ = ("visitors", "address", "is_idle", "left", "clock")
+    __slots__ = ("visitors", "client", "is_idle", "left", "clock", "asking")
 
     def __init__(self, visitors: Visitors, server: web.Server) -> None:
         super().__init__(server, loop=asyncio.get_running_loop(), access_log=None, logger=SILENT, lingering_time=0)
-        self.visitors, self.address, self.is_idle, self.left = visitors, "", True, LONGEST_HEAD
+        self.visitors, self.client, self.is_idle, self.left = visitors, "", True, LONGEST_HEAD
         self.clock: asyncio.TimerHandle | None = None
+        self.asking: asyncio.Task | None = None
 
     def connection_made(self, transport: asyncio.Transport) -> None:
-        self.address = transport.get_extra_info("peername")[0]
-        if not self.visitors.has_room_for(self.address):
+        self.client = client_of(transport.get_extra_info("peername")[0])
+        if not self.visitors.has_room_for(self.client):
             self.left = 0
             transport.write(BUSY)
             transport.close()
@@ -129,14 +139,15 @@ class Connection(web.RequestHandler):
             self.end()
 
     def connection_lost(self, why: Exception | None) -> None:
-        self.has_asked()
+        for task in filter(None, (self.clock, self.asking)):
+            task.cancel()
         self.visitors.go(self)
         super().connection_lost(why)
 
     def has_asked(self) -> None:
-        self.is_idle = False
-        if self.clock:
-            self.clock.cancel()
+        """Notes that the head is there. The task that calls it answers, as long as there is a connection."""
+        self.is_idle, self.asking = False, asyncio.current_task()
+        self.clock.cancel()
 
     def end(self) -> None:
         self.visitors.go(self)
@@ -150,6 +161,8 @@ class Server:
     def __init__(self, site: LiveSite, most: int) -> None:
         self.site, self.visitors, self.address, self.told = site, Visitors(most), "", ""
         self.thread = concurrent.futures.ThreadPoolExecutor(1, initializer=lambda: sys.setrecursionlimit(MOST_CALLS))
+        # By clients, as long as they wait for something.
+        self.turns: weakref.WeakValueDictionary[str, asyncio.Lock] = weakref.WeakValueDictionary()
         self.looked = asyncio.Event()
 
     async def begin(self, address: str, port: int) -> tuple[str, int]:
@@ -169,6 +182,12 @@ class Server:
     async def on_site(self, function: Callable[..., Value], *values: object) -> Value:
         """Has the thread of the site do something."""
         return await asyncio.get_running_loop().run_in_executor(self.thread, function, *values)
+
+    async def for_client(self, client: str, function: Callable[..., Value], *values: object) -> Value:
+        """Has the thread of the site do something for a client. Of each client one thing at a time waits for the thread."""
+        turn = self.turns.setdefault(client, asyncio.Lock())
+        async with turn:
+            return await self.on_site(function, *values)
 
     async def look(self) -> None:
         """Reads what has come, and wakes those whose page has changed."""
@@ -191,7 +210,7 @@ class Server:
 
     def is_open_to(self, host: str) -> bool:
         """Returns whether a browser may ask under this name: at a loopback address no other site may give it a name of its own."""
-        return not host or not is_loopback(self.address) or is_own_name(host, "localhost")
+        return not host or client_of(self.address) != THIS_COMPUTER or is_own_name(host, "localhost")
 
     async def answer(self, request: web.BaseRequest) -> web.StreamResponse:
         """Answers a request, and ends the connection if the visitor does not take the answer in time."""
@@ -205,7 +224,7 @@ class Server:
             if asked.startswith("/events/"):
                 known = request.headers.get("Last-Event-ID") or query.removeprefix("after=")
                 return await self.send_events(request, asked.removeprefix("/events"), known)
-            data = await self.on_site(self.site.page, "/index.html" if asked == "/" else asked)
+            data = await self.for_client(request.protocol.client, self.site.page, "/index.html" if asked == "/" else asked)
             return await self.send(request, HTTPStatus.NOT_FOUND if data is None else HTTPStatus.OK, data)
         except (OSError, TimeoutError):
             request.protocol.end()
@@ -226,8 +245,9 @@ class Server:
 
     async def send_events(self, request: web.BaseRequest, path: str, known: str) -> web.StreamResponse:
         """Sends what changes of a page, as long as the browser takes it."""
-        with self.visitors.viewing(request.protocol.address) as has_room:
-            found = await self.on_site(self.site.opened, path) if has_room else None
+        client = request.protocol.client
+        with self.visitors.viewing(client) as has_room:
+            found = await self.for_client(client, self.site.opened, path) if has_room else None
             if found is None:
                 return await self.send(request, HTTPStatus.NOT_FOUND if has_room else HTTPStatus.SERVICE_UNAVAILABLE)
             response = web.StreamResponse(headers={**HEADERS, "Content-Type": "text/event-stream"})
@@ -235,18 +255,18 @@ class Server:
             await response.prepare(request)
             found.viewers += 1
             try:
-                await self.send_changes(request, response, found, self.site.version_of(known))
+                await self.send_changes(response, found, self.site.version_of(known))
             finally:
                 found.viewers, found.touched = found.viewers - 1, time.monotonic()
             return response
 
-    async def send_changes(self, request: web.BaseRequest, response: web.StreamResponse, found: OpenPage, version: int) -> None:
+    async def send_changes(self, response: web.StreamResponse, found: OpenPage, version: int) -> None:
         """Sends the changes of a page since a version, until nothing more changes; sending fails once the visitor is gone."""
         is_last = False
         while not is_last:
             with contextlib.suppress(TimeoutError):
                 async with asyncio.timeout(ALIVE):
-                    while found.version == version and not found.is_final and request.transport:
+                    while found.version == version and not found.is_final:
                         await self.looked.wait()
             texts, version, is_last = found.news(version)
             async with asyncio.timeout(PATIENCE):

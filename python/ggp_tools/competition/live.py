@@ -1,12 +1,10 @@
 """Reads from the folder of a competition how its matches go: which are open, whom each waits for, and which are over. It writes nothing,
 starts nothing but the referee's desk, and reads each file on from where it was.
 
-A player of an open match can read the pages too. So nothing that a round was answered with is shown before all of its roles have answered,
-or were passed over. A round is START, a turn, or the end."""
+A player of an open match can read the pages too. So what is shown of it follows from finished rounds alone, and from the clock of this
+computer. A round is START, a turn, or the end. It is finished once all of its roles have answered, or were passed over."""
 
 import contextlib
-import datetime
-import math
 import os
 import pathlib
 import re
@@ -17,14 +15,14 @@ from dataclasses import dataclass
 from typing import NamedTuple
 
 from ggp_tools.competition.files import STAGES, Folder, lock_place
-from ggp_tools.competition.live_board import Labels, LiveBoard
+from ggp_tools.competition.live_board import Answers, Labels, LiveBoard
 from ggp_tools.competition.plan import Plan
 from ggp_tools.competition.playing import NOT_BEGUN
 from ggp_tools.competition.replaced import MOST_OF_MATCH, Replaced, newest, replaced_moves
 from ggp_tools.competition.results import Result, fault_of_record, result_of
 from ggp_tools.competition.schedule import Match
 from ggp_tools.competition.tail import Tail
-from ggp_tools.match_log import ENDS, SHORTAGE, Event, Message, Other, Runs, event_of
+from ggp_tools.match_log import ENDS, SHORTAGE, START, Event, Host, Message, Open, Other, Runs, event_of
 from ggp_tools.moments import MOMENT
 from ggp_tools.records.match_logs import logged
 from ggp_tools.records.show import NoRecord, read_record
@@ -43,174 +41,202 @@ TICK = 0.1
 WAITING = "waiting"
 FAULT = "these pages have a fault, so what they show of it may be wrong: {!r}"
 # The lines of the journal of `play` by which a match is given up, or is open again.
-NOTED = re.compile(rf"({MOMENT}) (.*)\n")
 GIVEN_UP = re.compile(rf"(?:no record|missing) (\S+): (?!{NOT_BEGUN}$)(.*)|(?:info|begin) (\S+) .*")
 # The referee is asked what came of answers for at most so small a part of the time.
 JUDGING_SHARE = 3
 # What stands before the name of a file that is named by its whole path.
 WHOLE_PATH = re.compile(r"(?<![\w./-])/(?:[^\s/]+/)*(?=[^\s/])")
-# The last moment that a page can show.
-LAST_MOMENT = 253_402_300_799.0
+
+
+# What is another where a file was replaced or written anew.
+Identity = tuple[int, int, int]
+
+
+def clock() -> float:
+    """Returns the seconds of a clock that nobody sets."""
+    return time.monotonic()
 
 
 class Room(NamedTuple):
-    """How far an open match is by the files of its room, and since when."""
+    """How far an open match is by the files of its room: its stage, and the bytes of its log."""
 
     stage: str
-    since: float
+    size: int
 
 
 class Sight(NamedTuple):
-    """What stood in the folder at a moment: the rooms of matches, and whether a run was at work."""
+    """What stood in the folder at a moment of the clock: the rooms of matches, the bytes of the journal, and whether a run was at work."""
 
     moment: float
     rooms: dict[str, Room]
+    journal: int
     is_held: bool
 
 
-class Note(NamedTuple):
-    """A line of the journal."""
+class Delay:
+    """Shows what was in the folder so many seconds ago, by the clock of this computer alone. Files may have any time."""
 
-    time: str
-    words: str
+    def __init__(self, seconds: float = 0.0) -> None:
+        self.seconds = seconds
+        self.sights: deque[Sight] = deque()
+        # Other things as they are now, and since when.
+        self.things: dict[str, tuple[object, float]] = {}
+        self.is_new = True
 
-    def moment(self) -> float | None:
-        try:
-            return datetime.datetime.fromisoformat(self.time.replace("Z", "+00:00")).timestamp()
-        except ValueError:
-            return None
+    def now(self) -> float:
+        """Returns the time of day that is shown."""
+        return time.time() - self.seconds
+
+    def sight(self, rooms: dict[str, Room], journal: int, held: bool) -> Sight:
+        """Takes what stands in the folder now. Returns what stood there at the moment that is shown: nothing before the first look."""
+        now = clock()
+        self.sights.append(Sight(now, self.sights[-1].rooms if self.sights and self.sights[-1].rooms == rooms else rooms, journal, held))
+        while len(self.sights) > 1 and self.sights[1].moment <= now - self.seconds:
+            self.sights.popleft()
+        first = self.sights[0]
+        return first if first.moment <= now - self.seconds else Sight(now, {}, 0, first.is_held)
+
+    def has_passed(self, name: str, value: object, age: float = 0.0) -> bool:
+        """Returns whether a thing was as it is now already at the moment that is shown. What is new is so many seconds old."""
+        if self.seconds and self.things.get(name, (None,))[0] != value:
+            self.things[name] = value, clock() - age
+        return not self.seconds or clock() - self.things[name][1] >= self.seconds
 
 
-def note_of(line: bytes) -> Note | None:
+NOTED = re.compile(rf"{MOMENT} (.*)\n")
+
+
+def note_of(line: bytes) -> str | None:
+    """Returns what a line of the journal says."""
     found = NOTED.fullmatch(line.decode("ascii", "replace"))
-    return Note(found[1], found[2]) if found else None
+    return found[1] if found else None
 
 
 @dataclass
 class Seen:
-    """A match that is open, as its room and its log show it: whose answers are awaited, and since when. Its version counts what has
-    changed. What the round is answered with that is open is held back; that a role has answered, and so how fast, is shown once half of the
-    clock is over."""
+    """A match that is open, as its room and its log show it. What is shown follows from the rounds that are finished, and from a clock of
+    this computer that begins when the last of them was found finished. Once half of the open round's time is over it is shown whose answers
+    are awaited, and nothing else of that round. `version` counts what has changed of this."""
 
     match: Match
     tail: Tail[Event]
     board: LiveBoard
     stage: str = ""
     version: int = 0
+    # When it was looked at last.
+    now: float = 0.0
+    # Since when it is as it is: the time of day, and the clock.
     since: float = 0.0
+    began: float = 0.0
+    is_late: bool = False
     # When the referee was asked last.
     judged: float = 0.0
+    shown: tuple = ()
 
     def __post_init__(self) -> None:
         self.runs = Runs()
+        # The messages of a run that no line has announced, until its START is finished.
+        self.coming: list[Message] | None = None
         self.forget()
 
     def forget(self) -> None:
         """Begins again: the match does, on another host."""
-        if self.board.has_begun():
-            self.board.begin()
-        # The last round that has an answer: 0 for START, then the turns, and the end.
-        self.round = 0.0
-        # Who has answered STOP or ABORT, the answers of the open round, and the last answers of the rounds before.
-        self.ended: set[int] = set()
-        self.held: dict[int, Message] = {}
-        self.last: dict[int, Message] = {}
-        self.is_late = False
+        self.board.begin()
+        # The answers to STOP or ABORT, and the last answers of finished rounds.
+        self.ends: Answers = {}
+        self.last: Answers = {}
+        self.missed: Counter[int] = Counter()
         # When the last answer of each turn was there.
         self.moments: dict[int, float] = {}
-        self.missed: dict[int, int] = {}
         self.replaced: list[Replaced] = []
         self.replaced_count = 0
-        self.version += 1
+        # The clock begins anew.
+        self.shown = ()
 
     def turn(self) -> int:
         """Returns the turn that is asked for: 0 is START."""
-        return max(self.board.position.round(), 0 if math.isinf(self.round) else int(self.round))
+        return self.board.position.round()
 
-    def awaited(self) -> list[int] | None:
-        """Returns the roles whose answers are waited for. None if it is not known."""
-        position, everyone = self.board.position, range(len(self.match.players))
-        if self.ended or position.is_ending():
-            return [role for role in everyone if role not in self.ended]
-        if position.round() < self.round or self.board.judged is None:
-            return None
-        return sorted(position.owing - self.held.keys())
+    def is_over(self) -> bool:
+        """Returns whether all have answered STOP or ABORT."""
+        return len(self.ends) == len(self.match.players)
 
     def is_ending(self) -> bool:
-        """Returns whether STOP or ABORT are what is answered."""
-        return bool(self.ended) or self.board.position.is_ending()
+        """Returns whether STOP or ABORT is what is answered."""
+        return self.is_over() or self.board.position.is_ending()
+
+    def awaited(self) -> list[int]:
+        """Returns the roles that have not answered in the open round."""
+        position = self.board.position
+        if self.is_ending():
+            return [role for role in range(len(self.match.players)) if role not in self.ends]
+        return sorted(position.owing - self.board.answers.get(position.round(), {}).keys())
 
     def take_event(self, event: Event) -> None:
         """Takes an event of the match. A message to another player says nothing of this one."""
         if isinstance(event, Message) and (event.kind is None or self.match.players[event.role : event.role + 1] != (event.player,)):
             return
         if self.runs.is_next(event):
-            self.forget()
+            self.coming = []
+        if self.coming is None:
+            if isinstance(event, Message):
+                self.take(event)
+            return
         if isinstance(event, Message):
-            self.take(event)
+            self.coming.append(event)
+        if isinstance(event, Open | Host) or len({message.role for message in self.coming if message.kind == START}) == len(self.match.players):
+            coming, self.coming = self.coming, None
+            self.forget()
+            for message in coming:
+                self.take(message)
 
     def take(self, message: Message) -> None:
-        match, role = self.match, message.role
-        moment = message.moment() or self.tail.changed
-        number = math.inf if message.kind in ENDS else message.turn()
-        if number > self.round:
-            self.show_round(moment - message.ms / 1_000)
-            self.round = number
-        self.held[role] = message
-        self.version += self.is_late
+        """Holds the answer to a message."""
         if message.kind in ENDS:
-            self.ended.add(role)
-            if len(self.ended) == len(match.players):
-                self.show_round(moment)
-            return
-        self.moments[message.turn()] = max(moment, self.moments.get(message.turn(), 0.0))
-        # After a shortage of the referee the match is given up, and its open turn is dropped.
-        if message.error != SHORTAGE:
+            self.ends[message.role] = message
+            if self.is_over():
+                self.show_round(self.ends)
+        else:
             self.board.take(message)
 
     def judge(self, referee: Referee) -> None:
-        """Asks the referee what came of the answers."""
-        before = self.board.version
-        self.board.judge(referee)
-        self.judged = time.monotonic()
+        """Asks the referee what came of the finished rounds."""
+        for turn, answers in self.board.judge(referee).items():
+            self.show_round(answers)
+            self.moments[turn] = max(message.moment() or self.now for message in answers.values())
+        self.judged = clock()
         position = self.board.position
-        if self.board.version != before:
-            found = replaced_moves(self.match, zip(position.moves, position.errors), self.moments, self.since)
-            self.replaced_count, self.replaced = len(found), found[-MOST_OF_MATCH:]
-            self.version += 1
-        if position.round() > self.round:
-            self.show_round(self.moments.get(int(self.round), self.since))
+        found = replaced_moves(self.match, zip(position.moves, position.errors), self.moments, self.now)
+        found = [move for move in found if move.error != SHORTAGE]
+        self.replaced_count, self.replaced = len(found), found[-MOST_OF_MATCH:]
+        self.count_change()
 
-    def show_round(self, moment: float) -> None:
-        """Shows what a round was answered with, once it is over, at this moment."""
-        for role, message in self.held.items():
-            self.last[role] = message
-            if message.error and message.error != SHORTAGE:
-                self.missed[role] = self.missed.get(role, 0) + 1
-        if self.held:
-            self.held, self.is_late = {}, False
-            self.version += 1
-            self.set_since(moment)
-
-    def set_since(self, moment: float) -> None:
-        """Notes since when the match is as it is. A file may have any time."""
-        self.since = min(max(moment, 0.0), LAST_MOMENT)
+    def show_round(self, answers: Answers) -> None:
+        """Shows what a finished round was answered with."""
+        self.last = {**self.last, **answers, **(self.ends if self.is_over() else {})}
+        self.missed.update(role for role, message in answers.items() if message.error and message.error != SHORTAGE)
 
     def look(self, room: Room, now: float) -> None:
         """Reads what has come."""
-        if room.stage != self.stage:
-            self.stage, self.version = room.stage, self.version + 1
-            self.set_since(room.since)
-        found, is_other = self.tail.added()
+        self.stage, self.now = room.stage, now
+        found, is_other = self.tail.added(room.size)
         if is_other:
+            self.runs, self.coming = Runs(), None
             self.forget()
         for event in found:
             if not isinstance(event, Other) and event.match == self.match.id:
                 self.take_event(event)
-        clock = self.match.play if self.turn() or self.ended else self.match.start
-        is_late = now - self.since > clock / 2
-        self.version += is_late != self.is_late
-        self.is_late = is_late
+        self.count_change()
+
+    def count_change(self) -> None:
+        """Counts whether something else is shown than before. The clock begins when a round is finished."""
+        since = self.stage, self.turn(), self.is_ending(), self.is_over()
+        if self.shown[:1] != (since,):
+            self.since, self.began = self.now, clock()
+        self.is_late = clock() - self.began > (self.match.play if self.turn() else self.match.start) / 2
+        shown = since, self.board.version, self.awaited() if self.is_late else None
+        self.version += shown != self.shown
+        self.shown = shown
 
 
 def stage_of(names: set[str]) -> str:
@@ -223,7 +249,15 @@ def settled(changed: int) -> int:
     return changed if abs(time.time() - changed / 1e9) > TICK else -1
 
 
-def identity(found: os.stat_result) -> tuple[int, int, int]:
+def size_of(path: pathlib.Path) -> int:
+    """Returns the bytes of a file, none where it is not there."""
+    try:
+        return os.stat(path).st_size
+    except OSError:
+        return 0
+
+
+def identity(found: os.stat_result) -> Identity:
     """Returns what is another where a file was replaced or written anew."""
     return found.st_ino, found.st_size, found.st_mtime_ns
 
@@ -253,15 +287,15 @@ class Reader:
     """What the folder of a competition shows, or showed so many seconds ago. `version` counts what changes of open matches, and
     `results_version` the results."""
 
-    def __init__(self, plan: Plan, referee: Referee, delay: float = 0.0, sights: deque[Sight] | None = None) -> None:
-        self.plan, self.referee, self.known, self.delay = plan, referee, {match.id: match for match in plan.matches}, delay
+    def __init__(self, plan: Plan, referee: Referee, delay: Delay | None = None) -> None:
+        self.plan, self.referee, self.known, self.delay = plan, referee, {match.id: match for match in plan.matches}, delay or Delay()
         self.labels = {game: Labels(rules.text) for game, rules in plan.rules.items()}
         self.place = {match.id: at for at, match in enumerate(plan.matches)}
         self.open: dict[str, Seen] = {}
         self.results: dict[str, Result] = {}
         self.faults: dict[str, str] = {}
         # What each record was when it was read, and those that are to be read.
-        self.identities: dict[str, tuple[int, int, int]] = {}
+        self.identities: dict[str, Identity] = {}
         self.unread: deque[str] = deque()
         # What went wrong with an open match.
         self.troubles: dict[str, str] = {}
@@ -271,33 +305,18 @@ class Reader:
         self.version, self.results_version, self.is_held = 0, 0, False
         self.next, self.next_again, self.records_time, self.next_judging = 0.0, 0.0, None, 0.0
         # Why `play` has given matches up.
-        self.journal, self.given_up = Tail(str(plan.folder.journal), note_of, delay), {}
-        self.sights = sights or deque()
-
-    def now(self) -> float:
-        """Returns the moment that is shown."""
-        return time.time() - self.delay
+        self.journal, self.given_up = Tail(str(plan.folder.journal), note_of), {}
 
     def look(self) -> None:
         """Reads what has come since the last look."""
-        sight = self.sight()
+        sight = self.delay.sight(self.rooms_there(), size_of(self.plan.folder.journal), is_held(self.plan.folder.path))
         gone = self.look_at_rooms(sight.rooms)
-        self.look_at_journal(sight.is_held and not self.is_held)
+        self.look_at_journal(sight)
         for name in gone:
             self.look_at_record(name)
         self.look_at_records()
         self.version += sight.is_held != self.is_held
         self.is_held = sight.is_held
-
-    def sight(self) -> Sight:
-        """Returns what stood in the folder at the moment that is shown: nothing before this reader was there."""
-        last = self.sights[-1].rooms if self.sights else None
-        rooms = self.rooms_there()
-        self.sights.append(Sight(time.time(), last if rooms == last else rooms, is_held(self.plan.folder.path)))
-        now = self.now()
-        while len(self.sights) > 1 and self.sights[1].moment <= now:
-            self.sights.popleft()
-        return self.sights[0] if self.sights[0].moment <= now else Sight(now, {}, self.sights[0].is_held)
 
     def rooms_there(self) -> dict[str, Room]:
         """Returns the rooms of open matches."""
@@ -306,7 +325,7 @@ class Reader:
             for entry in os.scandir(self.plan.folder.open):
                 if entry.name in self.known:
                     with contextlib.suppress(OSError):
-                        found[entry.name] = Room(stage_of(set(os.listdir(entry.path))), entry.stat().st_mtime)
+                        found[entry.name] = Room(stage_of(set(os.listdir(entry.path))), size_of(self.plan.folder.room_log(entry.name)))
         return {name: room for name, room in found.items() if room.stage != WAITING}
 
     def look_at_rooms(self, rooms: dict[str, Room]) -> list[str]:
@@ -319,19 +338,18 @@ class Reader:
         for name in sorted(rooms.keys() - self.open.keys() - self.results.keys(), key=self.place.__getitem__):
             self.faults.pop(name, None)
             match = self.known[name]
-            tail = Tail(str(folder.room_log(name)), event_of, self.delay, str(folder.log(name)))
             board = LiveBoard(match, strikes, folder.rules_of(match.game), self.labels[match.game])
-            self.open[name] = Seen(match, tail, board)
+            self.open[name] = Seen(match, Tail(str(folder.room_log(name)), event_of, str(folder.log(name))), board)
         self.version += len(gone) + sum(self.look_at_room(name, seen, rooms[name]) for name, seen in self.open.items())
         return gone
 
-    def look_at_journal(self, has_begun: bool) -> None:
+    def look_at_journal(self, sight: Sight) -> None:
         """Reads from the journal which matches were given up, and why. Another run plays them again."""
         before = dict(self.given_up)
-        if has_begun:
+        if sight.is_held and not self.is_held:
             self.given_up.clear()
-        while notes := self.journal.added()[0]:
-            for found in filter(None, (GIVEN_UP.fullmatch(note.words) for note in notes)):
+        while notes := self.journal.added(sight.journal)[0]:
+            for found in filter(None, map(GIVEN_UP.fullmatch, notes)):
                 if found[2] is None:
                     self.given_up.pop(found[3], None)
                 elif found[1] in self.known:
@@ -342,7 +360,7 @@ class Reader:
         """Reads what has come of an open match. Returns how much has changed; a fault of these pages is told, and stops no other match."""
         before, trouble = seen.version, ""
         try:
-            seen.look(room, self.now())
+            seen.look(room, self.delay.now())
         except OSError:
             pass
         except Exception as why:
@@ -408,7 +426,7 @@ class Reader:
         self.next = ended + SHARE * (ended - began)
         self.next_again = max(self.next, ended + LOOK_AGAIN)
 
-    def records_there(self) -> dict[str, tuple[int, int, int]]:
+    def records_there(self) -> dict[str, Identity]:
         """Returns the records of matches of the schedule, in its order."""
         found = {}
         with os.scandir(self.plan.folder.records) as entries:
@@ -417,8 +435,10 @@ class Reader:
                 if name in self.known and name != entry.name:
                     with contextlib.suppress(OSError):
                         found[name] = identity(entry.stat())
-        until = self.now() * 1e9 if self.delay else math.inf
-        return {name: found[name] for name in sorted(found, key=self.place.__getitem__) if found[name][2] <= until}
+        # Only of what is there at first it is believed how old it is.
+        ages = {name: time.time() - there[2] / 1e9 for name, there in found.items()} if self.delay.is_new else {}
+        self.delay.is_new = False
+        return {name: found[name] for name in sorted(found, key=self.place.__getitem__) if self.delay.has_passed(name, found[name], ages.get(name, 0.0))}
 
     def forget(self, name: str) -> None:
         """Has a match have no result any more."""
@@ -437,7 +457,7 @@ class Reader:
         match = self.known[name]
         try:
             found = self.plan.folder.record(name).stat()
-            if self.delay and found.st_mtime > self.now():
+            if not self.delay.has_passed(name, identity(found)):
                 return
             record = read_record(self.plan.read_record(match))
         except FileNotFoundError:

@@ -1,6 +1,7 @@
 """Follows a match that is open, as the referee judges it: the answers of its log go to a desk of the program, which says what was played,
 what was replaced, and whose answers are due."""
 
+import itertools
 import re
 from collections.abc import Iterator
 from dataclasses import dataclass, field
@@ -8,7 +9,7 @@ from pathlib import Path
 
 from ggp_tools.competition.schedule import Match
 from ggp_tools.kif import expressions, spelled
-from ggp_tools.match_log import NO_TIME, START, Message
+from ggp_tools.match_log import ERRORS, NO_TIME, SHORTAGE, START, Message
 from ggp_tools.records.marks import Mark, marks_of
 from ggp_tools.records.show import Board, visible, words_of
 from ggp_tools.referee import MOST_OF_MOVE, MOST_OF_SCRIPT, Referee, Unchecked
@@ -22,6 +23,8 @@ NO_VERDICT = "the referee came to no verdict, so the state may be an earlier one
 COMMENT = re.compile(rb";[^\n]*")
 # An answer that is too long to be a move goes to the desk as one that is not an expression.
 NO_MOVE = b")"
+# What the roles of a round have answered.
+Answers = dict[int, Message]
 
 
 @dataclass(frozen=True)
@@ -86,7 +89,8 @@ def text_in_line(answer: str) -> bytes:
 
 
 class LiveBoard:
-    """The turns of a match, as far as its log says. `version` counts how often the position or the trouble has changed."""
+    """The turns of a match, as far as its log has whole rounds. What an open round is answered with is only held: the referee is asked of
+    finished rounds alone, so all that is shown follows from these. `version` counts how often the position or the trouble has changed."""
 
     def __init__(self, match: Match, strikes: int, rules: Path, labels: Labels) -> None:
         self.match, self.strikes, self.rules, self.labels = match, strikes, rules, labels
@@ -95,61 +99,80 @@ class LiveBoard:
 
     def begin(self) -> None:
         """Begins with the first state, also when the match begins again on another host."""
-        self.position, self.trouble = Position(), ""
+        self.position, self.trouble, self.is_stuck = Position(owing=frozenset(range(len(self.match.players)))), "", False
         # The answers that are not recorded yet, by rounds and roles; and why players did not answer, by turns and roles.
-        self.answers: dict[int, dict[int, Message]] = {}
+        self.answers: dict[int, Answers] = {}
         self.reasons: dict[tuple[int, int], str] = {}
-        self.judged: tuple[int, bool] | None = None
         self.version += 1
-
-    def has_begun(self) -> bool:
-        """Returns whether a message was answered."""
-        return bool(self.answers) or self.position.round() > 0
 
     def take(self, message: Message) -> None:
         """Takes the answer to a START or a PLAY."""
         self.answers.setdefault(message.turn(), {})[message.role] = message
-        if message.reason:
-            self.reasons[message.turn(), message.role] = message.reason
 
-    def stamp(self) -> tuple[int, bool]:
-        """Returns the last round with an answer, and whether it is the one that is open and all that are due have come."""
-        last = max(self.answers, default=0)
-        return last, last == self.position.round() and bool(self.answers) and self.position.owing <= self.answers[last].keys()
+    def is_finished(self, at: int) -> bool:
+        """Returns whether all roles whose answers are due now have answered a round."""
+        return at in self.answers and self.position.owing <= self.answers[at].keys()
+
+    def lacks_line(self) -> bool:
+        """Returns whether lines of the log are lost: a round is finished, and the one that is open here is not."""
+        now = self.position.round()
+        return not self.is_finished(now) and any(at > now and self.is_finished(at) for at in self.answers)
+
+    def is_known_further(self) -> bool:
+        """Returns whether the referee would say something new."""
+        return not self.is_stuck and (not self.position.states or self.is_finished(self.position.round()))
 
     def is_due(self) -> bool:
-        """Returns whether the referee would say something new."""
-        last, is_complete = stamp = self.stamp()
-        return stamp != self.judged and (self.judged is None or is_complete or last > self.position.round())
+        """Returns whether there is something new to say."""
+        return self.is_known_further() or not self.trouble and self.lacks_line()
 
-    def judge(self, referee: Referee) -> None:
-        """Asks the referee what came of the answers so far."""
-        stamp, script, before = self.stamp(), self.script(), (self.position, self.trouble)
-        if len(script) > MOST_OF_SCRIPT:
-            self.trouble, self.judged = TOO_LONG, stamp
-        else:
-            try:
-                replies, record = referee.desk(self.rules, script)
-                self.take_verdict(replies, record)
-                self.judged = stamp
-            except Unchecked:
-                self.trouble = NO_VERDICT
+    def judge(self, referee: Referee) -> dict[int, Answers]:
+        """Asks the referee what came of the finished rounds. Returns what they were answered with."""
+        done, before = {}, (self.position, self.trouble)
+        # Once a round is recorded it is known who is retired, and so which further ones are finished.
+        while self.is_known_further() and (found := self.ask(referee)) is not None:
+            done |= found
+        if self.lacks_line():
+            self.trouble = NO_LINE
         self.version += (self.position, self.trouble) != before
+        return done
+
+    def ask(self, referee: Referee) -> dict[int, Answers] | None:
+        """Asks the referee what came of the rounds that are known to be finished. Returns those that are recorded now; None if there is no
+        verdict."""
+        now = self.position.round()
+        rounds = {at: self.answers[at] for at in itertools.takewhile(self.is_finished, itertools.count(now))}
+        while len(script := self.script(rounds)) > MOST_OF_SCRIPT and len(rounds) > 1:
+            rounds.popitem()
+        if len(script) > MOST_OF_SCRIPT:
+            self.trouble, self.is_stuck = TOO_LONG, True
+            return None
+        try:
+            self.take_verdict(*referee.desk(self.rules, script))
+        except Unchecked:
+            self.trouble = NO_VERDICT
+            return None
+        self.is_stuck = bool(rounds) and self.position.round() == now
+        return {at: answers for at, answers in rounds.items() if at < self.position.round()}
 
     def take_verdict(self, replies: list[str], record: dict) -> None:
         """Takes what the desk has replied to a script, and the record of the match so far."""
         roles, known = len(self.match.players), self.position.errors
         calls, due = replies[:-roles], replies[-roles:]
         self.trouble = "" if set(calls) <= {"opened", "taken"} else NO_LINE
-        errors = [*known, *record["errors"][len(known) :]]
+        for turn, recorded in enumerate(record["errors"][len(known) :], len(known) + 1):
+            said = self.answers.get(turn, {})
+            self.reasons |= {(turn, role): message.came() for role, message in said.items() if message.error}
+            # The referee's own shortage is recorded as a broken connection.
+            known = [*known, [SHORTAGE if role in said and said[role].error == SHORTAGE else error for role, error in enumerate(recorded)]]
         now = round_of(record["phase"], record["moves"])
         self.answers = {at: found for at, found in self.answers.items() if at >= now}
-        owing = {role for role, reply in enumerate(due) if reply.startswith("owe ")} | self.answers.get(now, {}).keys()
+        owing = frozenset(role for role, reply in enumerate(due) if reply.startswith("owe "))
         first, *states = record["states"]
-        self.position = Position(record["phase"], frozenset(owing), [first, *states[-MOST_STATES:]], record["moves"], errors)
+        self.position = Position(record["phase"], owing, [first, *states[-MOST_STATES:]], record["moves"], known)
 
-    def script(self) -> bytes:
-        """Returns the calls so far: of a recorded turn the moves that were played, and whose were replaced."""
+    def script(self, rounds: dict[int, Answers]) -> bytes:
+        """Returns the calls up to the end of these rounds: of a recorded turn the moves that were played, and whose were replaced."""
         match, position = self.match, self.position
         found = [f"strict {match.id} 0 {match.start} {match.play} {self.strikes} {' '.join(match.players)}".encode()]
         if position.round():
@@ -158,7 +181,7 @@ class LiveBoard:
             for role, (move, error) in enumerate(zip(moves, errors)):
                 if error != "RT":
                     found.append(self.call(role, turn, None if error else move, "silent"))
-        for at, answers in sorted(self.answers.items()):
+        for at, answers in rounds.items():
             for role, message in answers.items():
                 text = "" if message.kind == START else message.answer
                 found.append(self.call(role, at, None if message.error else text, "silent" if message.error == NO_TIME else "broken"))
@@ -173,9 +196,8 @@ class LiveBoard:
     def turns(self) -> list[Turn]:
         """Returns the last turns, with the reasons of missed answers as the log has them."""
         recorded = list(enumerate(zip(self.position.moves, self.position.errors), 1))[-MOST_TURNS:]
-        return [Turn(turn, tuple(moves), tuple(self.with_reasons(turn, errors))) for turn, (moves, errors) in recorded]
+        return [Turn(turn, tuple(moves), tuple(self.said_errors(turn, errors))) for turn, (moves, errors) in recorded]
 
-    def with_reasons(self, turn: int, errors: list[str]) -> Iterator[str]:
+    def said_errors(self, turn: int, errors: list[str]) -> Iterator[str]:
         for role, error in enumerate(errors):
-            reason = self.reasons.get((turn, role)) if error in ("TO", "CE") else None
-            yield f"{error} ({reason})" if reason else error
+            yield self.reasons.get((turn, role), error) if error in ERRORS else error

@@ -55,7 +55,7 @@ def status_of(seen: Seen) -> Status:
     what = "the end" if seen.is_ending() else f"turn {seen.turn()}" if seen.turn() else "START"
     if found == []:
         return Status("all have answered", seen.since)
-    if found is None or not seen.is_late:
+    if not seen.is_late:
         return Status(f"the answers to {what}", seen.since, True)
     return Status(what, seen.since, True, tuple(seen.match.players[role] for role in found))
 

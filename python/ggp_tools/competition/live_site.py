@@ -12,7 +12,7 @@ from dataclasses import dataclass
 
 from ggp_tools.competition import live_pages
 from ggp_tools.competition.files import Folder, Refused
-from ggp_tools.competition.live import Reader, Seen, for_visitors
+from ggp_tools.competition.live import Delay, Reader, Seen, for_visitors
 from ggp_tools.competition.live_board import Turn
 from ggp_tools.competition.page_changes import changes, event_text
 from ggp_tools.competition.page_parts import PageParts
@@ -101,7 +101,7 @@ class LiveSite:
     """The pages, and the matches that they show."""
 
     def __init__(self, plan: Plan, referee: Referee, read_plan: Callable[[], Plan], stamp: tuple | None = None, delay: float = 0.0) -> None:
-        self.referee, self.read_plan, self.delay, self.reader = referee, read_plan, delay, None
+        self.referee, self.read_plan, self.delay = referee, read_plan, Delay(delay)
         self.kept: OrderedDict[str, tuple[Result, bytes]] = OrderedDict()
         # Versions of pages of another run, or of another plan, are none of this one's.
         self.token = f"{time.time_ns():x}"
@@ -111,7 +111,7 @@ class LiveSite:
     def begin(self, plan: Plan, stamp: tuple) -> None:
         """Begins with a plan, and with the stamp that its files had before they were read: what was written since then is read again."""
         self.plan, self.trouble, self.fault, self.plan_stamp = plan, "", "", stamp
-        self.reader = Reader(plan, self.referee, self.delay, self.reader and self.reader.sights)
+        self.reader = Reader(plan, self.referee, self.delay)
         self.site = Site(plan, written=lambda result: self.reader.identities[result.match.id][2])
         self.names = {player.name for player in plan.competition.players}
         self.followed: dict[str, Followed] = {}
@@ -159,7 +159,7 @@ class LiveSite:
     def look_at_plan(self) -> None:
         """Begins anew where the competition was planned anew."""
         stamp = plan_stamp(self.plan.folder)
-        if stamp == self.plan_stamp or self.delay and any(found and found[1] > self.reader.now() * 1e9 for found in stamp):
+        if stamp == self.plan_stamp or not self.delay.has_passed("", stamp):
             return
         try:
             plan = self.read_plan()
@@ -298,7 +298,7 @@ class LiveSite:
         told, found.parts = changes(found.parts, parts), parts
         if told:
             version = found.version + 1
-            found.events = (*found.events[1 - MOST_EVENTS :], (version, event_text(f"{self.token}-{version}", told, self.reader.now())))
+            found.events = (*found.events[1 - MOST_EVENTS :], (version, event_text(f"{self.token}-{version}", told, self.delay.now())))
 
     def opened(self, path: str) -> OpenPage | None:
         """Returns a page as it is now, none where there is no such page, or it is that of a match that is over."""
@@ -319,7 +319,7 @@ class LiveSite:
         if found := self.opened(path):
             # It gets the changes from its version on.
             events = f"{'../' * (path.count('/') - 1)}events{path}?after={self.token}-{found.version}"
-            live = {"now": self.reader.now(), "events": events, "reload": RELOAD}
+            live = {"now": self.delay.now(), "events": events, "reload": RELOAD}
             return page("parts", title=found.title, script="live.js", live=live, parts=found.parts)
         match = PATH.fullmatch(path)
         result = self.reader.results.get(match[3]) if match and match[2] == "matches" else None

@@ -1,10 +1,8 @@
 """Reads a file that grows: each time what was added to it."""
 
 import os
-import time
-from collections import deque
 from collections.abc import Callable
-from typing import BinaryIO, Generic, Protocol, TypeVar
+from typing import BinaryIO, Generic, TypeVar
 
 from ggp_tools.competition.files import opened_file
 from ggp_tools.match_log import whole_lines
@@ -13,64 +11,43 @@ from ggp_tools.match_log import whole_lines
 MOST_READ = 1 << 20
 # By its first bytes a file is known that has another one's place. The log of a match has there when it began.
 HEAD = 256
-
-
-class Timed(Protocol):
-    def moment(self) -> float | None:
-        """Returns when it happened, in seconds since 1970."""
-
-
-T = TypeVar("T", bound=Timed)
+T = TypeVar("T")
 
 
 class Tail(Generic[T]):
-    """What the lines of a growing file say. The file is read on from where it was; if it was replaced or cut, from its beginning. With a
-    delay each line comes so many seconds after its moment. By then another file may have its place, with the same lines."""
+    """What the lines of a growing file say. The file is read on from where it was; if it was replaced or cut, from its beginning. Once it is
+    gone, its lines are read from a later file, which has them too."""
 
-    def __init__(self, path: str, parse: Callable[[bytes], T | None], delay: float = 0.0, later: str = "") -> None:
-        self.path, self.parse, self.delay, self.later = path, parse, delay, later
-        self.place, self.size, self.number, self.changed, self.head = 0, 0, None, 0.0, b""
-        self.waiting: deque[T] = deque()
+    def __init__(self, path: str, parse: Callable[[bytes], T | None], later: str = "") -> None:
+        self.path, self.parse, self.later = path, parse, later
+        self.place, self.number, self.head = 0, None, b""
 
-    def added(self) -> tuple[list[T], bool]:
-        """Returns what was added, and whether the file is another one than before. Nothing is added to a file that can't be read."""
-        is_other, found = False, []
-        if self.delay and self.later and not os.path.exists(self.path):
-            self.path, self.later = self.later, ""
-        if self.has_changed():
-            try:
-                with opened_file(self.path) as file:
-                    is_other = self.begin(file)
-                    self.waiting.extend(self.read_on(file))
-            except OSError:
-                pass
-        until = time.time() - self.delay
-        while self.waiting and (not self.delay or (self.waiting[0].moment() or 0.0) <= until):
-            found.append(self.waiting.popleft())
-        return found, is_other
-
-    def has_changed(self) -> bool:
-        """Returns whether the file is another one, or longer or shorter, than when it was read."""
+    def added(self, until: int) -> tuple[list[T], bool]:
+        """Returns what was added until the file had so many bytes, and whether it is another one than before. Nothing is added to a file that
+        can't be read."""
+        if self.later and not os.path.exists(self.path):
+            self.path, self.later, self.number = self.later, "", None
         try:
-            found = os.stat(self.path)
+            with opened_file(self.path) as file:
+                is_other = self.begin(file)
+                return self.read_on(file, until), is_other
         except OSError:
-            return False
-        return found.st_ino != self.number or found.st_size != self.size or self.place < self.size
+            return [], False
 
     def begin(self, file: BinaryIO) -> bool:
         """Returns whether a file is another one than before. Then it is read from its beginning."""
         found, head = os.fstat(file.fileno()), file.read(HEAD)
-        is_same = found.st_ino == self.number and found.st_size >= self.place and head.startswith(self.head)
-        is_other = self.number is not None and not is_same
+        is_other = self.number not in (None, found.st_ino) or found.st_size < self.place or not head.startswith(self.head)
         if is_other:
             self.place = 0
-            self.waiting.clear()
-        self.number, self.size, self.changed, self.head = found.st_ino, found.st_size, found.st_mtime, head
+        self.number, self.head = found.st_ino, head
         return is_other
 
-    def read_on(self, file: BinaryIO) -> list[T]:
+    def read_on(self, file: BinaryIO, until: int) -> list[T]:
         found, begin = [], file.seek(self.place)
         for line in whole_lines(file):
+            if file.tell() > until:
+                break
             self.place = file.tell()
             if (said := self.parse(line)) is not None:
                 found.append(said)
