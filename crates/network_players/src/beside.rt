@@ -89,6 +89,11 @@ impl<H: Routes> Resolves for Beside<'_, H> {
         (self.begin)(self.host, query)
     }
 
+    // The thread waits for the lookup, and the message for the thread.
+    fn longest_begin(&self, _: Duration) -> Duration {
+        Duration::ZERO
+    }
+
     fn found<'q>(&self, query: &'q HostQuery) -> Option<&'q Found> {
         query.found()
     }

@@ -67,6 +67,9 @@ pub trait Resolves: Routes {
     /// Begins to make the lookup. The error: there is no memory or thread for it.
     fn begin(&self, query: Arc<HostQuery>) -> Result<(), AllocError>;
 
+    /// How long the beginning may take, if the message has so much time left.
+    fn longest_begin(&self, left: Duration) -> Duration;
+
     /// What came of the lookup. `None` if it has not ended yet.
     fn found<'q>(&self, query: &'q HostQuery) -> Option<&'q Found>;
 }
@@ -86,6 +89,10 @@ impl<R: Net + Copy + Send + 'static> Resolves for R {
     fn begin(&self, query: Arc<HostQuery>) -> Result<(), AllocError> {
         query.make(self);
         Ok(())
+    }
+
+    fn longest_begin(&self, left: Duration) -> Duration {
+        left
     }
 
     fn found<'q>(&self, query: &'q HostQuery) -> Option<&'q Found> {
@@ -191,6 +198,12 @@ impl Lookup {
             return Ok(());
         }
         let left = deadline.after(net, Duration::ZERO)?;
+        // Nobody is asked for an address: if that takes time, the referee was not running.
+        let asked = if is_address(player.host) {
+            Duration::ZERO
+        } else {
+            net.longest_begin(left)
+        };
         let query = match self.query.take() {
             Some(query) => query,
             None => match begun(net, alloc, player) {
@@ -198,7 +211,7 @@ impl Lookup {
                 Err(AllocError) => return Err(Halt::Short(Shortage::Memory)),
             },
         };
-        let found = match wait_for(net, alloc, &query, left, deadline) {
+        let found = match wait_for(net, alloc, &query, asked, deadline) {
             Ok(found) => found,
             Err(halt) => {
                 self.query = Some(query);
