@@ -7,7 +7,7 @@ from unittest import mock
 
 import pytest
 from ggp_tools.competition import addresses
-from ggp_tools.competition.addresses import looked_up, mistakes_of_addresses
+from ggp_tools.competition.addresses import looked_up, mistakes_of_addresses, places_now, written
 from ggp_tools.competition.competition_file import read_competition
 from support import call, toml
 
@@ -24,7 +24,8 @@ NO_HOSTS = [
 def mistakes(*given):
     """Returns the lines and the words of the mistakes of players with these addresses."""
     players = [(f"p{at}", address) for at, address in enumerate(given)]
-    return [(mistake.line, mistake.words) for mistake in mistakes_of_addresses(read_competition(toml(players, [("nim", "f")]).encode()))]
+    competition = read_competition(toml(players, [("nim", "f")]).encode())
+    return [(mistake.line, mistake.words) for mistake in mistakes_of_addresses(competition, places_now(competition))]
 
 
 @pytest.mark.parametrize("other", ["127.1:9147", "0.0.0.0:9147", "[::ffff:127.0.0.1]:9147", "2130706433:9147", "localhost:9147", "127.0.0.1:09147"])
@@ -64,6 +65,14 @@ def test_names():
     with mock.patch.object(addresses.socket, "getaddrinfo", lookup):
         words = "'bob.example:1' and 'ann.example:1', the address of p0, are one: 10.0.0.2, port 1"
         assert mistakes("ann.example:1", "bob.example:1", "cid.example:1", "none.example:1", "other.example:1") == [(10, words)]
+
+
+def test_a_place_is_written_for_the_referee():
+    assert [written("ann", [place]) for place in (("10.0.0.1", 9147), ("::1", 9147), ("fe80::1%2", 9147))] == ["ann@10.0.0.1:9147", "ann@[::1]:9147", "ann@[fe80::1%2]:9147"]
+    with socket.create_server(("127.0.0.1", 0)) as listener:
+        port = listener.getsockname()[1]
+        assert written("ann", [("127.0.0.2", port), ("127.0.0.1", port)]) == f"ann@127.0.0.1:{port}"
+    assert written("ann", [("127.0.0.2", port), ("127.0.0.1", port)]) == f"ann@127.0.0.2:{port}"
 
 
 def test_a_resolver_that_does_not_answer_holds_up_nothing():

@@ -196,6 +196,9 @@ def test_only_players_with_a_command_are_started(tmp_path):
         players = StartedPlayers(folder, competition, types.SimpleNamespace(info_words=lambda place: ANSWERS), reporter)
         await players.ready("cup-001", ("bob", "ann"))
         places = [players.place(name) for name in ("ann", "bob")]
+        # What the name of a host has led to since this play began counts for all matches.
+        players.addresses["bob"] = "bob@10.0.0.1:1"
+        assert players.place("bob") == "bob@10.0.0.1:1"
         assert players.players["ann"].matches == {"cup-001"}
         players.leave("cup-001", ("bob", "ann"))
         assert not players.players["ann"].matches

@@ -66,15 +66,32 @@ def refusal(place: Place) -> str:
     return ""
 
 
-def mistakes_of_addresses(competition: Competition) -> Iterator[Mistake]:
+def places_now(competition: Competition) -> dict[str, list[Place]]:
+    """Returns where each player is reached now, by its name. A player that the competition starts has no address before."""
+    hosts = {player.name: player.address.rpartition(":") for player in competition.players if not player.command}
+    found = looked_up(host for host, _, _ in hosts.values())
+    return {name: [(address, int(port)) for address in dict.fromkeys(found[host])] for name, (host, _, port) in hosts.items()}
+
+
+def takes_connections(place: Place) -> bool:
+    try:
+        socket.create_connection(place, 1).close()
+    except OSError:
+        return False
+    return True
+
+
+def written(name: str, places: list[Place]) -> str:
+    """Returns a player as the referee is given it: at the first of its places that takes a connection now, or else the first."""
+    host, port = next(filter(takes_connections, places), places[0]) if len(places) > 1 else places[0]
+    return f"{name}@[{host}]:{port}" if ":" in host else f"{name}@{host}:{port}"
+
+
+def mistakes_of_addresses(competition: Competition, found: dict[str, list[Place]]) -> Iterator[Mistake]:
     """Gives each player that can't be reached at its address, whatever runs there, and each that is reached where another one is."""
-    # A player that the competition starts has no address before.
-    players = [player for player in competition.players if not player.command]
-    hosts = [player.address.rpartition(":") for player in players]
-    found = looked_up(host for host, _, _ in hosts)
     known: dict[Place, Player] = {}
-    for player, (host, _, port) in zip(players, hosts):
-        places = [(address, int(port)) for address in dict.fromkeys(found[host])]
+    for player in competition.players:
+        places, port = found.get(player.name, []), player.address.rpartition(":")[2]
         if whys := list(filter(None, map(refusal, places))):
             yield Mistake(player.line, "players.address", f"{player.address!r}: {whys[0]}")
         elif others := [place for place in places if place in known]:

@@ -8,7 +8,7 @@ from collections.abc import Callable, Iterator, Mapping
 from dataclasses import dataclass, field, replace
 from pathlib import Path
 
-from ggp_tools.competition.addresses import mistakes_of_addresses
+from ggp_tools.competition.addresses import mistakes_of_addresses, places_now, written
 from ggp_tools.competition.competition_file import Competition, Game, Mistake, Mistaken, mistake_lines
 from ggp_tools.competition.files import UNFINISHED, Folder, Refused, file_bytes, held, write_whole
 from ggp_tools.competition.growth import Growing, History, Misfit, grown, refuse_changes, refuse_unchanged, shape
@@ -179,10 +179,13 @@ def make_plan(path: str, referee: Referee) -> Plan:
     return Plan(folder, competition, rules, schedule.matches, text, history, schedule.rounds.found, known)
 
 
-def refuse_addresses(folder: Folder, competition: Competition) -> None:
-    """Refuses players that no match can reach or start, and two that are one."""
-    if mistakes := [*mistakes_of_addresses(competition), *mistakes_of_programs(folder, competition)]:
+def refuse_addresses(folder: Folder, competition: Competition) -> dict[str, str]:
+    """Refuses players that no match can reach or start, and two that are one. Returns the others with the addresses that they have now: a
+    name may lead to another player later."""
+    found = places_now(competition)
+    if mistakes := [*mistakes_of_addresses(competition, found), *mistakes_of_programs(folder, competition)]:
         raise Refused(mistake_lines(folder.competition, mistakes))
+    return {name: written(name, places) for name, places in found.items() if places}
 
 
 def count_of_matches(folder: Folder) -> int | None:

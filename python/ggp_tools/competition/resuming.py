@@ -63,7 +63,7 @@ def prepare(playing: "Playing") -> None:
     """Reads what is there already, frees players of matches that were lost, and lets the other matches wait."""
     plan, folder, reporter = playing.plan, playing.plan.folder, playing.reporter
     folder.must_be_text()
-    refuse_addresses(folder, plan.competition)
+    playing.players.addresses = refuse_addresses(folder, plan.competition)
     try:
         folder.make(folder.records, folder.accounts, folder.logs, folder.open, *([folder.players] if playing.players.players else []))
         folder.drop_unfinished()

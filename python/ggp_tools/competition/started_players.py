@@ -157,6 +157,8 @@ class StartedPlayers:
 
     def __init__(self, folder: Folder, competition: Competition, referee: Referee, reporter: Reporter) -> None:
         self.competition = competition
+        # Where the other players are reached, as far as that is known: the same in all matches.
+        self.addresses: dict[str, str] = {}
         players = [player for player in competition.players if player.command]
         self.players = {player.name: StartedPlayer(folder, player, number, referee, reporter) for number, player in enumerate(players)}
 
@@ -165,7 +167,9 @@ class StartedPlayers:
 
     def place(self, name: str) -> str:
         """Returns the name and the address of a player: one that is started again may get another port."""
-        return self.players[name].place() if name in self.players else self.competition.player(name).place()
+        if name in self.players:
+            return self.players[name].place()
+        return self.addresses.get(name) or self.competition.player(name).place()
 
     async def ready(self, match: str, names: tuple[str, ...]) -> None:
         """Has those players of a match run that have a command."""
