@@ -2,8 +2,9 @@
 
 use game_core::Counted;
 use std::alloc::Global;
+use std::fs::Metadata;
 use std::rt::Files;
-use std::{fs, str};
+use std::{fs, io, str};
 use whole_streams::read_to_end;
 
 /// The file with the limits of a process under Linux.
@@ -30,7 +31,19 @@ pub fn limit_in(limits: &str, name: &str) -> Option<u64> {
 
 /// The soft limit of this name. `None` if there is no limit, or the system does not say it.
 pub fn limit_of<F: Files>(files: &F, alloc: Global, name: &str) -> Option<u64> {
-    let file = fs::open(files, LIMITS).ok()?;
-    let limits = read_to_end(alloc, &mut Counted::new(file), MAX_LIMITS).ok()?;
-    limit_in(str::from_utf8(&limits).ok()?, name)
+    let Ok(file) = fs::open(files, LIMITS) else {
+        return None;
+    };
+    match read_to_end(alloc, &mut Counted::new(file), MAX_LIMITS) {
+        Ok(limits) => limit_in(str::from_utf8(&limits).ok()?, name),
+        Err(_) => None,
+    }
+}
+
+/// Whether a file is as large as the limit of its size. One more byte there would end the process by a signal.
+pub(crate) fn is_full(limit: u64, found: io::Result<Metadata>) -> bool {
+    match found {
+        Ok(found) => found.is_file() && found.len() >= limit,
+        Err(_) => false,
+    }
 }

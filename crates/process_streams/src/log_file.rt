@@ -3,6 +3,7 @@ ghost use Rattle.std.specs.Prelude.{None, IfOk, take};
 ghost use Rattle.std.specs.Io.{WritesAtMost};
 ghost use Rattle.std.specs.Io.KnownBytes.{Appends, WriteAppends};
 
+use crate::limits::is_full;
 use std::fs::{File, OpenFile, OpenOptions};
 use std::io;
 use std::io::{Error, ErrorKind, Read, Seek, SeekFrom, Write};
@@ -16,25 +17,14 @@ pub struct LogFile<F> {
     limit: Option<u64>,
 }
 
-impl<F: OpenFile> LogFile<F> {
-    /// Whether the file is as large as the limit. One more byte would end the process by a signal.
-    fn is_full(&self) -> bool {
-        let Some(limit) = self.limit else {
-            return false;
-        };
-        match self.file.metadata() {
-            Ok(found) => found.is_file() && found.len() >= limit,
-            Err(_) => false,
-        }
-    }
-}
-
 impl<F: Write + OpenFile> Write for LogFile<F> {
     ghost contents = { λ log. F.contents log.file };
 
     fn write(&mut self, bytes: &[u8]) -> io::Result<usize> {
-        if self.is_full() {
-            return Err(Error::from(ErrorKind::FileTooLarge));
+        if let Some(limit) = self.limit {
+            if is_full(limit, self.file.metadata()) {
+                return Err(Error::from(ErrorKind::FileTooLarge));
+            }
         }
         self.file.write(bytes)
     }
@@ -44,13 +34,9 @@ impl<F: Write + OpenFile> Write for LogFile<F> {
     }
 }
 
-/// Whether the last line of the file at this path has no line feed: a program that wrote it was interrupted.
-fn is_torn<F: Files>(files: &F, path: &str, length: u64) -> io::Result<bool> {
-    if length == 0 {
-        return Ok(false);
-    }
-    let mut file = File::open(files, path)?;
-    file.seek(SeekFrom::Start(length - 1))?;
+/// Whether the last line of a file of this length has no line feed: a program that wrote it was interrupted.
+pub(crate) fn is_torn<F: Read + Seek>(file: &mut F, length: u64) -> io::Result<bool> {
+    file.seek(SeekFrom::Start(length.saturating_sub(1)))?;
     let mut last = [0u8; 1];
     file.read_exact(&mut last)?;
     Ok(last[0] != b'\n')
@@ -67,8 +53,13 @@ pub fn open_log<R: Files>(
     let file = options.open(files, path)?;
     let found = file.metadata()?;
     let mut log = LogFile { file, limit };
-    if found.is_file() && is_torn(files, path, found.len()).unwrap_or(false) {
-        let _ = log.write(b"\n");
+    if found.is_file() && found.len() > 0 {
+        // A file that can't be read counts as whole.
+        if let Ok(mut file) = File::open(files, path) {
+            if is_torn(&mut file, found.len()).unwrap_or(false) {
+                let _ = log.write(b"\n");
+            }
+        }
     }
     Ok(log)
 }

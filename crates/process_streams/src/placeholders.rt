@@ -7,28 +7,21 @@ use std::{fs, io};
 /// The system's number of the error that a descriptor is not open.
 const NOT_OPEN: i32 = 9;
 
-/// Opens a descriptor that can be neither read nor written, as a closed stream can't. It gets the lowest number that is free. It is a
-/// socket without a peer, or the root folder where the system refuses that for no permission.
-fn opened(rt: &HostRuntime) -> io::Result<OwnedFd> {
-    match rt.unix_socket() {
-        Ok(socket) => Ok(socket),
-        Err(_) => Ok(OwnedFd::from(fs::open(rt, "/")?)),
-    }
-}
-
-/// Whether a descriptor is closed. A copy of it that is refused for another reason says that it is open.
-fn is_closed(stream: BorrowedFd<'_>) -> bool {
-    match stream.try_clone_to_owned() {
+/// Holds the number of a stream if it is closed, and those below are held: by a socket without a peer, or by the root folder if the
+/// system refuses that for no permission. Neither can be read or written, as a closed stream can't. It gets the lowest number that is free.
+fn held(rt: &HostRuntime, stream: BorrowedFd<'_>) -> io::Result<()> {
+    // A copy that is refused for another reason says that the stream is open.
+    let is_closed = match stream.try_clone_to_owned() {
         Ok(_) => false,
         Err(error) => error.raw_os_error() == Some(NOT_OPEN),
-    }
-}
-
-/// Holds the number of a stream if it is closed, and those below are held.
-fn held(rt: &HostRuntime, stream: BorrowedFd<'_>) -> io::Result<()> {
-    if is_closed(stream) {
+    };
+    if is_closed {
+        let placeholder = match rt.unix_socket() {
+            Ok(socket) => socket,
+            Err(_) => OwnedFd::from(fs::open(rt, "/")?),
+        };
         // Nothing closes the number.
-        let _number = opened(rt)?.into_raw_fd();
+        let _number = placeholder.into_raw_fd();
     }
     Ok(())
 }

@@ -4,6 +4,7 @@ ghost use Rattle.std.specs.Io.{WritesAtMost};
 ghost use Rattle.std.specs.Io.KnownBytes.{Appends, WriteAppends};
 ghost use Rattle.process_streams.specs.Records.{EndsLine, may_hold_records};
 
+use crate::log_file::is_torn;
 use std::alloc::Global;
 use std::fs::{File, Metadata, OpenFile, OpenOptions, TryLockError};
 use std::io::{Error, ErrorKind, Read, Seek, SeekFrom, Write};
@@ -57,6 +58,15 @@ fn is_same(one: &Metadata, other: &Metadata) -> bool {
     one.dev() == other.dev() && one.ino() == other.ino()
 }
 
+/// The length of what a path names now, in bytes. An error says that it is not the file that was opened.
+fn length_of(opened: &Metadata, named: io::Result<Metadata>) -> io::Result<u64> {
+    match named {
+        Ok(named) if is_same(&named, opened) => Ok(named.len()),
+        Ok(_) => Err(Error::from(ErrorKind::NotFound)),
+        Err(error) => Err(error),
+    }
+}
+
 /// What became of a file while records were added to it.
 #[derive(Clone, Copy)]
 pub enum RecordsState {
@@ -88,22 +98,17 @@ pub struct RecordsFile<'a, R, F> {
 }
 
 impl<R: Files, F> RecordsFile<'_, R, F> {
-    /// What the file is now. An error says that its path does not name it any more.
-    fn named(&self) -> io::Result<Metadata> {
-        let named = fs::metadata(self.files, self.path)?;
-        if is_same(&named, &self.opened) {
-            Ok(named)
-        } else {
-            Err(Error::from(ErrorKind::NotFound))
-        }
+    /// The file's length now. An error says that its path does not name it any more.
+    fn length_now(&self) -> io::Result<u64> {
+        length_of(&self.opened, fs::metadata(self.files, self.path))
     }
 
     /// What became of the file since it was opened.
     pub fn state(&self) -> RecordsState {
-        match self.named() {
+        match self.length_now() {
             Err(_) => RecordsState::Lost,
-            Ok(named) if named.len() < self.length => RecordsState::Cut,
-            Ok(named) if self.is_shared || named.len() > self.length => RecordsState::Grown,
+            Ok(length) if length < self.length => RecordsState::Cut,
+            Ok(length) if self.is_shared || length > self.length => RecordsState::Grown,
             Ok(_) => RecordsState::Kept,
         }
     }
@@ -116,10 +121,7 @@ impl<R: Files, F> RecordsFile<'_, R, F> {
         let mut options = OpenOptions::new();
         options.read(true).append(true);
         let mut file = options.open(self.files, self.path)?;
-        file.seek(SeekFrom::Start(length.saturating_sub(1)))?;
-        let mut last = [0u8; 1];
-        file.read_exact(&mut last)?;
-        if last[0] != b'\n' {
+        if is_torn(&mut file, length)? {
             file.write_all(b"\n")?;
         }
         Ok(())
@@ -132,11 +134,11 @@ impl<R: Files, F: Write + OpenFile> Write for RecordsFile<'_, R, F> {
         ensures bytes { WriteAppends None None result bytes.now }
         ensures added { IfOk result (λ count. Appends (F.contents self.old.file) (F.contents self.new.file) (take count bytes.now)) }
     {
-        let mut begin = self.named()?.len();
+        let mut begin = self.length_now()?;
         if begin != self.length {
             self.end_line(begin)?;
             self.is_shared = true;
-            begin = self.named()?.len();
+            begin = self.length_now()?;
         }
         if let Some(limit) = self.limit {
             // One more byte there would end the process by a signal.
@@ -146,7 +148,7 @@ impl<R: Files, F: Write + OpenFile> Write for RecordsFile<'_, R, F> {
         }
         let count = self.file.write(bytes)?;
         self.file.sync_data()?;
-        self.length = self.named()?.len();
+        self.length = self.length_now()?;
         if self.length != begin.saturating_add(count as u64) {
             // What another program added in between may stand on the same line.
             self.is_shared = true;
@@ -353,7 +355,7 @@ pub fn open_records<'a, R: LockedFiles>(
         length,
         is_shared: false,
     };
-    if records.named().is_err() {
+    if records.length_now().is_err() {
         return Err(RecordsFault::Unopened);
     }
     match may_hold_records(&mut records.file) {

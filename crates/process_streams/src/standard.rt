@@ -1,5 +1,6 @@
 //! Standard streams that would block, or that go to a file with a limit of its size.
 
+use crate::limits::is_full;
 use std::io::{Error, ErrorKind, Read, Result, Write};
 use std::rt::Files;
 use std::sync::Wait;
@@ -27,7 +28,7 @@ pub struct Standard<'a, R, S> {
     limit: Option<u64>,
 }
 
-impl<'a, R: Files, S> Standard<'a, R, S> {
+impl<'a, R, S> Standard<'a, R, S> {
     pub fn new(
         rt: &'a R,
         stream: S,
@@ -39,17 +40,6 @@ impl<'a, R: Files, S> Standard<'a, R, S> {
             stream,
             place,
             limit,
-        }
-    }
-
-    /// Whether the stream goes to a file as large as the limit. One more byte there would end the process by a signal.
-    fn is_full(&self) -> bool {
-        let Some(limit) = self.limit else {
-            return false;
-        };
-        match fs::metadata(self.rt, self.place) {
-            Ok(place) => place.is_file() && place.len() >= limit,
-            Err(_) => false,
         }
     }
 }
@@ -76,8 +66,10 @@ impl<R: Clock + Files + Wait, S: Write> Write for Standard<'_, R, S> {
 
     #[tactic(auto, using(crate::proofs::Waited::kept_at_first, crate::proofs::Waited::kept_again, crate::proofs::Waited::writes_in_the_end))]
     fn write(&mut self, bytes: &[u8]) -> Result<usize> {
-        if self.is_full() {
-            return Err(Error::from(ErrorKind::FileTooLarge));
+        if let Some(limit) = self.limit {
+            if is_full(limit, fs::metadata(self.rt, self.place)) {
+                return Err(Error::from(ErrorKind::FileTooLarge));
+            }
         }
         for _ in self.rt.forever() {
             match self.stream.write(bytes) {
