@@ -84,6 +84,9 @@ class Logs(unittest.TestCase):
         self.assertEqual(self.times(line_of(Host("m1", "me@there")).decode() + LOG), [(*times, "me@there")])
         self.assertEqual(self.times("".join(LINES[:-1])), [(times[0], "2026-11-28T06:00:05.000Z", None)])
 
+    def test_lines_of_another_form_are_counted(self):
+        self.assertEqual([logs_of(text).others for text in (LOG, "", f"{LOG}ggp_manager: m1 started\n{{}}\n", "12:00 (START m1)\n")], [0, 0, 2, 1])
+
     def test_a_log_without_times_has_none(self):
         self.assertEqual(self.times(re.sub('"time":[0-9]+', '"time":null', LOG)), [(None, None, None)])
 

@@ -134,6 +134,12 @@ def arguments(words: list[str]) -> argparse.Namespace:
     return given
 
 
+def report_others(count: int) -> None:
+    """Says how many lines of logs are no events."""
+    if count:
+        report(f"{COMMAND}: {count:,} {'line is' if count == 1 else 'lines are'} not of a log")
+
+
 def print_log(paths: list[str]) -> int:
     """Prints logs as text. Returns the status: 1 if a line is not an event."""
     others = 0
@@ -142,8 +148,7 @@ def print_log(paths: list[str]) -> int:
         others += event is None
         if event:
             say(text_of(event))
-    if others:
-        report(f"{COMMAND}: {others:,} {'line is' if others == 1 else 'lines are'} not of a log")
+    report_others(others)
     return int(others > 0)
 
 
@@ -153,6 +158,7 @@ def perform(given: argparse.Namespace) -> int:
         return print_log(given.files)
     referee, pile, count = Referee(find_program(given.program), given.large), Pile(given.files), Count()
     logs = MatchLogs(given.log or ())
+    report_others(logs.others)
     facts = facts_for(given, referee, logs) if given.action == "facts" else None
     games, refused = known_games(given.rules, referee)
     for said in refused:

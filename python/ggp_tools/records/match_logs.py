@@ -6,9 +6,10 @@ import pathlib
 import re
 from array import array
 from collections.abc import Iterable, Iterator
+from typing import BinaryIO
 
 from ggp_tools.match_log import BROKEN, ENDS, KINDS, PLAY, SHORTAGE, START, End, Event, Host, Message, Open, Other, Runs
-from ggp_tools.match_log import events, whole_lines
+from ggp_tools.match_log import event_of, whole_lines
 from ggp_tools.moments import moment_at
 from ggp_tools.streams import opened
 
@@ -131,16 +132,24 @@ def logged(run: Iterable[Event]) -> Beginning:
 
 
 class MatchLogs:
-    """The matches of some logs. What is not over counts where nothing else is known of a match."""
+    """The matches of some logs. What is not over counts where nothing else is known of a match. `others` counts lines that are no events."""
 
     def __init__(self, paths: Iterable[str]) -> None:
         self.found: dict[str, tuple[list[Beginning], list[Beginning]]] = {}
+        self.others = 0
         for file in itertools.chain.from_iterable(map(files_of, paths)):
             with opened(file) as log:
-                for match_id, beginning in beginnings(events(log)):
+                for match_id, beginning in beginnings(self.events(log)):
                     known = self.found.setdefault(match_id, ([], []))[beginning.is_over()]
                     if len(known) < SEVERAL and beginning not in known:
                         known.append(beginning)
+
+    def events(self, log: BinaryIO) -> Iterator[Event]:
+        for line in whole_lines(log):
+            if event := event_of(line):
+                yield event
+            else:
+                self.others += 1
 
     def of(self, match_id: str) -> list[Beginning]:
         """Returns the match of this id; several where nobody knows which of them it is."""
