@@ -1,8 +1,18 @@
-"""Network namespaces: computers of their own on this computer. They take root and `ip`."""
+"""Network namespaces: computers of their own on this computer, and matches of one player in them. They take root and `ip`."""
 import contextlib
 import ctypes
+import json
+import socket
 import subprocess
-from collections.abc import Iterator
+import threading
+from collections.abc import Callable, Iterator
+from typing import NamedTuple
+
+from driving.asking import body_of
+
+# A game of two turns, in which the only role has one move.
+RULES = "(role ann) (init a) (legal ann go) (<= (next b) (true a)) (<= (next c) (true b)) (<= terminal (true c)) (goal ann 100)"
+PATIENCE = 300
 
 
 def inside(namespace: str, call: str, is_needed: bool = True) -> None:
@@ -34,3 +44,57 @@ def namespaces(*names: str) -> Iterator[None]:
     finally:
         for name in names:
             subprocess.run(["ip", "netns", "del", name], check=False)
+
+
+class Ann(threading.Thread):
+    """A player in a namespace. It calls a function with its port before it answers the first PLAY."""
+
+    def __init__(self, namespace: str, host: str, before: Callable[[int], object] = lambda _: None) -> None:
+        super().__init__(daemon=True)
+        self.before = before
+        with entered(namespace):
+            self.listener = socket.create_server((host, 0), family=socket.AF_INET6 if ":" in host else socket.AF_INET, backlog=64)
+        self.port = self.listener.getsockname()[1]
+        self.start()
+
+    def run(self) -> None:
+        while True:
+            connection, _ = self.listener.accept()
+            with connection, contextlib.suppress(OSError):
+                if body_of(connection).startswith("(PLAY m NIL"):
+                    self.before(self.port)
+                connection.sendall(b"HTTP/1.0 200 OK\r\nContent-Length: 2\r\n\r\ngo")
+
+
+class Ended(NamedTuple):
+    """How a match ended: its status, its record, and what was reported."""
+
+    status: int
+    output: str
+    errors: str
+
+    def marks(self) -> list[str]:
+        """Returns the errors of the answers to START, each PLAY and STOP. Without a record there is none."""
+        if not self.output:
+            return []
+        record = json.loads(self.output)
+        return [*record["startMarks"], *(turn[0] for turn in record["errors"]), *record["endMarks"]]
+
+
+def played(namespace: str, program: str, address: str, start: int) -> Ended:
+    """Plays a match in a namespace against the player at this address, which has this many seconds for START and one for PLAY."""
+    words = ["run", "--why", "--rules", RULES, "--id", "m", "--start", f"{start}", "--play", "1", address]
+    ran = subprocess.run(["ip", "netns", "exec", namespace, program, *words], capture_output=True, text=True, timeout=PATIENCE)
+    return Ended(ran.returncode, ran.stdout, ran.stderr)
+
+
+def blamed(case: str, ended: Ended, marks: list[str]) -> Iterator[str]:
+    """Yields what is wrong if there has to be a record with these errors of the player."""
+    if (ended.status, ended.marks()) != (0, marks):
+        yield f"{case}: expected a record with {marks}, got status {ended.status}, {ended.marks()}, {ended.errors!r}"
+
+
+def spared(case: str, ended: Ended) -> Iterator[str]:
+    """Yields what is wrong if this computer is the cause."""
+    if (ended.status, ended.output) != (2, "") or "no network" not in ended.errors:
+        yield f"{case}: expected no record and a report of no network, got status {ended.status}, {ended.marks()}, {ended.errors!r}"
