@@ -11,8 +11,6 @@ use Rattle.http_exchange.specs.declared.wire_fault.WireFault.TheVariants as exch
 use Rattle.match_plans.specs.declared.shortages.Shortage.{Shortage}
 use Rattle.match_plans.specs.declared.shortages.Shortage.TheVariants.{Ports, Memory, Network, NotRunning}
 use Rattle.network_players.specs.Shortages.{system_shortage}
-use Rattle.network_players.specs.declared.deadline.Halt.{Halt}
-use Rattle.network_players.specs.declared.deadline.Halt.TheVariants as halts
 use Rattle.network_players.specs.declared.contacting.ContactFault.{ContactFault}
 use Rattle.network_players.specs.declared.contacting.ContactFault.TheVariants as faults
 use Rattle.network_players.specs.declared.contacting.AfterTry.{AfterTry}
@@ -33,17 +31,12 @@ contact_answer (Err (faults.Exchange fault received)) = answer_of (Err fault)
 contact_answer (Err (faults.Late received)) = Silent
 contact_answer (Err fault) = Broken
 
--- a step without time is late, and a step for which the referee is short of something has that shortage
-abbrev pub halt_fault : Halt → Received → ContactFault
-halt_fault halts.Late received = faults.Late received
-halt_fault (halts.Short shortage) received = faults.Shortage shortage
-
 -- The fault of a message whose seconds are over after a try with this fault. It stays, unless it is the player's and the referee is short of
 -- something.
-abbrev pub fault_at_end : ContactFault → Halt → ContactFault
+abbrev pub fault_at_end : ContactFault → ContactFault → ContactFault
 fault_at_end (faults.Shortage shortage) halt = faults.Shortage shortage
-fault_at_end fault halts.Late = fault
-fault_at_end fault (halts.Short shortage) = faults.Shortage shortage
+fault_at_end fault (faults.Shortage shortage) = faults.Shortage shortage
+fault_at_end fault halt = fault
 
 abbrev pub short_fault : Option Shortage → ContactFault
 short_fault (Some shortage) = faults.Shortage shortage
@@ -113,7 +106,8 @@ exchange_fault received fault = faults.Exchange fault received
 
 -- The outcome of an exchange: the halt of the last read or write, if it does not count; otherwise the body, or the exchange's own fault
 -- with the status that was received. Without a body the fault says how far the exchange came.
-abbrev pub outcome_of : Option Halt → Received → Result (List ℕ) WireFault → Result (List ℕ) ContactFault
-outcome_of (Some halt) received exchanged = Err (halt_fault halt received)
+abbrev pub outcome_of : Option ContactFault → Received → Result (List ℕ) WireFault → Result (List ℕ) ContactFault
+outcome_of (Some (faults.Late before)) received exchanged = Err (faults.Late received)
+outcome_of (Some halt) received exchanged = Err halt
 outcome_of None received (Ok text) = Ok text
 outcome_of None received (Err fault) = Err (exchange_fault received fault)

@@ -4,8 +4,9 @@ use Rattle.std.specs.declared.io.ErrorKind.{ErrorKind}
 use Rattle.std.specs.declared.io.ErrorKind.TheVariants.{WouldBlock, TimedOut, AddrNotAvailable, OutOfMemory, NetworkDown}
 use Rattle.match_plans.specs.declared.shortages.Shortage.{Shortage}
 use Rattle.match_plans.specs.declared.shortages.Shortage.TheVariants.{Descriptors, Ports, Memory, Clock, Resolver, Network, NotRunning}
-use Rattle.network_players.specs.declared.deadline.Halt.{Halt}
-use Rattle.network_players.specs.declared.deadline.Halt.TheVariants.{Late, Short}
+use Rattle.http_exchange.specs.declared.received.Received.TheVariants.{Unconnected}
+use Rattle.network_players.specs.declared.contacting.ContactFault.{ContactFault}
+use Rattle.network_players.specs.declared.contacting.ContactFault.TheVariants as faults
 
 abbrev pub shortage_in : List (ℕ × Shortage) → ℕ → Option Shortage
 shortage_in [] number = None
@@ -61,8 +62,8 @@ lack_by shortage = Network
 abbrev pub route_shortage : ErrorKind → Option ℤ → Shortage
 route_shortage kind number = lack_by (system_shortage kind number)
 
-abbrev pub short_halt : Option Shortage → Option Halt
-short_halt (Some shortage) = Some (Short shortage)
+abbrev pub short_halt : Option Shortage → Option ContactFault
+short_halt (Some shortage) = Some (faults.Shortage shortage)
 short_halt None = None
 
 -- A read or a write that ran out of time fails so. With a number `TimedOut` is the system's own: it gave the connection up.
@@ -70,9 +71,9 @@ abbrev pub IsTimeOut : ErrorKind → Option ℤ → Type 0
 IsTimeOut kind number = (kind ≡ WouldBlock) ⊎ ((kind ≡ TimedOut) × (number ≡ None))
 
 -- A read or a write that ran out of time is late, and one that failed by a shortage is short of it. Otherwise the player was the cause.
-abbrev pub failed_halt : ErrorKind → Option ℤ → Option Halt
-failed_halt WouldBlock number = Some Late
-failed_halt TimedOut None = Some Late
+abbrev pub failed_halt : ErrorKind → Option ℤ → Option ContactFault
+failed_halt WouldBlock number = Some (faults.Late Unconnected)
+failed_halt TimedOut None = Some (faults.Late Unconnected)
 failed_halt kind number = short_halt (system_shortage kind number)
 
 -- the codes of shortages, by which threads share one

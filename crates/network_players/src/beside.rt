@@ -1,6 +1,6 @@
 //! A network whose lookups are made while the players' messages go on.
 
-use crate::lookup::{Found, HostQuery, Resolves};
+use crate::lookup::{HostQuery, Resolves};
 use crate::routes::Routes;
 use match_plans::Shortage;
 use std::alloc::AllocError;
@@ -92,9 +92,5 @@ impl<H: Routes> Resolves for Beside<'_, H> {
     // The thread waits for the lookup, and the message for the thread.
     fn longest_begin(&self, _: Duration) -> Duration {
         Duration::ZERO
-    }
-
-    fn found<'q>(&self, query: &'q HostQuery) -> Option<&'q Found> {
-        query.found()
     }
 }

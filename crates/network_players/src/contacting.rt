@@ -2,9 +2,9 @@
 ghost use Rattle.std.specs.Prelude.{◌≡◌, ◌-◌};
 ghost use Rattle.std.specs.Duration.{as_nanos};
 ghost use Rattle.std.specs.IoError.{error_kind, raw_os_error};
-ghost use Rattle.network_players.specs.Contacts.{address_fault, after_try, connect_fault, fault_at_end, fault_at_refusal, fault_so_far, fault_after, fault_after_stall, halt_fault, is_of_network, outcome_of};
+ghost use Rattle.network_players.specs.Contacts.{address_fault, after_try, connect_fault, fault_at_end, fault_at_refusal, fault_so_far, fault_after, fault_after_stall, is_of_network, outcome_of};
 
-use crate::deadline::{Deadline, Halt, TimedStream, first_limit, is_time_out};
+use crate::deadline::{Deadline, LATE, TimedStream, first_limit, is_time_out};
 use crate::lookup::{Lookup, Resolves};
 use crate::routes::{Routes, any_address, lacks_family, outside};
 use crate::shortage::{is_of_either, shortage_of};
@@ -41,23 +41,22 @@ pub enum ContactFault {
 
 impl fmt::Display for ContactFault {
     fn fmt<W: fmt::Write>(&self, f: &mut fmt::Formatter<W>) -> fmt::Result {
-        let words = match *self {
-            ContactFault::NoAddress => "the host has no address",
-            ContactFault::NoConnection => "no connection",
-            ContactFault::OverBudget => "the answers of the match are too long",
-            ContactFault::Late(received) => return write!(f, "no answer in time: {received}"),
-            ContactFault::Shortage(shortage) => return write!(f, "{shortage}"),
+        match *self {
+            ContactFault::NoAddress => f.write_str("the host has no address"),
+            ContactFault::NoConnection => f.write_str("no connection"),
+            ContactFault::OverBudget => f.write_str("the answers of the match are too long"),
+            ContactFault::Shortage(shortage) => fmt::Display::fmt(&shortage, f),
+            ContactFault::Late(received) => write!(f, "no answer in time: {received}"),
+            ContactFault::Exchange(fault, received) => write!(f, "{fault}: {received}"),
             ContactFault::Status(status) => {
                 let note = if status < 200 {
                     "which announces an answer and is none"
                 } else {
                     "not 200"
                 };
-                return write!(f, "the status is {status}, {note}");
+                write!(f, "the status is {status}, {note}")
             }
-            ContactFault::Exchange(fault, received) => return write!(f, "{fault}: {received}"),
-        };
-        f.write_str(words)
+        }
     }
 }
 
@@ -92,24 +91,15 @@ const MAX_CONNECTS: u32 = 2_000_000;
 
 const _: () = prove!(MAX_CONNECTS as u64 * PAUSE_MILLIS > MAX_CLOCK as u64 * 1_000);
 
-/// The fault of a message for whose next step no time is left, or for which the referee is short of something.
-fn halt_fault(halt: Halt, received: Received) -> ContactFault
-    ensures { result ≡ halt_fault halt received }
-{
-    match halt {
-        Halt::Late => ContactFault::Late(received),
-        Halt::Short(shortage) => ContactFault::Shortage(shortage),
-    }
-}
-
 /// The fault of a message whose seconds are over after a try with this fault. It stays, unless it is the player's and the referee is short of
 /// something.
-fn fault_at_end(fault: ContactFault, halt: Halt) -> ContactFault
+fn fault_at_end(fault: ContactFault, halt: ContactFault) -> ContactFault
     ensures { result ≡ fault_at_end fault halt }
 {
     match (fault, halt) {
-        (ContactFault::Shortage(_), _) | (_, Halt::Late) => fault,
-        (_, Halt::Short(shortage)) => ContactFault::Shortage(shortage),
+        (ContactFault::Shortage(_), _) => fault,
+        (_, ContactFault::Shortage(_)) => halt,
+        _ => fault,
     }
 }
 
@@ -119,7 +109,7 @@ fn address_fault(error: &io::Error) -> ContactFault
     ensures { result ≡ address_fault (error_kind error.now) (raw_os_error error.now) }
 {
     match (error.kind(), error.raw_os_error()) {
-        (ErrorKind::TimedOut, None) => ContactFault::Late(Received::Unconnected),
+        (ErrorKind::TimedOut, None) => LATE,
         _ => match shortage_of(error) {
             Some(shortage) => ContactFault::Shortage(shortage),
             None => ContactFault::NoConnection,
@@ -282,14 +272,16 @@ fn fault_after(waited: Option<Shortage>, fault: ContactFault) -> ContactFault
 
 /// The outcome of an exchange, by the halt of the last read or write, if there was one, and by how far it came.
 fn outcome_of(
-    halt: Option<Halt>,
+    halt: Option<ContactFault>,
     received: Received,
     exchanged: Result<Text, WireFault>,
 ) -> Result<Text, ContactFault>
     ensures { result ≡ outcome_of halt received exchanged }
 {
-    if let Some(halt) = halt {
-        return Err(halt_fault(halt, received));
+    match halt {
+        Some(ContactFault::Late(_)) => return Err(ContactFault::Late(received)),
+        Some(fault) => return Err(fault),
+        None => {}
     }
     match (exchanged, received) {
         (Ok(text), _) => Ok(text),
@@ -301,41 +293,25 @@ fn outcome_of(
     }
 }
 
-/// Tries to connect to an address for so long at most, which the message has as time left.
-fn try_address<N: Net + Clock>(
-    net: &N,
-    address: &SocketAddr,
-    limit: Duration,
-    deadline: &mut Deadline,
-) -> io::Result<N::Stream> {
-    let tried = TcpStream::connect_timeout(net, address, limit);
-    // The next step finds whether time is left.
-    let _ = deadline.after(net, limit);
-    tried
-}
-
 /// Connects to an address within the time left, at the second try if the first one is not answered.
 fn connect_to<N: Routes + Clock>(
     net: &N,
     address: &SocketAddr,
     deadline: &mut Deadline,
 ) -> Result<N::Stream, ContactFault> {
-    let mut limit = match deadline.after(net, Duration::ZERO) {
-        Ok(left) => first_limit(left),
-        Err(halt) => return Err(halt_fault(halt, Received::Unconnected)),
-    };
+    let mut limit = first_limit(deadline.after(net, Duration::ZERO)?);
     for _ in 0..2 {
-        match try_address(net, address, limit, deadline) {
+        let tried = TcpStream::connect_timeout(net, address, limit);
+        // The next step finds whether time is left.
+        let _ = deadline.after(net, limit);
+        match tried {
             Ok(stream) => return Ok(stream),
             Err(error) if is_time_out(&error) => {}
             Err(error) => return Err(fault_of(net, address, &error)),
         }
-        limit = match deadline.after(net, Duration::ZERO) {
-            Ok(left) => left,
-            Err(halt) => return Err(halt_fault(halt, Received::Unconnected)),
-        };
+        limit = deadline.after(net, Duration::ZERO)?;
     }
-    Err(ContactFault::Late(Received::Unconnected))
+    Err(LATE)
 }
 
 /// Connects to the first of the addresses that takes a connection, within the time left. Once one has taken a connection, it comes first, and
@@ -359,25 +335,11 @@ fn connect_once<N: Routes + Clock>(
             Err(ContactFault::Late(received)) => return Err(ContactFault::Late(received)),
             Err(last) => fault = fault_so_far(fault, last),
         }
-        if lookup.has_preferred() && !matches!(fault, ContactFault::Shortage(_)) {
+        if lookup.has_preferred && !matches!(fault, ContactFault::Shortage(_)) {
             break;
         }
     }
     Err(fault)
-}
-
-/// Looks up the player's host, unless it is known already, as long as the message has time.
-fn find_host<N: Resolves + Clock>(
-    net: &N,
-    alloc: Global,
-    player: &PlayerAddress<'_>,
-    lookup: &mut Lookup,
-    deadline: &mut Deadline,
-) -> Result<(), ContactFault> {
-    match lookup.look_up(net, alloc, player, deadline) {
-        Ok(()) => Ok(()),
-        Err(halt) => Err(halt_fault(halt, Received::Unconnected)),
-    }
 }
 
 /// Pauses before another try to connect. The error is the fault of the message if it has no time left for one; `fault` is that of this try.
@@ -440,10 +402,10 @@ fn connect<N: Resolves + Clock>(
     deadline: &mut Deadline,
     waited: &mut Option<Shortage>,
 ) -> Result<N::Stream, ContactFault> {
-    let mut patient_to = patience_from(deadline.left());
-    let mut before = ContactFault::Late(Received::Unconnected);
+    let mut patient_to = patience_from(deadline.left);
+    let mut before = LATE;
     for _ in 0..MAX_CONNECTS {
-        let connected = match find_host(net, alloc, player, lookup, deadline) {
+        let connected = match lookup.look_up(net, alloc, player, deadline) {
             Ok(()) => connect_once(net, lookup, deadline),
             Err(fault) => Err(fault),
         };
@@ -451,10 +413,10 @@ fn connect<N: Resolves + Clock>(
             Ok(stream) => return Ok(stream),
             Err(fault) => fault,
         };
-        match after_try(fault, before, deadline.left() > patient_to) {
+        match after_try(fault, before, deadline.left > patient_to) {
             AfterTry::Waits(shortage) => {
                 *waited = Some(shortage);
-                patient_to = patience_from(deadline.left());
+                patient_to = patience_from(deadline.left);
             }
             AfterTry::Tries => {}
             AfterTry::Ends(fault) => return Err(fault),
@@ -501,9 +463,9 @@ fn exchange_over<N: Net + Clock>(
         &mut received,
     );
     let stream = stream.end();
-    match outcome_of(stream.halt(), received, exchanged) {
+    match outcome_of(stream.halt, received, exchanged) {
         Ok(text) => Ok(text),
-        Err(fault) => Err(fault_after_stall(stream.has_stalled(), fault)),
+        Err(fault) => Err(fault_after_stall(stream.deadline.has_stalled, fault)),
     }
 }
 
@@ -517,10 +479,7 @@ pub fn contact_found<N: Resolves + Clock>(
     seconds: u32,
     message: &SharedText<'_>,
 ) -> Result<Text, ContactFault> {
-    let mut deadline = match Deadline::within(net, seconds) {
-        Ok(deadline) => deadline,
-        Err(shortage) => return Err(ContactFault::Shortage(shortage)),
-    };
+    let mut deadline = Deadline::within(net, seconds)?;
     let mut waited = None;
     let reached = match connect(net, alloc, player, lookup, &mut deadline, &mut waited) {
         Ok(stream) => exchange_over(net, alloc, player, deadline, stream, message),

@@ -1,5 +1,5 @@
 //! One deadline for all steps of a message.
-ghost use Rattle.std.specs.Prelude.{◌≡◌, ◌⊎◌, ◌-◌, ◌*◌, ◌/◌, max, min, ◌<◌, ◌≤◌, ◌↔◌, Err, IfErr, IfOk, IsOkAnd, IsSome, IsTrue, MatchResult, None, OnOk};
+ghost use Rattle.std.specs.Prelude.{◌≡◌, ◌⊎◌, ◌-◌, ◌*◌, ◌/◌, max, min, ◌<◌, ◌≤◌, ◌↔◌, Err, IfErr, IfOk, IsOkAnd, IsSome, IsTrue, None, OnOk};
 ghost use Rattle.std.specs.Duration.{as_nanos};
 ghost use Rattle.std.specs.Io.{ReadsAtMost, WritesAtMost};
 ghost use Rattle.std.specs.Io.KnownBytes.{ReadConsumes, WriteAppends};
@@ -7,9 +7,12 @@ ghost use Rattle.std.specs.IoError.{error_kind, raw_os_error};
 ghost use Rattle.match_plans.specs.declared.shortages.Shortage.TheVariants.{Clock};
 ghost use Rattle.network_players.specs.Deadlines.{IsCharged, IsStep};
 ghost use Rattle.network_players.specs.Shortages.{IsTimeOut, failed_halt};
-ghost use Rattle.network_players.specs.declared.deadline.Halt.TheVariants.{Late};
+ghost use Rattle.http_exchange.specs.declared.received.Received.TheVariants.{Unconnected};
+ghost use Rattle.network_players.specs.declared.contacting.ContactFault.TheVariants as faults;
 
+use crate::contacting::ContactFault;
 use crate::shortage::system_shortage;
+use http_exchange::Received;
 use match_plans::Shortage;
 use std::io::{ErrorKind, Read, Write};
 use std::net::OpenStream;
@@ -51,50 +54,39 @@ pub(crate) fn first_limit(left: Duration) -> Duration
         .max(Duration::from_millis(1))
 }
 
-/// Why a step of a message does not count, whatever its result is.
-#[derive(Clone, Copy)]
-pub enum Halt {
-    /// The message's seconds are over.
-    Late,
-    /// The referee is short of this.
-    Short(Shortage),
-}
+/// The fault of a message whose seconds are over. What was received of its answer by then is not known here.
+pub(crate) const LATE: ContactFault = ContactFault::Late(Received::Unconnected);
+
+/// The fault of a message for which the clock can't be read.
+const NO_CLOCK: ContactFault = ContactFault::Shortage(Shortage::Clock);
 
 /// The time that a message has left. It runs while the referee runs.
 #[derive(Clone, Copy)]
 pub struct Deadline {
     /// The moment of the last reading of the clock, and the time left at it.
     seen: Instant,
-    left: Duration,
+    pub(crate) left: Duration,
     /// Whether the program was not running for a part of the message.
-    has_stalled: bool,
+    pub(crate) has_stalled: bool,
     /// So many reads may still take what is there once the time is over.
     looks: u32,
 }
 
-/// A deadline `seconds` from this moment. The error is `Clock` if the moment is not known.
-fn deadline_from(now: io::Result<Instant>, seconds: u32) -> Result<Deadline, Shortage>
-    ensures { MatchResult now (λ start. IsOkAnd result (λ deadline. (deadline.seen ≡ start) × (as_nanos deadline.left ≡ seconds * 1_000_000_000)))
-        (λ _. result ≡ Err Clock) }
-{
-    match now {
-        Ok(seen) => Ok(Deadline {
-            seen,
-            left: Duration::from_secs(u64::from(seconds)),
-            has_stalled: false,
-            looks: LOOKS,
-        }),
-        Err(_) => Err(Shortage::Clock),
-    }
-}
-
 impl Deadline {
     /// A deadline `seconds` from now. The error is `Clock` if the clock can't be read.
-    pub fn within(clock: &impl Clock, seconds: u32) -> Result<Deadline, Shortage>
+    pub fn within(clock: &impl Clock, seconds: u32) -> Result<Deadline, ContactFault>
         ensures limit { IfOk result (λ deadline. as_nanos deadline.left ≡ seconds * 1_000_000_000) }
-        ensures clock { IfErr result (λ shortage. shortage ≡ Clock) }
+        ensures clock { IfErr result (λ fault. fault ≡ faults.Shortage Clock) }
     {
-        deadline_from(Instant::now(clock), seconds)
+        match Instant::now(clock) {
+            Ok(seen) => Ok(Deadline {
+                seen,
+                left: Duration::from_secs(u64::from(seconds)),
+                has_stalled: false,
+                looks: LOOKS,
+            }),
+            Err(_) => Err(NO_CLOCK),
+        }
     }
 
     /// Takes what a step costs from the time left. It took the time `passed`.
@@ -111,19 +103,19 @@ impl Deadline {
 
     /// The time left after a step that was asked to take this long, 0 for one that waits for nothing. Without any the error is `Late`, and
     /// `Clock` if the clock can't be read.
-    pub fn after(&mut self, clock: &impl Clock, asked: Duration) -> Result<Duration, Halt>
+    pub fn after(&mut self, clock: &impl Clock, asked: Duration) -> Result<Duration, ContactFault>
         ensures some { IfOk result (λ left. 0 < as_nanos left) }
         ensures left { IfOk result (λ left. left ≡ self.new.left) }
-        ensures late { IfErr result (λ halt. halt ≡ Late → as_nanos self.new.left ≡ 0) }
+        ensures late { IfErr result (λ fault. (fault ≡ faults.Shortage Clock) ⊎ ((fault ≡ faults.Late Unconnected) × (as_nanos self.new.left ≡ 0))) }
     {
         let Ok(now) = Instant::now(clock) else {
-            return Err(Halt::Short(Shortage::Clock));
+            return Err(NO_CLOCK);
         };
         let passed = now - self.seen;
         self.charge(charged(asked, passed), passed);
         self.seen = now;
         if self.left.is_zero() {
-            Err(Halt::Late)
+            Err(LATE)
         } else {
             Ok(self.left)
         }
@@ -140,20 +132,6 @@ impl Deadline {
             self.looks = self.looks.saturating_sub(1);
         }
         step
-    }
-
-    /// The time left at the last reading of the clock.
-    pub fn left(&self) -> Duration
-        ensures { result ≡ self.now.left }
-    {
-        self.left
-    }
-
-    /// Whether the program was not running for a part of the message.
-    pub fn has_stalled(&self) -> bool
-        ensures { result ≡ self.now.has_stalled }
-    {
-        self.has_stalled
     }
 }
 
@@ -242,15 +220,15 @@ fn wait_for_bytes<C: Clock, S: OpenStream>(
     clock: &C,
     stream: &S,
     deadline: &mut Deadline,
-) -> io::Result<Option<Halt>> {
-    if let Err(Halt::Short(shortage)) = deadline.after(clock, Duration::ZERO) {
-        return Ok(Some(Halt::Short(shortage)));
+) -> io::Result<Option<ContactFault>> {
+    if let Err(ContactFault::Shortage(shortage)) = deadline.after(clock, Duration::ZERO) {
+        return Ok(Some(ContactFault::Shortage(shortage)));
     }
     for _ in 0..MAX_STEPS {
         let step = deadline.next_step();
         let is_there = take_step(clock, stream, &step);
-        if let Err(Halt::Short(shortage)) = deadline.after(clock, step.asked()) {
-            return Ok(Some(Halt::Short(shortage)));
+        if let Err(ContactFault::Shortage(shortage)) = deadline.after(clock, step.asked()) {
+            return Ok(Some(ContactFault::Shortage(shortage)));
         }
         if is_there? {
             return Ok(None);
@@ -259,18 +237,18 @@ fn wait_for_bytes<C: Clock, S: OpenStream>(
             break;
         }
     }
-    Ok(Some(Halt::Late))
+    Ok(Some(LATE))
 }
 
 /// The halt of a failed read or write, by the error's kind and its number. `None` if the player caused the failure. A connection that the
 /// system gave up by a limit of its own counts as closed by the player.
-fn failed_halt(kind: ErrorKind, number: Option<i32>) -> Option<Halt>
+fn failed_halt(kind: ErrorKind, number: Option<i32>) -> Option<ContactFault>
     ensures { result ≡ failed_halt kind number }
 {
     match (kind, number) {
-        (ErrorKind::WouldBlock, _) | (ErrorKind::TimedOut, None) => Some(Halt::Late),
+        (ErrorKind::WouldBlock, _) | (ErrorKind::TimedOut, None) => Some(LATE),
         _ => match system_shortage(kind, number) {
-            Some(shortage) => Some(Halt::Short(shortage)),
+            Some(shortage) => Some(ContactFault::Shortage(shortage)),
             None => None,
         },
     }
@@ -281,9 +259,10 @@ fn failed_halt(kind: ErrorKind, number: Option<i32>) -> Option<Halt>
 #[derive(Drop)]
 pub struct TimedStream<'a, C, S> {
     clock: &'a C,
-    deadline: Deadline,
+    pub(crate) deadline: Deadline,
     stream: S,
-    halt: Option<Halt>,
+    /// The halt of the last read or write. `None` if it counts, or if the player made it fail.
+    pub(crate) halt: Option<ContactFault>,
 }
 
 impl<'a, C: Clock, S: OpenStream> TimedStream<'a, C, S> {
@@ -300,7 +279,7 @@ impl<'a, C: Clock, S: OpenStream> TimedStream<'a, C, S> {
     }
 
     /// Notes the halt of a step that is not taken, and returns its error.
-    fn halted(&mut self, halt: Halt) -> io::Error
+    fn halted(&mut self, halt: ContactFault) -> io::Error
         ensures kept { self.new.stream ≡ self.old.stream }
         ensures halted { IsSome self.new.halt }
     {
@@ -316,20 +295,6 @@ impl<'a, C: Clock, S: OpenStream> TimedStream<'a, C, S> {
     {
         self.halt = failed_halt(error.kind(), error.raw_os_error());
         error
-    }
-
-    /// The halt of the last read or write. `None` if it counts, or if the player made it fail.
-    pub fn halt(&self) -> Option<Halt>
-        ensures { result ≡ self.now.halt }
-    {
-        self.halt
-    }
-
-    /// Whether the program was not running for a part of the message.
-    pub fn has_stalled(&self) -> bool
-        ensures { result ≡ self.now.deadline.has_stalled }
-    {
-        self.deadline.has_stalled()
     }
 }
 

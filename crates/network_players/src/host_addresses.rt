@@ -9,26 +9,15 @@ use std::io::ErrorKind;
 use std::net::{IpAddr, Ipv6Addr, Net, SocketAddr, ToSocketAddrs};
 use std::os::unix::net::UnixStream;
 
-/// So the words of an error end if the resolver says that there is no such name, or no address of it. The error has nothing else that tells.
-const UNKNOWN: [&str; 2] = [
-    "Name or service not known",
-    "No address associated with hostname",
-];
-
 /// So often in succession the resolver has to find no address. Without a descriptor it finds none for any name.
 const DENIALS: u32 = 3;
 
 /// The host without its brackets if it is an IPv6 address with a zone. `None` if it is anything else.
 fn zoned(host: &str) -> Option<&str> {
-    let inner = host
-        .strip_prefix('[')
-        .and_then(|host| host.strip_suffix(']'))?;
+    let inner = host.strip_prefix('[')?.strip_suffix(']')?;
     let (address, _) = inner.split_once('%')?;
-    if address.parse::<Ipv6Addr>().is_ok() {
-        Some(inner)
-    } else {
-        None
-    }
+    address.parse::<Ipv6Addr>().ok()?;
+    Some(inner)
 }
 
 /// Whether the host is an address itself, so that no resolver is asked for it.
@@ -36,22 +25,25 @@ pub(crate) fn is_address(host: &str) -> bool {
     host.parse::<IpAddr>().is_ok() || zoned(host).is_some()
 }
 
-/// Whether the resolver says with this error that there is no such name. A host with a byte of 0 is no name either.
+/// Whether the resolver says with this error that there is no such name, or no address of it: only the end of its words tells. A host with
+/// a byte of 0 is no name either.
 fn is_unknown(alloc: Global, error: &io::Error) -> Result<bool, AllocError> {
-    let words = format!(in alloc; "{error}")?;
-    let is_told = UNKNOWN.iter().any(|told| words.as_str().ends_with(*told));
-    Ok(is_told || error.kind() == ErrorKind::InvalidInput)
+    let words = error.to_string(alloc)?;
+    Ok(
+        words.as_str().ends_with("Name or service not known")
+            || words
+                .as_str()
+                .ends_with("No address associated with hostname")
+            || error.kind() == ErrorKind::InvalidInput,
+    )
 }
 
 /// What the referee was short of as a lookup failed so. `None` if the host has no address.
 fn failed_lookup<N: Routes>(net: &N, alloc: Global, error: &io::Error) -> Option<Shortage> {
-    let Ok(is_unknown) = is_unknown(alloc, error) else {
-        return Some(Shortage::Memory);
-    };
-    let lack = if is_unknown {
-        None
-    } else {
-        lack_of_network(net)
+    let (is_unknown, lack) = match is_unknown(alloc, error) {
+        Ok(true) => (true, None),
+        Ok(false) => (false, lack_of_network(net)),
+        Err(AllocError) => return Some(Shortage::Memory),
     };
     lookup_shortage(error.kind(), error.raw_os_error(), is_unknown, lack)
 }
@@ -79,18 +71,14 @@ fn told_addresses<N: Routes>(
 
 /// The shortage for which the resolver may find no address: it has as many descriptors open at once as two pairs of sockets have.
 fn resolver_shortage<N: Net>(net: &N) -> Option<Shortage> {
-    let pairs = [UnixStream::pair(net), UnixStream::pair(net)];
-    pairs
-        .iter()
-        .find_map(|pair| pair.as_ref().err().and_then(shortage_of))
-}
-
-/// The addresses that count: none if this computer has a network, but not of the family of any.
-fn usable<N: Routes>(net: &N, alloc: Global, found: Vec<SocketAddr>) -> Vec<SocketAddr> {
-    if found.iter().all(|address| lacks_family(net, address)) {
-        Vec::new(alloc)
-    } else {
-        found
+    let first = UnixStream::pair(net);
+    let second = UnixStream::pair(net);
+    if let Err(error) = &first {
+        return shortage_of(error);
+    }
+    match &second {
+        Ok(_) => None,
+        Err(error) => shortage_of(error),
     }
 }
 
@@ -104,8 +92,13 @@ pub(crate) fn addresses<N: Routes>(
 ) -> Result<Vec<SocketAddr>, Shortage> {
     for _ in 0..DENIALS {
         let found = told_addresses(net, alloc, host, port)?;
+        for address in &found {
+            if !lacks_family(net, address) {
+                return Ok(found);
+            }
+        }
         if !found.is_empty() {
-            return Ok(usable(net, alloc, found));
+            break;
         }
         if let Some(shortage) = resolver_shortage(net) {
             return Err(shortage);

@@ -1,9 +1,11 @@
 //! The addresses of a player's host, which a thread looks up while the player waits as long as its message has time.
 ghost use Rattle.std.specs.Prelude.{◌≡◌, ◌*◌, min, IfErr, IfSome, IsSome, None, OnErr, OnOk, Some};
 ghost use Rattle.std.specs.Duration.{as_nanos};
-ghost use Rattle.network_players.specs.declared.deadline.Halt.TheVariants.{Late};
+ghost use Rattle.http_exchange.specs.declared.received.Received.{Received};
+ghost use Rattle.network_players.specs.declared.contacting.ContactFault.TheVariants.{Late};
 
-use crate::deadline::{Deadline, Halt};
+use crate::contacting::ContactFault;
+use crate::deadline::{Deadline, LATE};
 use crate::host_addresses::{addresses, is_address};
 use crate::routes::Routes;
 use desk_calls::MAX_CLOCK;
@@ -39,16 +41,6 @@ pub struct HostQuery {
 }
 
 impl HostQuery {
-    /// A lookup that is not made yet.
-    fn new(alloc: Global, player: &PlayerAddress<'_>) -> Result<HostQuery, AllocError> {
-        Ok(HostQuery {
-            alloc,
-            host: String::from_str(alloc, player.host)?,
-            port: player.port,
-            found: OnceLock::new(),
-        })
-    }
-
     /// Makes the lookup, which may take long, and notes what comes of it.
     pub fn make<N: Routes>(&self, net: &N) {
         let found = addresses(net, self.alloc, self.host.as_str(), self.port);
@@ -71,7 +63,9 @@ pub trait Resolves: Routes {
     fn longest_begin(&self, left: Duration) -> Duration;
 
     /// What came of the lookup. `None` if it has not ended yet.
-    fn found<'q>(&self, query: &'q HostQuery) -> Option<&'q Found>;
+    fn found<'q>(&self, query: &'q HostQuery) -> Option<&'q Found> {
+        query.found()
+    }
 }
 
 /// Makes the lookup in a thread of its own, which nobody waits for. The error: no thread can be made. The types of the sockets are named, else
@@ -94,10 +88,6 @@ impl<R: Net + Copy + Send + 'static> Resolves for R {
     fn longest_begin(&self, left: Duration) -> Duration {
         left
     }
-
-    fn found<'q>(&self, query: &'q HostQuery) -> Option<&'q Found> {
-        query.found()
-    }
 }
 
 /// The addresses of a player's host, once they are looked up. A host without an address is not looked up again.
@@ -105,30 +95,49 @@ impl<R: Net + Copy + Send + 'static> Resolves for R {
 pub struct Lookup {
     found: Option<Vec<SocketAddr>>,
     /// Whether the first address is there because it has taken a connection.
-    has_preferred: bool,
+    pub(crate) has_preferred: bool,
     /// The lookup that is under way.
     query: Option<Arc<HostQuery>>,
 }
 
-/// Begins a lookup. That of an address asks no resolver, so it is made at once.
+/// A lookup of the addresses of a player's host, which is not made yet.
+fn query_of(alloc: Global, player: &PlayerAddress<'_>) -> Result<Arc<HostQuery>, AllocError> {
+    let host = String::from_str(alloc, player.host)?;
+    let query = HostQuery {
+        alloc,
+        host,
+        port: player.port,
+        found: OnceLock::new(),
+    };
+    Ok(Arc::new(alloc, query)?)
+}
+
+/// Begins a lookup. That of an address asks no resolver, so it is made at once. `None`: there is no memory or thread for it.
 fn begun<N: Resolves>(
     net: &N,
     alloc: Global,
     player: &PlayerAddress<'_>,
-) -> Result<Arc<HostQuery>, AllocError> {
-    let query = Arc::new(alloc, HostQuery::new(alloc, player)?)?;
+) -> Option<Arc<HostQuery>> {
+    let Ok(query) = query_of(alloc, player) else {
+        return None;
+    };
     if is_address(player.host) {
         query.make(net);
-    } else {
-        net.begin(Arc::try_clone(&query)?)?;
+        return Some(query);
     }
-    Ok(query)
+    let Ok(shared) = Arc::try_clone(&query) else {
+        return None;
+    };
+    match net.begin(shared) {
+        Ok(()) => Some(query),
+        Err(_) => None,
+    }
 }
 
 /// What came of a lookup, for the player that waited for it.
 fn copied(alloc: Global, found: &Found) -> Found {
     match found {
-        Ok(found) => match found.iter().copied().collect(alloc) {
+        Ok(found) => match Vec::from_slice(alloc, found) {
             Ok(found) => Ok(found),
             Err(_) => Err(Shortage::Memory),
         },
@@ -153,7 +162,7 @@ fn wait_for<N: Resolves + Clock>(
     query: &HostQuery,
     asked: Duration,
     deadline: &mut Deadline,
-) -> Result<Found, Halt> {
+) -> Result<Found, ContactFault> {
     let mut limit = Duration::from_millis(FIRST_PAUSE_MILLIS);
     let mut left = deadline.after(net, asked)?;
     for _ in 0..MAX_CHECKS {
@@ -165,7 +174,7 @@ fn wait_for<N: Resolves + Clock>(
         left = deadline.after(net, pause)?;
         limit = pause_after(limit);
     }
-    Err(Halt::Late)
+    Err(LATE)
 }
 
 impl Lookup {
@@ -188,11 +197,11 @@ impl Lookup {
         alloc: Global,
         player: &PlayerAddress<'_>,
         deadline: &mut Deadline,
-    ) -> Result<(), Halt>
+    ) -> Result<(), ContactFault>
         ensures once { IfSome self.old.found (λ found. self.new.found ≡ Some found) }
         ensures found { OnOk result (IsSome self.new.found) }
         ensures without { OnErr result (self.new.found ≡ self.old.found) }
-        ensures goes_on { IsSome self.old.query → IfErr result (λ halt. halt ≡ Late → IsSome self.new.query) }
+        ensures goes_on { IsSome self.old.query → IfErr result (λ fault. (received : Received) → fault ≡ Late received → IsSome self.new.query) }
     {
         if self.found.is_some() {
             return Ok(());
@@ -204,25 +213,21 @@ impl Lookup {
         } else {
             net.longest_begin(left)
         };
-        let query = match self.query.take() {
-            Some(query) => query,
-            None => match begun(net, alloc, player) {
-                Ok(query) => query,
-                Err(AllocError) => return Err(Halt::Short(Shortage::Memory)),
-            },
-        };
-        let found = match wait_for(net, alloc, &query, asked, deadline) {
-            Ok(found) => found,
-            Err(halt) => {
-                self.query = Some(query);
-                return Err(halt);
-            }
-        };
-        match found {
-            Ok(found) => self.found = Some(found),
-            Err(shortage) => return Err(Halt::Short(shortage)),
+        if self.query.is_none() {
+            self.query = begun(net, alloc, player);
         }
-        Ok(())
+        let Some(query) = &self.query else {
+            return Err(ContactFault::Shortage(Shortage::Memory));
+        };
+        let found = wait_for(net, alloc, query, asked, deadline)?;
+        self.query = None;
+        match found {
+            Ok(found) => {
+                self.found = Some(found);
+                Ok(())
+            }
+            Err(shortage) => Err(ContactFault::Shortage(shortage)),
+        }
     }
 
     /// Puts the address at this place first, since it has taken a connection.
@@ -233,11 +238,6 @@ impl Lookup {
                 self.has_preferred = true;
             }
         }
-    }
-
-    /// Whether the first address has taken a connection.
-    pub fn has_preferred(&self) -> bool {
-        self.has_preferred
     }
 
     /// The addresses that were found. There are none before the host is looked up.

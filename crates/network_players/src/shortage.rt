@@ -1,7 +1,7 @@
 //! The errors of the system that are shortages of the referee.
 ghost use Rattle.std.specs.Prelude.{◌≡◌, Some};
 ghost use Rattle.std.specs.IoError.{error_kind, raw_os_error};
-ghost use Rattle.network_players.specs.Shortages.{coded_shortage, error_shortages, errors_of_either, is_among, is_of_either, lookup_shortage, shortage_in, system_shortage};
+ghost use Rattle.network_players.specs.Shortages.{coded_shortage, error_shortages, is_of_either, lookup_shortage, shortage_in, system_shortage};
 
 use match_plans::Shortage;
 use std::io;
@@ -24,20 +24,13 @@ fn error_shortage(number: u32) -> Option<Shortage>
     }
 }
 
-/// Whether the error with this number may come from this computer, or from the player or a router on the way to it.
-fn is_error_of_either(number: u32) -> bool
-    ensures { result ≡ is_among errors_of_either number }
-{
-    // EACCES, EINVAL, ENETUNREACH and EHOSTUNREACH.
-    matches!(number, 13 | 22 | 101 | 113)
-}
-
 /// Whether an error with this number may come from this computer, or from the player or a router on the way to it. A probe decides.
 pub(crate) fn is_of_either(number: Option<i32>) -> bool
     ensures { result ≡ is_of_either number }
 {
     match number {
-        Some(number) => is_error_of_either(number.unsigned_abs()),
+        // EACCES, EINVAL, ENETUNREACH and EHOSTUNREACH.
+        Some(number) => matches!(number.unsigned_abs(), 13 | 22 | 101 | 113),
         None => false,
     }
 }

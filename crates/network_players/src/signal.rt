@@ -82,47 +82,10 @@ impl RoundSignal {
         calls
     }
 
-    /// Notes that a message with this number is handed over. If the number is the highest so far, all resting players are woken.
-    fn raise(&self, number: u64) {
-        if self.latest.fetch_max(number, Ordering::SeqCst) < number {
-            self.call();
-        }
-    }
-
-    /// Notes that a player is made. The first one begins a match, so what an earlier attempt at it noted is forgotten.
-    fn enter(&self) {
-        if self.seated.fetch_add(1, Ordering::SeqCst) == 0 {
-            self.latest.store(0, Ordering::SeqCst);
-            self.shortage.store(NO_SHORTAGE, Ordering::SeqCst);
-        }
-        self.players.fetch_add(1, Ordering::SeqCst);
-    }
-
-    /// Notes that a player is dropped.
-    fn end(&self) {
-        self.seated.fetch_sub(1, Ordering::SeqCst);
-    }
-
-    /// Begins a rest. Returns whether all players rest now.
-    fn begin_rest(&self) -> bool {
-        let resting = self.resting.fetch_add(1, Ordering::SeqCst);
-        resting.saturating_add(1) >= self.players.load(Ordering::SeqCst)
-    }
-
-    fn end_rest(&self) {
-        self.resting.fetch_sub(1, Ordering::SeqCst);
-    }
-
     /// Notes that a player leaves. The match is usually over then, so the others are woken.
     fn leave(&self) {
         self.players.fetch_sub(1, Ordering::SeqCst);
         self.call();
-    }
-
-    /// Waits until the players are woken again after `seen`, for the time `limit` at most. It may return for no reason.
-    fn wait<R: Wait>(&self, rt: &R, seen: u64, limit: Duration) {
-        self.calls
-            .park_timeout(rt, (seen & 0xffff_ffff) as u32, limit);
     }
 }
 
@@ -134,13 +97,6 @@ pub fn time_since(clock: &impl Clock, moment: Option<Instant>) -> Duration
         Some(moment) => moment.elapsed(clock).unwrap_or(Duration::ZERO),
         None => Duration::ZERO,
     }
-}
-
-/// The limit of the first rest of a wait.
-fn first_rest() -> Duration
-    ensures { as_nanos result ≡ 100_000_000 }
-{
-    Duration::from_millis(FIRST_REST_MILLIS)
 }
 
 /// The limit of the rest after one with the limit `rest`.
@@ -181,7 +137,7 @@ impl Drop for Pace<'_> {
         if !has_left {
             signal.leave();
         }
-        signal.end();
+        signal.seated.fetch_sub(1, Ordering::SeqCst);
     }
 }
 
@@ -191,23 +147,35 @@ impl<'a> Pace<'a> {
         ensures rest { as_nanos result.rest ≡ 100_000_000 }
         ensures here { IsFalse result.has_left }
     {
-        signal.enter();
+        // The first player begins a match, so what an earlier attempt at it noted is forgotten.
+        if signal.seated.fetch_add(1, Ordering::SeqCst) == 0 {
+            signal.latest.store(0, Ordering::SeqCst);
+            signal.shortage.store(NO_SHORTAGE, Ordering::SeqCst);
+        }
+        signal.players.fetch_add(1, Ordering::SeqCst);
         Pace {
             signal,
             messages: 0,
             seen: signal.calls(),
-            rest: first_rest(),
+            rest: Duration::from_millis(FIRST_REST_MILLIS),
             has_rested: false,
             has_left: false,
         }
     }
 
-    /// Notes that the player gets a message, with which a round has begun.
+    /// Notes that the player gets a message, with which a round has begun. If its number is the highest so far, all resting players are
+    /// woken.
     pub fn begin(&mut self)
         ensures { self.new ≡ record self.old { messages = min (2 ^ 64 - 1) (self.old.messages + 1) } }
     {
         self.messages = self.messages.saturating_add(1);
-        self.signal.raise(self.messages);
+        let latest = self
+            .signal
+            .latest
+            .fetch_max(self.messages, Ordering::SeqCst);
+        if latest < self.messages {
+            self.signal.call();
+        }
     }
 
     /// Notes that the player has answered the message.
@@ -217,7 +185,7 @@ impl<'a> Pace<'a> {
         ensures others { (self.new.messages ≡ self.old.messages) × (self.new.has_left ≡ self.old.has_left) }
     {
         self.seen = self.signal.calls();
-        self.rest = first_rest();
+        self.rest = Duration::from_millis(FIRST_REST_MILLIS);
         self.has_rested = false;
     }
 
@@ -238,15 +206,20 @@ impl<'a> Pace<'a> {
         ensures rested { IsTrue self.new.has_rested }
         ensures others { (self.new.messages ≡ self.old.messages) × (self.new.has_left ≡ self.old.has_left) }
     {
-        if self.signal.begin_rest() && !self.has_rested && self.signal.call() == self.seen {
+        let signal = self.signal;
+        let others = signal.resting.fetch_add(1, Ordering::SeqCst);
+        let all_rest = others.saturating_add(1) >= signal.players.load(Ordering::SeqCst);
+        if all_rest && !self.has_rested && signal.call() == self.seen {
             // Its own call must not end its rest.
             self.seen = self.seen.wrapping_add(1);
         }
         self.has_rested = true;
-        self.signal.wait(rt, self.seen, self.rest);
-        self.signal.end_rest();
+        // It may end for no reason.
+        let seen = (self.seen & 0xffff_ffff) as u32;
+        signal.calls.park_timeout(rt, seen, self.rest);
+        signal.resting.fetch_sub(1, Ordering::SeqCst);
         self.rest = rest_after(self.rest);
         // This is read before the role asks again, so whatever is raised after that ends the next rest.
-        self.seen = self.signal.calls();
+        self.seen = signal.calls();
     }
 }

@@ -17,7 +17,6 @@ use match_plans::{PlayerAddress, Reach, ReportsShortages, RolePlace, Shortage};
 use shared_text::SharedText;
 use std::alloc::{AllocError, Global};
 use std::io::ErrorKind;
-use std::net::Net;
 use std::sync::Wait;
 use std::time::Clock;
 
@@ -65,7 +64,7 @@ impl<H> ReportsShortages for Sockets<'_, H> {
     }
 }
 
-impl<'a, H: Net + Clock> Reach for Sockets<'a, H> {
+impl<'a, H> Reach for Sockets<'a, H> {
     type Player = SocketPlayer<'a, H>;
 
     ghost use Rattle.network_players.specs.Players.{IsPlayerAt};
@@ -113,7 +112,7 @@ fn contact_answer(reached: Result<Text, ContactFault>) -> Answer
     ensures { result ≡ contact_answer reached }
 {
     match reached {
-        Ok(text) => answer_of(Ok(text)),
+        Ok(text) => Answer::Text(text),
         Err(ContactFault::Exchange(fault, _)) => answer_of(Err(fault)),
         Err(ContactFault::Late(_)) => Answer::Silent,
         Err(
@@ -153,11 +152,12 @@ impl<H> Explains for SocketPlayer<'_, H> {
 }
 
 impl<H: Resolves + Clock> SocketPlayer<'_, H> {
-    /// The answer to a message. Notes why it brought none.
-    fn answer_to(&mut self, seconds: u32, message: &SharedText<'_>) -> Answer
+    /// Hands a message over, which begins a round, and whose answer ends the player's wait. Notes why it brought none.
+    fn hand_over(&mut self, seconds: u32, message: &SharedText<'_>) -> Answer
         ensures answer { MatchOption self.new.fault (IsPaidText self.old.budget self.new.budget result) (λ fault. result ≡ contact_answer (Err fault)) }
-        ensures pace { self.new.pace ≡ self.old.pace }
+        ensures pace { HasAnswered self.old.pace self.new.pace }
     {
+        self.pace.begin();
         let address = PlayerAddress {
             name: self.name.as_str(),
             host: self.host.as_str(),
@@ -172,22 +172,15 @@ impl<H: Resolves + Clock> SocketPlayer<'_, H> {
             message,
         );
         let reached = paid(&mut self.budget, reached);
-        self.fault = reached.as_ref().err().copied();
+        self.fault = match &reached {
+            Ok(_) => None,
+            Err(fault) => Some(*fault),
+        };
         if let Some(ContactFault::Shortage(shortage)) = self.fault {
             self.signal.note(shortage);
         }
-        contact_answer(reached)
-    }
-
-    /// Hands a message over, which begins a round, and whose answer ends the player's wait.
-    fn hand_over(&mut self, seconds: u32, message: &SharedText<'_>) -> Answer
-        ensures answer { MatchOption self.new.fault (IsPaidText self.old.budget self.new.budget result) (λ fault. result ≡ contact_answer (Err fault)) }
-        ensures pace { HasAnswered self.old.pace self.new.pace }
-    {
-        self.pace.begin();
-        let answer = self.answer_to(seconds, message);
         self.pace.end();
-        answer
+        contact_answer(reached)
     }
 }
 
