@@ -2,6 +2,7 @@
 
 import os
 import pathlib
+import re
 import shutil
 import subprocess
 import tempfile
@@ -34,6 +35,12 @@ class Kept(unittest.TestCase):
         kept.keep(key, b"rules\n", b"told")
         self.assertEqual(kept.kept(key), (b"rules\n", b"told"))
         self.assertIsNone(kept.kept(other))
+
+    def test_the_sum_is_over_all_code_that_a_result_comes_from(self):
+        found = kept.sources()
+        asked = {name for file in found for name in re.findall(r"from ggp_tools\.(\w+) import", file.read_text())}
+        # This one only reads and says.
+        self.assertEqual({f"{name}.py" for name in asked} - {file.name for file in found}, {"streams.py"})
 
     def test_a_file_that_is_cut_off_is_none(self):
         kept.keep("key", b"rules\n", b"")

@@ -23,14 +23,18 @@ def folder() -> pathlib.Path:
     return cache() / "instantiated"
 
 
+def sources() -> list[pathlib.Path]:
+    """Returns the code that a result comes from."""
+    return sorted([*(HERE.parent / "instantiating").glob("*.py"), HERE.parent / "kif.py", HERE.parent / "gdl.py"])
+
+
 def sum_of_work(text: bytes, options: list[str]) -> str:
     """Returns the sum of all that a result comes from. The seconds are none of it."""
     found = hashlib.sha256()
-    sources = sorted([*(HERE.parent / "instantiating").glob("*.py"), HERE.parent / "kif.py"])
     # To ask the grounder which one it is would be to run it.
     path = shutil.which("gringo")
     grounder = f"{path} {os.stat(path).st_size} {os.stat(path).st_mtime_ns}".encode() if path else b""
-    for part in (text, grounder, *(file.read_bytes() for file in sources), *(option.encode() for option in options)):
+    for part in (text, grounder, *(file.read_bytes() for file in sources()), *(option.encode() for option in options)):
         found.update(b"%d " % len(part) + part)
     return found.hexdigest()
 
