@@ -6,8 +6,9 @@ import os
 import sys
 
 import pytest
-from ggp_tools.competition import children
-from ggp_tools.competition.children import Job, Lost, run
+from ggp_tools.competition import jobs
+from ggp_tools.competition.children import run
+from ggp_tools.competition.jobs import Job, Lost
 
 NODE = "import sys\nsys.stderr.write('ggp_competition: node n1\\n')\nsys.stderr.flush()\n"
 CLEAR = "bad \x1b]0;title\x07 words \x9b31m"
@@ -48,20 +49,20 @@ def is_alive(process):
 # ---- jobs
 
 def test_a_job_that_runs_and_is_silent_is_lost(monkeypatch):
-    monkeypatch.setattr(children, "LOST_SECONDS", 1)
+    monkeypatch.setattr(jobs, "LOST_SECONDS", 1)
     job = ran(f"{NODE}sys.stdin.read()")
     # It heard that nothing comes any more, and ended by itself.
     assert (job.why, job.node, job.status, job.process.returncode, job.goes_on) == ("nothing was heard of it for 1 s", "n1", None, 0, False)
 
 
 def test_a_job_that_waits_in_a_queue_may_be_silent(monkeypatch):
-    monkeypatch.setattr(children, "LOST_SECONDS", 0.1)
+    monkeypatch.setattr(jobs, "LOST_SECONDS", 0.1)
     job = ran("import time; time.sleep(1)")
     assert (job.why, job.status, job.process.returncode, job.node) == ("", None, 0, "")
 
 
 def test_a_job_that_says_something_now_and_then_goes_on(monkeypatch):
-    monkeypatch.setattr(children, "LOST_SECONDS", 8)
+    monkeypatch.setattr(jobs, "LOST_SECONDS", 8)
     job = ran(f"{NODE}import time\nfor _ in range(20):\n  print('ggp_competition: beat', flush=True, file=sys.stderr)\n  time.sleep(0.5)\nprint('ggp_competition: status 3', file=sys.stderr)")
     assert (job.why, job.status, job.lines) == ("", 3, [])
 
@@ -74,7 +75,7 @@ def test_what_a_job_says_is_told_from_what_others_say():
 
 
 def test_a_line_without_an_end_ends_the_job(monkeypatch):
-    monkeypatch.setattr(children, "LONGEST_LINE", 100_000)
+    monkeypatch.setattr(jobs, "LONGEST_LINE", 100_000)
     job = ran("import sys\nwhile True: sys.stderr.write('x' * 1000)")
     assert (job.why, job.lines) == ("a line that it said has more than 100,000 bytes", [])
 
@@ -106,7 +107,7 @@ def test_the_error_of_a_file_is_raised():
 
 
 def test_a_job_that_runs_gets_a_byte_now_and_then_and_its_task(monkeypatch):
-    monkeypatch.setattr(children, "BEAT", 0.01)
+    monkeypatch.setattr(jobs, "BEAT", 0.01)
     script = f"{NODE}given = ['', sys.stdin.readline()]\nwhile len(given[-1]) == 1: given.append(sys.stdin.readline())\nprint(given[1] == chr(10), given[-1])"
 
     async def go():

@@ -10,13 +10,13 @@ import sys
 import time
 
 import pytest
-from ggp_tools.competition.children import JOB
+from ggp_tools.competition.jobs import JOB
 from players import TestPlayer
 from support import GAMES, TOP, InFolder, command_of, program, program_but, run, start
 
 HEAD = "start = 60\nplay = 60\nstrikes = 1\nwait = 0\ninfo = 10\ntries = 2\n"
 # The command with other seconds, after which a job is lost, or its match has ended for sure.
-OTHER = f"import sys; sys.path.insert(0, {str(TOP / 'python')!r})\nfrom ggp_tools.competition import children, command, open_match\n%s\nsys.exit(command.main())"
+OTHER = f"import sys; sys.path.insert(0, {str(TOP / 'python')!r})\nfrom ggp_tools.competition import command, jobs, open_match\n%s\nsys.exit(command.main())"
 NODE = socket.gethostname()
 
 
@@ -165,7 +165,7 @@ class Launched(InFolder):
 
     def test_a_job_that_runs_and_says_nothing_more_is_lost(self):
         self.planned('[ -e $folder/lost ] && exec "$@"; touch $folder/lost; echo "ggp_competition: node n1" >&2; exec sleep 6000')
-        playing = self.started_with("open_match.SILENCE = 0.5; children.LOST_SECONDS = 20", program())
+        playing = self.started_with("open_match.SILENCE = 0.5; jobs.LOST_SECONDS = 20", program())
         out, said = playing.communicate(timeout=800)
         self.assertEqual((playing.returncode, said, lines(out, "lost")), (0, "", ["lost cup-001 on n1: nothing was heard of it for 20 s"]), out)
         self.assert_sound(self.schedule)

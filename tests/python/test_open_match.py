@@ -11,8 +11,9 @@ import unittest
 from unittest import mock
 
 from ggp_tools.competition import checking, open_match
-from ggp_tools.competition.children import Done, Lost
+from ggp_tools.competition.children import Done
 from ggp_tools.competition.files import Folder
+from ggp_tools.competition.jobs import Lost
 from ggp_tools.competition.open_match import OpenMatch, leave_players
 from ggp_tools.competition.seats import Seats
 from ggp_tools.competition.started_players import StartedPlayers

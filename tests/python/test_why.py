@@ -107,7 +107,7 @@ class Why(InFolder):
         self.planned("good", "good", head=HEAD.replace("info = 5", "info = 1"))
         self.players[1].serve = lambda connection: time.sleep(3_600)
         self.assertEqual(run(self.folder, "play")[0], 1)
-        self.assertRegex(self.why("cup-001", "p1"), r"info cup-001 p1: silent for [1-9]\d*\.\d s\n")
+        self.assertRegex(self.why("cup-001", "p1"), r"info cup-001 p1: silent, [1-9]\d*\.\d s\n")
 
     def test_a_play_with_nothing_to_do_adds_nothing_to_the_journal(self):
         self.planned("good", "good")

@@ -10,8 +10,9 @@ from typing import TYPE_CHECKING
 
 from ggp_tools.competition.aborts import send_aborts
 from ggp_tools.competition.checking import check
-from ggp_tools.competition.children import SILENCE, Done, Job, Lost, run
+from ggp_tools.competition.children import Done, run
 from ggp_tools.competition.files import ASKING, CHECKING, PLAYERS, PLAYING, file_bytes, new_file, write_whole
+from ggp_tools.competition.jobs import SILENCE, Job, Lost
 from ggp_tools.competition.schedule import Match
 from ggp_tools.match_log import Event, Host, Other, line_of
 from ggp_tools.printable import MOST_READ

@@ -8,9 +8,10 @@ import shutil
 import time
 from collections.abc import Iterator
 
-from ggp_tools.competition.children import Job, run
+from ggp_tools.competition.children import run
 from ggp_tools.competition.competition_file import EACH_MATCH, NEVER, Competition, Mistake, Player
 from ggp_tools.competition.files import Folder, file_bytes, new_file
+from ggp_tools.competition.jobs import Job
 from ggp_tools.printable import MOST_READ, message_lines
 from ggp_tools.referee import Referee
 from ggp_tools.reporting import Reporter
