@@ -16,30 +16,23 @@ import unittest
 from unittest import mock
 
 from ggp_tools.competition import archive as archive_module
-from ggp_tools.competition.archive import Spoilt, unpacked
 from ggp_tools.competition.command import main
 from ggp_tools.competition.files import held, written_whole
+from ggp_tools.competition.packing import Spoilt, pack, unpack
 from players import TestPlayer
 from support import GAMES, ODD, program, program_but, run, toml
 
 HEAD = "start = 5\nplay = 5\nstrikes = 1\nforfeit = true\n"
 
 
-def packed(files, kinds=None, fits=True, headers=None):
-    """Returns an archive of these files, whose sums are made to fit unless they are to stay. By names, some are of other kinds or have
-    extended headers."""
+def packed(files, fits=True):
+    """Returns an archive of these files, whose sums are made to fit unless they are to stay."""
     files, sums = dict(files), f"{next(iter(files)).partition('/')[0]}/SHA256SUMS"
     lines = sorted((name.partition("/")[2], hashlib.sha256(data).hexdigest()) for name, data in files.items() if name != sums)
     if fits and sums in files:
         files[sums] = "".join(f"{line}  {name}\n" for name, line in lines).encode()
     found = io.BytesIO()
-    with tarfile.open(fileobj=found, mode="w:gz") as archive:
-        for name, data in files.items():
-            member = tarfile.TarInfo(name)
-            member.size = len(data)
-            member.type = (kinds or {}).get(name, tarfile.REGTYPE)
-            member.pax_headers = (headers or {}).get(name, {})
-            archive.addfile(member, io.BytesIO(data))
+    pack(found, files.items())
     return found.getvalue()
 
 
@@ -65,32 +58,6 @@ def swapped(first, second):
 
 def without(*names):
     return lambda files: packed({name: data for name, data in files.items() if name not in names})
-
-
-def beside(name, data=b"x", kind=tarfile.REGTYPE):
-    return lambda files: packed({**files, name: data}, {name: kind})
-
-
-def with_header(key, value):
-    return lambda files: packed(files, headers={"cup/schedule.tsv": {key: value}})
-
-
-def sums_changed(change):
-    """Returns a spoiling of the sums themselves."""
-    return lambda files: packed({**files, "cup/SHA256SUMS": change(files["cup/SHA256SUMS"])}, fits=False)
-
-
-def headers_for_headers(_):
-    """Returns an archive of nothing but extended headers, each for the next one."""
-    header = tarfile.TarInfo("x")
-    header.type = tarfile.XHDTYPE
-    return gzip.compress(header.tobuf(tarfile.USTAR_FORMAT) * 3000)
-
-
-def twice(_):
-    """Returns an archive that has a file twice."""
-    member = tarfile.TarInfo("cup/schedule.tsv")
-    return gzip.compress(2 * member.tobuf() + bytes(1024))
 
 
 def nonsense(files):
@@ -131,10 +98,6 @@ SPOILINGS = {
     "a bit of a record is turned, sums as they were": (None, "is not the one of its sum"),
     "the archive is cut off": (None, "can't be unpacked"),
     "it is no archive": (None, "can't be unpacked"),
-    "a header has no number": (with_header("GNU.sparse.map", "x"), "can't be unpacked"),
-    "another header has no number": (with_header("GNU.sparse.size", "x"), "can't be unpacked"),
-    "a header in the place of another has no number": (with_header("GNU.sparse.realsize", "x"), "can't be unpacked"),
-    "there are headers for headers alone": (headers_for_headers, "can't be unpacked"),
     "goals are exchanged": (changed("cup/records/cup-002.json", better), "cup-002: not lawful: goals"),
     "a record has another player's name": (changed("cup/records/cup-001.json", renamed), "cup-001: its account does not give its record again"),
     "a move of the account is another one": (changed("cup/accounts/cup-001.txt", lambda text: text.replace(b"READY", b"BUSY").replace(b"(take 1)", b"(take 2)")), "cup-001: "),
@@ -144,12 +107,9 @@ SPOILINGS = {
     "an account has a line that replay skips": (
         changed("cup/accounts/cup-003.txt", lambda text: b'{"goalValues":[100,0]}\n' + text), 'cup-003: line 1 of its account does not open a match: {"goalValues":[100,0]}',
     ),
-    "a match is missing": (without("cup/records/cup-003.json", "cup/accounts/cup-003.txt", "cup/logs/cup-003.jsonl"), "cup-003: it has no record"),
-    "an account is missing": (without("cup/accounts/cup-004.txt"), "cup-004: its account is missing"),
     "a log tells of another answer": (changed("cup/logs/cup-001.jsonl", lambda text: re.sub(rb'("kind":"PLAY".*?"answer":)[^,]*,', rb'\1"(take 7)",', text, count=1)), "of its log is not what its account says"),
-    "a log tells of another player": (changed("cup/logs/cup-001.jsonl", lambda text: text.replace(b'"ann"', b'"cid"').replace(b'"bob"', b'"ann"')), "line 2 of its log is not what its account says"),
+    "a log tells of another player": (changed("cup/logs/cup-001.jsonl", lambda text: text.replace(b'"ann"', b'"cid"').replace(b'"bob"', b'"ann"')), " of its log is not what its account says"),
     "two logs are exchanged": (swapped("cup/logs/cup-001.jsonl", "cup/logs/cup-002.jsonl"), "cup-002: line 1 of its log is not a line that is published"),
-    "a log is missing": (without("cup/logs/cup-004.jsonl"), "cup-004: its log is missing"),
     "the rules are others": (changed("cup/rules/countdown.kif", lambda text: text.replace(b"100", b"90")), "rules/countdown.kif is not what"),
     "a description is another": (changed("cup/games/odd.kif", lambda _: b"(role nonsense)\n"), "games/odd.kif is not the description that the rules of odd were made from"),
     "a description and its sum are others": (nonsense, "games/odd.kif has no variables, and is not the rules of odd"),
@@ -164,41 +124,10 @@ SPOILINGS = {
     "a forfeit has another reason": (changed("cup/matches.jsonl", lambda text: text.replace(b'"errors":["IL"]', b'"errors":["TO"]', 1)), "matches.jsonl does not follow"),
     "a forfeit is taken away from its page": (changed("cup/pages/index.html", lambda text: re.sub(rb"forfeit: cid .*?<", b"<", text, count=1)), "pages/index.html does not follow"),
     "the table is another": (changed("cup/table.txt", lambda text: text.replace(b"ann", b"eve")), "table.txt does not follow from the records"),
-    "the crosstable is another": (changed("cup/crosstable.csv", lambda text: text + b"x"), "crosstable.csv does not follow"),
-    "times are others": (changed("cup/matches.jsonl", lambda text: text.replace(b'"turns":', b'"turns":1', 1)), "matches.jsonl does not follow"),
-    "a page is another": (changed("cup/pages/index.html", lambda text: text.replace(b"ann", b"eve")), "pages/index.html does not follow"),
-    "a page is missing": (without("cup/pages/matches/cup-001.html"), "pages/matches/cup-001.html does not follow"),
-    "there is a page more": (beside("cup/pages/more.html"), "pages/more.html does not follow"),
-    "there is a record more": (beside("cup/records/cup-099.json"), "it is of no match of the schedule"),
-    "there is a file more, of a name that the check itself has used": (beside("cup/pages.said"), "pages.said is nothing of this competition"),
-    "there is a folder of pages more": (beside("cup/pages.said/index.html"), "pages.said/index.html is nothing of this competition"),
-    "there is a file more": (beside("cup/more.txt"), "more.txt is nothing of this competition"),
-    "the version is none": (changed("cup/VERSION", lambda _: b"\x1b[2J\x1b[31mggp_manager 9\nall is well\n"), "VERSION is not one line `ggp_manager N.N.N`"),
-    "the version is missing": (without("cup/VERSION"), "VERSION is missing"),
-    "it does not say how to check it": (without("cup/CHECK.txt"), "CHECK.txt is missing"),
     "a name in the sums is no plain text": (None, "records/x?[2J?[31mn? is missing"),
     "a word of the competition is no plain text": (changed("cup/competition.toml", lambda text: text.replace(b"round_robin", b"\xc3\xa9")), "'?' is none of round_robin"),
-    "it says otherwise how to check it": (changed("cup/CHECK.txt", lambda text: text + b"All of it was checked.\n"), "CHECK.txt is not what `publish` writes"),
-    "the sums have another line": (sums_changed(lambda text: text + b"all is well\n"), "SHA256SUMS has a file twice, or a line that is no sum"),
-    "a file has two sums": (sums_changed(lambda text: b"0" * 64 + text[64 : text.index(b"\n") + 1] + text), "SHA256SUMS has a file twice"),
     "the sums of the rules have another line": (changed("cup/rules/SHA256SUMS", lambda text: b"all is well\n" + text), "rules/SHA256SUMS is not what `ggp_competition plan` wrote"),
     "a description has two sums": (changed("cup/rules/DESCRIPTIONS.sha256", lambda text: b"0" * 64 + text[64 : text.index(b"\n") + 1] + text), "rules/DESCRIPTIONS.sha256 is not what"),
-    "there are gaps where there are none": (beside("cup/GAPS.tsv", b"id\tgame\tstart\tplay\tplayers\n"), "GAPS.tsv is nothing of this competition"),
-    "there are no sums": (without("cup/SHA256SUMS"), "SHA256SUMS is missing"),
-    "a name leads out of the folder": (beside("cup/../../out.txt"), "is no plain file below one folder"),
-    "a name is absolute": (beside("/tmp/out.txt"), "is no plain file below one folder"),
-    "a file is there twice": (twice, "'cup/schedule.tsv' is there twice"),
-    "a file is a link": (beside("cup/more", b"", tarfile.SYMTYPE), "is no plain file below one folder"),
-    "a folder leads out of the folder": (beside("cup/..", b"", tarfile.DIRTYPE), "is no plain file below one folder"),
-    "a folder is absolute": (beside("/tmp/out", b"", tarfile.DIRTYPE), "is no plain file below one folder"),
-    "a folder is another one": (beside("out", b"", tarfile.DIRTYPE), "'out' is not below cup"),
-    "another archive stands behind its end": (lambda files: gzip.compress(gzip.decompress(packed(files)) + gzip.decompress(packed(files))), "can't be unpacked: something stands behind its end"),
-    "its folder has another name": (lambda files: packed({name.replace("cup/", "final/", 1): data for name, data in files.items()}), "its folder is final, and the name of the competition cup"),
-    "a folder stands in the place of a file": (beside("cup/again.tsv/more"), "again.tsv/more is nothing of this competition"),
-    "a file stands in the place of a folder": (beside("cup/earlier"), "earlier is nothing of this competition"),
-    "there is a folder of the name of a file": (lambda files: packed({"cup/schedule.tsv/": b"", **files}, {"cup/schedule.tsv/": tarfile.DIRTYPE}), "'cup/schedule.tsv' is there twice"),
-    "a file is a folder too": (beside("cup/play.log/more"), "'cup/play.log/more' is a file and a folder, or below a file"),
-    "there are folders alone": (lambda _: packed({"cup": b""}, {"cup": tarfile.DIRTYPE}), "SHA256SUMS is missing"),
 }
 
 
@@ -291,7 +220,7 @@ class Archive(unittest.TestCase):
 
     def test_an_archive_for_which_memory_is_short(self):
         words, said = ["ggp_competition", "check", str(self.archive), "--program", program()], io.StringIO()
-        for place in ("ggp_tools.competition.archive.unpacked", "ggp_tools.competition.kept.file_bytes"):
+        for place in ("ggp_tools.competition.archive.unpack", "ggp_tools.competition.kept.file_bytes"):
             with mock.patch(place, side_effect=MemoryError), mock.patch("sys.argv", words), mock.patch("sys.stderr", said):
                 self.assertEqual(main(), 3)
         what = "the archive", "records and accounts"
@@ -299,7 +228,7 @@ class Archive(unittest.TestCase):
 
     def test_an_archive_for_which_the_disk_is_full(self):
         words, said = ["ggp_competition", "check", str(self.archive), "--program", program()], io.StringIO()
-        for place in ("ggp_tools.competition.archive.unpacked", "tempfile.TemporaryDirectory"):
+        for place in ("ggp_tools.competition.archive.unpack", "tempfile.TemporaryDirectory"):
             with mock.patch(place, side_effect=OSError(errno.ENOSPC, "full", "x")), mock.patch("sys.argv", words), mock.patch("sys.stderr", said):
                 self.assertEqual(main(), 3)
         self.assertEqual(said.getvalue(), 2 * f"ggp_competition: the archive can't be checked in {tempfile.gettempdir()}: full; nothing is changed\n")
@@ -308,12 +237,11 @@ class Archive(unittest.TestCase):
         (self.other / "again.tar.gz").write_bytes(packed(self.files()))
         self.assertEqual(run(self.other, "check", "again.tar.gz")[0], 0)
 
-    def test_an_archive_that_tar_has_packed_again(self):
-        for words in (["xzf", self.archive], ["czf", "again.tar.gz", "cup"]):
+    def test_what_tar_has_packed_again_is_not_checked(self):
+        for words in (["xzf", self.archive], ["czf", "again.tar.gz", "cup/competition.toml", "cup"]):
             subprocess.run(["tar", *words], cwd=self.other, check=True)
-        with tarfile.open(self.other / "again.tar.gz") as archive:
-            self.assertIn("cup/pages/matches", [member.name for member in archive if member.isdir()])
-        self.assertEqual(run(self.other, "check", "again.tar.gz")[0], 0)
+        said = "ggp_competition: again.tar.gz: it is not packed as `publish` packs: see 'cup/competition.toml'\n"
+        self.assertEqual(run(self.other, "check", "again.tar.gz"), (1, "", said))
 
     def test_the_same_again(self):
         data = self.archive.read_bytes()
@@ -389,7 +317,7 @@ class Archive(unittest.TestCase):
         self.assertEqual((run(cup, "plan")[0], sums.read_bytes()), (0, before))
         self.assertEqual((run(cup, "publish")[0], (cup / "cup.tar.gz").read_bytes()), (0, published))
 
-    def test_pages_in_another_place_are_not_published(self):
+    def test_pages_may_be_in_another_place(self):
         cup, web = self.other / "cup", self.other / "web"
         shutil.copytree(self.folder, cup)
         published = (cup / "cup.tar.gz").read_bytes()
@@ -397,14 +325,11 @@ class Archive(unittest.TestCase):
         (web / "mine.html").touch()
         (cup / "pages").symlink_to(web)
         self.assertEqual(run(cup, "pages")[0], 0)
-        said = "ggp_competition: pages is a link, and `publish` makes that folder anew: take the link away, and publish again\n"
-        self.assertEqual(run(cup, "publish"), (2, "", said))
-        (cup / "pages").unlink()
         self.assertEqual((run(cup, "publish")[0], (cup / "cup.tar.gz").read_bytes()), (0, published))
         self.assertTrue((web / "mine.html").exists() and (web / "index.html").exists())
-        shutil.rmtree(cup / "pages")
+        (cup / "pages").unlink()
         (cup / "pages").touch()
-        self.assertEqual(run(cup, "publish"), (1, "", "ggp_competition: pages: Not a directory\n"))
+        self.assertEqual(run(cup, "publish"), (1, "", "ggp_competition: pages/matches: Not a directory\n"))
 
     def test_where_an_archive_can_not_stand(self):
         (self.other / "there").mkdir()
@@ -435,13 +360,13 @@ class Archive(unittest.TestCase):
         words = ["ggp_competition", "publish", str(cup), "--program", program()]
         for most, status in ((size - 1, 1), (size, 0)):
             said = io.StringIO()
-            with mock.patch("ggp_tools.competition.archive.MOST_BYTES", most), mock.patch("sys.argv", words), mock.patch("sys.stderr", said), mock.patch("sys.stdout", io.StringIO()):
+            with mock.patch("ggp_tools.competition.packing.MOST_BYTES", most), mock.patch("sys.argv", words), mock.patch("sys.stderr", said), mock.patch("sys.stdout", io.StringIO()):
                 self.assertEqual(main(), status)
             self.assertEqual(said.getvalue(), f"ggp_competition: nothing is published: it has more than {most:,} bytes, which are the most of an archive\n" if status else "")
             self.assertEqual(((cup / "cup.tar.gz").read_bytes(), [*cup.glob(".*")]), (before, []))
-            with mock.patch("ggp_tools.competition.archive.MOST_BYTES", most), tempfile.TemporaryDirectory() as room:
+            with mock.patch("ggp_tools.competition.packing.MOST_BYTES", most), tempfile.TemporaryDirectory() as room:
                 try:
-                    self.assertEqual((unpacked(self.archive, pathlib.Path(room)).name, status), ("cup", 0))
+                    self.assertEqual((unpack(self.archive, pathlib.Path(room)).name, status), ("cup", 0))
                 except Spoilt as why:
                     self.assertEqual((str(why), status), (f"with 'cup/SHA256SUMS' it has more than {most:,} bytes, which are the most of an archive", 1))
 

@@ -13,11 +13,12 @@ import types
 import unittest
 from unittest import mock
 
-from ggp_tools.competition import archive, command
-from ggp_tools.competition.archive import SUMS, Spoilt, TooLarge, check_archive, files_below, publish, unpacked
+from ggp_tools.competition import archive, command, packing
+from ggp_tools.competition.archive import SUMS, check_archive, files_below, publish
 from ggp_tools.competition.files import Refused
 from ggp_tools.competition.kept import look_at_records
 from ggp_tools.competition.known import Known
+from ggp_tools.competition.packing import Spoilt, TooLarge
 from ggp_tools.competition.plan import make_plan, read_plan
 from ggp_tools.competition.table_text import in_order
 from ggp_tools.match_log import End, line_of
@@ -115,8 +116,8 @@ class Checked(Made):
             (without("cup/matches.jsonl"), "matches.jsonl is missing"),
             (without("cup/table.csv"), "table.csv is missing"),
             (changed("cup/pages/index.html", more), "pages/index.html does not follow from the records"),
-            (without("cup/pages/index.html"), "pages/index.html does not follow from the records"),
-            (lambda files: packed({**files, "cup/pages/more.html": b""}), "pages/more.html does not follow from the records"),
+            (without("cup/pages/index.html"), "pages/index.html is missing"),
+            (lambda files: packed({**files, "cup/pages/more.html": b""}), "pages/more.html is nothing of this competition"),
             (lambda files: packed({**files, "cup/pages.more": b""}), "pages.more is nothing of this competition"),
             (lambda files: packed({name.replace("cup/", "cap/", 1): data for name, data in files.items()}), "its folder is cap, and the name of the competition cup"),
             (lambda files: packed({**files, "cup/GAPS.tsv": b""}), "GAPS.tsv is nothing of this competition"),
@@ -126,7 +127,10 @@ class Checked(Made):
             (lambda files: packed({**files, "cup/accounts/cup-004.txt": b"a"}), "accounts/cup-004.txt is nothing of this competition"),
             (lambda files: packed({**files, "cup/records/cup-004.json": b"a"}), "records/cup-004.json: it is of no match of the schedule"),
             (lambda files: packed({**files, "cup/play.log": b"2026\n"}), None),
-            (changed("cup/CHECK.txt", more), "CHECK.txt is not what `publish` writes"),
+            (changed("cup/VERSION", lambda _: b"ggp_manager 1.2.3"), "VERSION is not one line `ggp_manager N.N.N`"),
+            (without("cup/VERSION"), "VERSION is missing"),
+            (without("cup/CHECK.txt"), "CHECK.txt is missing"),
+            (changed("cup/CHECK.txt", more), "CHECK.txt does not follow from the records"),
             (without("cup/logs/cup-002.jsonl"), "cup-002: its log is missing"),
             (without("cup/records/cup-002.json"), "cup-002: it has no record"),
             (without("cup/accounts/cup-002.txt"), "cup-002: its account is missing"),
@@ -148,13 +152,13 @@ class Checked(Made):
         files = dict(whole)
         del files["cup/table.csv"], files["cup/CHECK.txt"], files["cup/records/cup-001.json"]
         files[f"cup/{SUMS}"] = files[f"cup/{SUMS}"].replace(b"  pages/index.html", b"  pages/other.html")
-        files["cup/more/a"] = b""
+        files["cup/more"] = b""
         self.assertEqual(self.check(packed(files, fits=False))[0], [
             "CHECK.txt is missing", "pages/other.html is missing", "records/cup-001.json is missing", "table.csv is missing",
-            "more/a has no sum", "pages/index.html has no sum", "CHECK.txt is missing", "more/a is nothing of this competition",
+            "more has no sum", "pages/index.html has no sum",
         ])
         pages = [f"pages/{letter}.html" for letter in "hgfedcba"]
-        self.assertEqual(self.check(packed({**whole, **{f"cup/{page}": b"" for page in pages}}))[0], [f"{page} does not follow from the records" for page in pages[::-1]])
+        self.assertEqual(self.check(packed({**whole, **{f"cup/{page}": b"" for page in pages}}))[0], [f"{page} is nothing of this competition" for page in pages[::-1]])
 
     def test_what_the_referee_says_of_records(self):
         self.publish()
@@ -219,7 +223,7 @@ class Checked(Made):
     def test_beside_ground_rules_the_description_is_in_the_archive(self):
         competition = self.plan.competition
         self.plan.competition = dataclasses.replace(competition, games=(dataclasses.replace(competition.games[0], described="general.kif"),))
-        files = dict(archive.contents(self.plan, self.referee, [], None))
+        files = dict(archive.contents(self.plan, self.referee, [], None, []))
         self.assertEqual(files["games/heap.kif"], self.plan.folder.path / "general.kif")
 
     def test_a_line_of_a_match_is_made_once(self):
@@ -242,45 +246,45 @@ class Checked(Made):
         names = "competition.toml", "schedule.tsv", "again.tsv", "matches.jsonl", "table.txt", "SHA256SUMS", "VERSION", "CHECK.txt", "GAPS.tsv", "heap.kif"
         self.assertLessEqual({str(self.plan.folder.path / name) for name in names}, set(map(str, archive.own_files(self.plan))))
 
-    def test_what_another_run_is_writing_is_none_of_the_pages(self):
+    def test_other_files_among_the_pages_are_not_published(self):
         self.publish()
-        files = files_of(self.path)
-        unfinished = self.plan.folder.pages / "matches/.unfinished-1-x"
-        with mock.patch.object(archive, "made_anew", lambda *_: unfinished.touch()):
-            self.publish()
-        self.assertEqual((files_of(self.path), unfinished.exists()), (files, True))
+        files, others = files_of(self.path), [self.plan.folder.pages / name for name in ("mine.html", "matches/.unfinished-1-x")]
+        for other in others:
+            other.touch()
+        self.publish()
+        self.assertEqual((files_of(self.path), [other.exists() for other in others]), (files, [True, True]))
 
     def test_more_bytes_than_an_archive_may_have(self):
         self.publish()
         size, known = sum(map(len, files_of(self.path).values())), Known(self.folder)
-        with mock.patch.object(archive, "MOST_BYTES", size):
+        with mock.patch.object(packing, "MOST_BYTES", size):
             self.publish(known)
         self.path.unlink()
-        with mock.patch.object(archive, "MOST_BYTES", size - 1), self.assertRaises(TooLarge) as why:
+        with mock.patch.object(packing, "MOST_BYTES", size - 1), self.assertRaises(TooLarge) as why:
             self.publish(known)
         self.assertEqual((str(why.exception), self.path.exists()), (f"it has more than {size - 1:,} bytes, which are the most of an archive", False))
 
     def test_faults_of_this_computer_are_none_of_the_archive(self):
         for number in (errno.ENOSPC, errno.EDQUOT, errno.EIO, errno.EMFILE, errno.ENFILE, errno.ENOMEM):
-            with mock.patch.object(archive, "unpacked", side_effect=OSError(number, "short")), self.assertRaises(Unchecked) as why:
+            with mock.patch.object(archive, "unpack", side_effect=OSError(number, "short")), self.assertRaises(Unchecked) as why:
                 self.check()
             self.assertEqual(str(why.exception), f"the archive can't be checked in {tempfile.gettempdir()}: short")
-        with mock.patch.object(archive, "unpacked", side_effect=OSError(errno.EACCES, "no")), self.assertRaises(OSError):
+        with mock.patch.object(archive, "unpack", side_effect=OSError(errno.EACCES, "no")), self.assertRaises(OSError):
             self.check()
-        with mock.patch.object(archive, "unpacked", side_effect=MemoryError), self.assertRaises(Unchecked) as why:
+        with mock.patch.object(archive, "unpack", side_effect=MemoryError), self.assertRaises(Unchecked) as why:
             self.check()
         self.assertEqual(str(why.exception), "the archive can't be checked: out of memory")
 
     def test_an_archive_that_can_not_be_read_is_no_verdict(self):
-        for name, status in (("check", 3), ("table", 1)):
+        for name, place, status in (("check", "check_archive", 3), ("table", "read_plan", 1)):
             for fault, words in ((OSError(errno.EACCES, "no", "x"), "x: no"), (KeyboardInterrupt(), "interrupted")):
-                fails, said = mock.Mock(side_effect=fault), io.StringIO()
-                names = [mock.patch.object(command, word) for word in ("find_program", "Referee")]
-                with names[0], names[1], mock.patch.dict(command.RUNS, {name: fails}), mock.patch("sys.argv", ["ggp_competition", name, "x"]), mock.patch("sys.stderr", said):
+                said, patches = io.StringIO(), [mock.patch.object(command, word) for word in ("find_program", "Referee")]
+                patches += [mock.patch.object(command, place, side_effect=fault), mock.patch("sys.argv", ["ggp_competition", name, str(self.folder)])]
+                with patches[0], patches[1], patches[2], patches[3], mock.patch("sys.stderr", said):
                     self.assertEqual((command.main(), said.getvalue()), (status, f"ggp_competition: {words}\n"), name)
 
     def test_what_is_said_reaches_no_terminal_as_it_is(self):
-        with mock.patch.object(archive, "unpacked", side_effect=Spoilt("a\x1b[1m\u00e9\nb ~")):
+        with mock.patch.object(archive, "unpack", side_effect=Spoilt("a\x1b[1m\u00e9\nb ~")):
             self.assertEqual(self.check(), (["a?[1m?", "b ~"], ""))
 
 
@@ -333,11 +337,6 @@ class Parts(InFolder):
             file.parent.mkdir(parents=True, exist_ok=True)
             file.write_bytes(data)
 
-    def test_places_of_files(self):
-        right = "competition.toml", "rules/a.kif", "games/a.kif", "records/a.json", "accounts/a.txt", "logs/a.jsonl", "earlier/3.toml", "pages/index.html", "pages/matches/a.html", "pages/games/a.html", "pages/players/a.html"
-        wrong = "a/b", "rules", "pages", "earlier", "rules/a/b", "pages/other/a.html", "pages/matches/a/b", "xpages/index.html", "records/a/b"
-        self.assertEqual(([bool(archive.PLACE.fullmatch(name)) for name in right], [bool(archive.PLACE.fullmatch(name)) for name in wrong]), ([True] * len(right), [False] * len(wrong)))
-
     def test_faults_of_sums(self):
         self.write(a=b"one", b=b"two", c__d=b"three")
         self.assertEqual(list(archive.faults_of_sums(self.folder)), [f"{SUMS} is missing"])
@@ -353,64 +352,13 @@ class Parts(InFolder):
         self.write(b=b"", a__b=b"", a__a=b"", c=b"")
         self.assertEqual(list(files_below(self.folder)), ["a/a", "a/b", "b", "c"])
 
-    def test_the_files_that_say_how_it_is_checked(self):
-        self.assertEqual(list(archive.faults_of_words(self.folder)), ["CHECK.txt is missing", "VERSION is missing"])
-        self.write(CHECK_txt=b"")
-        for version, faults in ((b"ggp_manager 1.20.3\n", []), (b"ggp_manager 1.2\n", ["VERSION is not one line `ggp_manager N.N.N`"]), (b"ggp_manager 1.2.3", ["VERSION is not one line `ggp_manager N.N.N`"])):
-            self.write(VERSION=version)
-            self.assertEqual(list(archive.faults_of_words(self.folder)), faults)
-
     def test_bytes_and_files_with_their_sums(self):
         self.write(b=b"two")
         contents, sums = [("a", b"one"), ("b", self.folder / "b")], {}
         found = list(archive.with_sums(contents, sums))
         wanted = {"a": hashlib.sha256(b"one").hexdigest(), "b": hashlib.sha256(b"two").hexdigest()}
-        self.assertEqual((found[:2], sums, dict(archive.sums_of_contents(contents))), ([("a", b"one"), ("b", b"two")], wanted, wanted))
+        self.assertEqual((found[:2], sums), ([("a", b"one"), ("b", b"two")], wanted))
         self.assertEqual(found[2:], [(SUMS, f"{wanted['a']}  a\n{wanted['b']}  b\n".encode())])
-
-    def unpack(self, members):
-        """Unpacks an archive of these members into a room, and returns what is in its folder, or why it is refused."""
-        data = io.BytesIO()
-        with tarfile.open(fileobj=data, mode="w:gz") as made:
-            for name, content in members:
-                member = tarfile.TarInfo(name)
-                member.type = tarfile.REGTYPE if content is not None else tarfile.DIRTYPE
-                member.size = len(content or b"")
-                made.addfile(member, io.BytesIO(content or b""))
-        path = self.folder / "a.tar.gz"
-        path.write_bytes(data.getvalue())
-        with tempfile.TemporaryDirectory() as room:
-            try:
-                top = unpacked(path, pathlib.Path(room))
-                return {name: file.read_bytes() for name, file in files_below(top).items()}
-            except Spoilt as why:
-                return str(why)
-
-    def test_plain_files_below_one_folder_are_taken(self):
-        self.assertEqual(self.unpack([("cup", None), ("cup/a", b"1"), ("cup/b", None), ("cup/b/c", b"2"), ("cup/b/d/e", b"3")]), {"a": b"1", "b/c": b"2", "b/d/e": b"3"})
-        self.assertEqual(self.unpack([]), "it is empty")
-        self.assertEqual(self.unpack([("cup/a", b"1"), ("cup/a", b"1")]), "'cup/a' is there twice")
-        self.assertEqual(self.unpack([("cup/a", b"1"), ("cap/a", b"1")]), "'cap/a' is not below cup")
-        for name in ("cup", "cup/a b", "cup/../a", "cup/./a", "/cup/a", "cup/a/b/c/d", "cup//a"):
-            self.assertEqual(self.unpack([(name, b"1")]), f"{name!r} is no plain file below one folder")
-        self.assertEqual(self.unpack([("cup/a/b/c", None)]), "'cup/a/b/c' is no plain file below one folder")
-        self.assertEqual(self.unpack([("cup/a", b"1"), ("cup/a/b", b"1")]), "'cup/a/b' is a file and a folder, or below a file")
-        self.assertEqual(self.unpack([("cup/a/b", b"1"), ("cup/a", b"1")]), "'cup/a' is a file and a folder, or below a file")
-
-    def test_the_bytes_of_all_members_are_counted(self):
-        members = [("cup/a", b"123"), ("cup/b", b"45")]
-        with mock.patch.object(archive, "MOST_BYTES", 5):
-            self.assertEqual(len(self.unpack(members)), 2)
-        with mock.patch.object(archive, "MOST_BYTES", 4):
-            self.assertEqual(self.unpack(members), "with 'cup/b' it has more than 4 bytes, which are the most of an archive")
-        self.assertEqual(archive.MOST_BYTES, 8_589_934_592)
-
-    def test_what_can_not_be_unpacked(self):
-        for data in (b"", b"x", gzip.compress(b"x" * 512), gzip.compress(b"x" * 2_000)[:-20]):
-            (self.folder / "a.tar.gz").write_bytes(data)
-            with self.assertRaises(Spoilt) as why:
-                unpacked(self.folder / "a.tar.gz", self.folder)
-            self.assertTrue(str(why.exception).startswith(("it can't be unpacked: ", "it is empty")), why.exception)
 
     def test_records_are_held_in_parts_of_one_size(self):
         parts = []

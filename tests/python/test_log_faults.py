@@ -1,15 +1,16 @@
 """The log of a match is compared with its account: all that it says of messages and answers, and not the times."""
 
 import dataclasses
+import io
 import pathlib
 import tempfile
 import types
 import unittest
 
 from ggp_tools.competition.files import Folder
-from ggp_tools.competition.log_faults import fault_of_log, faults_of_logs
+from ggp_tools.competition.log_faults import fault_of_run, faults_of_logs, unpublished
 from ggp_tools.competition.schedule import Match
-from ggp_tools.match_log import End, Host, Open, Other, line_of, published
+from ggp_tools.match_log import End, Host, Open, Other, last_run, line_of, published
 from live_support import Missed, line
 
 MATCH, ROLES = Match("cup-001", "game", 5, 6, ("ann", "bob")), ("first", "(second 2)")
@@ -54,7 +55,8 @@ LOG = "".join(LINES)
 
 class LogFaults(unittest.TestCase):
     def fault(self, log: str) -> str | None:
-        return fault_of_log(MATCH, ROLES, log.encode(), ACCOUNT)
+        run = last_run(io.BytesIO(log.encode()), MATCH.id)
+        return unpublished(log.encode(), run) or fault_of_run(MATCH, ROLES, run, ACCOUNT)
 
     def assert_foreign(self, log: str, number: int) -> None:
         self.assertRegex(self.fault(log) or "", f"^line {number} of its log is not a line that is published: ")
@@ -146,4 +148,10 @@ class OfCompetition(unittest.TestCase):
             folder.account(name).write_bytes(ACCOUNT.replace(b"cup-001", name.encode()))
             results.append(types.SimpleNamespace(match=match))
         plan = types.SimpleNamespace(folder=folder, roles=lambda game: ROLES)
-        self.assertEqual(list(faults_of_logs(plan, results, folder.whole_log)), ["cup-002: line 2 of its log is not what its account says"])
+        wrong = "cup-002: line 2 of its log is not what its account says"
+        self.assertEqual(faults_of_logs(plan, results, is_published=True), [wrong])
+        with open(folder.log("cup-003"), "a") as file:
+            file.write("Welcome\n")
+        self.assertEqual(faults_of_logs(plan, results, is_published=False), [wrong])
+        more = "cup-003: line 10 of its log is not a line that is published: Welcome"
+        self.assertEqual(faults_of_logs(plan, results, is_published=True), [wrong, more])

@@ -13,12 +13,14 @@ from unittest.mock import patch
 import bs4
 
 from ggp_tools.competition import pages as pages_module
+from ggp_tools.competition import side_by_side
 from ggp_tools.competition.competition_file import read_competition
 from ggp_tools.descriptions.loading import Rules
 from ggp_tools.competition.files import Folder
-from ggp_tools.competition.pages import Pages, made_side_by_side, seconds_between, spelt
+from ggp_tools.competition.pages import Pages, seconds_between, spelt
 from ggp_tools.competition.plan import Plan
 from ggp_tools.competition.results import result_of
+from ggp_tools.competition.side_by_side import made_side_by_side
 from ggp_tools.match_log import End, line_of
 from ggp_tools.referee import Unchecked
 from html_pages import links_of, parsed, rows_of, text_of
@@ -66,7 +68,7 @@ class Seconds(unittest.TestCase):
 class SideBySide(unittest.TestCase):
     def setUp(self):
         for name, value in (("MANY", 2), ("PROCESSORS", 2), ("CHUNK", 1)):
-            self.enterContext(patch.object(pages_module, name, value))
+            self.enterContext(patch.object(side_by_side, name, value))
 
     def test_what_is_made_comes_in_order(self):
         self.assertEqual(list(made_side_by_side(number_text, [(number,) for number in range(40)])), [b"%d" % number for number in range(40)])

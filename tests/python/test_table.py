@@ -228,7 +228,7 @@ class Tables(unittest.TestCase):
     def test_a_rating_next_to_nothing_has_no_sign_in_a_file(self):
         for rating, said in ((-0.04, "0.0"), (-0.0, "0.0"), (0.04, "0.0"), (-0.06, "-0.1")):
             line = Line("ann", matches=1, rating=Rating(rating, 118.24, 1))
-            text, row = csv_text([Table("two", {"ann": line})]), dict(zip(HEADS, fields(line)))
+            text, row = csv_text(HEADS, [fields(line)]), fields(line)
             self.assertEqual([json.dumps(row["rating"]), *(cells[key] for cells in csv.DictReader(text.splitlines()) for key in ("rating", "half"))], [said, said, "118.2"])
 
     def test_why_there_is_no_rating_is_told(self):

@@ -9,12 +9,13 @@ from collections.abc import Callable, Iterable, Iterator
 
 from ggp_tools import VERSION
 from ggp_tools.competition.again import order_again
-from ggp_tools.competition.archive import TooLarge, check_archive, matches_text, own_files, publish
+from ggp_tools.competition.archive import check_archive, matches_text, own_files, publish
 from ggp_tools.competition.files import Refused, held, write_whole
 from ggp_tools.competition.game import add_game, run_game
 from ggp_tools.competition.kept import look_at_records
 from ggp_tools.competition.known import Known
 from ggp_tools.competition.log_faults import faults_of_logs
+from ggp_tools.competition.packing import TooLarge
 from ggp_tools.competition.pages import Pages
 from ggp_tools.competition.plan import WRITES, Plan, faults_of_descriptions, make_plan, read_plan, round_words, rounds_left
 from ggp_tools.competition.playing import Playing, play
@@ -256,10 +257,7 @@ def archive_path(plan: Plan, to: str | None) -> pathlib.Path:
 @alone
 def run_publish(asked: argparse.Namespace, referee: Referee) -> int:
     plan = read_plan(asked.folder, referee)
-    path, pages = archive_path(plan, asked.to), plan.folder.pages
-    if pages.is_symlink():
-        raise Refused(f"{pages} is a link, and `publish` makes that folder anew", "take the link away, and publish again")
-    known = Known(plan.folder.path)
+    path, known = archive_path(plan, asked.to), Known(plan.folder.path)
     results, is_faulty = known_results(plan, referee, known)
     missing, left = len(plan.matches) - len(results), rounds_left(plan)
     faults = []
@@ -269,7 +267,7 @@ def run_publish(asked: argparse.Namespace, referee: Referee) -> int:
     elif left and not asked.gaps:
         faults = [f"{left} of {left + len(plan.rounds)} rounds are not planned yet; with `--gaps` the others are"]
     faults = faults or list(faults_of_descriptions(plan, plan.folder.description, f", and {WRITES}"))
-    faults = faults or [f"{fault}: without the log the match counts too" for fault in faults_of_logs(plan, results, plan.folder.read_log)]
+    faults = faults or [f"{fault}: without the log the match counts too" for fault in faults_of_logs(plan, results, is_published=False)]
     if not faults:
         write_matches(plan, results, known)
         try:

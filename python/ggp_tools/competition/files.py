@@ -214,7 +214,9 @@ class Folder:
 
     def part_of_log(self, match: str, most: int) -> tuple[bytes, bool]:
         """Returns at most so many bytes of a match's log, as whole lines, and whether there is more. The end is always there."""
-        data = self.read_log(match)
+        data = self.whole_log(match)
+        if len(data) > most:
+            data = published(data, match)
         if len(data) <= most:
             return data, False
         return data[: data.rfind(b"\n", 0, most) + 1] + data[data.rfind(b"\n", 0, -1) + 1 :], True

@@ -1,6 +1,7 @@
 """Looks at the description of a game: whether the referee accepts it, what is suspicious in it, and how random matches of it end."""
 
 import argparse
+import functools
 import pathlib
 import re
 import shutil
@@ -45,23 +46,13 @@ def number_of(text: str, least: int, most: int) -> int:
     return int(text)
 
 
-def matches(text: str) -> int:
-    return number_of(text, 0, MOST_MATCHES)
-
-
-def seed(text: str) -> int:
-    return number_of(text, 0, MOST_SEED)
-
-
-def seconds(text: str) -> int:
-    return number_of(text, 1, MOST_SECONDS)
-
-
 def add_game(commands: Any) -> argparse.ArgumentParser:
     """Adds the command `game` to those of the command line, and returns it."""
     command = commands.add_parser("game", help=HELP, description=f"{HELP[0].upper()}{HELP[1:]}.", epilog=STATUS)
     command.add_argument("file", metavar="FILE", help="the description, with or without variables")
     command.add_argument("--large", action="store_true", help="do not try for the usual limits of the program, but take those for large games")
+    matches, seed = (functools.partial(number_of, least=0, most=most) for most in (MOST_MATCHES, MOST_SEED))
+    seconds = functools.partial(number_of, least=1, most=MOST_SECONDS)
     command.add_argument("--matches", type=matches, default=20, metavar="N", help="play N random matches (20)")
     command.add_argument("--seed", type=seed, default=1, metavar="S", help="the seed of the first match; each further one has the next (1)")
     text = "the seconds of a processor in which a description with variables is instantiated (60)"

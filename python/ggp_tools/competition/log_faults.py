@@ -3,14 +3,15 @@
 import io
 import itertools
 import re
-from collections.abc import Callable, Iterator, Sequence
+from collections.abc import Sequence
 from typing import NamedTuple
 
 from ggp_tools.competition.files import file_bytes
 from ggp_tools.competition.plan import Plan
 from ggp_tools.competition.results import Result
 from ggp_tools.competition.schedule import Match
-from ggp_tools.match_log import BROKEN, NO_TIME, PLAY, End, Event, Message, last_run, published
+from ggp_tools.competition.side_by_side import made_side_by_side
+from ggp_tools.match_log import BROKEN, NO_TIME, PLAY, End, Event, Message, last_run, line_of
 from ggp_tools.printable import message_of
 from ggp_tools.records.lengths import LONGEST_ACCOUNT
 
@@ -62,9 +63,9 @@ def exchanges(match: Match, roles: Sequence[str], account: bytes) -> list[list[E
     return found
 
 
-def unpublished(match: Match, log: bytes) -> str | None:
+def unpublished(log: bytes, run: Sequence[Event]) -> str | None:
     """Returns which line of a log `publish` leaves out, or writes in another way. None if it publishes all as they are."""
-    lines = itertools.zip_longest(io.BytesIO(log), io.BytesIO(published(log, match.id)), fillvalue=b"")
+    lines = itertools.zip_longest(io.BytesIO(log), map(line_of, run), fillvalue=b"")
     number, line = next(((number, given) for number, (given, kept) in enumerate(lines, 1) if given != kept), (0, b""))
     said = message_of(line.decode("ascii", "replace").rstrip())
     return f"line {number} of its log is not a line that is published: {said}" if number else None
@@ -81,12 +82,10 @@ def is_confirmed(match: Match, event: Event, asked: list[list[Exchange]], last: 
     return asked[role][event.number - 1].is_in(event)
 
 
-def fault_of_log(match: Match, roles: Sequence[str], log: bytes, account: bytes) -> str | None:
-    """Returns which line of a log is not one that is published, or which its account does not say. None if all are right."""
-    if fault := unpublished(match, log):
-        return fault
+def fault_of_run(match: Match, roles: Sequence[str], run: Sequence[Event], account: bytes) -> str | None:
+    """Returns which line of a log its account does not say. None if all are right."""
     asked, last, has_end = exchanges(match, roles, account), [0] * len(roles), False
-    for number, event in enumerate(last_run(io.BytesIO(log), match.id), 1):
+    for number, event in enumerate(run, 1):
         is_second = has_end and isinstance(event, End)
         if is_second or not is_confirmed(match, event, asked, last):
             return f"line {number} of its log is not what its account says"
@@ -94,10 +93,16 @@ def fault_of_log(match: Match, roles: Sequence[str], log: bytes, account: bytes)
     return None
 
 
-def faults_of_logs(plan: Plan, results: Sequence[Result], read_log: Callable[[str], bytes]) -> Iterator[str]:
-    """Gives each match that counts whose log is not what its account says."""
-    for result in results:
-        match = result.match
-        account = file_bytes(plan.folder.account(match.id), LONGEST_ACCOUNT)
-        if fault := fault_of_log(match, plan.roles(match.game), read_log(match.id), account):
-            yield f"{match.id}: {fault}"
+def fault_of_log(plan: Plan, match: Match, is_published: bool) -> str | None:
+    """Returns what is wrong with the log of a match, beside its account; if it is published, also which line is not one that is."""
+    log = plan.folder.whole_log(match.id)
+    run = last_run(io.BytesIO(log), match.id)
+    if is_published and (fault := unpublished(log, run)):
+        return fault
+    return fault_of_run(match, plan.roles(match.game), run, file_bytes(plan.folder.account(match.id), LONGEST_ACCOUNT))
+
+
+def faults_of_logs(plan: Plan, results: Sequence[Result], is_published: bool) -> list[str]:
+    """Returns each match that counts whose log is not what its account says."""
+    found = made_side_by_side(fault_of_log, [(plan, result.match, is_published) for result in results])
+    return [f"{result.match.id}: {fault}" for result, fault in zip(results, found) if fault]

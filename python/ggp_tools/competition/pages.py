@@ -1,18 +1,10 @@
 """The pages of a competition: a folder of plain HTML that opens without a server. They follow from the folder's files alone."""
 
-import concurrent.futures.process
-import contextlib
 import datetime
 import hashlib
 import heapq
 import io
-import itertools
-import multiprocessing
 import os
-import pathlib
-import shutil
-import signal
-import threading
 import time
 import typing
 from collections.abc import Callable, Iterator
@@ -20,7 +12,6 @@ from dataclasses import dataclass
 
 from ggp_tools.answers import MOST_RULES, game_of
 from ggp_tools.competition.files import UNFINISHED, drop_unfinished, write_whole
-from ggp_tools.competition.kept import PROCESSORS
 from ggp_tools.competition.known import Known, sum_or_none
 from ggp_tools.competition.page_parts import Item, Items, PageParts, Part, html_of, part, rows_part
 from ggp_tools.competition.plan import Plan
@@ -28,12 +19,12 @@ from ggp_tools.competition.player_pages import page_name, player_parts, standing
 from ggp_tools.competition.plots import rating_plot
 from ggp_tools.competition.results import WON, Result, remarks, winner_words
 from ggp_tools.competition.round_pages import count_of_all, round_text, rounds_part, rounds_words
+from ggp_tools.competition.side_by_side import made_side_by_side
 from ggp_tools.competition.sittings import Sitting, sitting_of_values, sittings_of, values_of
-from ggp_tools.competition.table import Table, tables_of
+from ggp_tools.competition.table import Table, loaded_ratings, tables_of
 from ggp_tools.competition.table_text import FORFEIT, METHOD, crosstable_rows, notes, standings_rows, without_record
 from ggp_tools.descriptions.loading import Rules, sum_of
 from ggp_tools.match_log import last_run
-from ggp_tools.referee import Unchecked
 from ggp_tools.records.match_logs import logged
 from ggp_tools.records.show import NoRecord, page_of, read_record
 from ggp_tools.templating import environment, page
@@ -47,8 +38,8 @@ SECONDS, SHARE = 2, 10
 LAST, MOST_CROSSED = 20, 100
 # A page lists so many matches; the list of all comes in as many pages as that takes.
 MOST_LISTED = 500
-# So many pages are made by several processes, each so many at a time, and of so many bytes of records together.
-MANY, CHUNK, TOGETHER = 100, 16, 16 << 20
+# Pages are made together of records of so many bytes.
+TOGETHER = 64 << 20
 # Of a match's log so many bytes are read, and so many are said in words.
 MOST_OF_LOG, LOG_WORDS = 16 << 20, "16 MiB"
 
@@ -137,6 +128,7 @@ class Site:
     def __init__(self, plan: Plan, shows_gaps: bool = False, written: Callable[[Result], float] | None = None) -> None:
         # What the pages need is missing at once, or never.
         environment()
+        loaded_ratings()
         self.plan, self.shows_gaps, self.written = plan, shows_gaps, written
         self.told: dict[str, Told] = {}
 
@@ -178,13 +170,21 @@ class Site:
         told = {"name": self.plan.competition.name, "round": round_text(self.plan.competition, result.match)}
         return html_of("competition", "way_of_match", match=result.match, lines=lines, **told)
 
+    def answers(self, result: Result) -> dict[tuple[int, int], str]:
+        """Returns those answers of a match's log that were no expressions, as far as they are told, by role and turn from 0 on."""
+        faults = [(sitting.role, fault) for sitting in self.told_of(result).sittings for fault in sitting.faults]
+        return {(role, fault.turn - 1): fault.answer for role, fault in faults if fault.error == "IL ?" and fault.message}
+
     def match_work(self, result: Result, data: bytes) -> tuple["Markup", bytes, bytes, dict[tuple[int, int], str]]:
         """Returns what the page of a match is made of: what stands at its head, its record, the rules where they tell more of a replaced
-        move and are not too long, and those answers of the log that were no expressions, as far as they are told."""
-        faults = [(sitting.role, fault) for sitting in self.told_of(result).sittings for fault in sitting.faults]
-        answers = {(role, fault.turn - 1): fault.answer for role, fault in faults if fault.error == "IL ?" and fault.message}
+        move and are not too long, and answers."""
         rules = self.plan.rules[result.match.game].text if any(errors["IL"] for errors in result.errors) else b""
-        return self.way_of_match(result), data, rules if len(rules) <= MOST_RULES else b"", answers
+        return self.way_of_match(result), data, rules if len(rules) <= MOST_RULES else b"", self.answers(result)
+
+    def key_of_page(self, known: Known, result: Result, data: bytes) -> str:
+        """Returns the sum of all that the page of a match follows from."""
+        head = self.plan.competition.name, round_text(self.plan.competition, result.match), result, self.answers(result)
+        return known.key(repr(head).encode(), data, self.plan.rules[result.match.game].sum.encode())
 
     def match_page(self, result: Result, data: bytes) -> bytes:
         return match_page(*self.match_work(result, data))
@@ -282,20 +282,26 @@ class Pages:
             ended = time.monotonic()
             self.next = ended + max(SECONDS, SHARE * (ended - began))
 
-    def write(self, results: list[Result]) -> None:
+    def write(self, results: list[Result]) -> set[str]:
+        """Writes the pages, and returns their names. Takes away the pages of what is no longer there, and those that were never finished."""
         for name in ("matches", "games", "players"):
             (self.folder / name).mkdir(parents=True, exist_ok=True)
         self.write_matches(results)
         tables = tables_of(self.plan.competition, results, self.plan.rounds)
         self.write_games(tables[1:], by_game(results))
         self.write_players(tables[0], by_player(results))
-        for name in pages_of_all(results):
-            self.put_parts(f"{name}.html", "all matches", self.site.all_matches(results, name))
+        lists = {f"{name}.html": name for name in pages_of_all(results)}
+        for file, name in lists.items():
+            self.put_parts(file, "all matches", self.site.all_matches(results, name))
         self.put_parts("index.html", "", self.site.first_parts(tables, results))
-        self.drop_others("", {f"{name}.html" for name in pages_of_all(results)}, "matches-*.html")
-        self.drop_others("matches", {f"{result.match.id}.html" for result in results})
-        self.drop_others("games", {f"{table.game}.html" for table in tables[1:]})
-        self.drop_others("players", {page_name(player.name).partition("/")[2] for player in self.plan.competition.players})
+        names = {"index.html", *lists, *(f"matches/{result.match.id}.html" for result in results)}
+        names |= {f"games/{table.game}.html" for table in tables[1:]} | {page_name(player.name) for player in self.plan.competition.players}
+        for form in ("matches-*.html", "matches/*.html", "games/*.html", "players/*.html"):
+            for file in self.folder.glob(form):
+                if str(file.relative_to(self.folder)) not in names and not file.name.startswith(UNFINISHED):
+                    file.unlink(missing_ok=True)
+            drop_unfinished((self.folder / form).parent)
+        return names
 
     def write_matches(self, results: list[Result]) -> None:
         """Writes the pages of matches that are not there. What is there is right where it has the sum that it had when it was made, of
@@ -307,10 +313,9 @@ class Pages:
             if result.match.id in self.site.told and (self.folder / name).exists():
                 continue
             data = self.site.add(result, self.known)
-            work = self.site.match_work(result, data)
-            key = self.known.key(work[0].encode(), *work[1:3], repr(work[3]).encode()) if self.known else ""
+            key = self.site.key_of_page(self.known, result, data) if self.known else ""
             if not self.known or self.known.get("pages", key) != (sum_or_none(self.folder / name) or ""):
-                left.append((name, key, work))
+                left.append((name, key, self.site.match_work(result, data)))
                 size += len(data)
             if size > TOGETHER:
                 self.make_matches(left)
@@ -327,32 +332,29 @@ class Pages:
     def write_games(self, tables: list[Table], results: dict[str, list[Result]]) -> None:
         for table in tables:
             own = results.get(table.game, [])
-            if self.has_changed(f"games/{table.game}.html", own, ""):
-                self.put_parts(f"games/{table.game}.html", table.game, self.site.game_parts(table, own))
-                self.was_made(f"games/{table.game}.html", own, "")
+            self.put_if_changed(f"games/{table.game}.html", table.game, (own, ""), lambda: self.site.game_parts(table, own))
 
     def write_players(self, found: Table, results: dict[str, list[Result]]) -> None:
         texts = standing_texts(found)
-        for player in self.plan.competition.players:
-            own = results.get(player.name, [])
-            standing = standing_of(texts, player.name, bool(own))
-            if self.has_changed(page_name(player.name), own, standing):
-                self.put_parts(page_name(player.name), player.name, self.site.player_parts(player.name, standing, own))
-                self.was_made(page_name(player.name), own, standing)
+        for name in (player.name for player in self.plan.competition.players):
+            own = results.get(name, [])
+            standing = standing_of(texts, name, bool(own))
+            self.put_if_changed(page_name(name), name, (own, standing), lambda: self.site.player_parts(name, standing, own))
 
-    def stamp(self, name: str, results: list[Result], words: str) -> tuple | None:
-        """Returns what a page was made of, and which file it is: another run may have written it too. None where it is not there."""
+    def put_if_changed(self, name: str, title: str, made_of: tuple[list[Result], str], parts: Callable[[], PageParts]) -> None:
+        """Writes a page, unless it is the file that was written last, of the same matches and words: another run may have written it too."""
+        key = hash(tuple(result.match.id for result in made_of[0])), made_of[1]
+        if self.stamps.get(name) != (key, self.stamp(name)):
+            self.put_parts(name, title, parts())
+            self.stamps[name] = key, self.stamp(name)
+
+    def stamp(self, name: str) -> tuple[int, int] | None:
+        """Returns which file a page is; None if it is not there."""
         try:
             found = os.stat(self.folder / name)
         except FileNotFoundError:
             return None
-        return hash(tuple(result.match.id for result in results)), words, found.st_ino, found.st_mtime_ns
-
-    def has_changed(self, name: str, results: list[Result], words: str) -> bool:
-        return name not in self.stamps or self.stamps[name] != self.stamp(name, results, words)
-
-    def was_made(self, name: str, results: list[Result], words: str) -> None:
-        self.stamps[name] = self.stamp(name, results, words)
+        return found.st_ino, found.st_mtime_ns
 
     def put(self, name: str, data: bytes) -> None:
         write_whole(self.folder / name, data, is_lasting=False)
@@ -360,54 +362,7 @@ class Pages:
     def put_parts(self, name: str, title: str, parts: PageParts) -> None:
         self.put(name, page("parts", title=titled(self.plan, title), script="", live=None, parts=parts))
 
-    def drop_others(self, folder: str, names: set[str], form: str = "*.html") -> None:
-        """Takes away the pages of what is no longer there, and those that were never finished. All else is left alone."""
-        for file in (self.folder / folder).glob(form):
-            if file.name not in names and not file.name.startswith(UNFINISHED):
-                file.unlink(missing_ok=True)
-        drop_unfinished(self.folder / folder)
-
-
-def ignore_interrupts() -> None:
-    """Has an interrupt be that of the process that waits for this one."""
-    signal.signal(signal.SIGINT, signal.SIG_IGN)
-
-
-def made_side_by_side(function: Callable[..., bytes], works: list[tuple]) -> Iterator[bytes]:
-    """Gives what a function makes of these works, in order: by several processes where it is worth it. A process that runs other threads
-    is not split."""
-    if len(works) < MANY or PROCESSORS == 1 or threading.active_count() > 1:
-        yield from itertools.starmap(function, works)
-        return
-    fork = multiprocessing.get_context("fork")
-    with concurrent.futures.ProcessPoolExecutor(PROCESSORS, fork, ignore_interrupts) as at_once:
-        try:
-            yield from at_once.map(function, *zip(*works), chunksize=CHUNK)
-        except concurrent.futures.process.BrokenProcessPool:
-            raise Unchecked("pages can't be made: a process was ended, as where memory is short") from None
-
 
 def titled(plan: Plan, title: str) -> str:
     """Returns the title of a page, of which the first one has none of its own."""
     return f"{plan.competition.name}: {title}" if title else plan.competition.name
-
-
-def drop_all_but_matches(folder: pathlib.Path, results: list[Result]) -> None:
-    """Empties the folder of the pages but for the files that may be pages of these matches."""
-    wanted = {f"{result.match.id}.html" for result in results}
-    places = [folder, *([folder / "matches"] if (folder / "matches").is_dir() and not (folder / "matches").is_symlink() else [])]
-    for found in [found for place in places for found in place.iterdir() if found not in places]:
-        if found.is_dir() and not found.is_symlink():
-            shutil.rmtree(found)
-        elif found.parent == folder or found.name not in wanted or not found.is_file() or found.is_symlink():
-            found.unlink()
-
-
-def made_anew(plan: Plan, results: list[Result], known: Known | None = None) -> None:
-    """Writes the pages that are published, into a folder that has nothing else. Those of matches stay where they are known to be right."""
-    if known and plan.folder.pages.is_dir():
-        drop_all_but_matches(plan.folder.pages, results)
-    else:
-        with contextlib.suppress(FileNotFoundError):
-            shutil.rmtree(plan.folder.pages)
-    Pages(plan, True, known).write(results)

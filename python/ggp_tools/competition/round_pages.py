@@ -4,7 +4,7 @@ from ggp_tools.competition.competition_file import Competition
 from ggp_tools.competition.page_parts import Part, part
 from ggp_tools.competition.plan import Plan
 from ggp_tools.competition.results import Result
-from ggp_tools.competition.rounds import Meeting, Round, Scores, matches_to_come, meeting_of, rounds_of
+from ggp_tools.competition.rounds import Meeting, Round, by_meeting, matches_to_come, rounds_of, scores_of
 from ggp_tools.competition.schedule import Match
 from ggp_tools.competition.table_text import count_of_planned, points_text
 
@@ -33,10 +33,7 @@ def round_text(competition: Competition, match: Match) -> str:
 
 def rounds_part(plan: Plan, results: list[Result], most: int) -> Part:
     """Returns who meets whom in each round that is planned, the last one first, and what came of it; so many rows at most."""
-    of_meeting: dict[Meeting, list[Result]] = {}
-    for result in results:
-        if result.match.round and not result.match.again:
-            of_meeting.setdefault(meeting_of(result), []).append(result)
+    of_meeting = by_meeting(result for result in results if not result.match.again)
     rows = [row for found in reversed(plan.rounds) for row in rows_of(plan.competition, found, of_meeting)]
     return part("rounds", rows=rows[:most], count=len(rows)) if rows else Part("rounds", "")
 
@@ -45,9 +42,8 @@ def rows_of(competition: Competition, found: Round, of_meeting: dict[Meeting, li
     """Returns the rows of a round: its pairs, and then its byes."""
     rows = []
     for pair in found.pairs:
-        scores, over = Scores(competition), of_meeting.get((found.number, frozenset(pair)), [])
-        for result in over:
-            scores.count_result(result)
+        over = of_meeting[found.number, frozenset(pair)]
+        scores = scores_of(competition, (), over)
         points, goals = (" : ".join(points_text(counts[player]) for player in pair) for counts in (scores.points, scores.goals))
         rows.append((found.number, pair, [points, goals, f"{len(over)} of {scores.meeting}"]))
     return rows + [(found.number, (player, ""), [""] * 3) for player in found.byes]

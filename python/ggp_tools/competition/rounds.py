@@ -132,9 +132,7 @@ def bracket(count: int) -> list[int]:
 
 def winner(pair: tuple[str, str], results: Iterable[Result], seeds: dict[str, int], competition: Competition) -> str:
     """Returns who goes on from a meeting."""
-    scores = Scores(competition)
-    for result in results:
-        scores.count_result(result)
+    scores = scores_of(competition, (), results)
     return min(pair, key=lambda player: (-scores.points[player], -scores.goals[player], seeds[player]))
 
 
@@ -164,29 +162,30 @@ class Rounds:
 
     def plan(self, competition: Competition, results: Iterable[Result]) -> Round:
         """Returns the next round, by the results of the last one that count."""
-        self.scores = self.scores or Scores(competition)
+        self.scores, results = self.scores or Scores(competition), list(results)
         for result in results:
             self.scores.count_result(result)
-            self.of_meeting.setdefault(meeting_of(result), []).append(result)
         if competition.form.kind == SWISS:
             found = swiss_round(competition, len(self.found) + 1, self.scores)
         else:
+            self.of_meeting |= by_meeting(results)
             found = knockout_round(competition, self.found, self.of_meeting)
         self.scores.count_round(found)
         self.found.append(found)
         return found
 
 
-def meeting_of(result: Result) -> Meeting:
-    return result.match.round, frozenset(result.match.players)
+def by_meeting(results: Iterable[Result]) -> dict[Meeting, list[Result]]:
+    """Returns the results of each meeting."""
+    found: dict[Meeting, list[Result]] = defaultdict(list)
+    for result in results:
+        found[result.match.round, frozenset(result.match.players)].append(result)
+    return found
 
 
 def rounds_won(competition: Competition, rounds: Iterable[Round], results: Iterable[Result]) -> Counter[str]:
     """Returns how many rounds of a knockout each player has come through, by meetings that are over and byes."""
-    seeds, won = {player.name: seed for seed, player in enumerate(competition.players)}, Counter()
-    of_meeting: dict[Meeting, list[Result]] = defaultdict(list)
-    for result in results:
-        of_meeting[meeting_of(result)].append(result)
+    seeds, won, of_meeting = {player.name: seed for seed, player in enumerate(competition.players)}, Counter(), by_meeting(results)
     for found in rounds:
         won.update(found.byes)
         for pair in found.pairs:

@@ -6,7 +6,7 @@ retired in a match has lost it, whatever the goals and also without any, against
 is left gets 100, which several share and have drawn."""
 
 import typing
-from collections.abc import Iterable, Sequence
+from collections.abc import Callable, Iterable, Sequence
 from dataclasses import dataclass, field
 
 from ggp_tools.competition.competition_file import BY_POINTS, KNOCKOUT, SWISS, Competition
@@ -140,12 +140,18 @@ def count_rounds(table: Table, competition: Competition, results: Iterable[Resul
             line.rounds_won = won[player]
 
 
-def tables_of(competition: Competition, results: Sequence[Result], rounds: Sequence[Round] = (), is_rated: bool = True) -> list[Table]:
-    """Returns the tables: first that of all games, then that of each game."""
+def loaded_ratings() -> "Callable[..., dict[str, Rating]]":
+    """Returns what rates players. Ends the command if the module that it needs is missing."""
     try:
         from ggp_tools.competition.ratings import rated
     except ImportError as why:
         end_without(why)
+    return rated
+
+
+def tables_of(competition: Competition, results: Sequence[Result], rounds: Sequence[Round] = (), is_rated: bool = True) -> list[Table]:
+    """Returns the tables: first that of all games, then that of each game."""
+    rated = loaded_ratings()
     names = [entrant.name for entrant in competition.players]
     kind = competition.form.kind if is_by_rounds(competition) else ""
     by = [(ALL, kind or competition.order), *((game.name, BY_POINTS if kind else competition.order) for game in competition.games)]

@@ -42,13 +42,20 @@ def rounded(number: float | None, places: int) -> float | None:
     return None if number is None else round(number, places) + 0.0
 
 
-def fields(line: Line) -> tuple[object, ...]:
-    """Returns what a line says, in the order of the heads."""
-    rating = line.rating
-    rest = (rounded(rating.rating, 1), rounded(rating.half, 1), rating.group) if rating else (None, None, None)
-    counts = line.won, line.drawn, line.lost, line.moves, line.replaced, line.absent, line.retired
-    more = line.points(), line.won_by_forfeit, line.lost_by_forfeit, line.byes, line.buchholz, line.rounds_won
-    return line.player, line.matches, line.mean(), *counts, *rest, *more
+def fields(line: Line) -> dict[str, object]:
+    """Returns what a line says, by the heads of the columns of a file."""
+    said = {**vars(line), "goals": line.mean(), "points": line.points(), "rating": None, "half": None, "group": None}
+    if line.rating:
+        said |= {"rating": rounded(line.rating.rating, 1), "half": rounded(line.rating.half, 1), "group": line.rating.group}
+    return {head: said[head] for head in HEADS}
+
+
+def meetings(table: Table) -> list[dict[str, object]]:
+    """Returns how often each two players met, and the points of the first, by the heads of the columns of a file."""
+    return [
+        {"player": player, "opponent": opponent, "meetings": met, "points": table.points[player, opponent]}
+        for (player, opponent), met in sorted(table.met.items())
+    ]
 
 
 def points_text(points: float) -> str:
@@ -63,10 +70,6 @@ def rating_text(table: Table, line: Line) -> str:
     return f"{round(line.rating.rating)} +- {round(line.rating.half)}" + (f" in {line.rating.group}" if several else "")
 
 
-def goals_text(line: Line) -> str:
-    return "none" if line.mean() is None else f"{line.mean():.2f}"
-
-
 def columns(rows: Sequence[list[str]]) -> Iterator[str]:
     """Returns rows of texts as lines: the first two columns to the left, the others to the right."""
     widths = [max(map(len, column)) for column in zip(*rows)]
@@ -75,27 +78,32 @@ def columns(rows: Sequence[list[str]]) -> Iterator[str]:
         yield "  ".join(cells).rstrip()
 
 
-def order_cells(table: Table, line: Line) -> dict[str, str]:
-    """Returns what orders the line beside the goals, by the heads."""
-    said = {
+def cells_of(table: Table, line: Line) -> dict[str, str]:
+    """Returns what the standings say of a line, by the heads of the columns that the table has."""
+    cells = {
+        "player": f"{line.player} (no move of its own)" if 0 < line.absent == line.matches else line.player,
+        "matches": str(line.matches),
         "rounds won": str(line.rounds_won) if table.by == KNOCKOUT else "",
         "points": points_text(line.points()) if table.by in (BY_POINTS, SWISS) else "",
         "Buchholz": points_text(line.buchholz or 0.0) if table.by == SWISS else "",
+        "goals": "none" if line.mean() is None else f"{line.mean():.2f}",
+        "won": str(line.won),
+        "drawn": str(line.drawn),
+        "lost": str(line.lost),
+        "by forfeit": f"{line.won_by_forfeit} won, {line.lost_by_forfeit} lost" if table.has_forfeits() else "",
+        "replaced": f"{line.replaced} of {line.moves}",
+        "absent": str(line.absent),
+        "retired": str(line.retired),
+        "rating": rating_text(table, line),
     }
-    return {head: cell for head, cell in said.items() if cell}
+    return {head: cell for head, cell in cells.items() if cell}
 
 
 def standings_rows(table: Table) -> Iterator[list[str]]:
     """Gives the rows of the standings, the heads first."""
-    forfeits, order = table.has_forfeits(), list(order_cells(table, Line("")))
-    head = ["", "player", "matches", *order, "goals", "won", "drawn", "lost", *["by forfeit"] * forfeits]
-    yield [*head, "replaced", "absent", "retired", "rating"]
+    yield ["", *cells_of(table, Line("nobody"))]
     for place, line in zip(table.places(), table.standings()):
-        name = f"{line.player} (no move of its own)" if 0 < line.absent == line.matches else line.player
-        row = [str(place), name, str(line.matches), *order_cells(table, line).values(), goals_text(line)]
-        row += [str(line.won), str(line.drawn), str(line.lost)]
-        row += [f"{line.won_by_forfeit} won, {line.lost_by_forfeit} lost"] * forfeits
-        yield [*row, f"{line.replaced} of {line.moves}", str(line.absent), str(line.retired), rating_text(table, line)]
+        yield [str(place), *cells_of(table, line).values()]
 
 
 def crosstable_rows(table: Table) -> Iterator[list[str]]:
@@ -143,26 +151,11 @@ def table_text(plan: Plan, tables: list[Table]) -> str:
     return "\n".join([*lines, "", f"Ratings: {METHOD}.", ""])
 
 
-def csv_text(tables: list[Table]) -> str:
-    """Returns the lines of all tables as CSV, each with its game."""
+def csv_text(heads: Sequence[str], rows: Iterable[dict[str, object]]) -> str:
     text = io.StringIO()
-    writer = csv.writer(text, lineterminator="\n")
-    writer.writerow(("game", *HEADS))
-    for table in tables:
-        writer.writerows((table.game, *fields(line)) for line in table.standings())
-    return text.getvalue()
-
-
-def crosstable_csv(tables: list[Table]) -> str:
-    text = io.StringIO()
-    writer = csv.writer(text, lineterminator="\n")
-    writer.writerow(("game", "player", "opponent", "meetings", "points"))
-    for table in tables:
-        order = [line.player for line in table.standings()]
-        for player in order:
-            for other in order:
-                if table.met.get((player, other)):
-                    writer.writerow((table.game, player, other, table.met[player, other], points_text(table.points[player, other])))
+    writer = csv.DictWriter(text, heads, lineterminator="\n")
+    writer.writeheader()
+    writer.writerows(rows)
     return text.getvalue()
 
 
@@ -179,11 +172,8 @@ def json_text(plan: Plan, tables: list[Table]) -> str:
             {
                 "game": table.game,
                 "matches": table.matches,
-                "lines": [dict(zip(HEADS, fields(line))) for line in table.standings()],
-                "crosstable": [
-                    {"player": player, "opponent": opponent, "meetings": met, "points": table.points[player, opponent]}
-                    for (player, opponent), met in sorted(table.met.items())
-                ],
+                "lines": [fields(line) for line in table.standings()],
+                "crosstable": meetings(table),
                 "notes": list(notes(table)),
             }
             for table in tables
@@ -194,5 +184,8 @@ def json_text(plan: Plan, tables: list[Table]) -> str:
 
 def table_files(plan: Plan, tables: list[Table]) -> dict[str, bytes]:
     """Returns the files of the table by their names, each as bytes."""
-    texts = table_text(plan, tables), csv_text(tables), crosstable_csv(tables), json_text(plan, tables)
+    lines = ({"game": table.game, **fields(line)} for table in tables for line in table.standings())
+    met = ({"game": table.game, **row, "points": points_text(row["points"])} for table in tables for row in meetings(table))
+    crosstable = csv_text(("game", "player", "opponent", "meetings", "points"), met)
+    texts = table_text(plan, tables), csv_text(("game", *HEADS), lines), crosstable, json_text(plan, tables)
     return {name: text.encode("ascii") for name, text in zip(TABLE_FILES, texts)}
