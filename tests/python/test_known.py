@@ -97,6 +97,18 @@ class Values(InCache):
             one.write()
         self.assertIsNone(Known(self.folder).get("lines", "a"))
 
+    def test_what_is_known_already_is_not_written_again(self):
+        one = Known(self.folder)
+        one.put("lines", "a", 1)
+        one.write()
+        file = self.cache / one.name
+        os.utime(file, (1000, 1000))
+        before, again = file.stat().st_ino, Known(self.folder)
+        self.assertEqual(again.get("lines", "a"), 1)
+        again.write()
+        # It was looked at now, so it does not go first.
+        self.assertEqual((file.stat().st_ino, file.stat().st_mtime > 1000, Known(self.folder).get("lines", "a")), (before, True, 1))
+
     def test_what_was_not_looked_at_lately_goes_first(self):
         for number in range(4):
             one = Known(self.folder / str(number))

@@ -74,11 +74,16 @@ class Known:
     def write(self) -> None:
         """Keeps what is known, of each kind that was asked for no more than that. Where it can't be written it is found again the next
         time."""
-        text = json.dumps({**self.before, **self.asked}, separators=(",", ":")).encode("ascii")
+        known = {**self.before, **self.asked}
+        text = json.dumps(known, separators=(",", ":")).encode("ascii") if known != self.before else b""
         if len(text) > MOST_BYTES:
             return
         with contextlib.suppress(OSError, RuntimeError):
             folder = cache() / "known"
+            if not text:
+                # What was looked at lately goes last.
+                (folder / self.name).touch()
+                return
             folder.mkdir(parents=True, exist_ok=True)
             write_whole(folder / self.name, hashlib.sha256(text).hexdigest().encode() + b"\n" + text, is_lasting=False)
             for old in sorted(folder.iterdir(), key=lambda file: file.stat().st_mtime)[:-MOST_KEPT]:
