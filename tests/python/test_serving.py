@@ -214,7 +214,7 @@ class Pages(Served):
         bad = (
             ({"goalValues": [0, 10**400]}, "one of its goals is not from 0 to 100"),
             ({"goalValues": [101, 0]}, "one of its goals is not from 0 to 100"),
-            ({"matchId": "x" * 10**6}, "..,"), ({"startClock": 10**400}, "..,"), ({"errors": [["", 1]]}, "no list of lists of texts"),
+            ({"matchId": "x" * 10**6}, "..,"), ({"startClock": 10**400}, "..,"), ({"errors": [["", 1]]}, "expected in errors: for each turn of moves a list with one text for each role"),
         )
         for wrong, said in bad:
             with self.subTest(said=said):
