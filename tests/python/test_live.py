@@ -226,17 +226,16 @@ class Lines(InRoom):
         room, moment = self.plan.folder.open / self.plan.matches[2].id, time.time()
         room.mkdir()
         reader, found = self.reader(), []
-        with patch.object(live, "TICK", 3_600):
-            for name in ("asking", "playing", "checking"):
-                (room / name).touch()
-                os.utime(room, (moment, moment))
-                reader.look()
-                found.append(reader.open[room.name].stage)
-            for match in (first, second):
-                end(self.plan, match, record_of(match, [], [], [50, 50]))
-                os.utime(self.plan.folder.records, (moment, moment))
-                reader.look()
-                found.append(len(reader.results))
+        for name in ("asking", "playing", "checking"):
+            (room / name).touch()
+            os.utime(room, (moment, moment))
+            reader.look()
+            found.append(reader.open[room.name].stage)
+        for match in (first, second):
+            end(self.plan, match, record_of(match, [], [], [50, 50]))
+            os.utime(self.plan.folder.records, (moment, moment))
+            reader.look()
+            found.append(len(reader.results))
         self.assertEqual(found, ["asking", "playing", "checking", 1, 2])
 
     def test_a_record_that_was_replaced_between_two_looks(self):
@@ -251,9 +250,8 @@ class Lines(InRoom):
         end(self.plan, first, record_of(first, *turns, [100, 0]))
         # It is written in its place, so the folder does not change.
         self.plan.folder.record(second.id).write_text("no record")
-        with patch.object(live, "LOOK_AGAIN", 0):
-            reader.look()
-            reader.look()
+        reader.look()
+        reader.look()
         self.assertEqual((reader.results[first.id].goals, list(reader.results), list(reader.faults)), ((100, 0), [first.id], [second.id]))
 
     def test_a_match_of_a_run_that_was_ended_waits(self):

@@ -2,6 +2,7 @@
 
 import asyncio
 import contextlib
+import dataclasses
 import http.client
 import inspect
 import io
@@ -22,6 +23,7 @@ import urllib.request
 from unittest.mock import Mock, patch
 
 from ggp_tools.competition import files, http_server, live, live_site, pages
+from ggp_tools.competition.competition_file import EACH_MATCH, WHEN_DEAD
 from ggp_tools.competition.live_site import LiveSite
 from ggp_tools.competition.page_changes import changes
 from ggp_tools.competition.page_parts import Items, Part
@@ -42,7 +44,7 @@ class Served(unittest.TestCase):
     def setUp(self):
         # On a busy computer a look at the records, and the referee, may take long. Here nothing waits for that, and nothing is late.
         self.enterContext(patch.object(live, "clock", lambda: 1_000.0))
-        for name, value in (("SHARE", 0), ("LOOK_AGAIN", 0), ("JUDGING_SHARE", 0), ("READING", 1e9)):
+        for name, value in (("SHARE", 0), ("JUDGING_SHARE", 0), ("READING", 1e9)):
             self.enterContext(patch.object(live, name, value))
         for name, value in (("SHARE", 0), ("FOLLOW", 1e9)):
             self.enterContext(patch.object(live_site, name, value))
@@ -312,6 +314,25 @@ class Pages(Served):
             self.look()
             self.assertIn("0 matches are open, 6 wait.", self.page("/"))
 
+    def test_players_that_were_restarted_are_named_once_that_says_nothing_of_a_turn(self):
+        """A player that has died answers nothing: another one of the same turn must not learn that."""
+        commands = (Mock(restart=WHEN_DEAD), Mock(restart=EACH_MATCH), None)
+        players = tuple(dataclasses.replace(player, command=command) for player, command in zip(self.plan.competition.players, commands))
+        self.plan.competition = dataclasses.replace(self.plan.competition, players=players)
+        self.site = self.server.site = LiveSite(self.plan, Referee(program()), lambda: self.plan)
+        match, moment = self.plan.matches[0], itertools.count()
+        log = begin(self.plan, match, started(match))
+        with patch.object(live, "clock", lambda: next(moment) / 1_000):
+            self.look()
+            lines = [f"restart {other.id} {name}: process 7, port 8" for other, name in zip(self.plan.matches[1:], ("ann", "ann", "bob"))]
+            self.plan.folder.journal.write_text("".join(f"2026-01-02T03:04:05.000Z {text}\n" for text in lines))
+            self.look()
+            self.assertNotIn("was restarted", self.page("/"))
+            self.say(log, self.play(match, 2, "NIL", ["(take 1)", "noop"]))
+            self.look()
+        self.assertIn(f"ann was restarted 2 times, the last time, for {self.plan.matches[2].id}<", self.page("/"))
+        self.assertNotIn("bob was restarted", self.page("/"))
+
 
 class Delayed(Served):
     """What is shown so many seconds late. The tests move the clock and the time of day."""
@@ -321,7 +342,6 @@ class Delayed(Served):
         self.moment = time.time()
         self.enterContext(patch.object(time, "time", lambda: self.moment))
         self.enterContext(patch.object(live, "clock", lambda: self.moment))
-        self.enterContext(patch.object(live, "LOOK_AGAIN", 0))
         self.begin_late()
 
     def begin_late(self):
@@ -611,7 +631,7 @@ class Events(Served):
         self.assertIs(self.site.pages["/index.html"].parts, made)
         self.site.pages["/index.html"].touched -= 100
         self.look()
-        self.assertEqual((dict(self.site.pages), self.site.followed), ({}, {}))
+        self.assertEqual(dict(self.site.pages), {})
 
 
 class Hostile(Served):

@@ -13,6 +13,7 @@ from dataclasses import dataclass
 from unittest.mock import patch
 
 from ggp_tools.competition import live, live_board, live_site
+from ggp_tools.competition.files import STAGES
 from ggp_tools.competition.live_site import LiveSite
 from ggp_tools.match_log import Host, line_of
 from ggp_tools.referee import Referee
@@ -278,8 +279,8 @@ class Files(InFolder):
             os.umask(before)
         self.assertTrue(held.is_set())
         self.assertIn("log.jsonl", {os.path.basename(path) for path in found})
-        # The addresses of the players are no answers, and a match whose record is checked is over.
+        # The addresses of the players and the stage of the match are no answers, and a match whose record is checked is over.
         others = [path for path, status in found.items() if status.st_mode & (stat.S_IRWXG | stat.S_IRWXO)]
-        self.assertLessEqual({os.path.basename(path) for path in others}, {"players", "record", "account"})
+        self.assertLessEqual({os.path.basename(path) for path in others}, {"players", "record", "account", *STAGES})
         for player in players:
             player.leave()

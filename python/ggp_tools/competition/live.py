@@ -14,6 +14,7 @@ from collections.abc import Container
 from dataclasses import dataclass
 from typing import NamedTuple
 
+from ggp_tools.competition.competition_file import EACH_MATCH
 from ggp_tools.competition.files import STAGES, Folder, lock_place
 from ggp_tools.competition.live_board import Answers, Labels, LiveBoard
 from ggp_tools.competition.plan import Plan
@@ -31,16 +32,13 @@ from ggp_tools.referee import Referee
 # All records are listed for at most so small a part of the time, and read for so many seconds in a look. The record of a match that was open
 # is read at once.
 SHARE, READING = 10, 1.0
-# Files that are written anew in their places are looked for at most once in so many seconds.
-LOOK_AGAIN = 2.0
 # The list of many locks is read in pieces, and may lack one where others go meanwhile. So in so many lists it has to be missing.
 LOOKS = 5
-# Two changes of a folder within so many seconds may give it the same time: many systems count it by the ticks of their clock.
-TICK = 0.1
 # A match whose room names its players alone: they are sent ABORT for a run that was ended.
 WAITING = "waiting"
 FAULT = "these pages have a fault, so what they show of it may be wrong: {!r}"
 # The lines of the journal of `play` by which a match is given up, or is open again.
+RESTARTED = re.compile(r"restart (\S+) (\S+): .*")
 GIVEN_UP = re.compile(rf"(?:no record|missing) (\S+): (?!{NOT_BEGUN}$)(.*)|(?:info|begin) (\S+) .*")
 # The referee is asked what came of answers for at most so small a part of the time.
 JUDGING_SHARE = 3
@@ -244,11 +242,6 @@ def stage_of(names: set[str]) -> str:
     return next((stage for stage in reversed(STAGES) if stage in names), WAITING)
 
 
-def settled(changed: int) -> int:
-    """Returns the time of the last change of a folder; no such time where another change may have the same."""
-    return changed if abs(time.time() - changed / 1e9) > TICK else -1
-
-
 def size_of(path: pathlib.Path) -> int:
     """Returns the bytes of a file, none where it is not there."""
     try:
@@ -303,15 +296,21 @@ class Reader:
         self.replaced: list[Replaced] = []
         self.replaced_counts: dict[str, int] = {}
         self.version, self.results_version, self.is_held = 0, 0, False
-        self.next, self.next_again, self.records_time, self.next_judging = 0.0, 0.0, None, 0.0
+        self.next, self.next_judging = 0.0, 0.0
         # Why `play` has given matches up.
         self.journal, self.given_up = Tail(str(plan.folder.journal), note_of), {}
+        commands = {player.name: player.command for player in plan.competition.players}
+        self.restarting = {name for name, command in commands.items() if command and command.restart != EACH_MATCH}
+        # Players that were started again, for which matches and when that was read; and what is shown of it.
+        self.restarts: list[tuple[str, str, float]] = []
+        self.restarted: dict[str, tuple[int, str]] = {}
 
     def look(self) -> None:
         """Reads what has come since the last look."""
         sight = self.delay.sight(self.rooms_there(), size_of(self.plan.folder.journal), is_held(self.plan.folder.path))
         gone = self.look_at_rooms(sight.rooms)
         self.look_at_journal(sight)
+        self.show_restarts()
         for name in gone:
             self.look_at_record(name)
         self.look_at_records()
@@ -348,13 +347,26 @@ class Reader:
         before = dict(self.given_up)
         if sight.is_held and not self.is_held:
             self.given_up.clear()
+            self.restarted.clear()
         while notes := self.journal.added(sight.journal)[0]:
+            self.restarts += [(found[2], found[1], clock()) for found in map(RESTARTED.fullmatch, notes) if found and found[2] in self.restarting]
             for found in filter(None, map(GIVEN_UP.fullmatch, notes)):
                 if found[2] is None:
                     self.given_up.pop(found[3], None)
                 elif found[1] in self.known:
                     self.given_up[found[1]] = for_visitors(self.plan.folder, found[2])
         self.version += before != self.given_up
+
+    def show_restarts(self) -> None:
+        """Shows which players were started again. A player that has died answers nothing, so the rounds that were open then come first."""
+        held = []
+        for player, match, moment in self.restarts:
+            if any(player in seen.match.players and seen.began <= moment for seen in self.open.values()):
+                held.append((player, match, moment))
+            else:
+                self.restarted[player] = self.restarted.get(player, (0,))[0] + 1, match
+        self.version += held != self.restarts
+        self.restarts = held
 
     def look_at_room(self, name: str, seen: Seen, room: Room) -> int:
         """Reads what has come of an open match. Returns how much has changed; a fault of these pages is told, and stops no other match."""
@@ -407,38 +419,33 @@ class Reader:
             self.version += 1
 
     def list_records(self) -> None:
-        """Looks for records that have come, have gone or are other ones: where the folder of the records has changed, and now and then."""
+        """Looks for records that have come, have gone or are other ones."""
         began = time.monotonic()
-        try:
-            changed = os.stat(self.plan.folder.records).st_mtime_ns
-        except OSError:
-            changed = None
-        if began < self.next or changed == self.records_time and began < self.next_again:
+        if began < self.next:
             return
-        # A record that comes while the folder is read changes it again, or it is read again anyway.
-        self.records_time = None if changed is None else settled(changed)
-        there = self.records_there() if changed is not None else {}
-        for name in [name for name in self.results if name not in there]:
+        try:
+            there = {name.removesuffix(".json") for name in os.listdir(self.plan.folder.records) if name.endswith(".json")}
+        except OSError:
+            there = set()
+        for name in self.results.keys() - there:
             self.forget(name)
         self.faults = {name: why for name, why in self.faults.items() if name in there}
-        self.unread = deque(name for name, found in there.items() if self.identities.get(name) != found)
+        self.unread = deque(name for name in self.known if name in there and self.is_news(name))
+        self.delay.is_new = False
         ended = time.monotonic()
         self.next = ended + SHARE * (ended - began)
-        self.next_again = max(self.next, ended + LOOK_AGAIN)
 
-    def records_there(self) -> dict[str, Identity]:
-        """Returns the records of matches of the schedule, in its order."""
-        found = {}
-        with os.scandir(self.plan.folder.records) as entries:
-            for entry in entries:
-                name = entry.name.removesuffix(".json")
-                if name in self.known and name != entry.name:
-                    with contextlib.suppress(OSError):
-                        found[name] = identity(entry.stat())
+    def is_news(self, name: str) -> bool:
+        """Returns whether a record is to be read: it has come, or is another one than when it was read."""
+        if name not in self.identities and not self.delay.seconds:
+            return True
+        try:
+            found = identity(os.stat(self.plan.folder.record(name)))
+        except OSError:
+            return False
         # Only of what is there at first it is believed how old it is.
-        ages = {name: time.time() - there[2] / 1e9 for name, there in found.items()} if self.delay.is_new else {}
-        self.delay.is_new = False
-        return {name: found[name] for name in sorted(found, key=self.place.__getitem__) if self.delay.has_passed(name, found[name], ages.get(name, 0.0))}
+        age = time.time() - found[2] / 1e9 if self.delay.is_new else 0.0
+        return self.delay.has_passed(name, found, age) and self.identities.get(name) != found
 
     def forget(self, name: str) -> None:
         """Has a match have no result any more."""

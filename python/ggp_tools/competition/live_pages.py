@@ -2,7 +2,9 @@
 
 import dataclasses
 import datetime
+import itertools
 import typing
+from collections.abc import Iterable
 
 from ggp_tools.competition.competition_file import Competition
 from ggp_tools.competition.live import Reader, Seen
@@ -91,9 +93,9 @@ def board_html(board: LiveBoard) -> "Markup":
     return html_of("live", "state", boards=joined(drawn), terms=terms[:MOST_TERMS], more=max(0, len(terms) - MOST_TERMS), notes=notes)
 
 
-def board_item(seen: Seen, state: "Markup", turn: int, roles: tuple[str, ...]) -> Item:
+def board_item(seen: Seen, state: "Markup", roles: tuple[str, ...]) -> Item:
     """Returns the board of an open match on the first page."""
-    name = f"board-{seen.match.id}"
+    name, turn = f"board-{seen.match.id}", len(seen.board.position.moves)
     return name, html_of("live", "board", name=name, match=seen.match, roles=roles, turn=turn, seen=status_of(seen), state=state)
 
 
@@ -102,10 +104,18 @@ def trouble_part(trouble: str) -> Part:
     return live_part("trouble", text=trouble) if trouble else Part("trouble", "")
 
 
+def restart_words(player: str, restarts: tuple[int, str]) -> str:
+    """Returns how often a player that `play` starts was started again, and for which match last."""
+    count, match = restarts
+    return f"{player} was restarted {'once' if count == 1 else f'{count} times, the last time'}, for {match}"
+
+
 def now_part(reader: Reader, waiting: int, given_up: int) -> Part:
     """Returns how many matches are open, and whether they are played at all."""
     faults = [f"{name} does not count: {why}" for name, why in list(reader.faults.items())[:QUEUE]]
     lines = [*faults, *reader.troubles_of_matches()[:QUEUE]]
+    if reader.restarted:
+        lines.append("; ".join(restart_words(*restart) for restart in reader.restarted.items()))
     told = {"open": len(reader.open), "waiting": waiting, "lost": given_up}
     return live_part("now", is_held=reader.is_held, unread=len(reader.unread), lines=lines, **told)
 
@@ -117,25 +127,26 @@ def replaced_part(replaced: list[tuple[Replaced, int]]) -> Part:
     return live_part("replaced", rows=rows, said=REPLACED)
 
 
-def matches_part(name: str, title: str, found: list[tuple[Match, str]]) -> Part:
-    """Returns a list of matches that are neither open nor over, the first ones, each with what there is to say of it."""
-    if not found:
+def matches_part(name: str, title: str, found: Iterable[tuple[Match, str]], count: int) -> Part:
+    """Returns a list of so many matches that are neither open nor over, the first ones, each with what there is to say of it."""
+    if not count:
         return Part(name, "")
-    return live_part(name, "matches", title=title, rows=found[:QUEUE], more=max(0, len(found) - QUEUE))
+    return live_part(name, "matches", title=title, rows=list(itertools.islice(found, QUEUE)), more=max(0, count - QUEUE))
 
 
-def live_parts(reader: Reader, boards: list[Item], rows: list[Item]) -> PageParts:
+def live_parts(reader: Reader, boards: list[Item]) -> PageParts:
     """Returns what the first page says of the matches that are not over."""
-    left = reader.waiting()
-    waiting = [(match, "") for match in left if match.id not in reader.given_up]
-    given_up = [(match, reader.given_up[match.id]) for match in left if match.id in reader.given_up]
+    left, why = reader.waiting(), reader.given_up
+    given_up = [(match, why[match.id]) for match in left if match.id in why] if why else []
+    waiting = ((match, "") for match in left if match.id not in why)
+    count, rows = len(left) - len(given_up), list(map(open_row, reader.open_matches()))
     return [
-        now_part(reader, len(waiting), len(given_up)),
+        now_part(reader, count, len(given_up)),
         Items("boards", '<div class="boards" id="boards">', tuple(boards), "</div>"),
         rows_part("open", "Open matches", OPEN_HEADS, rows, "No match is open."),
-        matches_part("given-up", "Matches that were given up", given_up),
+        matches_part("given-up", "Matches that were given up", given_up, len(given_up)),
         replaced_part(reader.last_replaced()),
-        matches_part("queue", "Waiting matches", waiting),
+        matches_part("queue", "Waiting matches", waiting, count),
     ]
 
 
@@ -157,13 +168,14 @@ def answers_part(seen: Seen) -> Part:
     return live_part("answers", rows=rows) if rows else Part("answers", "")
 
 
-def open_match_parts(seen: Seen, state: "Markup", turn: int, turns: tuple[Turn, ...], head: Part, roles: tuple[str, ...]) -> PageParts:
-    """Returns the page of a match that is open, with the state after a turn."""
+def open_match_parts(seen: Seen, state: "Markup", head: Part, roles: tuple[str, ...]) -> PageParts:
+    """Returns the page of a match that is open."""
+    turns = [turn_row(past) for past in reversed(seen.board.turns())]
     return [
         head,
         live_part("now", "match_now", seen=status_of(seen)),
-        live_part("state", "match_state", turn=turn, state=state),
-        rows_part("turns", "Last turns", ["turn", *roles], [turn_row(past) for past in reversed(turns)], "No turn is over."),
+        live_part("state", "match_state", turn=len(seen.board.position.moves), state=state),
+        rows_part("turns", "Last turns", ["turn", *roles], turns, "No turn is over."),
         answers_part(seen),
     ]
 

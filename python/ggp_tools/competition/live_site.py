@@ -13,7 +13,6 @@ from dataclasses import dataclass
 from ggp_tools.competition import live_pages
 from ggp_tools.competition.files import Folder, Refused
 from ggp_tools.competition.live import Delay, Reader, Seen, for_visitors
-from ggp_tools.competition.live_board import Turn
 from ggp_tools.competition.page_changes import changes, event_text
 from ggp_tools.competition.page_parts import PageParts
 from ggp_tools.competition.pages import Site, by_game, by_player, pages_of_all, titled
@@ -61,16 +60,6 @@ def reason_for_visitors(folder: Folder, why: Exception) -> str:
     return for_visitors(folder, words)
 
 
-@dataclass(frozen=True)
-class Followed:
-    """How far a match was followed: its state as HTML, after so many turns, and the last turns."""
-
-    version: int
-    state: "Markup"
-    turn: int
-    turns: tuple[Turn, ...]
-
-
 @dataclass
 class OpenPage:
     """A page that somebody has open, or had a moment ago. `stamp` is what it was made of. The last changes are in `events`, each with the
@@ -114,8 +103,8 @@ class LiveSite:
         self.reader = Reader(plan, self.referee, self.delay)
         self.site = Site(plan, written=lambda result: self.reader.identities[result.match.id][2])
         self.names = {player.name for player in plan.competition.players}
-        self.followed: dict[str, Followed] = {}
-        self.rows: dict[str, tuple[int, tuple[str, str]]] = {}
+        # The states of open matches as HTML, each with the version of its board.
+        self.states: dict[str, tuple[int, "Markup"]] = {}
         self.tables: list[Table] = []
         self.results: list[Result] = []
         self.standing: dict[str, str] = {}
@@ -129,7 +118,7 @@ class LiveSite:
         self.look_at_plan()
         self.reader.look()
         self.count_results()
-        self.follow(self.wanted_boards())
+        self.follow()
         self.drop_idle_pages()
         self.renew_pages()
         if self.fault:
@@ -192,25 +181,21 @@ class LiveSite:
         ended = time.monotonic()
         self.next_tables = ended + SHARE * (ended - began)
 
-    def wanted_boards(self) -> list[Seen]:
-        """Returns the open matches whose boards somebody looks at; those of the others are not made any more."""
+    def follow(self) -> None:
+        """Follows the open matches for a while, first those that somebody looks at."""
         now = time.monotonic()
         looked = {path for path, found in self.pages.items() if found.viewers or now - found.touched < IDLE}
         shown = self.reader.open_matches()[: live_pages.BOARDS] if "/index.html" in looked else []
-        names = {seen.match.id for seen in shown}
-        matches = (PATH.fullmatch(path) for path in looked)
-        names |= {found[3] for found in matches if found and found[2] == "matches" and found[3] in self.reader.open}
-        self.followed = {name: found for name, found in self.followed.items() if name in names}
-        self.rows = {name: found for name, found in self.rows.items() if name in self.reader.open}
-        return [self.reader.open[name] for name in names]
+        names = {found[3] for found in map(PATH.fullmatch, looked) if found and found[2] == "matches"}
+        self.reader.judge(now + FOLLOW, names | {seen.match.id for seen in shown})
+        self.states = {name: found for name, found in self.states.items() if name in self.reader.open}
 
-    def follow(self, wanted: list[Seen]) -> None:
-        """Follows the open matches for a while, and shows those that are wanted."""
-        self.reader.judge(time.monotonic() + FOLLOW, {seen.match.id for seen in wanted})
-        for seen in wanted:
-            name, board = seen.match.id, seen.board
-            if name not in self.followed or self.followed[name].version != board.version:
-                self.followed[name] = Followed(board.version, live_pages.board_html(board), len(board.position.moves), tuple(board.turns()))
+    def state(self, seen: Seen) -> "Markup":
+        """Returns the state of an open match. It is drawn again only if it has changed."""
+        name, version = seen.match.id, seen.board.version
+        if self.states.get(name, (None,))[0] != version:
+            self.states[name] = version, live_pages.board_html(seen.board)
+        return self.states[name][1]
 
     # ---- pages
 
@@ -225,7 +210,7 @@ class LiveSite:
         if not found:
             return None
         if found[1] == "index":
-            return self.reader.version, self.tables_version, tuple(followed.version for followed in self.followed.values())
+            return self.reader.version, self.tables_version
         if found[1]:
             return (self.tables_version,) if found[1] in pages_of_all(self.results) else None
         own = tuple(self.own.get(path, ()))
@@ -239,8 +224,7 @@ class LiveSite:
         if name not in self.reader.known or name in self.reader.results:
             return None
         seen = self.reader.open.get(name)
-        followed = self.followed.get(name)
-        return (seen.version, followed and followed.version) if seen else ("waits", self.reader.faults.get(name), self.reader.given_up.get(name))
+        return (seen.version,) if seen else ("waits", self.reader.faults.get(name), self.reader.given_up.get(name))
 
     def make(self, path: str) -> tuple[str, PageParts]:
         """Returns the title and the parts of a page that is there."""
@@ -252,7 +236,7 @@ class LiveSite:
         found = PATH.fullmatch(path)
         if found[1] == "index":
             head, rounds, standings, *rest = self.site.first_parts(self.tables, self.results)
-            now, boards, opened, given_up, *more = live_pages.live_parts(self.reader, self.board_items(), self.open_rows())
+            now, boards, opened, given_up, *more = live_pages.live_parts(self.reader, self.board_items())
             return titled(self.plan, ""), [head, now, boards, rounds, standings, opened, given_up, *rest, *more]
         if found[1]:
             return titled(self.plan, "all matches"), self.site.all_matches(self.results, found[1])
@@ -268,21 +252,11 @@ class LiveSite:
         if not seen:
             why = self.reader.faults.get(match.id, ""), self.reader.given_up.get(match.id, "")
             return titled(self.plan, match.id), live_pages.waiting_match_parts(*why, head)
-        followed = self.followed.get(match.id, Followed(0, "", 0, ()))
-        return titled(self.plan, match.id), live_pages.open_match_parts(seen, followed.state, followed.turn, followed.turns, head, roles)
+        return titled(self.plan, match.id), live_pages.open_match_parts(seen, self.state(seen), head, roles)
 
     def board_items(self) -> list[tuple[str, str]]:
-        shown = [seen for seen in self.reader.open_matches()[: live_pages.BOARDS] if seen.match.id in self.followed and seen.stage != "asking"]
-        states = [self.followed[seen.match.id] for seen in shown]
-        roles = [self.plan.roles(seen.match.game) for seen in shown]
-        return [live_pages.board_item(seen, followed.state, followed.turn, own) for seen, followed, own in zip(shown, states, roles)]
-
-    def open_rows(self) -> list[tuple[str, str]]:
-        """Returns the rows of the open matches. A row is made again only where its match has changed."""
-        for seen in self.reader.open_matches():
-            if self.rows.get(seen.match.id, (None,))[0] != seen.version:
-                self.rows[seen.match.id] = seen.version, live_pages.open_row(seen)
-        return [self.rows[seen.match.id][1] for seen in self.reader.open_matches()]
+        shown = [seen for seen in self.reader.open_matches()[: live_pages.BOARDS] if seen.stage != "asking"]
+        return [live_pages.board_item(seen, self.state(seen), self.plan.roles(seen.match.game)) for seen in shown]
 
     def renew(self, path: str, found: OpenPage) -> None:
         """Makes a page again if its data has changed, and keeps what has changed of it."""
