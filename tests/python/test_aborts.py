@@ -96,14 +96,14 @@ class Processes(unittest.TestCase):
 
     def test_a_process_that_can_not_be_started_is_no_answer_and_the_others_are_sent(self):
         begun = iter([OSError(11, "none")])
-        plain = asyncio.create_subprocess_exec
+        plain = aborts.run
 
-        def start(*words, **more):
+        def start(words):
             for error in begun:
                 raise error
-            return plain(*words, **more)
+            return plain(words)
 
-        with unittest.mock.patch("asyncio.create_subprocess_exec", start):
+        with unittest.mock.patch.object(aborts, "run", start):
             self.assertEqual(sent(Words(), {"a": ["exit 0", "exit 0;"], "b": ["exit 0"]}), {"a": ["exit 0"]})
 
     def test_with_no_time_none_has_answered(self):

@@ -18,7 +18,7 @@ PLAY_A_MATCH = TOP / "examples/play-a-match"
 PLAYERS = [TOP / f"examples/players/{name}.py" for name in ("player", "interpreting")]
 NIM, GROUND = TOP / "examples/games/general/nim.kif", TOP / "examples/games/countdown.kif"
 RECORD = TOP / "examples/records/countdown-3-second_version.record"
-FULL = "standard output can't be written: No space left on device"
+FULL = "standard output: No space left on device"
 
 
 def run(*words, **more):
@@ -32,8 +32,8 @@ class Examples(unittest.TestCase):
         for word in ("-1", "0", "-0.0", "nan", "inf", "-inf", "1000000.1", "1e308"):
             status, out, said = run(INSTANTIATE, f"--seconds={word}", GROUND)
             self.assertEqual((status, out), (2, ""), word)
-            self.assertIn(f"ggp-instantiate: error: argument --seconds: {word} is not above 0 and up to 1,000,000\n", said)
-        self.assertIn("argument --seconds: invalid seconds value: 'x'", run(INSTANTIATE, "--seconds", "x", GROUND)[2])
+            self.assertIn(f"ggp-instantiate: error: argument --seconds: {word} is not a number above 0 and up to 1,000,000\n", said)
+        self.assertIn("argument --seconds: x is not a number above 0 and up to 1,000,000", run(INSTANTIATE, "--seconds", "x", GROUND)[2])
 
     def test_seconds_that_are_some(self):
         for word in ("1000000", "2e2"):
@@ -59,11 +59,11 @@ class Examples(unittest.TestCase):
             os.close(reader)
             status, _, said = run(*words, stdout=writer)
             os.close(writer)
-            self.assertEqual((status, said.splitlines()[-1]), (wanted, f"{words[0].name}: {FULL.partition(':')[0]}: Broken pipe"), said)
+            self.assertEqual((status, "Traceback" in said), (wanted, False), said)
 
     def test_streams_that_are_closed(self):
         status, out, said = run(SHOW_RECORD, preexec_fn=lambda: os.close(0))
-        self.assertEqual((status, out, said.startswith("ggp-show-record: the record can't be read: [Errno 9] Bad file descriptor"), said.count("\n")), (2, "", True, 1))
+        self.assertEqual((status, out, said), (2, "", "ggp-show-record: standard input: it is closed\n"))
         self.assertEqual(run(SHOW_RECORD, preexec_fn=lambda: os.close(2)), (1, "", ""))
         for number in (0, 2):
             self.assertEqual(run(SHOW_RECORD, RECORD, preexec_fn=lambda: os.close(number)), run(SHOW_RECORD, RECORD))
@@ -77,7 +77,7 @@ class Examples(unittest.TestCase):
             self.assertEqual(run(INSTANTIATE, GROUND, preexec_fn=lambda: os.close(number))[:2], (0, whole))
         status, out, said = run(INSTANTIATE, GROUND, preexec_fn=lambda: os.close(1))
         self.assertEqual((status, out, said.splitlines()[-1].partition(":")[0]), (1, "", "ggp-instantiate"))
-        self.assertRegex(run(INSTANTIATE, preexec_fn=lambda: os.close(0))[2], r"ggp-instantiate: .*Bad file descriptor|standard input is closed")
+        self.assertRegex(run(INSTANTIATE, preexec_fn=lambda: os.close(0))[2], r"ggp-instantiate: standard input: it is closed")
 
     def test_pages_are_as_before(self):
         status, page, said = run(SHOW_RECORD, RECORD)
@@ -172,7 +172,7 @@ class Examples(unittest.TestCase):
         with tempfile.TemporaryDirectory() as room:
             status, out, said = run(INSTANTIATE, "--player-rules", pathlib.Path(room), NIM)
             self.assertEqual((status, out), (1, ""))
-            self.assertEqual(said.splitlines()[-1], f"ggp-instantiate: {room} can't be written: Is a directory")
+            self.assertEqual(said.splitlines()[-1], f"ggp-instantiate: {room}: Is a directory")
 
 
 class BuiltIn(unittest.TestCase):

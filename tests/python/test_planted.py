@@ -105,7 +105,7 @@ def wound(sentences: Sentences) -> Record:
     """The record of the match in which red's stones wind from side to side."""
     match = begun(sentences)
     cells = [("place", x, y) for x, y in WINDING]
-    others = sorted(head[2] for head in match.game.heads["legal", 2] if head[1] == "blue" and head[2] not in (*cells, "noop"))
+    others = sorted({head[2] for head in match.game.rules if relation(head) == ("legal", 2) and head[1] == "blue" and head[2] not in (*cells, "noop")})
     for cell, other in zip(cells, [*others, None]):
         for turn in ((cell, "noop"), ("noop", other)):
             if match.phase()[0] == "playing":

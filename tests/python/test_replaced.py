@@ -3,8 +3,8 @@
 import os
 import pathlib
 import random
+import sys
 import tempfile
-import time
 import unittest
 from typing import NamedTuple
 from unittest import mock
@@ -52,34 +52,32 @@ class Growing(unittest.TestCase):
         self.file = pathlib.Path(self.enterContext(tempfile.TemporaryDirectory())) / "log"
         self.tail = Tail(str(self.file), parsed)
 
-    def added(self, found: Tail | None = None) -> tuple[list[str], bool]:
-        texts, is_other = (found or self.tail).added()
+    def added(self, found: Tail | None = None, until: int = sys.maxsize) -> tuple[list[str], bool]:
+        texts, is_other = (found or self.tail).added(until)
         return [text.text for text in texts], is_other
 
     def test_lines_as_they_come(self):
-        self.assertEqual((self.added(), self.tail.has_changed()), (([], False), False))
+        self.assertEqual(self.added(), ([], False))
         for text, lines in (("", []), ("one\ntw", ["one"]), ("", []), ("o\n", ["two"]), ("\nnone\nthree\nfour\n", ["", "three", "four"])):
             with open(self.file, "a") as file:
                 file.write(text)
             self.assertEqual(self.added(), (lines, False))
-        self.assertEqual(self.tail.changed, os.stat(self.file).st_mtime)
 
     def test_a_file_that_was_cut_or_replaced_is_read_from_its_beginning(self):
         self.file.write_text("one\ntwo\nhal")
-        self.tail.added()
+        self.added()
         self.file.write_text("new\n")
-        self.assertTrue(self.tail.has_changed())
         self.assertEqual((self.added(), self.added()), ((["new"], True), ([], False)))
         other = self.file.with_name("other")
         other.write_text("new\n")
         os.replace(other, self.file)
         self.assertEqual(self.added(), (["new"], True))
         self.file.unlink()
-        self.assertEqual((self.tail.has_changed(), self.added()), (False, ([], False)))
+        self.assertEqual(self.added(), ([], False))
 
     def test_a_file_that_was_cut_and_has_grown_past_its_place_is_known_by_its_beginning(self):
         self.file.write_text("1 one\n")
-        self.tail.added()
+        self.added()
         self.file.write_text("1 one\ntwo\n")
         self.assertEqual(self.added(), (["two"], False))
         self.file.write_text("2 one\ntwo\nthree\n")
@@ -96,16 +94,12 @@ class Growing(unittest.TestCase):
         os.mkfifo(self.file)
         self.assertEqual((self.added(), self.tail.place), (([], False), 0))
 
-    def test_with_a_delay_each_line_comes_after_its_moment(self):
-        late, later = Tail(str(self.file), parsed, 60.0, str(self.file.with_name("later"))), self.file.with_name("later")
+    def test_lines_past_the_given_bytes_come_later_also_from_a_later_file(self):
+        later = self.file.with_name("later")
+        tail = Tail(str(self.file), parsed, str(later))
         self.file.write_text("100 one\ntwo\n")
-        with mock.patch.object(time, "time", lambda: now):
-            now = 159.0
-            self.assertEqual(self.added(late), ([], False))
-            now = 160.0
-            self.assertEqual(self.added(late), (["100 one", "two"], False))
-            self.file.rename(later)
-            with open(later, "a") as file:
-                file.write("101 three\n200 four\n")
-            now = 170.0
-            self.assertEqual(self.added(late), (["101 three"], False))
+        self.assertEqual([self.added(tail, until) for until in (7, 8, 8, 12)], [([], False), (["100 one"], False), ([], False), (["two"], False)])
+        self.file.rename(later)
+        with open(later, "a") as file:
+            file.write("101 three\n200 four\n")
+        self.assertEqual([self.added(tail, until) for until in (22, 31)], [(["101 three"], False), (["200 four"], False)])

@@ -10,6 +10,7 @@ import signal
 import subprocess
 import sys
 import tempfile
+import threading
 import types
 import unittest
 from unittest import mock
@@ -150,8 +151,10 @@ class All(WithProgram):
     def all(self, text, jobs=2, size=8, program=None):
         """Returns what is written, what is said, and the fault, where this input is checked."""
         written, said, reads = [], [], iter([text[at : at + 3] for at in range(0, len(text), 3)])
+        # A thread of an earlier call may still read: it must not take what is for this one.
+        before = set(threading.enumerate())
         with contextlib.ExitStack() as stack:
-            stack.enter_context(reading(lambda *_: next(reads, b"")))
+            stack.enter_context(reading(lambda *_: b"" if threading.current_thread() in before else next(reads, b"")))
             stack.enter_context(mock.patch.object(verify_many, "write_whole", lambda stream, some: (written if stream == 1 else said).append(bytes(some))))
             try:
                 check_all([program or self.program, "verify", "--lines"], jobs, size)
