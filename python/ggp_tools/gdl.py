@@ -202,15 +202,19 @@ def refuse_dependence(asks: Mapping[Relation, Iterable[Relation]], source: Calla
 
 def way_to(head: Relation, last: Relation, asks: Mapping[Relation, Iterable[Relation]]) -> list[Relation]:
     """A shortest way by which a relation depends on another: empty if there is none."""
-    ways = {head: [head]}
+    before: dict[Relation, Relation | None] = {head: None}
     left = [head]
     for key in left:
         others = asks.get(key, ())
         if last in others:
-            return [*ways[key], last]
+            way = [last]
+            while key is not None:
+                way.append(key)
+                key = before[key]
+            return way[::-1]
         for asked in sorted(others, key=str):
-            if asked not in ways:
-                ways[asked] = [*ways[key], asked]
+            if asked not in before:
+                before[asked] = key
                 left.append(asked)
     return []
 
