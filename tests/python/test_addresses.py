@@ -38,7 +38,12 @@ def test_two_players_at_one_address(other):
 
 def test_addresses_of_ipv6_with_interfaces():
     assert mistakes("[::]:9147", "[0:0::1]:9147") == [(10, "'[0:0::1]:9147' and '[::]:9147', the address of p0, are one: ::1, port 9147")]
-    assert mistakes("127.0.0.1:9147", "127.0.0.2:9147", "[::1]:9148", "[fe80::1%lo]:9147", "[fe80::2%lo]:9147") == []
+    assert mistakes("127.0.0.1:9147", "127.0.0.2:9147", "[::1]:9148") == []
+    without = [(address, "this computer has no such interface, or the address is not link-local") for address in ("[fe80::1%nope]:9147", "[::1%lo]:9147")]
+    through = [(address, "no link-local address is reached through this interface") for address in ("[fe80::1%lo]:9147", "[fe80::1%1]:9148")]
+    assert mistakes(*(address for address, _ in without + through)) == [
+        (line, f"{address!r}: {why}") for line, (address, why) in zip(range(7, 19, 3), without + through)
+    ]
 
 
 @pytest.mark.parametrize(("host", "why"), NO_HOSTS)

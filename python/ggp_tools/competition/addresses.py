@@ -56,13 +56,17 @@ def refusal(place: Place) -> str:
     address = ipaddress.ip_address(place[0])
     if address.is_multicast:
         return "a multicast address takes no connection"
-    if address.version == 6 and address.is_link_local and not address.scope_id:
+    by_interface = address.version == 6 and address.is_link_local
+    if by_interface and not address.scope_id:
         return "a link-local address needs its interface, as in [fe80::1%eth0]"
     try:
         with socket.socket(socket.AF_INET6 if address.version == 6 else socket.AF_INET, socket.SOCK_DGRAM) as probe:
-            probe.connect(place)
-    except OSError as why:
-        return "the system refuses connections to it, as to a broadcast address" if why.errno == errno.EACCES else ""
+            probe.connect(socket.getaddrinfo(*place, flags=socket.AI_NUMERICHOST)[0][4])
+    except OSError as error:
+        if error.errno == errno.EACCES:
+            return "the system refuses connections to it, as to a broadcast address"
+        if by_interface and error.errno == errno.ENETUNREACH:
+            return "no link-local address is reached through this interface"
     return ""
 
 
@@ -92,7 +96,9 @@ def mistakes_of_addresses(competition: Competition, found: dict[str, list[Place]
     known: dict[Place, Player] = {}
     for player in competition.players:
         places, port = found.get(player.name, []), player.address.rpartition(":")[2]
-        if whys := list(filter(None, map(refusal, places))):
+        if "%" in player.address and not places:
+            yield Mistake(player.line, "players.address", f"{player.address!r}: this computer has no such interface, or the address is not link-local")
+        elif whys := list(filter(None, map(refusal, places))):
             yield Mistake(player.line, "players.address", f"{player.address!r}: {whys[0]}")
         elif others := [place for place in places if place in known]:
             other = known[others[0]]
