@@ -61,7 +61,7 @@ def refusal(place: Place) -> str:
         return "a link-local address needs its interface, as in [fe80::1%eth0]"
     try:
         with socket.socket(socket.AF_INET6 if address.version == 6 else socket.AF_INET, socket.SOCK_DGRAM) as probe:
-            probe.connect(socket.getaddrinfo(*place, flags=socket.AI_NUMERICHOST)[0][4])
+            probe.connect((place[0].partition("%")[0], place[1], 0, int(address.scope_id)) if by_interface else place)
     except OSError as error:
         if error.errno == errno.EACCES:
             return "the system refuses connections to it, as to a broadcast address"
