@@ -10,7 +10,7 @@ import tempfile
 import unittest
 
 from ggp_tools.competition.schedule import Match
-from ggp_tools.kif import expressions
+from ggp_tools.kif import expressions, spelled
 from ggp_tools.match_log import Open, events, line_of
 from ggp_tools.records.ggp_base import spaced, times_of
 from ggp_tools.records.match_logs import beginnings
@@ -89,10 +89,10 @@ class Files(unittest.TestCase):
         (self.folder / "rules/countdown.kif").write_bytes((GAMES / "countdown.kif").read_bytes())
         self.pile = self.folder / "pile"
 
-    def converted(self, text: str, *words: str) -> subprocess.CompletedProcess:
+    def converted(self, text: str, *words: str, action: str = "ggp-base") -> subprocess.CompletedProcess:
         self.pile.write_text(text, encoding="ascii")
         call = [sys.executable, TOP / "python/ggp-records", "--program", program(), "--rules", self.folder / "rules"]
-        return subprocess.run([*call, "ggp-base", *words, self.folder / "out", self.pile], capture_output=True, text=True)
+        return subprocess.run([*call, action, *words, self.folder / "out", self.pile], capture_output=True, text=True)
 
     def files(self) -> list[str]:
         return sorted(path.name for path in (self.folder / "out").iterdir())
@@ -140,6 +140,22 @@ class Files(unittest.TestCase):
     def test_a_log_that_is_not_there_is_told_before_anything_is_written(self):
         said = self.converted(record(WHOLE), "--log", str(self.folder / "none"))
         self.assertEqual((said.returncode, (self.folder / "out").exists()), (3, False))
+
+    def test_a_text_gives_back_the_moves_and_errors(self):
+        """A match is a paragraph: headers, and a row for each turn, in which `;` begins what was replaced."""
+        (self.folder / "m1.jsonl").write_text(LOG, encoding="ascii")
+        replaced = json.dumps(json.loads(record(WHOLE)) | {"errors": [["", "CE"], ["IL (take 9)", ""]]}) + "\n"
+        said = self.converted(record(WHOLE) + record(FAULTY) + replaced, "--log", str(self.folder / "m1.jsonl"), action="pgn")
+        self.assertEqual((said.returncode, said.stderr.count("not written: ")), (1, 1), said.stderr)
+        texts = (self.folder / "out").read_text(encoding="ascii").split("\n\n")
+        headers = dict(re.findall('^\\[(.*) "(.*)"\\]$', texts[0], re.MULTILINE))
+        names = {"Match": "m1", "Game": "countdown", "red": "ann", "blue": "bob", "Result": "0-100", "Date": "2026-11-28T06:00:01.000Z"}
+        self.assertEqual({name: headers[name] for name in names}, names)
+        for text, found in zip(texts, map(json.loads, (record(WHOLE), replaced)), strict=True):
+            turns = [row.partition(". ")[2].partition(" ; ") for row in text.splitlines() if row[0] != "["]
+            self.assertEqual([list(map(spelled, expressions(moves))) for moves, _, _ in turns], found["moves"])
+            errors = [dict(error.split(": ") for error in said.split("; ") if error) for _, _, said in turns]
+            self.assertEqual([[said.get(role, "") for role in found["roles"]] for said in errors], found["errors"])
 
     def test_lists_are_spaced_as_ggp_base_spaces_them(self):
         self.assertEqual(spaced("(a (b c) d)"), "( a ( b c ) d )")

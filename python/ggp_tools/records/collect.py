@@ -1,10 +1,11 @@
-"""Sorts a mixed pile of records by game, has the program check each, and makes tables, pages, facts or matches of ggp-base of them.
+"""Sorts a mixed pile of records by game, has the program check each, and makes tables, pages, facts, or matches as ggp-base or PGN has them.
 
     ggp-records --rules FOLDER check [--explain] PILE ..
     ggp-records --rules FOLDER sqlite FILE PILE ..
     ggp-records --rules FOLDER csv DIR PILE ..
     ggp-records --rules FOLDER pages DIR PILE ..
     ggp-records --rules FOLDER ggp-base [--log LOG ..] [--games URL] DIR PILE ..
+    ggp-records --rules FOLDER pgn [--log LOG ..] FILE PILE ..
     ggp-records --rules FOLDER facts [--log LOG ..] [--descriptions FOLDER] [--refereed-by TEXT] FILE PILE ..
     ggp-records log LOG ..
 
@@ -15,12 +16,13 @@ for large games. `check` writes a line for each record: the file, the line's num
 each two. With --explain lines below one that is not lawful say what was expected and what was found. The tables of `sqlite` and `csv` have
 each record: `lawful` is 1 or 0, and `copy_of` has the number of an earlier record with the same bytes; the views `counted_players` and
 `counted_moves` of the database have only lawful records, each once. `ggp-base` writes a file for each
-record that is lawful, as ggp-base has a match, and names the others. URL/NAME/ is then the address of the game NAME. `facts` writes a line
-of JSON for each record that is lawful, with what it does not say itself, and names the others. LOG, a file or a folder of files, has the
+record that is lawful, as ggp-base has a match, and names the others. URL/NAME/ is then the address of the game NAME. `pgn` writes headers and
+moves of each record that is lawful, with an empty line between two matches, and `facts` a line of JSON for each, with what it does not say
+itself; both name the others. LOG, a file or a folder of files, has the
 times of messages, as the folder `logs` of a competition. `log` prints logs as text, an event on each line, with at most 200 bytes of each
 message and each answer. The FOLDER of --descriptions has what the rules were made from, by the same names,
 and TEXT names the program that refereed the matches. FILE and DIR must not be there. docs/RECORDS.md has the verdicts,
-examples/records/README.md the keys for ggp-base and of facts.
+examples/records/README.md the keys for ggp-base and of facts, and the form of `pgn`.
 
 The status is 0 if all records are lawful, 1 if not, 2 for wrong use, 3 if the program came to no verdict."""
 
@@ -40,6 +42,7 @@ from ggp_tools.records.facts import Facts, description_sums, version_beside, wri
 from ggp_tools.records.ggp_base import write_matches
 from ggp_tools.records.index import write_pages
 from ggp_tools.records.match_logs import MatchLogs, lines_of_logs
+from ggp_tools.records.pgn import write_pgn
 from ggp_tools.records.record import json_lines
 from ggp_tools.records.tables import write_csv, write_sqlite
 from ggp_tools.referee import NoReferee, Referee, Unchecked, find_program
@@ -47,8 +50,8 @@ from ggp_tools.streams import report, say, status_of
 
 COMMAND = "ggp-records"
 # What an action writes, and the options that only some have.
-OUTPUTS = {"check": None, "sqlite": "FILE", "csv": "DIR", "pages": "DIR", "ggp-base": "DIR", "facts": "FILE", "log": None}
-OWN = {"explain": ["check"], "log": ["ggp-base", "facts"], "games": ["ggp-base"], "descriptions": ["facts"], "refereed_by": ["facts"]}
+OUTPUTS = {"check": None, "sqlite": "FILE", "csv": "DIR", "pages": "DIR", "ggp-base": "DIR", "pgn": "FILE", "facts": "FILE", "log": None}
+OWN = {"explain": ["check"], "log": ["ggp-base", "pgn", "facts"], "games": ["ggp-base"], "descriptions": ["facts"], "refereed_by": ["facts"]}
 NOT_LAWFUL = "not lawful: "
 
 
@@ -110,7 +113,7 @@ def arguments(words: list[str]) -> argparse.Namespace:
     reader.add_argument("--large", action="store_true", help="the limits of the rules are those for large games")
     reader.add_argument("--jobs", type=int, default=len(os.sched_getaffinity(0)), metavar="N", help="at most N processes at a time")
     reader.add_argument("--explain", action="store_true", help="`check`: say why a record is not lawful")
-    reader.add_argument("--log", action="append", metavar="LOG", help="`ggp-base`, `facts`: a log of matches, or a folder of logs; may be given again")
+    reader.add_argument("--log", action="append", metavar="LOG", help="`ggp-base`, `pgn`, `facts`: a log of matches, or a folder of logs; may be given again")
     reader.add_argument("--games", metavar="URL", help="`ggp-base`: where the games are published: the game NAME at URL/NAME/")
     reader.add_argument("--descriptions", metavar="FOLDER", help="`facts`: what the rules were made from, by the same names")
     told = "`facts`: the program that refereed the matches (as VERSION says beside FOLDER of --rules)"
@@ -178,6 +181,8 @@ def perform(given: argparse.Namespace) -> int:
             write_pages(given.output, lines)
         case "ggp-base":
             name_others(write_matches(given.output, lines, logs, given.games))
+        case "pgn":
+            name_others(write_pgn(given.output, lines, logs))
         case "facts":
             name_others(write_facts(given.output, lines, facts))
             for match_id, why in facts.faults.items():
