@@ -1,11 +1,11 @@
-"""What is delivered in Python beside the referee `ggp_manager`: games are instantiated, competitions held, records shown, explained and
-checked by many processes. Pages need jinja2, the live pages of a competition also aiohttp, and descriptions with variables the grounder
-gringo. All else needs only the standard library."""
+"""The Python tools around the referee `ggp_manager`: they ground games, run competitions, and show, explain and check records. Pages need
+jinja2, the live pages of a competition also aiohttp, and game descriptions with variables the grounder gringo. The rest needs only the
+standard library."""
 
 import os
 import sys
 
-# That of the referee with which this is delivered.
+# The version of the referee that this package is delivered with.
 VERSION = "0.3.0"
 
 if sys.version_info < (3, 11):

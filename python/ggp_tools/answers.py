@@ -1,4 +1,4 @@
-"""What is wrong with an answer that is no legal move."""
+"""Explains why an answer is not a legal move."""
 
 import functools
 import sys
@@ -8,25 +8,25 @@ from ggp_tools.holding.game import MOST_CALLS, Game
 from ggp_tools.holding.positions import Position
 from ggp_tools.kif import KifFault, Refused, expressions, spelled, starts
 
-# A log shows so many bytes of an answer, and two dots for further ones.
+# A log shows at most this many bytes of an answer, followed by two dots if there are more.
 SHOWN, MORE = 200, ".."
-# Of the legal moves as many are listed as take so many bytes.
+# Legal moves are listed up to this many bytes.
 MOST_BYTES = 400
-# So many games are kept that were read last.
+# The number of games in the cache.
 MOST_GAMES = 4
-# A page tells of so many illegal moves what was legal, the first ones, in games of so many bytes of rules: an interpreter takes its time.
+# A page lists the legal moves for at most this many illegal ones, and only if the rules have at most this many bytes: the interpreter is slow.
 MOST_TOLD, MOST_RULES = 20, 1 << 20
 
 
 def no_expression(answer: str) -> str:
-    """Returns why an answer is not one expression, as far as its text in a log tells. There `?` stands for any byte that is not visible."""
+    """Returns why an answer is not one expression, as far as its text in a log shows. A log has `?` for each byte that is not visible."""
     if len(answer) == SHOWN + len(MORE) and answer.endswith(MORE):
-        return "of so long an answer the log has only the beginning"
+        return "the log has only the beginning of such a long answer"
     try:
-        found = expressions(answer)
-        if not found:
+        parsed = expressions(answer)
+        if not parsed:
             return "it has no expression" if answer else "it is empty"
-        if len(found) > 1:
+        if len(parsed) > 1:
             return f"a second expression begins at column {starts(answer)[1] + 1}"
     except KifFault as fault:
         return f"{fault} at column {fault.index + 1}"
@@ -35,25 +35,25 @@ def no_expression(answer: str) -> str:
 
 
 def listed(moves: list[str]) -> str:
-    """Returns how many moves there are, and as many of them as there is room for."""
-    room, shown = MOST_BYTES, []
+    """Returns the number of moves, and the moves themselves up to a limit of bytes."""
+    bytes_left, shown = MOST_BYTES, []
     for move in moves:
-        room -= len(move) + 2
-        if room < 0 and shown:
+        bytes_left -= len(move) + 2
+        if bytes_left < 0 and shown:
             break
         shown.append(move)
-    rest = len(moves) - len(shown)
-    return f"{len(moves)}: {', '.join(shown)}" + (f", and {rest} more" if rest else "")
+    omitted = len(moves) - len(shown)
+    return f"{len(moves)}: {', '.join(shown)}" + (f", and {omitted} more" if omitted else "")
 
 
 @functools.lru_cache(MOST_GAMES)
 def game_of(rules: bytes) -> Game:
-    """Returns the game of ground rules, for an interpreter that shares nothing with the program."""
+    """Parses ground rules for the interpreter, which shares no code with the referee."""
     return Game(rules.decode("latin-1"))
 
 
 class Illegal:
-    """What is known of the answers of a match that were no legal moves, by its states and by what gives its game."""
+    """Explains the illegal moves of a match."""
 
     def __init__(self, states: Sequence[Sequence[str]], roles: Sequence[str], game: Callable[[], Game]) -> None:
         sys.setrecursionlimit(MOST_CALLS)
@@ -61,20 +61,21 @@ class Illegal:
         self.kept: tuple[int, Position] | None = None
 
     def position(self, turn: int) -> Position:
-        """Returns the position before a turn. The one that was asked for last is kept."""
+        """Returns the position before a turn. The latest one is cached."""
         if self.kept is None or self.kept[0] != turn:
             self.kept = turn, self.game().position(frozenset(expressions("\n".join(self.states[turn]))))
         return self.kept[1]
 
     def legal(self, role: int, turn: int) -> list[str]:
-        """Returns the legal moves of a role in a turn: none where the interpreter can't tell."""
+        """Returns the legal moves of a role in a turn. They are empty if the interpreter cannot compute them."""
         try:
             return [spelled(move) for move in self.game().moves(self.position(turn), expressions(self.roles[role])[0])]
         except (Refused, LookupError, RecursionError, TypeError, ValueError):
             return []
 
     def moves(self, role: int, turn: int, error: str) -> str:
-        """Returns what is legal in the place of a move, and where that would be legal: nothing where that is not known, or the error is another."""
+        """Returns which moves were legal instead of an illegal one, and where that one would be legal. The text is empty if this is not known, or for
+        errors of other kinds."""
         legal = self.legal(role, turn) if error.startswith("IL ") and error != "IL ?" else []
         if not legal:
             return ""
@@ -85,15 +86,15 @@ class Illegal:
 
 
 class Whys:
-    """Tells what else a page says of a replaced move: what was legal, or why a text is no expression, where there are the answers by role
-    and turn. Without a game it tells nothing of moves."""
+    """Returns what a page adds to a substituted move: the legal moves, or why the answer is not an expression. `answers` are by role and turn.
+    Without a game there is nothing about legal moves."""
 
     def __init__(self, record: dict, game: Callable[[], Game] | None, answers: dict[tuple[int, int], str]) -> None:
         self.illegal, self.left = game and Illegal(record["states"], record["roles"], game), MOST_TOLD
         self.answers = answers
 
     def more(self, role: int, turn: int, error: str) -> str:
-        """Returns what follows the words of an error, in a turn from 0 on."""
+        """Returns the text to append to an error. Turns are counted from 0."""
         if error == "IL ?":
             why = no_expression(self.answers[role, turn]) if (role, turn) in self.answers else ""
             return f": {why}" if why else ""

@@ -1,4 +1,4 @@
-"""The sentences of a description: their forms, the rules without `or` and `and` that they come to, and which relation depends on which."""
+"""Parses the sentences of a game description into rules without `or` and `and`, and computes which relations depend on which."""
 
 import itertools
 import math
@@ -7,18 +7,19 @@ from typing import NamedTuple
 
 from ggp_tools.kif import MOST_SHOWN, Expression, Refused, Relation, atoms, fresh_before_digits, head_of, relation, spelled, starts, variables
 
-# So many rules may come of the `or`s of one sentence. Past the first number each `or` that can be is a relation of its own.
+# A sentence may expand into at most MOST_WAYS rules, one for each way to satisfy its `or`s. Above FEW_WAYS each `or` becomes an auxiliary
+# relation, if possible.
 FEW_WAYS, MOST_WAYS = 100, 10000
 
 ARITIES = {"role": 1, "init": 1, "true": 1, "next": 1, "does": 2, "legal": 2, "goal": 2, "terminal": None}
-# The relations that make the game: their heads are written whether or not a body asks for them.
+# The relations that define the game: their heads are written even if no body uses them.
 GAME = ("role", "init", "next", "legal", "goal", "terminal")
 NO_RELATIONS = ("<=", "not", "or", "distinct", "and")
 SECRET = "is of GDL-II, games with chance or with what some can't see; here each role sees every move"
 
 
 class Literal(NamedTuple):
-    """An atomic sentence or its negation; or that two terms, its atom, are `same`, or `not same`."""
+    """An atomic sentence or its negation. If `same` is set, `atom` is a pair of terms that are equal, or not equal."""
 
     positive: bool
     atom: Expression
@@ -29,7 +30,7 @@ Body = tuple[Literal, ...]
 
 
 class Rule(NamedTuple):
-    """A sentence with one way in which its `or`s can hold."""
+    """A sentence, for one way to satisfy its `or`s."""
 
     sentence: int
     head: Expression
@@ -37,7 +38,7 @@ class Rule(NamedTuple):
 
 
 def as_read(expression: Expression) -> Expression:
-    """The sentence or literal with the atom in the place of the list `(terminal)`, which some descriptions have."""
+    """Replaces the list `(terminal)`, which some descriptions have, by the atom."""
     if isinstance(expression, str):
         return expression
     if expression == ("terminal",):
@@ -56,14 +57,14 @@ def must_be_term(expression: Expression) -> None:
 
 
 def form_of(name: str) -> str:
-    """How a sentence or a condition of GDL with this name looks; empty if it may look in several ways."""
+    """Returns the form of a sentence or a condition of GDL with this name. It is empty if there are several forms."""
     if name in ARITIES:
         return f"({' '.join([name] + ['_'] * ARITIES[name])})" if ARITIES[name] else name
     return {"not": "(not _)", "distinct": "(distinct _ _)", "or": "(or _ ..) in the body of a rule", "<=": "(<= _ ..) as a whole sentence"}.get(name, "")
 
 
 def must_be_atomic(atom: Expression, is_head: bool) -> None:
-    """Refuses what is no atomic sentence, or stands where it may not."""
+    """Refuses an atom that is not an atomic sentence, or that is not allowed in a head or in a body."""
     if isinstance(atom, str) and atom.startswith("?"):
         raise Refused(f"{atom} is no sentence", advice="a variable stands only in the arguments of a sentence")
     must_be_term(atom)
@@ -73,8 +74,8 @@ def must_be_atomic(atom: Expression, is_head: bool) -> None:
     if is_head and atom == ("role", "random"):
         raise Refused(f"the role `random` {SECRET}")
     if name in NO_RELATIONS or ARITIES.get(name, arity) != arity:
-        wanted = form_of(name)
-        raise Refused(f"{spelled(atom)} is no sentence", advice=f"write {wanted}" if wanted else "")
+        form = form_of(name)
+        raise Refused(f"{spelled(atom)} is no sentence", advice=f"write {form}" if form else "")
     if is_head and name in ("true", "does"):
         advice = "`next` and `init` say what is true in a state" if name == "true" else "`legal` says which moves there are"
         raise Refused(f"{spelled(atom)} is a head", advice=advice)
@@ -97,7 +98,7 @@ def must_be_literal(literal: Expression) -> None:
 
 
 def each_of(ways: list[list[Body]]) -> list[Body]:
-    """The ways in which all of these can hold, each given by its own ways."""
+    """Returns the ways to satisfy all of these conditions, each given by its own ways."""
     count = 1
     for alternatives in ways:
         count *= len(alternatives)
@@ -107,7 +108,7 @@ def each_of(ways: list[list[Body]]) -> list[Body]:
 
 
 def ways_of(literal: Expression, positive: bool = True) -> list[Body]:
-    """The ways in which a literal can hold, or where it is not positive its negation: each a list of literals."""
+    """Returns the ways to satisfy a literal, or its negation if not `positive`. Each way is a list of literals."""
     match literal:
         case ("not", inner):
             return ways_of(inner, not positive)
@@ -132,7 +133,7 @@ def must_be_safe(rule: Rule) -> None:
 
 
 def parted(sentence: Expression) -> tuple[Expression, Expression]:
-    """The head of a sentence, and its body. Refuses what is none."""
+    """Splits a sentence into its head and its body. Refuses an invalid sentence."""
     if sentence == ("<=",):
         raise Refused("a rule without a head", advice=f"write {form_of('<=')}")
     head, body = head_of(sentence), sentence[2:] if sentence[:1] == ("<=",) else ()
@@ -143,54 +144,54 @@ def parted(sentence: Expression) -> tuple[Expression, Expression]:
 
 
 def rules_of(number: int, sentence: Expression, names: Iterator[str]) -> list[Rule]:
-    """The rules of one sentence, and where its `or`s can hold in many ways those of relations for them, by these names."""
+    """Returns the rules of one sentence. If there are too many ways to satisfy its `or`s, each `or` becomes a relation with one of these names."""
     head, body = parted(sentence)
-    ways, found = [ways_of(literal) for literal in body], []
+    ways, rules = [ways_of(literal) for literal in body], []
     if math.prod(map(len, ways)) > FEW_WAYS:
-        for place, own in enumerate(ways):
-            bound = dict.fromkeys(name for way in own for literal in way for name in variables(literal.atom))
-            if len(own) > 1 and all(is_bound(name, way) for way in own for name in bound):
+        for place, alternatives in enumerate(ways):
+            bound = dict.fromkeys(name for way in alternatives for literal in way for name in variables(literal.atom))
+            if len(alternatives) > 1 and all(is_bound(name, way) for way in alternatives for name in bound):
                 word = next(names)
                 part = (word, *bound) if bound else word
-                found += [Rule(number, part, way) for way in own]
+                rules += [Rule(number, part, way) for way in alternatives]
                 ways[place] = [(Literal(True, part),)]
-    found += [Rule(number, head, way) for way in each_of(ways)]
-    for rule in found:
+    rules += [Rule(number, head, way) for way in each_of(ways)]
+    for rule in rules:
         must_be_safe(rule)
-    return found
+    return rules
 
 
 def lines_of(text: str) -> list[int]:
-    """The line in which each sentence of a text begins, counted from 1."""
-    found, line, last = [], 1, 0
+    """Returns the line in which each sentence of a text begins, counted from 1."""
+    lines, line, last = [], 1, 0
     for index in starts(text):
         line += text.count("\n", last, index)
         last = index
-        found.append(line)
-    return found
+        lines.append(line)
+    return lines
 
 
 def cited(number: int, sentences: Sequence[Expression], lines: Sequence[int] = ()) -> str:
-    """A sentence as it is cited where something is wrong with it, with its line where the lines are known."""
+    """Returns a sentence as error messages cite it, with its line if `lines` are given."""
     text, where = spelled(sentences[number]), f", line {lines[number]}: " if lines else ", "
     return f"sentence {number}{where}{text[:MOST_SHOWN]}" + (".." if len(text) > MOST_SHOWN else "")
 
 
 def all_rules(sentences: Sequence[Expression], of_one: Callable = rules_of) -> list:
-    """The rules of all sentences; a refusal says by which one."""
+    """Returns the rules of all sentences. A refusal has the number of its sentence."""
     word = fresh_before_digits("either", set(atoms(tuple(sentences))))
-    found, names = [], (f"{word}{count}" for count in itertools.count(1))
+    rules, names = [], (f"{word}{count}" for count in itertools.count(1))
     for number, sentence in enumerate(sentences):
         try:
-            found += of_one(number, as_read(sentence), names)
+            rules += of_one(number, as_read(sentence), names)
         except Refused as why:
             raise Refused(str(why), number, why.advice) from None
-    return found
+    return rules
 
 
 def refuse_dependence(asks: Mapping[Relation, Iterable[Relation]], source: Callable[[Relation, Relation], int]) -> None:
-    """Refuses what the program refuses: what is asked between turns may not depend on moves, nor roles and the first state on one. `source`
-    returns the sentence by which a relation asks for another."""
+    """Refuses dependences that the referee refuses too: `legal`, `goal` and `terminal` may not depend on moves, nor `role` and `init` on a state or
+    moves. `source` returns the sentence in which a relation uses another."""
     moving, fixed = "let `next` keep what the moves did, and ask for that by `true`", "it has to be known before the first state"
     first = [("init", ["true", "does"], fixed), ("role", ["true", "does"], fixed)]
     for name, others, advice in [("legal", ["does"], moving), ("goal", ["does"], moving), ("terminal", ["does"], moving), *first]:
@@ -201,10 +202,10 @@ def refuse_dependence(asks: Mapping[Relation, Iterable[Relation]], source: Calla
 
 
 def way_to(head: Relation, last: Relation, asks: Mapping[Relation, Iterable[Relation]]) -> list[Relation]:
-    """A shortest way by which a relation depends on another: empty if there is none."""
+    """Returns a shortest path by which a relation depends on another. It is empty if there is none."""
     before: dict[Relation, Relation | None] = {head: None}
-    left = [head]
-    for key in left:
+    queue = [head]
+    for key in queue:
         others = asks.get(key, ())
         if last in others:
             way = [last]
@@ -215,12 +216,12 @@ def way_to(head: Relation, last: Relation, asks: Mapping[Relation, Iterable[Rela
         for asked in sorted(others, key=str):
             if asked not in before:
                 before[asked] = key
-                left.append(asked)
+                queue.append(asked)
     return []
 
 
 class Relations:
-    """Which relations a description's rules tie to which, by name and number of arguments."""
+    """Which relations of a description use which others. A relation is a name and a number of arguments."""
 
     def __init__(self, rules: list[Rule]) -> None:
         self.asks, self.denies, self.sources = {}, {}, {}
@@ -235,23 +236,23 @@ class Relations:
         self.below = {head: self.reached([head]) for head in self.asks}
 
     def reached(self, relations: Iterable[Relation]) -> set[Relation]:
-        """What these relations depend on."""
-        found, left = set(), list(relations)
+        """Returns the relations that these depend on."""
+        reached, left = set(), list(relations)
         while left:
             for asked in self.asks.get(left.pop(), ()):
-                if asked not in found:
-                    found.add(asked)
+                if asked not in reached:
+                    reached.add(asked)
                     left.append(asked)
-        return found
+        return reached
 
     def unsettled(self) -> set[Relation]:
-        """The relations that the grounder can't settle: they depend on the state or the moves, or on their own negation."""
+        """Returns the relations that the grounder cannot evaluate: they depend on the state, on moves, or on their own negation."""
         first = {("true", 1), ("does", 2)}
         first |= {head for head, denied in self.denies.items() for other in denied if head in self.below.get(other, ())}
         return first | {head for head, others in self.below.items() if others & first}
 
     def bearing(self) -> set[Relation]:
-        """The relations that bear on the game: its own, and what they ask for."""
+        """Returns the relations that define the game, and those that these depend on."""
         own = [(name, ARITIES[name]) for name in GAME]
         return {*own, ("true", 1), ("does", 2), *self.reached(own)}
 

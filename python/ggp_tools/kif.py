@@ -1,18 +1,18 @@
-"""KIF: an atom is a text, a list a tuple. And why a description is refused."""
+"""Parses KIF: an atom is a string, a list a tuple. `Refused` says why a description is refused."""
 
 import re
 from collections.abc import Iterable, Iterator
 
 Expression = str | tuple
-# The name of a relation, and the number of its arguments: none for an atom alone.
+# The name of a relation, and the number of its arguments. It is None for an atom.
 Relation = tuple[str, int | None]
 MOST_LEVELS = 64
-# What to do about files of other kinds, by their first bytes.
+# Advice for files of other kinds, by their first bytes.
 FILE_HEADS = {
     "\xef\xbb\xbf": "the file begins with a byte order mark: save it without one", "\x1f\x8b": "the file is packed by gzip: unpack it",
     "\xff\xfe": "the file is UTF-16: save it as ASCII", "\xfe\xff": "the file is UTF-16: save it as ASCII",
 }
-# So much of a sentence is shown.
+# Messages show at most this many characters of a sentence.
 MOST_SHOWN = 160
 COMMENT = re.compile(r";[^\n]*")
 TOKEN = re.compile(r"[()]|[^\s()]+")
@@ -21,7 +21,7 @@ NO_CHARACTER = re.compile(r"[^\t\n\r\x20-\x7e]")
 
 
 class Refused(Exception):
-    """Why there is no ground description, in one line; the number of the sentence that shows it, if one does; and what to do about it."""
+    """Why a description cannot be grounded, in one line, with the number of the sentence that is wrong, if there is one, and advice."""
 
     def __init__(self, words: str, sentence: int | None = None, advice: str = "") -> None:
         super().__init__(words)
@@ -29,7 +29,7 @@ class Refused(Exception):
 
 
 class KifFault(Refused):
-    """Why a text is no KIF, with the place where that is seen, as an index."""
+    """Why a text is not KIF, with the index of the error."""
 
     def __init__(self, words: str, index: int, advice: str = "") -> None:
         super().__init__(words, advice=advice)
@@ -37,12 +37,12 @@ class KifFault(Refused):
 
 
 def blanked(text: str) -> str:
-    """Returns a text with blanks in the place of its comments."""
+    """Replaces the comments of a text with spaces."""
     return COMMENT.sub(lambda comment: " " * len(comment[0]), text)
 
 
 def advice_for_bytes(text: str) -> str:
-    """What to do about a text, read as Latin-1, that has other bytes than those of KIF."""
+    """Returns advice about a text with bytes that KIF does not allow. The text is decoded as Latin-1."""
     for head, advice in FILE_HEADS.items():
         if text.startswith(head):
             return advice
@@ -50,8 +50,8 @@ def advice_for_bytes(text: str) -> str:
 
 
 def tokens(text: str, takes_bytes: bool = False) -> Iterator[tuple[str, int, int]]:
-    """Gives each parenthesis and each atom of a text with its index, and the number of lists around it. Refuses what is no KIF, unless a
-    message is read, which may have any bytes."""
+    """Yields each parenthesis and each atom of a text with its index and the number of lists around it. Refuses a text that is not KIF. With
+    `takes_bytes` any bytes are allowed, for messages."""
     text = blanked(text)
     if not takes_bytes and (bad := NO_CHARACTER.search(text)):
         raise KifFault(f"a byte that is no character of KIF: {bad[0]!r}", bad.start(), advice_for_bytes(text))
@@ -69,7 +69,7 @@ def tokens(text: str, takes_bytes: bool = False) -> Iterator[tuple[str, int, int
 
 
 def expressions(text: str, most_levels: float = MOST_LEVELS, takes_bytes: bool = False) -> list[Expression]:
-    """Returns the expressions that a text spells, in lower case. Refuses one with more lists in one another."""
+    """Parses the expressions of a text, in lower case. Refuses lists that are nested more than `most_levels` deep."""
     levels = [[]]
     for token, index, around in tokens(text, takes_bytes):
         if token == "(":
@@ -85,7 +85,6 @@ def expressions(text: str, most_levels: float = MOST_LEVELS, takes_bytes: bool =
 
 
 def has_variables(text: str) -> bool:
-    """Returns whether a text has a variable."""
     return VARIABLE.search(blanked(text)) is not None
 
 
@@ -95,12 +94,12 @@ def starts(text: str) -> list[int]:
 
 
 def place_of(text: str, index: int) -> str:
-    """Returns an index of a text as its line and column."""
+    """Returns the line and the column of an index."""
     return f"line {text.count(chr(10), 0, index) + 1}, column {index - text.rfind(chr(10), 0, index)}"
 
 
 def told(text: str, why: Refused) -> str:
-    """Why a text is refused, after the place and with the sentence that show it, and what to do about it."""
+    """Formats a refusal: the place, the reason, the sentence and the advice."""
     words, index = str(why), why.index if isinstance(why, KifFault) else None
     if why.sentence is not None:
         sentence = spelled(expressions(text)[why.sentence])
@@ -110,14 +109,14 @@ def told(text: str, why: Refused) -> str:
 
 
 def spelled(expression: Expression) -> str:
-    """The canonical text of an expression."""
+    """Returns the canonical text of an expression."""
     if isinstance(expression, str):
         return expression
     return "(" + " ".join(map(spelled, expression)) + ")"
 
 
 def atoms(expression: Expression) -> Iterator[str]:
-    """Every atom that stands in an expression."""
+    """Yields every atom of an expression."""
     if isinstance(expression, str):
         yield expression
     else:
@@ -130,12 +129,12 @@ def is_variable(expression: Expression) -> bool:
 
 
 def variables(expression: Expression) -> list[str]:
-    """The variables of an expression, each once, in their order."""
+    """Returns the variables of an expression in their order, without duplicates."""
     return list(dict.fromkeys(atom for atom in atoms(expression) if atom.startswith("?")))
 
 
 def fits(pattern: Expression, term: Expression, values: dict[str, Expression]) -> bool:
-    """Whether the pattern is the term for some values of its variables, whose number grows."""
+    """Returns whether the pattern equals the term for some values of its variables, and adds these values."""
     if is_variable(pattern):
         return values.setdefault(pattern, term) == term
     if isinstance(pattern, str) or isinstance(term, str):
@@ -144,14 +143,14 @@ def fits(pattern: Expression, term: Expression, values: dict[str, Expression]) -
 
 
 def put(term: Expression, values: dict[str, Expression]) -> Expression:
-    """The term with these values for its variables."""
+    """Replaces the variables of a term by their values."""
     if isinstance(term, str):
         return values.get(term, term)
     return tuple([put(member, values) for member in term])
 
 
 def place(expression: Expression) -> tuple:
-    """The place of an expression in the order of what is written."""
+    """Returns the sort key of an expression in the output."""
     if isinstance(expression, str):
         digits = expression.lstrip("0")
         return (0, len(digits), digits, expression) if expression.isdigit() else (1, expression)
@@ -159,29 +158,29 @@ def place(expression: Expression) -> tuple:
 
 
 def relation(atom: Expression) -> Relation:
-    """The relation of an atomic sentence, with the number of its arguments: none for an atom alone."""
+    """Returns the relation of an atomic sentence."""
     return (atom, None) if isinstance(atom, str) else (atom[0], len(atom) - 1)
 
 
 def head_of(sentence: Expression) -> Expression:
-    """The head of a sentence: what it gives."""
+    """Returns the head of a rule, or the fact itself."""
     return sentence[1] if isinstance(sentence, tuple) and sentence[:1] == ("<=",) else sentence
 
 
 def levels(expression: Expression) -> int:
-    """How many lists stand in one another."""
+    """Returns how deep lists are nested."""
     return 0 if isinstance(expression, str) else 1 + max(map(levels, expression), default=0)
 
 
 def fresh(word: str, taken: Iterable[str]) -> str:
-    """The word, with as many strokes behind it as make it none of those that are taken."""
+    """Appends hyphens to a word until it is not one of those that are taken."""
     while word in taken:
         word += "-"
     return word
 
 
 def fresh_before_digits(word: str, taken: Iterable[str]) -> str:
-    """The word, with as many strokes behind it as make it and a number none of those that are taken."""
+    """Appends hyphens to a word until it, followed by a number, is not one of those that are taken."""
     while any(re.fullmatch(re.escape(word) + "[0-9]+", name) for name in taken):
         word += "-"
     return word

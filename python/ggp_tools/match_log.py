@@ -1,5 +1,5 @@
-"""The JSON log of matches: its events, and one reader for files, also for one that grows. docs/COMMANDS.md describes the format,
-docs/COMPETITION.md the events that `play` adds. A text is a sequence of bytes, a character for each."""
+"""Reads and writes the JSON log of matches, also while a log grows. docs/COMMANDS.md describes the format, docs/COMPETITION.md the events
+that `play` adds. Each character of a text stands for one byte."""
 
 import dataclasses
 import io
@@ -12,16 +12,16 @@ from typing import BinaryIO
 from ggp_tools.moments import moment_at
 from ggp_tools.printable import printable
 
-# An answer has at most 65,536 bytes, each of six characters at most. A line that is longer is no event, and is not kept in memory.
+# An answer has at most 65,536 bytes, each of at most six characters. Longer lines are not events, and are not kept in memory.
 LONGEST_LINE = 1 << 23
 START, PLAY, STOP, ABORT = KINDS = "START", "PLAY", "STOP", "ABORT"
 ENDS = STOP, ABORT
 NO_TIME, BROKEN, SHORTAGE = ERRORS = "TO", "CE", "lost"
-# No number is greater: two days before the last time of day that Python knows. No answer takes much longer than a day.
+# The greatest number is two days before Python's latest time. No answer takes much longer than a day.
 MOST_NUMBER, MOST_MS = 253_402_128_000_000, 86_400_000 + 1_000_000
 WORD = re.compile(r"[A-Za-z0-9_.-]{1,64}")
 ESCAPED = re.compile(r'["\\]|[^ -~]')
-# Of a text a line for a terminal shows so many bytes.
+# A line for a terminal shows at most this many bytes of a text.
 SHOWN = 200
 
 
@@ -29,19 +29,19 @@ class Event:
     """A line of a log."""
 
     def moment(self) -> float | None:
-        """Returns when it happened, in seconds since 1970. None if the line does not say it."""
+        """Returns when it happened, in seconds since 1970, or None if the line has no time."""
         time = getattr(self, "time", None)
         return None if time is None else time / 1_000
 
     def is_sound(self) -> bool:
-        """Returns whether a log may have these values, which are of the right types."""
+        """Returns whether values of the right types are also consistent."""
         return True
 
 
 @dataclass(frozen=True, slots=True)
 class Message(Event):
-    """A message to the player of a role, numbered from 1, and its answer, or the error in place of an answer. `time` is when the message
-    was sent, and `ms` how long the answer took. The message START has `...` in place of the description."""
+    """A message to the player of a role, numbered from 1, and its answer, or an error instead. `time` is when the message was sent, and `ms` how long
+    the answer took. START has `...` instead of the description."""
 
     match: str
     role: int
@@ -65,11 +65,10 @@ class Message(Event):
         return self.error is None if self.answer is not None else self.error in ERRORS
 
     def turn(self) -> int:
-        """Returns the turn that a PLAY asks for, counted from 1; 0 for START."""
+        """Returns the turn of a PLAY, counted from 1, or 0 for START."""
         return 0 if self.round is None else self.round + 1
 
     def came(self) -> str:
-        """Returns the answer, or the error with its reason."""
         if self.answer is not None:
             return self.answer
         return f"{self.error} ({self.reason})" if self.reason else self.error
@@ -85,7 +84,7 @@ class Open(Event):
 
 @dataclass(frozen=True, slots=True)
 class End(Event):
-    """The first role of a match has answered STOP or ABORT, or its time is over."""
+    """The first role of a match has answered STOP or ABORT, or its time has run out."""
 
     match: str
     time: int | None
@@ -97,7 +96,7 @@ class End(Event):
 
 @dataclass(frozen=True, slots=True)
 class Host(Event):
-    """`play` has a match begin on a host."""
+    """`play` starts a match on a host."""
 
     match: str
     host: str
@@ -116,7 +115,7 @@ TYPES = {name: (kind, {field.name: field.type for field in dataclasses.fields(ki
 
 
 def is_value(key: str, value: object, kind: type) -> bool:
-    """Returns whether a value of JSON can be that of a key."""
+    """Returns whether a key may have a JSON value."""
     if not isinstance(value, kind) or isinstance(value, bool):
         return False
     if isinstance(value, int):
@@ -127,7 +126,7 @@ def is_value(key: str, value: object, kind: type) -> bool:
 
 
 def event_of(line: bytes) -> Event | None:
-    """Returns the event of a line. None if the line is not one of a log."""
+    """Parses a line. Returns None if it is not an event."""
     try:
         values = json.loads(line)
     except (ValueError, RecursionError):
@@ -136,7 +135,7 @@ def event_of(line: bytes) -> Event | None:
     if not isinstance(name, str):
         return None
     kind, types = TYPES.get(name, (None, dict.fromkeys(values, str | int | None)))
-    # A match that is refused may have any id.
+    # An event about a refused match may have any id.
     if values.keys() != types.keys() or not all(is_value(key if kind else "", values[key], own) for key, own in types.items()):
         return None
     event = kind(**values) if kind else Other(name, values)
@@ -152,7 +151,7 @@ def values_of(event: Event) -> tuple[str, dict[str, str | int | None]]:
 
 
 def text_of_value(value: str | int | None) -> str:
-    """Returns a value as a log has it."""
+    """Returns a value as JSON."""
     if value is None:
         return "null"
     if isinstance(value, int):
@@ -161,13 +160,13 @@ def text_of_value(value: str | int | None) -> str:
 
 
 def line_of(event: Event) -> bytes:
-    """Returns the line of an event: the one way in which it is written."""
+    """Returns the canonical line of an event."""
     name, values = values_of(event)
     return ("{" + ",".join(f'"{key}":{text_of_value(value)}' for key, value in {"event": name, **values}.items()) + "}\n").encode("ascii")
 
 
 def whole_lines(file: BinaryIO) -> Iterator[bytes]:
-    """Gives the lines of a file from its position on: not one that is too long, nor the last one if it has no end yet."""
+    """Yields the lines of a file from its current position. It skips lines that are too long, and an unfinished last line."""
     while line := file.readline(LONGEST_LINE):
         rest = line
         while rest and not rest.endswith(b"\n"):
@@ -177,19 +176,18 @@ def whole_lines(file: BinaryIO) -> Iterator[bytes]:
 
 
 def events(file: BinaryIO) -> Iterator[Event]:
-    """Gives the events of a log."""
+    """Yields the events of a log."""
     return (event for line in whole_lines(file) if (event := event_of(line)))
 
 
 class Runs:
-    """Tells the runs of a match apart, of which each counts its messages anew. The first role's event `open` may come after the START of
-    another role."""
+    """Separates the runs of a match. Each run numbers its messages from 1. The event `open` may come after the first START."""
 
     def __init__(self) -> None:
         self.is_open, self.last = False, {}
 
     def is_next(self, event: Event) -> bool:
-        """Takes the next event of the match. Returns whether another run begins with it."""
+        """Takes the next event of the match. Returns whether it begins a new run."""
         if isinstance(event, Message):
             begins = event.number <= self.last.get(event.role, 0)
         else:
@@ -203,7 +201,7 @@ class Runs:
 
 
 def last_run(log: BinaryIO, match: str) -> list[Event]:
-    """Returns what a log says of a match since the match began last: its host, its begin, its messages and its end."""
+    """Returns the events of the last run of a match in a log."""
     run: list[Event] = []
     runs = Runs()
     for event in events(log):
@@ -216,7 +214,7 @@ def last_run(log: BinaryIO, match: str) -> list[Event]:
 
 
 def published(log: bytes, match: str) -> bytes:
-    """Returns what an archive has of the log of a match."""
+    """Returns the part of a log that an archive has of a match."""
     return b"".join(map(line_of, last_run(io.BytesIO(log), match)))
 
 
@@ -229,11 +227,11 @@ def shown(text: str) -> str:
 
 
 def text_of(event: Event) -> str:
-    """Returns an event as one line of text for a terminal, of bounded length."""
+    """Returns an event as one line of text, of bounded length, for a terminal."""
     if isinstance(event, Message):
         head = f"{event.match} role {event.role} {event.player} message {event.number}"
         return f"{head} {shown(event.message)}: {shown(event.came())}, {event.ms} ms"
     name, values = values_of(event)
-    match, moment = values.get("match"), event.moment()
+    match, seconds = values.get("match"), event.moment()
     rest = (str(value) for key, value in values.items() if value is not None and key not in ("match", "time"))
-    return shown(" ".join(filter(None, (match and str(match), name.replace("_", " "), *rest, moment and moment_at(moment)))))
+    return shown(" ".join(filter(None, (match and str(match), name.replace("_", " "), *rest, seconds and moment_at(seconds)))))

@@ -1,4 +1,4 @@
-"""The program `ggp_manager`, which judges: where it is, and what it is asked."""
+"""Finds and calls the referee, the program `ggp_manager`."""
 
 import contextlib
 import json
@@ -20,33 +20,32 @@ if TYPE_CHECKING:
 
 PROGRAM = "ggp_manager"
 LAWFUL = "lawful"
-# With this option status 1 means no, and any other fault has a greater one.
+# With this option the exit status 1 means no, and all errors have greater ones.
 WHY, NO = "--why", 1
 NO_NAME = "ggp_manager: not sent: no answer from the resolver"
 VERSION_LINE = re.compile(rb"ggp_manager [0-9]+\.[0-9]+\.[0-9]+\n")
-# Before this version logs were not JSON.
+# The first version that writes logs in JSON.
 FIRST_WITH_EVENTS = 0, 3, 0
 BAD_RULES = "ggp_manager: bad description"
 TOO_LONG = "the file is too long"
-# A script of the desk has no more bytes, and an answer with more of them is no move.
+# The maximum length of a script of `desk`, and of an answer that is a move.
 MOST_OF_SCRIPT, MOST_OF_MOVE = 1 << 20, 4_096
 
 
 class NoReferee(Exception):
-    """The program is not found, or another one."""
+    """The referee does not exist, or is another program."""
 
 
 class BadRules(Exception):
-    """Why the program takes a text for no ground description, with the place as it tells it."""
+    """Why the referee refuses a ground description, with the place."""
 
 
 class Unchecked(Exception):
-    """What the program could not check, and why: it is short of something, or was ended. That says nothing of what was to be checked."""
+    """What the referee could not check, and why: it ran out of a resource or was killed. This is not a verdict."""
 
 
 def find_program(given: str | None) -> str:
-    """Returns the path of the program: the one that was given; else where it stands beside this program, in the repository's bin, or on
-    the path of the shell."""
+    """Returns the path of the referee: the given one, else the one next to this program, in bin/ of the repository or on the path of the shell."""
     if given:
         if not shutil.which(given):
             raise NoReferee(f"{given} is no program that can be run")
@@ -57,17 +56,17 @@ def find_program(given: str | None) -> str:
     for file in (*(folder / PROGRAM for folder in folders), shutil.which(PROGRAM)):
         if file and os.access(file, os.X_OK):
             return str(file)
-    looked = ", ".join(map(str, folders))
-    raise NoReferee(f"{PROGRAM} is not in {looked}, nor on the path of the shell (PATH); `--program FILE` names it")
+    places = ", ".join(map(str, folders))
+    raise NoReferee(f"{PROGRAM} is not in {places}, nor on the path of the shell (PATH); `--program FILE` names it")
 
 
 def has_events(version: bytes) -> bool:
-    """Returns whether a version of the program, as `--version` prints it, writes logs as this one does."""
+    """Returns whether this version of the referee, as printed by `--version`, writes the current log format."""
     return tuple(map(int, version.split()[1].split(b"."))) >= FIRST_WITH_EVENTS
 
 
 def said_lines(said: subprocess.CompletedProcess) -> list[str]:
-    """Returns the last lines that a run has said on standard error."""
+    """Returns the last lines of a run's standard error."""
     return message_lines(said.stderr)
 
 
@@ -76,25 +75,25 @@ def last_line(said: subprocess.CompletedProcess) -> str:
 
 
 def is_no_answer(status: int | None, line: str) -> bool:
-    """Returns whether `info` ended since the player did not answer, or its name has no address, by its status and the last line that it said."""
+    """Returns whether `info` ended because the player did not answer or its name could not be resolved."""
     return status == NO or bool(status) and line == NO_NAME
 
 
 def records_replayed(output: bytes) -> list[bytes]:
-    """Returns the records of each account that `replay` has made again. Behind them may stand the right line in place of a wrong one."""
+    """Returns the records that `replay` printed for each account. It may print the right line after a wrong one."""
     parts = re.split(rb"^replayed .*\n", output, flags=re.MULTILINE)[1:]
     return [b"".join(line for line in part.splitlines(True) if line.startswith(b"{")) for part in parts]
 
 
 def unchecked(said: subprocess.CompletedProcess, name: object) -> Unchecked:
-    """Returns the fault of a run that did not check what it was given; `name` says with which rules."""
+    """Returns the error of a run that gave no verdict. `name` names the rules."""
     words = last_line(said).removeprefix("ggp_manager: ") or "it said nothing"
     return Unchecked(f"`{PROGRAM} {said.args[1]}` came to no verdict with {name}: {words}, status {said.returncode}")
 
 
 @contextlib.contextmanager
 def rules_file(rules: bytes) -> Iterator[str]:
-    """Gives the path of a file with rules, as long as it is needed. A fault names it."""
+    """Yields the path of a temporary file with these rules. An error names the file."""
     with tempfile.NamedTemporaryFile() as file:
         try:
             pathlib.Path(file.name).write_bytes(rules)
@@ -104,7 +103,7 @@ def rules_file(rules: bytes) -> Iterator[str]:
 
 
 def read_records(said: subprocess.CompletedProcess) -> list[dict] | None:
-    """Returns the records that a run of the desk has printed: None where one is none."""
+    """Returns the records that `desk` printed, or None if a line is not a record."""
     try:
         return [json.loads(line) for line in said.stdout.splitlines() if line.startswith(b"{")]
     except (ValueError, RecursionError):
@@ -116,31 +115,31 @@ def is_text_list(value: object) -> bool:
 
 
 class Referee:
-    """The program at a path, by the limits that it has for large games or the usual ones. A file stands in one word with its option, since
-    its name may begin with a hyphen."""
+    """Runs the referee at a path, with the limits for large games or the usual ones. Options are written as `--name=FILE`, because the name of a file
+    may begin with a hyphen."""
 
     def __init__(self, path: str, is_large: bool = False) -> None:
         self.path, self.is_large = path, is_large
 
     def taking(self, is_large: bool) -> "Referee":
-        """Returns the program as it takes large games, or those within the usual limits alone."""
+        """Returns the referee with the limits for large games, or with the usual ones."""
         return self if is_large == self.is_large else Referee(self.path, is_large)
 
     def rules_words(self, rules_path: pathlib.Path | str) -> list[str]:
-        """Returns the words that say which rules, and by which limits."""
+        """Returns the arguments for the rules and their limits."""
         return [f"--rules-file={rules_path}", *(["--large"] if self.is_large else [])]
 
     def call(self, *words: object, data: bytes = b"") -> subprocess.CompletedProcess:
         return subprocess.run([self.path, *map(str, words)], input=data, capture_output=True)
 
     def version(self) -> str:
-        said = self.call("--version")
-        if not VERSION_LINE.fullmatch(said.stdout):
+        run = self.call("--version")
+        if not VERSION_LINE.fullmatch(run.stdout):
             raise NoReferee(f"{self.path} is no {PROGRAM}: `--version` does not say `{PROGRAM} N.N.N`")
-        return said.stdout.decode("ascii").strip()
+        return run.stdout.decode("ascii").strip()
 
     def roles(self, rules: bytes, name: object) -> tuple[str, ...]:
-        """Returns the names of the roles of a ground description; `name` says which one it is. Refuses what is none."""
+        """Returns the names of the roles of a ground description. Refuses an invalid one. `name` is used in error messages."""
         with rules_file(rules) as path:
             self.check_rules(path, name)
         facts = (sentence[1] if sentence[0] == "<=" else sentence for sentence in expressions(rules.decode("latin-1")))
@@ -149,8 +148,7 @@ class Referee:
     def run_words(
         self, rules_path: pathlib.Path | str, player_rules_path: pathlib.Path | str | None, match: "Match", strikes: int, places: list[str], log: object = "-"
     ) -> list[str]:
-        """Returns the command that plays a match; START carries the rules of the second path where there is one. The log goes to a file, or
-        to standard error."""
+        """Returns the command that plays a match. START carries the second rules if they are given. The log goes to a file, or to standard error."""
         player_rules = [] if player_rules_path is None else [f"--player-rules={player_rules_path}"]
         options = f"--id={match.id}", f"--start={match.start}", f"--play={match.play}", f"--strikes={strikes}", "--history", f"--log={log}"
         return [self.path, "run", *self.rules_words(rules_path), *player_rules, *options, "--", *places]
@@ -171,43 +169,43 @@ class Referee:
         return [self.path, "replay", WHY, *self.rules_words(rules_path)]
 
     def desk(self, rules_path: pathlib.Path | str, script: bytes) -> tuple[list[str], dict]:
-        """Returns what the desk replies to a script of one match, and the record of the match so far."""
-        said = self.call("desk", *self.rules_words(rules_path), data=script)
-        records = read_records(said)
-        if said.returncode or not records:
-            raise unchecked(said, rules_path)
-        return [line.decode("ascii", "replace") for line in said.stdout.splitlines() if not line.startswith(b"{")], records[0]
+        """Returns the replies of `desk` to a script of one match, and the record of the match so far."""
+        run = self.call("desk", *self.rules_words(rules_path), data=script)
+        records = read_records(run)
+        if run.returncode or not records:
+            raise unchecked(run, rules_path)
+        return [line.decode("ascii", "replace") for line in run.stdout.splitlines() if not line.startswith(b"{")], records[0]
 
     def check_rules(self, rules_path: pathlib.Path | str, name: object = None) -> None:
-        """Refuses a file that is no ground description; `name` says which one it is, where the path does not."""
-        said = self.call("verify", "--lines", WHY, *self.rules_words(rules_path))
-        if last_line(said) == f"{BAD_RULES}: {TOO_LONG}":
+        """Refuses a file that is not a ground description. `name` is used in error messages if the path is temporary."""
+        run = self.call("verify", "--lines", WHY, *self.rules_words(rules_path))
+        if last_line(run) == f"{BAD_RULES}: {TOO_LONG}":
             raise BadRules(TOO_LONG)
-        if last_line(said) == BAD_RULES:
-            # The line before says where, and what is wrong there.
-            raise BadRules(said_lines(said)[-2:][0].removeprefix("ggp_manager: "))
-        if said.returncode:
-            raise unchecked(said, name or rules_path)
+        if last_line(run) == BAD_RULES:
+            # The line before has the place and the reason.
+            raise BadRules(said_lines(run)[-2:][0].removeprefix("ggp_manager: "))
+        if run.returncode:
+            raise unchecked(run, name or rules_path)
 
     def verdicts(self, rules_path: pathlib.Path | str, records: Sequence[bytes]) -> list[str]:
-        """Returns for each record what `verify` says of it. Each is one line, and begins with `{`."""
-        said = self.call("verify", "--lines", WHY, *self.rules_words(rules_path), data=b"".join(records))
-        found = said.stdout.decode("ascii", "replace").splitlines()
-        if len(found) != len(records) or said.returncode != (0 if found.count(LAWFUL) == len(found) else NO):
-            raise unchecked(said, rules_path)
-        return found
+        """Returns the verdict of `verify` for each record. Each record is one line, which begins with `{`."""
+        run = self.call("verify", "--lines", WHY, *self.rules_words(rules_path), data=b"".join(records))
+        verdicts = run.stdout.decode("ascii", "replace").splitlines()
+        if len(verdicts) != len(records) or run.returncode != (0 if verdicts.count(LAWFUL) == len(verdicts) else NO):
+            raise unchecked(run, rules_path)
+        return verdicts
 
     def replays(self, rules_path: pathlib.Path | str, accounts: Sequence[bytes], records: Sequence[bytes]) -> list[bool]:
-        """Returns for each account whether its calls give its record again. One run looks at all, up to one that is not replayed: a brace
-        before each account ends the one before it."""
-        found = []
-        while len(found) < len(accounts):
-            at = len(found)
-            said = self.call("replay", WHY, *self.rules_words(rules_path), data=b"".join(b"{\n" + account for account in accounts[at:]))
-            replayed = records_replayed(said.stdout)
-            is_refused = said.returncode == NO
-            if not is_refused and (said.returncode != 0 or len(replayed) != len(accounts) - at):
-                raise unchecked(said, rules_path)
-            found += [given == record for given, record in zip(replayed, records[at:])]
-            found += [False] if is_refused else []
-        return found
+        """Returns for each account whether its calls reproduce its record. `replay` stops at the first account that does not, so it is run again for
+        those after it. A brace before each account ends the previous one."""
+        results = []
+        while len(results) < len(accounts):
+            done = len(results)
+            run = self.call("replay", WHY, *self.rules_words(rules_path), data=b"".join(b"{\n" + account for account in accounts[done:]))
+            replayed = records_replayed(run.stdout)
+            is_refused = run.returncode == NO
+            if not is_refused and (run.returncode != 0 or len(replayed) != len(accounts) - done):
+                raise unchecked(run, rules_path)
+            results += [reproduced == record for reproduced, record in zip(replayed, records[done:])]
+            results += [False] if is_refused else []
+        return results

@@ -1,4 +1,4 @@
-"""Reports while matches are played: a line when each begins and ends, and on a terminal the progress of all of them."""
+"""Reports the progress of matches: a line when each begins and ends, and on a terminal the progress of all of them."""
 
 import errno
 import os
@@ -15,13 +15,13 @@ REDRAWN = 0.5
 
 
 def spell(seconds: float) -> str:
-    """Returns a time as hours, minutes and seconds."""
+    """Formats a time as hours, minutes and seconds."""
     minutes, rest = divmod(round(seconds), 60)
     return f"{minutes // 60}:{minutes % 60:02}:{rest:02}"
 
 
 class Journal:
-    """A file to which lines are added, each with its time. It is opened for the first line, and a line that was cut off is ended before."""
+    """A file to which timestamped lines are appended. It is opened for the first line. If its last line was cut off, that line is ended first."""
 
     def __init__(self, path: pathlib.Path) -> None:
         self.path, self.file = path, -1
@@ -37,7 +37,7 @@ class Journal:
             os.write(self.file, b"\n")
 
     def write(self, text: str) -> None:
-        """Adds a line. The first fault is kept, and ends the file; who is at play looks at it."""
+        """Appends a line. The first error is kept in `fault` and stops all further writing; `play` checks it."""
         if self.fault:
             return
         line = f"{moment()} {printable(text)}\n".encode("ascii")
@@ -51,16 +51,15 @@ class Journal:
 
 
 class Reporter:
-    """Writes lines to standard output and, if standard error is a terminal, one line there that is rewritten. The first fault of
-    standard output is kept, since matches are open whose players must not be left. A terminal that is gone is no fault: that line shows
-    nothing that is not said elsewhere."""
+    """Writes lines to standard output and, if standard error is a terminal, rewrites one line there. The first error of standard output is kept in
+    `fault`, because open matches must go on. Errors of the terminal are ignored: its line only repeats what is reported elsewhere."""
 
     def __init__(self, journal: Journal | None = None) -> None:
         self.fault, self.journal = None, journal
         self.is_shown = sys.stderr.isatty()
 
     def draw(self, text: str) -> None:
-        """Rewrites the line of the terminal."""
+        """Rewrites the line on the terminal."""
         if not self.is_shown:
             return
         try:
@@ -73,17 +72,17 @@ class Reporter:
         self.draw("")
 
     def note(self, text: str) -> None:
-        """Has a line in the journal alone."""
+        """Writes a line to the journal only."""
         if self.journal:
             self.journal.write(text)
 
     def line(self, text: str) -> None:
-        """Writes a line, also into the journal."""
+        """Writes a line to standard output and to the journal."""
         self.note(text)
         self.say(text)
 
     def sum_up(self, text: str) -> None:
-        """Writes a line that says how it stands. The journal has it where it has what led to it."""
+        """Writes a summary. It goes to the journal only if that has lines already."""
         if self.journal and self.journal.is_open():
             self.note(text)
         self.say(text)
@@ -91,27 +90,27 @@ class Reporter:
     def say(self, text: str) -> None:
         self.clear()
         try:
-            # It may cite a host, or another program.
+            # The text may quote a host or another program.
             say(printable(text))
         except OSError as why:
             self.fault = why
 
     def begins(self, match: Match, host: object = None) -> None:
-        place = f" on {host}" if host else ""
-        self.line(f"begin {match.id} {match.game} {' '.join(match.players)}{place}")
+        on_host = f" on {host}" if host else ""
+        self.line(f"begin {match.id} {match.game} {' '.join(match.players)}{on_host}")
 
     def ends(self, result: Result, seconds: float) -> None:
-        """Says of each player its goal, how many of its moves were replaced, and whether it has lost by forfeit, why, and what counts."""
+        """Reports the goal of each player, the number of its substituted moves, and forfeits with their reason."""
         match = result.match
         goals = result.goals or ["none"] * len(match.players)
-        said = [", ".join(f"{player} {goal}" for player, goal in zip(match.players, goals))]
+        parts = [", ".join(f"{player} {goal}" for player, goal in zip(match.players, goals))]
         replaced = [
             f"{player} {result.replaced(role)} of {result.turns}" for role, player in enumerate(match.players) if result.replaced(role)
         ]
-        said += [f"replaced {', '.join(replaced)}"] if replaced else []
-        said += [forfeit_words(result)] if result.forfeits() else []
-        self.line(f"end {match.id} {match.game} {', '.join(said)}, {seconds:.1f} s")
+        parts += [f"replaced {', '.join(replaced)}"] if replaced else []
+        parts += [forfeit_words(result)] if result.forfeits() else []
+        self.line(f"end {match.id} {match.game} {', '.join(parts)}, {seconds:.1f} s")
 
     def progress(self, over: int, open_count: int, to_come: int, left: float | None) -> None:
-        """Shows how far the matches are, and how many seconds the rest takes."""
+        """Shows the numbers of matches and the time left."""
         self.draw(f"over {over}, open {open_count}, to come {to_come}, left {'unknown' if left is None else spell(left)}")

@@ -1,4 +1,4 @@
-"""What commands read and write: files, also packed ones, and the standard streams; and the words for what fails."""
+"""Reads and writes files, also compressed ones, and standard streams, and formats errors."""
 
 import argparse
 import contextlib
@@ -19,7 +19,7 @@ MOST_SECONDS = 1_000_000
 
 
 class Ended(Exception):
-    """Why a command ends: what is said, and the exit status."""
+    """Ends a command with a message and an exit status."""
 
     def __init__(self, words: str, status: int) -> None:
         super().__init__(words)
@@ -28,7 +28,7 @@ class Ended(Exception):
 
 @contextlib.contextmanager
 def opened(name: str | pathlib.Path) -> Iterator[BinaryIO]:
-    """Gives the bytes of a file, or of standard input for `-`; unpacked, if gzip has packed them. An error names the file."""
+    """Opens a file, or standard input for `-`, and decompresses it if it is a gzip file. An error names the file."""
     is_input = str(name) == "-"
     where = STANDARD_INPUT if is_input else str(name)
     try:
@@ -37,24 +37,25 @@ def opened(name: str | pathlib.Path) -> Iterator[BinaryIO]:
         with open(0 if is_input else name, "rb", closefd=not is_input) as file:
             yield gzip.GzipFile(fileobj=file) if file.peek(2)[:2] == PACKED else file
     except (EOFError, zlib.error, gzip.BadGzipFile):
-        raise OSError(errno.EINVAL, "what gzip has packed is cut off or damaged", where) from None
+        raise OSError(errno.EINVAL, "the gzip data is cut off or damaged", where) from None
     except OSError as why:
         raise OSError(why.errno, why.strerror, why.filename or where) from None
 
 
 def lead_nowhere(output: TextIO | None) -> None:
-    """Has all that is written to an output from now on, and what it still holds, be lost."""
+    """Discards everything that is written to an output from now on, and what it has buffered."""
     os.dup2(os.open(os.devnull, os.O_WRONLY), output.fileno())
 
 
 def ready_streams() -> None:
-    """Has a standard stream that is closed lead nowhere, so that no file takes its number, and spells out what an encoding lacks."""
+    """Opens /dev/null for each closed standard stream, so that no other file gets its number. Characters that an encoding lacks are written as
+    escapes."""
     for number, (name, mode) in enumerate((("stdin", "r"), ("stdout", "w"), ("stderr", "w"))):
         if getattr(sys, name) is None:
-            found = os.open(os.devnull, os.O_RDWR)
-            if found != number:
-                os.dup2(found, number)
-                os.close(found)
+            opened_number = os.open(os.devnull, os.O_RDWR)
+            if opened_number != number:
+                os.dup2(opened_number, number)
+                os.close(opened_number)
             os.set_inheritable(number, True)
             setattr(sys, name, open(number, mode, closefd=False))
     for stream in (sys.stdout, sys.stderr):
@@ -63,7 +64,7 @@ def ready_streams() -> None:
 
 
 def say(text: str, end: str = "\n") -> None:
-    """Writes to standard output, at once. An error names it, and what comes after it goes nowhere."""
+    """Writes to standard output at once. After an error, which names it, all output is discarded."""
     if not sys.stdout:
         raise OSError(errno.EBADF, "it is closed", STANDARD_OUTPUT)
     try:
@@ -74,7 +75,7 @@ def say(text: str, end: str = "\n") -> None:
 
 
 def put_bytes(data: bytes) -> None:
-    """Writes to standard output. An error names it."""
+    """Writes bytes to standard output. An error names it."""
     try:
         with open(1, "wb", closefd=False) as output:
             output.write(data)
@@ -83,19 +84,19 @@ def put_bytes(data: bytes) -> None:
 
 
 def report(text: str) -> None:
-    """Writes to standard error, where that is open: to print, none is standard output."""
+    """Writes to standard error if it is open. `print` would use standard output otherwise."""
     if sys.stderr:
         with contextlib.suppress(OSError):
             print(text.encode("ascii", "backslashreplace").decode(), file=sys.stderr)
 
 
 def error_words(why: OSError) -> str:
-    """Returns what is wrong with a file, after its name."""
+    """Returns the message of an error, after the name of its file."""
     return f"{why.filename}: {why.strerror}" if why.filename else str(why.strerror or why)
 
 
 def status_of(command: str, perform: Callable[[], int], failed: int, known: tuple[type[Exception], ...] = ()) -> int:
-    """Performs a command, and returns its exit status; `failed`, if a file, the memory or one of the known errors ends it."""
+    """Runs a command and returns its exit status. This is `failed` if it ends with an error of a file or of memory, or with a known one."""
     try:
         return perform()
     except Ended as why:
@@ -107,19 +108,19 @@ def status_of(command: str, perform: Callable[[], int], failed: int, known: tupl
     except MemoryError:
         words = "out of memory"
     except OSError as why:
-        # The reader of the output has ended: nobody is left to say it to.
+        # The reader of the output has exited.
         words = "" if why.errno == errno.EPIPE else error_words(why)
     except known as why:
         words = str(why)
     if words:
-        # What the referee has said keeps its name.
+        # The referee's own messages keep its name.
         report("\n".join(visible(line if line.startswith("ggp_manager: ") else f"{command}: {line}") for line in words.splitlines()))
     return failed
 
 
 def seconds(text: str) -> float:
-    """Returns the seconds that a word says."""
+    """Parses a number of seconds."""
     with contextlib.suppress(ValueError):
-        if 0 < (found := float(text)) <= MOST_SECONDS:
-            return found
+        if 0 < (parsed := float(text)) <= MOST_SECONDS:
+            return parsed
     raise argparse.ArgumentTypeError(f"{text} is not a number above 0 and up to {MOST_SECONDS:,}")

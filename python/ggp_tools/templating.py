@@ -1,4 +1,4 @@
-"""Pages from the templates in `templates`. Each value that a template prints is escaped, and what is not visible ASCII is shown as its code."""
+"""Renders pages from `templates`. Every value is escaped, and characters that are not printable ASCII are shown as their codes."""
 
 import base64
 import functools
@@ -20,28 +20,28 @@ FOLDER = pathlib.Path(__file__).parent / "templates"
 def end_without(missing: ImportError) -> typing.NoReturn:
     """Ends the command because a module is missing."""
     name = (missing.name or "").partition(".")[0]
-    # The packages of Debian are for its own Python.
+    # Debian's packages are for Debian's Python.
     how = "" if sys.executable.startswith("/usr/bin/") else ", and run it with /usr/bin/python3"
     print(f"{pathlib.Path(sys.argv[0]).name}: this command needs the Python module {name}: apt-get install python3-{name}{how}", file=sys.stderr)
     raise SystemExit(2)
 
 
 def rows_of_text(data: bytes) -> "markupsafe.Markup":
-    """Returns a text of several rows for a page."""
+    """Returns text of several rows for a page."""
     import markupsafe
 
     return markupsafe.Markup("\n").join(map(visible, data.decode("latin-1").splitlines()))
 
 
 def policy(script: str) -> str:
-    """Returns what a page may load and run: nothing but its own script and styles."""
+    """Returns the content security policy of a page: it may use only its own script and styles."""
     own = f"script-src 'sha256-{base64.b64encode(hashlib.sha256(script.encode()).digest()).decode()}'; connect-src 'self'; " if script else ""
     return f"default-src 'none'; style-src 'unsafe-inline'; {own}base-uri 'none'; form-action 'none'"
 
 
 @functools.cache
 def source(name: str) -> str:
-    """Returns a file of the templates: a style or a script, which has its own line ends."""
+    """Returns a style or a script from the templates."""
     return (FOLDER / name).read_text("ascii")
 
 
@@ -56,7 +56,7 @@ def environment() -> "jinja2.Environment":
     def printed(value: object) -> object:
         return visible(value) if isinstance(value, str) and not isinstance(value, markupsafe.Markup) else value
 
-    found = jinja2.Environment(
+    created = jinja2.Environment(
         loader=jinja2.FileSystemLoader(FOLDER),
         autoescape=True,
         finalize=printed,
@@ -65,13 +65,13 @@ def environment() -> "jinja2.Environment":
         undefined=jinja2.StrictUndefined,
         auto_reload=False,
     )
-    found.globals |= {"policy": policy, "source": lambda name: markupsafe.Markup(source(name))}
-    found.filters |= {"rows_of_text": rows_of_text, "count": "{:,}".format}
-    return found
+    created.globals |= {"policy": policy, "source": lambda name: markupsafe.Markup(source(name))}
+    created.filters |= {"rows_of_text": rows_of_text, "count": "{:,}".format}
+    return created
 
 
 def joined(parts: Sequence["markupsafe.Markup"]) -> "markupsafe.Markup":
-    """Returns parts of HTML as one."""
+    """Concatenates HTML."""
     import markupsafe
 
     return markupsafe.Markup("".join(parts))
@@ -79,10 +79,10 @@ def joined(parts: Sequence["markupsafe.Markup"]) -> "markupsafe.Markup":
 
 @functools.cache
 def macros(name: str) -> typing.Any:
-    """Returns the macros of a template, which return HTML."""
+    """Returns the macros of a template. They return HTML."""
     return environment().get_template(f"{name}.html").module
 
 
 def page(name: str, **values: object) -> bytes:
-    """Returns the page that a template makes of these values, in ASCII."""
+    """Renders a page in ASCII."""
     return (environment().get_template(f"{name}.html").render(values) + "\n").encode("ascii", "xmlcharrefreplace")

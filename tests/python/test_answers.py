@@ -26,7 +26,7 @@ class Answers(unittest.TestCase):
             ("take 1)", "a `)` with no open list at column 7"),
             ("(" * 65 + ")" * 65, "more than 64 lists in one another at column 65"),
             ("st?y", "the log shows `?` for the byte at column 3"),
-            ("x" * 200 + "..", "of so long an answer the log has only the beginning"),
+            ("x" * 200 + "..", "the log has only the beginning of such a long answer"),
             ("stay", ""),
         ):
             with self.subTest(answer):

@@ -215,7 +215,7 @@ class Commands(unittest.TestCase):
             self.assertEqual([line.split("\t")[1:] for line in said.stdout.splitlines()], wanted, name)
         packed.write_bytes(gzip.compress(data)[:-9])
         said = self.run_records("check", packed)
-        self.assertEqual((said.returncode, said.stderr), (3, f"ggp-records: {packed}: what gzip has packed is cut off or damaged\n"))
+        self.assertEqual((said.returncode, said.stderr), (3, f"ggp-records: {packed}: the gzip data is cut off or damaged\n"))
 
     def test_records_on_several_lines_are_named_in_our_own_words(self):
         self.pile.write_text(json.dumps(json.loads(record(LAWFUL[1])), indent=1) + "\n\n", encoding="ascii")
