@@ -332,6 +332,14 @@ class Lines(InRoom):
         reader = self.reader()
         reader.look()
         self.assertEqual((reader.results, sorted(reader.faults), reader.open), ({}, [first.id, second.id], {}))
+        for match in (first, second):
+            self.plan.folder.record(match.id).unlink()
+        self.plan.folder.record(second.id).symlink_to(second.id + ".json")
+        reader.look()
+        self.assertEqual(reader.faults, {second.id: "it can't be read: Too many levels of symbolic links"})
+        version = reader.version
+        reader.look()
+        self.assertEqual(reader.version, version)
 
 
 class States(InRoom):

@@ -46,8 +46,9 @@ JUDGING_SHARE = 3
 WHOLE_PATH = re.compile(r"(?<![\w./-])/(?:[^\s/]+/)*(?=[^\s/])")
 
 
-# What is another where a file was replaced or written anew.
+# What is another where a file was replaced or written anew; and that of a file that the system says nothing of.
 Identity = tuple[int, int, int]
+NOWHERE: Identity = (0, 0, 0)
 
 
 def clock() -> float:
@@ -442,7 +443,7 @@ class Reader:
         try:
             found = identity(os.stat(self.plan.folder.record(name)))
         except OSError:
-            return False
+            found = NOWHERE
         # Only of what is there at first it is believed how old it is.
         age = time.time() - found[2] / 1e9 if self.delay.is_new else 0.0
         return self.delay.has_passed(name, found, age) and self.identities.get(name) != found
@@ -461,21 +462,22 @@ class Reader:
             self.refuse(name, NoRecord(FAULT.format(why)))
 
     def take_record(self, name: str) -> None:
-        match = self.known[name]
+        match, own = self.known[name], NOWHERE
         try:
             found = self.plan.folder.record(name).stat()
-            if not self.delay.has_passed(name, identity(found)):
+            own = identity(found)
+            if not self.delay.has_passed(name, own):
                 return
             record = read_record(self.plan.read_record(match))
         except FileNotFoundError:
             return
         except (OSError, NoRecord) as why:
             self.refuse(name, why)
-            self.identities[name] = identity(found)
+            self.identities[name] = own
             return
         self.forget(name)
         # One that was replaced since then is another one at the next look.
-        self.identities[name] = identity(found)
+        self.identities[name] = own
         if fault := fault_of_record(record, match, self.plan.competition.strikes):
             self.faults[name] = fault
             return
