@@ -60,7 +60,8 @@ class Answers(unittest.TestCase):
             "endMarks": [None, None], "errors": [["IL <b>", "IL ?"]], "moves": [["(take 1)", "noop"]], "states": STATES, "version": 2, "strikes": 0,
             "matchId": "m1", "startClock": 1, "playClock": 1,
         }
-        titles = [cell["title"] for cell in parsed(page_of(record, game, {(1, 0): "(<i>"})).select("td.substituted")]
-        told = ["the answer was no legal move, of which there were 2: (take 1), (take 2)", "the answer was not one expression: a list that is not closed at column 1"]
+        hostile = (GAMES / "countdown.kif").read_bytes().replace(b"take", b'"><i>')
+        titles = [cell["title"] for cell in parsed(page_of(record, lambda: game_of(hostile), {(1, 0): "(<i>"})).select("td.substituted")]
+        told = ['the answer was no legal move, of which there were 2: ("><i> 1), ("><i> 2)', "the answer was not one expression: a list that is not closed at column 1"]
         self.assertEqual(titles, told)
         self.assertEqual([cell["title"] for cell in parsed(page_of(record)).select("td.substituted")], [title.partition(",")[0].partition(":")[0] for title in told])

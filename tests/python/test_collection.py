@@ -226,13 +226,14 @@ class Commands(unittest.TestCase):
         self.assertEqual(said[1], "\tThe text ends within the record: its end was cut off, or it is on several lines where each line must be a record.")
 
     def test_a_database_has_matches_players_and_moves(self):
-        output = self.folder / "o.db"
+        output, text = self.folder / "o.db", self.pile.read_text()
+        self.pile.write_text(text.replace('"startMarks":["",""]', '"startMarks":["TO",""]', 1).replace('"endMarks":["",""]', '"endMarks":["","CE"]', 1))
         self.assertEqual(self.run_records("sqlite", str(output), str(self.pile)).returncode, 1)
         with sqlite3.connect(output) as database:
             rows = database.execute("SELECT line, verdict, turns FROM matches ORDER BY number").fetchall()
             self.assertEqual(rows[:3], [(1, "lawful", 2), (3, "not lawful: state 1", 2), (4, "lawful", 2)])
-            players = database.execute("SELECT role, player, goal, substitutions, start_mark FROM players WHERE match_number = 1").fetchall()
-            self.assertEqual(players, [("red", "ann", 0, 0, "answered"), ("blue", "bob", 100, 0, "answered")])
+            players = database.execute("SELECT role, player, goal, substitutions, start_mark, end_mark FROM players WHERE match_number = 1").fetchall()
+            self.assertEqual(players, [("red", "ann", 0, 0, "TO", "answered"), ("blue", "bob", 100, 0, "answered", "CE")])
             moves = database.execute("SELECT turn, role_number, move, error FROM moves WHERE match_number = 3").fetchall()
             self.assertEqual(moves, [(1, 0, "(take 1)", ""), (1, 1, "noop", ""), (2, 0, "noop", ""), (2, 1, "(take 2)", "")])
         database.close()

@@ -19,14 +19,9 @@ MISTAKES = [
     ('name = "cup"', 'name = "a cup"', [(1, "name", "is no name")]),
     ('name = "cup"', 'name = ".."', [(1, "name", "a letter or a digit first")]),
     ('name = "cup"', f'name = "{"c" * 41}"', [(1, "name", "is no name")]),
-    ("start = 30", "start = 0", [(2, "start", "0 is not from 1 to 86,400")]),
     ("start = 30", f"start = 0x{'f' * 5_000}", [(2, "start", "the number is not from 1 to 86,400")]),
-    ("start = 30", "start = 86401", [(2, "start", "is not from")]),
     ("start = 30", "start = true", [(2, "start", "a whole number")]),
     ("start = 30", 'start = "1:75:00"', [(2, "start", "a whole number")]),
-    ("strikes = 3", "strikes = 256", [(3, "strikes", "is not from 0 to 255")]),
-    ("strikes = 3", "tries = 1001", [(3, "tries", "is not from 1 to 1,000")]),
-    ("strikes = 3", "wait = 86401", [(3, "wait", "is not from 0 to 86,400")]),
     ("strikes = 3", "striks = 3", [(3, "striks", "no such key")]),
     ("strikes = 3", "strikes 3", [(3, "strikes", "Expected '=' after a key")]),
     ("strikes = 3", 'forfeit = "yes"', [(3, "forfeit", "true or false")]),
@@ -35,7 +30,6 @@ MISTAKES = [
     ('["srun", "-N1"]', "[]", [(4, "launcher.command", "at least one text is expected")]),
     ('["srun", "-N1"]', '["srun", 1]', [(4, "launcher.command", "a text in quotes")]),
     ('["srun", "-N1"]', '"srun"', [(4, "launcher.command", "an array of texts"), (4, "launcher.command", "at least one text")]),
-    ("slots = 9", "slots = 1025", [(4, "launcher.slots", "is not from 1 to 1,024")]),
     (", slots = 9", "", [(4, "launcher.slots", "missing")]),
     ("slots = 9", "slots = 9, nodes = 2", [(4, "launcher.nodes", "no such key; there are command, slots")]),
     ("launcher = {", "hosts = {", [(4, "hosts", "this key is now launcher")]),
@@ -45,8 +39,6 @@ MISTAKES = [
     ('"round_robin"\nrounds = 2', '"swiss"', [(5, "form.rounds", "missing")]),
     ('"round_robin"\nrounds = 2', '"swiss"\nrounds = 2\none = "ann"', [(8, "form.one", "the kind swiss has no such key")]),
     ('"round_robin"', '"gauntlet"', [(5, "form.one", "missing")]),
-    ("rounds = 2", "rounds = 0", [(7, "form.rounds", "is not from")]),
-    ("rounds = 2", "rounds = 1001", [(7, "form.rounds", "is not from 1 to 1,000")]),
     ("rounds = 2", 'one = "ann"', [(7, "form.one", "has no such key")]),
     ('name = "go"', 'name = "chess"', [(12, "games.name", "line 9 already")]),
     ('name = "go"', 'name = "-go"', [(12, "games.name", "is no name")]),
@@ -78,15 +70,27 @@ MISTAKES = [
         ('command = []', 19, "command", "at least one text is expected"), ('command = [""]', 19, "command", "at least one text is expected"),
         ('command = ["x"]', 19, "command", "{port} is expected in the command or in the environment"), ('command = ["x", 5, "{port}"]', 19, "command", "a text in quotes"),
         *((f'command = ["x", "{{port}}"]\n{more}', 20, more.split()[0], words) for more, words in (
-            ('memory = "4X"', "'4X' is not a size"), ('memory = 5', "a text in quotes"), ("processors = 4097", "is not from 0 to 4,096"), ('restart = "always"', "none of when_dead, each_match, never"),
-            ("start_seconds = 0", "is not from 1 to 3,600"), ("environment = 5", "a table of texts"), ('environment = {"A=" = "x"}', "is not a variable"), ("environment = {A = 5}", "is not a variable"),
+            ('memory = "4X"', "'4X' is not a size"), ('memory = 5', "a text in quotes"), ('restart = "always"', "none of when_dead, each_match, never"),
+            ("environment = 5", "a table of texts"), ('environment = {"A=" = "x"}', "is not a variable"), ("environment = {A = 5}", "is not a variable"),
             ('directory = ""', "is no path of a file"),
         )),
     )),
-    ("concurrent = 3", "concurrent = 1025", [(23, "players.concurrent", "is not from 1 to 1,024")]),
-    ("concurrent = 3", "concurrent = 0", [(23, "players.concurrent", "is not from")]),
     ('"cup"', '"c p"\nplay = 0', [(1, "name", "is no name"), (2, "play", "is not from")]),
     ("strikes = 3", "# \N{GREEK SMALL LETTER ALPHA}\nstrikes = x", [(4, "strikes", "Invalid value")]),
+]
+# What is changed in GOOD to a number, its line and its key, and its limits.
+NUMBERS = [
+    ("start = 30", "start = {}", 2, "start", 1, 86_400),
+    *(("strikes = 3", f"{key} = {{}}", 3, key, *limits) for key, *limits in (
+        ("strikes", 0, 255), ("play", 1, 86_400), ("tries", 1, 1_000), ("wait", 0, 86_400), ("info", 1, 10),
+    )),
+    ("slots = 9", "slots = {}", 4, "launcher.slots", 1, 1_024),
+    ("rounds = 2", "rounds = {}", 7, "form.rounds", 1, 1_000),
+    *(('file = "go.kif"', f'file = "go.kif"\n{key} = {{}}', 14, f"games.{key}", 1, most) for key, most in (("start", 86_400), ("play", 86_400), ("seconds", 1_000_000))),
+    ("concurrent = 3", "concurrent = {}", 23, "players.concurrent", 1, 1_024),
+    *(('address = "[::1]:9148"', f'command = ["x", "{{{{port}}}}"]\nlauncher = ["x"]\n{key} = {{}}', 21, f"players.{key}", *limits) for key, *limits in (
+        ("processors", 0, 4_096), ("start_seconds", 1, 3_600),
+    )),
 ]
 SCHEDULES = [
     ("lines = []", [(4, "form.lines", "at least one line")]),
@@ -146,6 +150,13 @@ class CompetitionFile(unittest.TestCase):
             with self.subTest(new or old):
                 self.assertEqual(GOOD.count(old), 1)
                 self.assert_told(GOOD.replace(old, new), wanted)
+
+    def test_numbers_have_limits(self):
+        for old, new, line, key, least, most in NUMBERS:
+            with self.subTest(key):
+                self.assertEqual([mistakes_of(GOOD.replace(old, new.format(number)).encode()) for number in (least, most)], [[], []])
+                for number in (least - 1, most + 1):
+                    self.assert_told(GOOD.replace(old, new.format(number)), [(line, key, f"{number} is not from {least:,} to {most:,}")])
 
     def test_an_address_with_its_zone(self):
         found = read_competition(GOOD.replace("[::1]", "[fe80::1%eth0.7]").encode())

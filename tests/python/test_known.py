@@ -78,9 +78,15 @@ class Values(InCache):
         self.assertIsNone(Known(self.folder).get("lines", "a"))
 
     def test_another_code_makes_other_values(self):
-        before = Known(self.folder).key(b"a")
-        with mock.patch.object(known, "PACKAGE", self.folder):
-            self.assertNotEqual(Known(self.folder).key(b"a"), before)
+        package = self.folder / "package"
+        shutil.copytree(known.PACKAGE, package, ignore=shutil.ignore_patterns("__pycache__"))
+        files = [file for file in package.rglob("*") if file.is_file()]
+        with mock.patch.object(known, "PACKAGE", package):
+            keys = {Known(self.folder).key(b"a")}
+            for file in files:
+                file.write_bytes(file.read_bytes() + b"\n")
+                keys.add(Known(self.folder).key(b"a"))
+        self.assertEqual(len(keys), 1 + len(files))
 
     def test_where_nothing_can_be_kept_all_is_found_again(self):
         self.cache.parent.parent.mkdir(exist_ok=True)

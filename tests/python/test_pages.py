@@ -168,6 +168,17 @@ class PagesOfMany(unittest.TestCase):
         self.assertIn("It has played no match.", text_of(self.page(pages, "players/player-p24.html")))
         self.assertIn("No move of it was replaced.", text_of(self.page(pages, f"players/player-{match.players[0]}.html")))
 
+    def test_the_page_of_a_match_says_in_each_turn_what_was_wrong_with_its_answer(self):
+        match = self.plan.matches[0]
+        record = record_of(match, 0) | {"errors": [["IL ?", ""], ["IL ?", ""]], "moves": [["noop", "noop"]] * 2, "states": [["(a 1)"]] * 3}
+        self.plan.folder.record(match.id).write_text(json.dumps(record))
+        said = [line(match, 0, number, f"(PLAY {match.id} NIL)", answer) for number, answer in ((2, "(noop"), (3, "a b"))]
+        self.plan.folder.log(match.id).write_text(log_of(match, *said))
+        pages = Pages(self.plan)
+        pages.write([result_of(record, match)])
+        titles = [cell["title"].partition(": ")[2] for cell in self.page(pages, f"matches/{match.id}.html").select("td.substituted")]
+        self.assertEqual(titles, ["a list that is not closed at column 1", "a second expression begins at column 3"])
+
     def test_the_last_errors_of_a_match_stand_on_the_page_of_a_player(self):
         match = self.plan.matches[0]
         turns = 15

@@ -200,17 +200,19 @@ class Going(WithMatches):
         self.assertEqual(self.reporter.lines, ["abort cup-001: ann@h, bob@h", "no record cup-001: ggp_manager: want of memory"])
 
     def test_a_game_whose_rules_are_wrong_is_not_played_on(self):
-        games = self.plan.competition.games
-        self.plan.competition = dataclasses.replace(self.plan.competition, games=(*games, dataclasses.replace(games[0], name="other")))
-        self.plan.matches[6:] = [dataclasses.replace(match, game="other") for match in self.plan.matches[6:]]
-        self.playing = Playing(self.plan, "referee", Seats(self.plan.competition), self.reporter, 2)
-        # The second match differs too, and says nothing more; it was open by then.
-        self.go(cup_001=[over(why="differs", stops_game=True)], cup_003=["playing", "playing", over(why="differs too", stops_game=True)])
         why = "heap is not played on, since cup-001 is no match of its description"
-        left = {match.id: why for match in self.plan.matches[:6]} | {"cup-001": "differs", "cup-003": "differs too"}
-        self.assertEqual((self.playing.left, self.playing.stopped), (left, {"heap": why}))
-        self.assertEqual((set(self.playing.results), self.playing.may_begin(self.plan.matches[0])), ({match.id for match in self.plan.matches[6:]}, False))
-        self.assertEqual(self.reporter.lines, ["no record cup-001: differs", f"stopped {why}; 4 matches of it do not begin", "no record cup-003: differs too"])
+        # The second match was open by then: it differs too, and says nothing more, or it has asked its players and does not begin.
+        for end, left, lines in ((over(why="differs too", stops_game=True), "differs too", ["no record cup-003: differs too"]), (over(), why, [])):
+            self.begin()
+            games, once = self.plan.competition.games, iter([end])
+            self.plan.competition = dataclasses.replace(self.plan.competition, games=(*games, dataclasses.replace(games[0], name="other")))
+            self.plan.matches[6:] = [dataclasses.replace(match, game="other") for match in self.plan.matches[6:]]
+            self.playing = Playing(self.plan, "referee", Seats(self.plan.competition), self.reporter, 2)
+            self.go(cup_001=[over(why="differs", stops_game=True)], cup_003=["playing", "playing", lambda match: next(once)(match)])
+            lost = {match.id: why for match in self.plan.matches[:6]} | {"cup-001": "differs", "cup-003": left}
+            self.assertEqual((self.playing.left, self.playing.stopped), (lost, {"heap": why}))
+            self.assertEqual((set(self.playing.results), self.playing.may_begin(self.plan.matches[0])), ({match.id for match in self.plan.matches[6:]}, False))
+            self.assertEqual(self.reporter.lines, ["no record cup-001: differs", f"stopped {why}; 4 matches of it do not begin", *lines])
 
     def test_if_a_file_can_not_be_written_no_more_matches_begin(self):
         full = OSError(errno.ENOSPC, "x", "f")

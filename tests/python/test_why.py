@@ -137,17 +137,20 @@ class Why(InFolder):
         self.assertEqual(run(self.folder, "why", ".", "cup-001", "p9")[::2], (2, "ggp_competition: p9 is no player of cup-001: p0, p1\n"))
 
     def test_moves_with_the_names_of_errors(self):
-        plan = plan_in(str(self.folder), ["ann", "bob"])
+        plan = plan_in(str(self.folder), ["ann", "bob"], head="start = 20\nplay = 30\n")
         match = plan.matches[0]
         answers = [("TO", "noop"), ("lost", "CE"), (SILENT, Missed("CE (no connection)")), ("IL", str(SILENT))]
         log = "".join(line(match, role, number, f"(PLAY {match.id} NIL)", answer) for number, pair in enumerate(answers, 2) for role, answer in enumerate(pair))
+        log = line(match, 0, 1, f"(START {match.id})", SILENT) + log + line(match, 1, 6, f"(STOP {match.id} NIL)", SILENT)
         errors = [["", ""], ["", ""], ["TO", "CE"], ["", "IL ?"]]
-        end(plan, match, record_of(match, [["to", "noop"], ["lost", "ce"], ["noop", "noop"], ["il", "noop"]], errors, [0, 100]), log)
+        record = record_of(match, [["to", "noop"], ["lost", "ce"], ["noop", "noop"], ["il", "noop"]], errors, [0, 100])
+        end(plan, match, record | {"startMarks": ["TO", ""], "endMarks": ["", "TO"]}, log)
         said = "\n".join(Told(plan, match).lines(["ann", "bob"]))
         for words in ("turn 1: PLAY was answered `TO` after", "turn 2: PLAY was answered `lost` after", "turn 2: PLAY was answered `CE` after"):
             self.assertIn(words, said)
-        for words in (f"turn 3: PLAY brought {SILENT} after 5 ms; TO: no whole answer within", "turn 3: PLAY brought CE (no connection) after"):
-            self.assertIn(words, said)
+        for message, seconds in (("START", 20), ("turn 3: PLAY", 30), ("STOP", 30)):
+            self.assertIn(f"{message} brought {SILENT} after 5 ms; TO: no whole answer within {seconds} s", said)
+        self.assertIn("turn 3: PLAY brought CE (no connection) after", said)
         # Who answers with these very words has answered.
         text = "IL ?: the answer is not one expression, or too long: a second expression begins at column 4; its first legal move was played"
         self.assertIn(f"turn 4: PLAY was answered `{SILENT}` after 5 ms; {text}", said)
