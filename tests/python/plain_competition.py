@@ -19,6 +19,8 @@ def counting_goals(record, forfeit):
     gone = {seat for seat in seats if forfeit and strikes_out(record, seat)}
     if not gone:
         return list(record["goalValues"]) or None, gone
+    if len(seats) > 2 and record["goalValues"]:
+        return [0 if seat in gone else goal for seat, goal in enumerate(record["goalValues"])], gone
     left = len(seats) - len(gone)
     return [0 if seat in gone else 100 // left for seat in seats], gone
 

@@ -144,8 +144,9 @@ class TestPlayer(threading.Thread):
         if moves not in ("nil", ()):
             state = game.next(state, moves)
             self.matches[match] = role, game, state
-        move = example.show(self.random.choice(game.legal(state, role)))
-        return "(no such move)" if self.kind == "lying" else move
+        legal = game.legal(state, role)
+        lies = self.kind == "lying" or self.kind == "lying at a choice" and len(legal) > 1
+        return "(no such move)" if lies else example.show(self.random.choice(legal))
 
 
 def has_variables(expression):

@@ -8,6 +8,7 @@ import unittest
 from unittest import mock
 
 from ggp_tools.competition import kept
+from ggp_tools.competition.competition_file import Faults
 from ggp_tools.competition.files import Folder
 from ggp_tools.competition.kept import fault_of_files, look_at_records, looked_at
 from ggp_tools.competition.results import read_record
@@ -43,7 +44,7 @@ class Counted(unittest.TestCase):
     def setUp(self):
         self.folder = Folder(pathlib.Path(self.enterContext(tempfile.TemporaryDirectory())))
         self.folder.make(self.folder.records, self.folder.accounts)
-        competition = types.SimpleNamespace(strikes=0, forfeit=False)
+        competition = types.SimpleNamespace(strikes=0, forfeit=False, faults=Faults(0))
         self.plan = types.SimpleNamespace(folder=self.folder, competition=competition, rules={"nim": Rules(b"(role a)", "", ("a",))}, matches=[MATCH], judge=lambda referee, _: referee)
         self.write(RECORD, ACCOUNT)
 

@@ -56,14 +56,16 @@ SWISS = {
 }
 
 
-class Spoilt(unittest.TestCase):
-    def folder_of(self, players, **more):
-        """Returns the folder of a competition among these players."""
-        self.folder = pathlib.Path(self.enterContext(tempfile.TemporaryDirectory()))
-        self.write(players, **more)
+class InArchive(unittest.TestCase):
+    """A test that ends in an archive."""
 
-    def write(self, players, **more):
-        (self.folder / "competition.toml").write_text(toml([(player.name, player.place()) for player in players], COUNTDOWN, **more))
+    def new_folder(self):
+        self.folder = pathlib.Path(self.enterContext(tempfile.TemporaryDirectory()))
+
+    def refused(self, *words):
+        status, out, said = run(self.folder, *words)
+        self.assertEqual((status, out), (2, ""), said)
+        return said
 
     def ran(self, *words, status=0):
         found, out, said = run(self.folder, *words)
@@ -78,6 +80,16 @@ class Spoilt(unittest.TestCase):
                 status, out, said = run(self.folder, "check", "spoilt.tar.gz")
                 self.assertEqual((status, out), (1, ""))
                 self.assertIn(words, said)
+
+
+class Spoilt(InArchive):
+    def folder_of(self, players, **more):
+        """Begins a competition among these players in a new folder."""
+        self.new_folder()
+        self.write(players, **more)
+
+    def write(self, players, **more):
+        (self.folder / "competition.toml").write_text(toml([(player.name, player.place()) for player in players], COUNTDOWN, **more))
 
     def test_a_competition_that_grew(self):
         ann, bob, _ = players = [TestPlayer("ann"), TestPlayer("bob"), TestPlayer("cid", "lying")]

@@ -12,6 +12,7 @@ from dataclasses import replace
 from unittest import mock
 
 from ggp_tools.competition import kept
+from ggp_tools.competition.competition_file import Faults
 from ggp_tools.competition.files import UNFINISHED, Folder, Refused, file_bytes, held, write_whole
 from ggp_tools.competition.kept import (
     batches, fault_of_files, free_ending, has_shape, judged, keep, look_at_records, looked_at, read_or_none, result_in_file,
@@ -204,7 +205,7 @@ class Looked(unittest.TestCase):
         self.program.write_text("program")
         self.referee = Said(str(self.program))
         matches = [Match(f"cup-{at}", "two" if at == 3 else "one", 5, 6, ("ann", "bob")) for at in range(4)]
-        self.plan = types.SimpleNamespace(folder=self.folder, competition=types.SimpleNamespace(strikes=2, forfeit=True), rules={"one": RULES, "two": RULES}, matches=matches, judge=lambda referee, game: referee)
+        self.plan = types.SimpleNamespace(folder=self.folder, competition=types.SimpleNamespace(strikes=2, forfeit=True, faults=Faults(0)), rules={"one": RULES, "two": RULES}, matches=matches, judge=lambda referee, game: referee)
         for match in matches:
             self.write(match)
 

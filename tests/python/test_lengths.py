@@ -5,7 +5,7 @@ import subprocess
 
 import pytest
 from ggp_tools.records import record as records
-from ggp_tools.records.lengths import USUAL_RECORD, first_states, longest_record, without_states
+from ggp_tools.records.lengths import USUAL_RECORD, states_in, longest_record, without_states
 from ggp_tools.records.record import NoRecord, read_record
 from ggp_tools.records.show import page_of
 from support import GAMES, program
@@ -29,7 +29,7 @@ def test_its_first_states():
     begin = DATA.index(b'"states":[') + 10
     ends = [DATA.index(b"]", DATA.index(b"heap 2")) + 1 - begin, DATA.index(b'"]', DATA.index(b":)")) + 2 - begin, DATA.index(b']],"strikes') + 1 - begin]
     for count, end in enumerate(ends, 1):
-        assert (first_states(DATA, end), first_states(DATA, end - 1)) == (STATES[:count], STATES[: count - 1])
+        assert (list(states_in(DATA, end)), list(states_in(DATA, end - 1))) == (STATES[:count], STATES[: count - 1])
 
 
 def test_a_page_of_a_long_record_has_its_first_states(monkeypatch):

@@ -317,7 +317,7 @@ class Lines(InRoom):
         def faulty(seen, *more):
             return take(seen, *more) if seen.match.id != self.match.id else 1 / 0
 
-        with patch.object(live.Seen, "take", faulty), patch.object(live, "result_of", side_effect=KeyError("goal")):
+        with patch.object(live.Seen, "take", faulty), patch.object(live, "counted_result", side_effect=KeyError("goal")):
             self.look(reader)
         self.assertEqual(reader.open[self.plan.matches[1].id].turn(), 1)
         said = now_part(reader, 0, 0).text

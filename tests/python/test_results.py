@@ -106,7 +106,7 @@ class Forfeits(unittest.TestCase):
         self.assertEqual(said["forfeit"], [{"player": "ann", "errors": ["CE", "IL"], "turn": 3}])
         self.assertEqual((forfeit_words(result_of(RECORD, MATCH)), result_of(RECORD, MATCH).counted()), ("", (100, 0)))
 
-    def test_who_is_left_shares_the_full_goal_whatever_the_match_gave(self):
+    def test_a_single_opponent_gets_the_full_goal_and_several_keep_theirs(self):
         for roles in range(1, 17):
             for lost in range(roles + 1):
                 for goals in ([7] * roles, [100, *[0] * (roles - 1)], []):
@@ -114,7 +114,9 @@ class Forfeits(unittest.TestCase):
                     match = Match("m", "game", 1, 1, tuple(f"p{role}" for role in range(roles)))
                     found = result_of(record(strikes=1, moves=[["x"] * roles], errors=errors, goalValues=goals), match, True)
                     wanted = tuple(goals) or (None,) * roles
-                    if lost:
+                    if lost and roles > 2 and goals:
+                        wanted = (0,) * lost + tuple(goals[lost:])
+                    elif lost:
                         wanted = tuple(0 if role < lost else int(100 / (roles - lost)) for role in range(roles))
                     self.assertEqual(found.counted(), wanted, (roles, lost, goals))
                     self.assertEqual(list(found.forfeits()), list(range(lost)))
@@ -148,7 +150,7 @@ class Outcomes(unittest.TestCase):
         self.assertEqual((self.outcomes([100]), self.outcomes([]), self.outcomes([100], [0])), ([None], [None] * 2, [None]))
 
     def test_who_forfeits_has_lost_whatever_the_goals(self):
-        for goals, lost, wanted in (([100, 0], [0], "LW"), ([], [1], "WL"), ([50, 50], [0, 1], "LL"), ([0, 0, 0], [1], "DLD"), ([0, 0, 100], [1, 2], "WLL")):
+        for goals, lost, wanted in (([100, 0], [0], "LW"), ([], [1], "WL"), ([50, 50], [0, 1], "LL"), ([0, 0, 0], [1], "DLD"), ([0, 50, 100], [1], "LLW"), ([0, 0, 100], [1, 2], "WLL")):
             self.assertEqual("".join(word[0].upper() for word in self.outcomes(goals, lost)), wanted, (goals, lost))
         self.assertEqual(self.outcomes([100, 0], [0], False), ["won", "lost"])
 

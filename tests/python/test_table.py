@@ -127,10 +127,12 @@ class Tables(unittest.TestCase):
             three = [result(["ann", "bob", "cid"], goals, [0, 5, 0], retired=[False, True, False], game="three")]
             table = tables_of(competition(), three)[0]
             found = [(of.won, of.drawn, of.lost, of.mean()) for of in map(table.lines.get, ("ann", "bob", "cid"))]
-            self.assertEqual(found, [(0, 1, 0, 50), (0, 0, 1, 0), (0, 1, 0, 50)])
-            self.assertEqual([table.points[pair] for pair in (("ann", "bob"), ("bob", "ann"), ("ann", "cid"))], [1, 0, 0.5])
+            # The others keep their goals, and share 100 where there are none.
+            ann, _, cid = goals or (50, 0, 50)
+            self.assertEqual(found, [(ann > cid, ann == cid, ann < cid, ann), (0, 0, 1, 0), (cid > ann, ann == cid, cid < ann, cid)])
+            self.assertEqual([table.points[pair] for pair in (("ann", "bob"), ("bob", "ann"), ("ann", "cid"))], [1, 0, (1 + (ann > cid) - (ann < cid)) / 2])
             two = tables_of(competition(), [result(["ann", "bob", "cid"], goals, retired=[True, True, False], game="three")])[0]
-            self.assertEqual([(of.won, of.lost, of.mean()) for of in map(two.lines.get, ("ann", "cid"))], [(0, 1, 0), (1, 0, 100)])
+            self.assertEqual([(of.won, of.lost, of.mean()) for of in map(two.lines.get, ("ann", "cid"))], [(0, 1, 0), (1, 0, goals[2] if goals else 100)])
 
     def test_the_order_by_points(self):
         # More goals for ann, more points for bob.

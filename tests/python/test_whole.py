@@ -30,7 +30,8 @@ def recount(records):
         worth = [-1 if gone else goal for gone, goal in zip(out, record["goalValues"] or [0] * len(out))]
         counted = record["goalValues"] or [0] * len(out)
         if any(out):
-            worth = [-1 if gone else 100 // out.count(False) for gone in out]
+            left = record["goalValues"] if len(out) > 2 and record["goalValues"] else [100 // (out.count(False) or 1)] * len(out)
+            worth = [-1 if gone else goal for gone, goal in zip(out, left)]
             counted = [max(0, goal) for goal in worth]
         has_goals = bool(record["goalValues"]) or any(out)
         for role, player in enumerate(record["players"]):

@@ -1,11 +1,12 @@
 """Reads competition.toml: what is played, by whom, and in which form. Each mistake is reported with its line and key."""
 
 import re
-from collections.abc import Iterable
-from dataclasses import dataclass
+from collections.abc import Callable, Iterable
+from dataclasses import dataclass, field, fields
 from typing import Any
 
 from ggp_tools.competition.toml_lines import Path, TomlFault, read_toml
+from ggp_tools.records.lengths import MOST_TURNS
 
 NAME = re.compile(r"[A-Za-z0-9][A-Za-z0-9_.-]{0,39}")
 FIRST = ", a letter or a digit first"
@@ -23,13 +24,13 @@ RESTARTS = WHEN_DEAD, EACH_MATCH, NEVER = "when_dead", "each_match", "never"
 PORT = "{port}"
 RUNS_ELSEWHERE = "a program that runs its arguments on another machine"
 MEMORY = re.compile(r"([1-9][0-9]{0,5})([KMGT])")
-COMMAND_KEYS = ("directory", "environment", "launcher", "memory", "processors", "restart", "start_seconds")
 MOST_PROCESSORS, MOST_START_SECONDS = 4_096, 3_600
 # The seconds in which a description is instantiated, where no others are given, and the most of them.
 INSTANTIATING, MOST_INSTANTIATING = 60, 1_000_000
 # Those that plan each round by the results of the one before.
 ROUND_KINDS = SWISS, KNOCKOUT = "swiss", "knockout"
-KINDS = ("round_robin", "gauntlet", "schedule", *ROUND_KINDS)
+# The keys of each kind beside `kind`.
+KINDS = {"round_robin": ("rounds",), "gauntlet": ("rounds", "one"), "schedule": ("lines",), SWISS: ("rounds",), KNOCKOUT: ()}
 ABSENT = ("leave", "play")
 # How the ids of the matches are made.
 IDS = COUNTED_IDS, RANDOM_IDS = "counted", "random"
@@ -39,7 +40,6 @@ ORDERS = BY_GOALS, BY_POINTS = "goals", "points"
 PLAYER_RULES = ("ground", "variables")
 # Keys that had another name before version 0.2.0, by that name.
 RENAMED = {"told": "player_rules", "hosts": "launcher"}
-ROOT_KEYS = ("name", "start", "play", "strikes", "tries", "wait", "info", "absent", "forfeit", "order", "ids", "launcher", "form", "games", "players")
 
 
 @dataclass(frozen=True)
@@ -65,104 +65,11 @@ def mistake_lines(path: object, mistakes: Iterable[Mistake]) -> str:
 
 
 @dataclass(frozen=True)
-class Game:
-    """A game that is played: its name, the file of its description, its clocks in seconds, and which rules its players get, with the line
-    that says so; the file of the description with variables, where it stands beside ground rules (else empty); the seconds in which it is
-    instantiated; whether it is planned though its random matches are aborted; and whether its rules may be large."""
-
-    name: str
-    file: str
-    described: str
-    seconds: int
-    start: int
-    play: int
-    player_rules: str
-    player_rules_line: int
-    line: int
-    aborts: bool = False
-    large: bool = False
-
-    def tells_variables(self) -> bool:
-        """Returns whether players get the description with variables."""
-        return self.player_rules == PLAYER_RULES[1]
-
-
-@dataclass(frozen=True)
-class Command:
-    """How the competition starts a player: `{port}` stands for its port in the command and in the environment. It is started on this computer
-    if it has no launcher. Of memory and processors 0 is no limit."""
-
-    words: tuple[str, ...]
-    launcher: tuple[str, ...]
-    directory: str
-    environment: tuple[tuple[str, str], ...]
-    memory: int
-    processors: int
-    restart: str
-    start_seconds: int
-
-
-@dataclass(frozen=True)
-class Player:
-    """A player, and in how many matches it may play at a time. It has an address, or a command that starts it."""
-
-    name: str
-    address: str
-    concurrent: int
-    line: int
-    command: Command | None = None
-
-    def place(self) -> str:
-        return f"{self.name}@{self.address}"
-
-
-@dataclass(frozen=True)
-class Launcher:
-    """A command that runs a program on another machine, and how many matches it may have at a time."""
-
-    command: tuple[str, ...]
-    slots: int
-
-
-@dataclass(frozen=True)
 class Text:
     """A text in quotes, with its line in the file."""
 
     text: str
     line: int
-
-
-@dataclass(frozen=True)
-class Form:
-    """The pairing: round robin, gauntlet of one against all, the lines of a schedule, each of a game and its players, or by rounds."""
-
-    kind: str
-    rounds: int
-    one: str
-    lines: tuple[Text, ...]
-    line: int
-
-
-@dataclass(frozen=True)
-class Competition:
-    """All that competition.toml says."""
-
-    name: str
-    strikes: int
-    tries: int
-    wait: int
-    info: int
-    absent: str
-    forfeit: bool
-    order: str
-    ids: str
-    launcher: Launcher | None
-    form: Form
-    games: tuple[Game, ...]
-    players: tuple[Player, ...]
-
-    def player(self, name: str) -> Player:
-        return next(player for player in self.players if player.name == name)
 
 
 class Section:
@@ -180,6 +87,10 @@ class Section:
 
     def mistake(self, key: str, words: str, line: int | None = None) -> None:
         self.mistakes.append(Mistake(line or self.line(key), f"{self.prefix}{key}", words))
+
+    def read(self, kind: type, **given: object) -> Any:
+        """Returns an object of this class: a field is given, or read from its key."""
+        return kind(**{of.name: of.metadata["read"](self, of.name) for of in fields(kind) if of.name not in given and "read" in of.metadata}, **given)
 
     def refuse_others(self, keys: Iterable[str]) -> None:
         for key in self.table:
@@ -200,10 +111,10 @@ class Section:
     def text(self, key: str, default: str | None = None) -> str | None:
         return self.value(key, str, "a text in quotes", default)
 
-    def path_of_file(self, key: str) -> str | None:
+    def path_of_file(self, key: str, default: str | None = None) -> str | None:
         """Returns a text that can name a file."""
-        found = self.text(key)
-        if found is not None and (not found or CONTROL.search(found)):
+        found = self.text(key, default)
+        if found is not None and key in self.table and (not found or CONTROL.search(found)):
             self.mistake(key, f"{found!r} is no path of a file")
         return found
 
@@ -242,13 +153,44 @@ class Section:
                 self.mistake(key, "a text in quotes is wanted", line)
         return found
 
-    def words(self, key: str, what: str) -> tuple[str, ...]:
-        """Returns the words of a command, none if it can't be one."""
+    def words(self, key: str, what: str, is_needed: bool = True) -> tuple[str, ...]:
+        """Returns the words of a command, none if it can't be one, or is not there and not needed."""
+        if key not in self.table and not is_needed:
+            return ()
         words = tuple(word.text for word in self.texts(key))
         if words and words[0] and not any("\0" in word for word in words):
             return words
         self.mistake(key, f"at least one text is expected: {what}")
         return ()
+
+    def address(self, key: str) -> str | None:
+        address = self.text(key)
+        found = ADDRESS.fullmatch(address or "")
+        if address is not None and not found:
+            self.mistake(key, f"{address!r} is no HOST:PORT")
+        elif found and not 1 <= int(found[2]) <= MOST_PORT:
+            self.mistake(key, f"the port {found[2]} is not from 1 to 65,535")
+        return address
+
+    def memory(self, key: str) -> int:
+        """Returns the bytes of memory that a player may use."""
+        found = MEMORY.fullmatch(text := self.text(key, "") or "")
+        if text and not found:
+            self.mistake(key, f'{text!r} is not a size: a number with K, M, G or T is expected, as in "512M"')
+        return int(found[1]) << (10 * (1 + "KMGT".index(found[2]))) if found else 0
+
+    def environment(self, key: str) -> tuple[tuple[str, str], ...]:
+        found = self.value(key, dict, "a table of texts", {})
+        for name, value in found.items():
+            if not name or "=" in name or "\0" in name or type(value) is not str or "\0" in value:
+                self.mistake(key, f"{name!r} is not a variable with a text in quotes")
+                return ()
+        return tuple(found.items())
+
+    def names(self, key: str) -> set[str]:
+        """Returns the names in an array of tables, whatever else is wrong with it."""
+        tables = self.table.get(key)
+        return {str(table.get("name")) for table in tables if isinstance(table, dict)} if isinstance(tables, list) else set()
 
     def sections(self, key: str) -> list["Section"]:
         """Returns a section for each table of an array of tables, of which there has to be one."""
@@ -266,6 +208,124 @@ class Section:
         return Section(table, (*self.path, key), self.lines, self.mistakes)
 
 
+def read_by(read: Callable, *limits: object, key: str = "") -> Any:
+    """Returns a field that a method of a section reads within these limits, from the key of this name or of the field's own."""
+    return field(metadata={"read": lambda section, name: read(section, key or name, *limits), "key": key})
+
+
+def line_of(key: str = "") -> Any:
+    """Returns a field that is the line of a key, or of its table."""
+    return field(metadata={"read": lambda section, _: section.line(key), "is_line": True})
+
+
+def keys_of(kind: type) -> list[str]:
+    """Returns the keys from which an object of this class is read."""
+    return [of.metadata.get("key") or of.name for of in fields(kind) if not of.metadata.get("is_line")]
+
+
+@dataclass(frozen=True)
+class Game:
+    """A game that is played: its name, the file of its description, its clocks in seconds, and which rules its players get, with the line
+    that says so; the file of the description with variables, where it stands beside ground rules (else empty); the seconds in which it is
+    instantiated; whether it is planned though its random matches are aborted; and whether its rules may be large."""
+
+    name: str = read_by(Section.name, NAME, 40, FIRST)
+    file: str = read_by(Section.path_of_file)
+    described: str = read_by(Section.path_of_file, "")
+    seconds: int = read_by(Section.number, 1, MOST_INSTANTIATING, INSTANTIATING)
+    start: int = read_by(Section.number, 1, MOST_SECONDS)
+    play: int = read_by(Section.number, 1, MOST_SECONDS)
+    player_rules: str = read_by(Section.word, PLAYER_RULES, PLAYER_RULES[0])
+    player_rules_line: int = line_of("player_rules")
+    line: int = line_of()
+    aborts: bool = read_by(Section.flag)
+    large: bool = read_by(Section.flag)
+
+    def tells_variables(self) -> bool:
+        """Returns whether players get the description with variables."""
+        return self.player_rules == PLAYER_RULES[1]
+
+
+@dataclass(frozen=True)
+class Command:
+    """How the competition starts a player: `{port}` stands for its port in the command and in the environment. It is started on this computer
+    if it has no launcher. Of memory and processors 0 is no limit."""
+
+    words: tuple[str, ...] = read_by(Section.words, "the program, then its arguments", key="command")
+    launcher: tuple[str, ...] = read_by(Section.words, RUNS_ELSEWHERE, False)
+    directory: str = read_by(Section.path_of_file, "")
+    environment: tuple[tuple[str, str], ...] = read_by(Section.environment)
+    memory: int = read_by(Section.memory)
+    processors: int = read_by(Section.number, 0, MOST_PROCESSORS, 0)
+    restart: str = read_by(Section.word, RESTARTS, WHEN_DEAD)
+    start_seconds: int = read_by(Section.number, 1, MOST_START_SECONDS, 10)
+
+
+@dataclass(frozen=True)
+class Player:
+    """A player, and in how many matches it may play at a time. It has an address, or a command that starts it."""
+
+    name: str = read_by(Section.name, PLAYER_NAME, 64)
+    address: str = read_by(Section.address)
+    concurrent: int = read_by(Section.number, 1, MOST_AT_A_TIME, 1)
+    line: int = line_of()
+    command: Command | None = None
+
+    def place(self) -> str:
+        return f"{self.name}@{self.address}"
+
+
+@dataclass(frozen=True)
+class Launcher:
+    """A command that runs a program on another machine, and how many matches it may have at a time."""
+
+    command: tuple[str, ...] = read_by(Section.words, RUNS_ELSEWHERE)
+    slots: int = read_by(Section.number, 1, MOST_AT_A_TIME)
+
+
+@dataclass(frozen=True)
+class Faults:
+    """With so many replaced moves in turns in which it had a choice a player has lost a match; with 0 no number does it."""
+
+    replaced: int = read_by(Section.number, 1, MOST_TURNS)
+
+
+@dataclass(frozen=True)
+class Form:
+    """The pairing: round robin, gauntlet of one against all, the lines of a schedule, each of a game and its players, or by rounds."""
+
+    kind: str
+    rounds: int
+    one: str
+    lines: tuple[Text, ...]
+    line: int
+
+
+@dataclass(frozen=True)
+class Competition:
+    """All that competition.toml says."""
+
+    name: str = read_by(Section.name, NAME, 40, FIRST)
+    start: int
+    play: int
+    strikes: int = read_by(Section.number, 0, MOST_STRIKES, 0)
+    tries: int = read_by(Section.number, 1, 1_000, 5)
+    wait: int = read_by(Section.number, 0, MOST_SECONDS, 10)
+    info: int = read_by(Section.number, 1, 10, 10)
+    absent: str = read_by(Section.word, ABSENT, "leave")
+    forfeit: bool = read_by(Section.flag)
+    order: str = read_by(Section.word, ORDERS, BY_GOALS)
+    ids: str = read_by(Section.word, IDS, COUNTED_IDS)
+    launcher: Launcher | None
+    faults: Faults
+    form: Form
+    games: tuple[Game, ...]
+    players: tuple[Player, ...]
+
+    def player(self, name: str) -> Player:
+        return next(player for player in self.players if player.name == name)
+
+
 def refuse_twice(sections: list[Section], key: str) -> None:
     """Refuses a value of the key that a section before has."""
     known = {}
@@ -277,19 +337,15 @@ def refuse_twice(sections: list[Section], key: str) -> None:
             known.setdefault(value, section.line(key))
 
 
-def games_of(root: Section, clocks: list[int]) -> list[Game]:
+def games_of(root: Section, clocks: dict[str, int | None]) -> tuple[Game, ...]:
+    """Returns the games, whose clocks are these where they have none."""
     found, sections = [], root.sections("games")
     for section in sections:
-        section.refuse_others(("name", "file", "described", "seconds", "start", "play", "player_rules", "aborts", "large"))
-        name = section.name("name", NAME, 40, FIRST)
-        start, play = (section.number(key, 1, MOST_SECONDS, clock) for key, clock in zip(("start", "play"), clocks))
-        described = section.path_of_file("described") if "described" in section.table else ""
-        seconds = section.number("seconds", 1, MOST_INSTANTIATING, INSTANTIATING)
-        player_rules = section.word("player_rules", PLAYER_RULES, PLAYER_RULES[0])
-        lines, aborts = (section.line("player_rules"), section.first), section.flag("aborts")
-        found.append(Game(name, section.path_of_file("file"), described, seconds, start, play, player_rules, *lines, aborts, section.flag("large")))
+        section.refuse_others(keys_of(Game))
+        section.table = {**clocks, **section.table}
+        found.append(section.read(Game))
     refuse_twice(sections, "name")
-    return found
+    return tuple(found)
 
 
 def is_place(text: str) -> bool:
@@ -299,66 +355,33 @@ def is_place(text: str) -> bool:
     return bool(PLAYER_NAME.fullmatch(name) and found and 1 <= int(found[2]) <= MOST_PORT)
 
 
-def address_of(section: Section) -> str | None:
-    address = section.text("address")
-    found = ADDRESS.fullmatch(address or "")
-    if address is not None and not found:
-        section.mistake("address", f"{address!r} is no HOST:PORT")
-    elif found and not 1 <= int(found[2]) <= MOST_PORT:
-        section.mistake("address", f"the port {found[2]} is not from 1 to 65,535")
-    return address
-
-
-def memory_of(section: Section) -> int:
-    """Returns the bytes of memory that a player may use."""
-    found = MEMORY.fullmatch(text := section.text("memory", "") or "")
-    if text and not found:
-        section.mistake("memory", f'{text!r} is not a size: a number with K, M, G or T is expected, as in "512M"')
-    return int(found[1]) << (10 * (1 + "KMGT".index(found[2]))) if found else 0
-
-
-def environment_of(section: Section) -> tuple[tuple[str, str], ...]:
-    found = section.value("environment", dict, "a table of texts", {})
-    for name, value in found.items():
-        if not name or "=" in name or "\0" in name or type(value) is not str or "\0" in value:
-            section.mistake("environment", f"{name!r} is not a variable with a text in quotes")
-            return ()
-    return tuple(found.items())
-
-
 def command_of(section: Section) -> Command | None:
     """Returns the command that starts a player, or none if the player has an address."""
     if "command" not in section.table:
-        for key in COMMAND_KEYS:
+        for key in keys_of(Command):
             if key in section.table:
                 section.mistake(key, "only a player with a `command` has this key")
         return None
-    words = section.words("command", "the program, then its arguments")
-    launcher = section.words("launcher", RUNS_ELSEWHERE) if "launcher" in section.table else ()
-    environment = environment_of(section)
-    if words and not any(PORT in text for text in (*words, *(value for _, value in environment))):
+    command = section.read(Command)
+    if command.words and not any(PORT in text for text in (*command.words, *(value for _, value in command.environment))):
         section.mistake("command", f"the player must get its port: {PORT} is expected in the command or in the environment")
-    directory = section.path_of_file("directory") if "directory" in section.table else ""
-    processors = section.number("processors", 0, MOST_PROCESSORS, 0)
-    restart, seconds = section.word("restart", RESTARTS, WHEN_DEAD), section.number("start_seconds", 1, MOST_START_SECONDS, 10)
-    return Command(words, launcher, directory, environment, memory_of(section), processors, restart, seconds)
+    return command
 
 
 def player_of(section: Section) -> Player:
-    section.refuse_others(("name", "address", "concurrent", "command", *COMMAND_KEYS))
-    name, command = section.name("name", PLAYER_NAME, 64), command_of(section)
+    section.refuse_others(list(dict.fromkeys((*keys_of(Player), *keys_of(Command)))))
+    command = command_of(section)
     if command and "address" in section.table:
         section.mistake("address", "a player with a `command` is started here, and gets its address then")
-    address = "" if command else address_of(section)
-    concurrent = section.number("concurrent", 1, MOST_AT_A_TIME, 1)
-    if command and command.restart == EACH_MATCH and concurrent > 1:
+    player = section.read(Player, command=command, **({"address": ""} if command else {}))
+    if command and command.restart == EACH_MATCH and player.concurrent > 1:
         section.mistake("restart", f"{EACH_MATCH!r} would end the other matches of the player: it needs `concurrent = 1`")
-    return Player(name, address, concurrent, section.first, command)
+    return player
 
 
-def players_of(root: Section) -> list[Player]:
+def players_of(root: Section) -> tuple[Player, ...]:
     sections = root.sections("players")
-    found = [player_of(section) for section in sections]
+    found = tuple(map(player_of, sections))
     refuse_twice(sections, "name")
     refuse_twice(sections, "address")
     if len(found) > MOST_PLAYERS:
@@ -370,32 +393,30 @@ def players_of(root: Section) -> list[Player]:
     return found
 
 
-def form_of(root: Section, games: list[Game], players: list[Player]) -> Form:
+def form_of(root: Section) -> Form:
     section = root.section("form")
-    section.refuse_others(("kind", "rounds", "one", "lines"))
-    kind = section.word("kind", KINDS, "round_robin")
+    section.refuse_others(keys_of(Form))
+    kind = section.word("kind", tuple(KINDS), "round_robin")
     rounds = section.number("rounds", 1, MOST_ROUNDS, None if kind == SWISS else 1)
     one = section.text("one") if kind == "gauntlet" else ""
-    if one and all(player.name != one for player in players):
+    if one and one not in root.names("players"):
         section.mistake("one", f"there is no player {one!r}")
-    lines = lines_of_schedule(section, games, players) if kind == "schedule" else []
-    for key, kinds in (("rounds", (*KINDS[:2], SWISS)), ("one", KINDS[1:2]), ("lines", KINDS[2:3])):
-        if key in section.table and kind not in kinds:
-            section.mistake(key, f"the kind {kind} has no such key")
+    lines = lines_of_schedule(section, root.names("games"), root.names("players")) if kind == "schedule" else []
+    for key in section.table.keys() & set(keys_of(Form)) - {"kind", *KINDS[kind]}:
+        section.mistake(key, f"the kind {kind} has no such key")
     return Form(kind, rounds, one, tuple(lines), section.first)
 
 
-def lines_of_schedule(section: Section, games: list[Game], players: list[Player]) -> list[Text]:
+def lines_of_schedule(section: Section, games: set[str], players: set[str]) -> list[Text]:
     lines = section.texts("lines")
     if not lines:
         section.mistake("lines", "at least one line is wanted: a game, and its players in the order of the roles")
-    known = {game.name for game in games}, {player.name for player in players}
     for line in lines:
-        refuse_line(section, line, *known)
+        refuse_line(section, line, games, players)
     return lines
 
 
-def refuse_line(section: Section, line: Text, games: set[str | None], players: set[str | None]) -> None:
+def refuse_line(section: Section, line: Text, games: set[str], players: set[str]) -> None:
     """Refuses a line of a schedule that names no game, or what is no player, or a player twice."""
     game, *names = line.text.split() or [""]
     if game not in games:
@@ -407,12 +428,13 @@ def refuse_line(section: Section, line: Text, games: set[str | None], players: s
             section.mistake("lines", f"the player {name!r} stands there twice", line.line)
 
 
-def launcher_of(root: Section) -> Launcher | None:
-    if "launcher" not in root.table:
+def table_of(root: Section, key: str, kind: type) -> Any:
+    """Returns what a table of the file says, or none where it is not there."""
+    if key not in root.table:
         return None
-    section = root.section("launcher")
-    section.refuse_others(("command", "slots"))
-    return Launcher(section.words("command", RUNS_ELSEWHERE), section.number("slots", 1, MOST_AT_A_TIME))
+    section = root.section(key)
+    section.refuse_others(keys_of(kind))
+    return section.read(kind)
 
 
 def root_of(data: bytes, mistakes: list[Mistake]) -> Section:
@@ -432,25 +454,10 @@ def read_competition(data: bytes) -> Competition:
     """Returns the competition that the bytes of a file say, or raises all of their mistakes."""
     mistakes: list[Mistake] = []
     root = root_of(data, mistakes)
-    root.refuse_others(ROOT_KEYS)
-    name = root.name("name", NAME, 40, FIRST)
-    clocks = [root.number(key, 1, MOST_SECONDS, 10) for key in ("start", "play")]
-    games, players = games_of(root, clocks), players_of(root)
-    found = Competition(
-        name,
-        root.number("strikes", 0, MOST_STRIKES, 0),
-        root.number("tries", 1, 1_000, 5),
-        root.number("wait", 0, MOST_SECONDS, 10),
-        root.number("info", 1, 10, 10),
-        root.word("absent", ABSENT, "leave"),
-        root.flag("forfeit"),
-        root.word("order", ORDERS, BY_GOALS),
-        root.word("ids", IDS, COUNTED_IDS),
-        launcher_of(root),
-        form_of(root, games, players),
-        tuple(games),
-        tuple(players),
-    )
+    root.refuse_others(keys_of(Competition))
+    clocks = {key: root.number(key, 1, MOST_SECONDS, 10) for key in ("start", "play")}
+    more = {"launcher": table_of(root, "launcher", Launcher), "faults": table_of(root, "faults", Faults) or Faults(0)}
+    found = root.read(Competition, **clocks, **more, form=form_of(root), games=games_of(root, clocks), players=players_of(root))
     if "order" in root.table and found.form.kind in ROUND_KINDS:
         root.mistake("order", f"the kind {found.form.kind} has an order of its own")
     if mistakes:

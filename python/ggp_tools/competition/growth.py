@@ -62,7 +62,7 @@ def refuse_unchanged(history: History, competition: Competition) -> None:
 
 def refuse_changes(before: Competition, after: Competition) -> None:
     """Refuses what can't change any more once matches were played, by its name."""
-    said = [("name", before.name, after.name), ("ids", before.ids, after.ids), ("form.kind", before.form.kind, after.form.kind), ("strikes", before.strikes, after.strikes)]
+    said = [("name", before.name, after.name), ("ids", before.ids, after.ids), ("form.kind", before.form.kind, after.form.kind), ("strikes", before.strikes, after.strikes), ("faults.replaced", before.faults.replaced, after.faults.replaced)]
     if is_by_rounds(before):
         # Who meets whom in later rounds follows from these too.
         said += [("forfeit", before.forfeit, after.forfeit), ("the number of games", len(before.games), len(after.games))]

@@ -11,10 +11,11 @@ from collections.abc import Iterable, Iterator, Mapping, Sequence
 from typing import TYPE_CHECKING
 
 from ggp_tools.competition.account_faults import fault_of_account
+from ggp_tools.competition.choices import counted_result
 from ggp_tools.competition.competition_file import Competition
 from ggp_tools.competition.files import Folder, file_bytes, write_whole
 from ggp_tools.competition.known import Known, sum_or_none
-from ggp_tools.competition.results import Result, fault_of_record, read_record, result_of, result_of_values, values_of
+from ggp_tools.competition.results import Result, fault_of_record, read_record, result_of_values, values_of
 from ggp_tools.competition.schedule import Match
 from ggp_tools.records.lengths import LONGEST_ACCOUNT, USUAL_RECORD, longest_record, without_states
 from ggp_tools.referee import Referee, Unchecked, is_text_list
@@ -95,12 +96,13 @@ def result_in_file(folder: Folder, competition: Competition, rules: Mapping[str,
     """Returns what the record of a match says, where it has one. Whether it counts is looked at later: then it is verified."""
     file = folder.record(match.id)
     try:
-        record = json.loads(without_states(file_bytes(file, most_of_record(rules[match.game].text, size_of(file)) + 2)))
+        data = file_bytes(file, most_of_record(rules[match.game].text, size_of(file)) + 2)
+        record = json.loads(without_states(data))
     except (FileNotFoundError, ValueError, RecursionError):
         return None
     if not has_shape(record, len(match.players)) or "phase" not in record or fault_of_record(record, match, competition.strikes):
         return None
-    return result_of({"cause": None, **record}, match, competition.forfeit)
+    return counted_result({"cause": None, **record}, data, match, competition, rules[match.game])
 
 
 def judged(plan: "Plan", referee: Referee, game: str, records: Sequence[bytes], accounts: Sequence[bytes]) -> list[str | None]:
@@ -119,7 +121,7 @@ def found_of(plan: "Plan", match: Match, data: bytes, fault: str | None) -> tupl
         return match, fault, None, None
     record = read_record(data)
     misfit = fault_of_record(record, match, plan.competition.strikes)
-    return match, None, misfit, None if misfit else result_of(record, match, plan.competition.forfeit)
+    return match, None, misfit, None if misfit else counted_result(record, data, match, plan.competition, plan.rules[match.game])
 
 
 def looked_at(plan: "Plan", referee: Referee, game: str, matches: list[Match], known: Known | None = None) -> Iterator[tuple]:
@@ -130,8 +132,9 @@ def looked_at(plan: "Plan", referee: Referee, game: str, matches: list[Match], k
     most = most_of_record(rules, max(size_of(plan.folder.record(match.id)) for match in matches))
     records = [file_bytes(plan.folder.record(match.id), most + 2) for match in matches]
     accounts = [read_or_none(plan.folder.account(match.id), LONGEST_ACCOUNT) for match in matches]
-    # What says whether a record is right beside it and its account: the program, the rules and the strikes.
-    judge = known and [sum_or_none(referee.path), sum_or_none(plan.folder.rules_of(game)), str(plan.competition.strikes)]
+    # What says whether a record is right, and who has lost by it, beside it and its account: the program, the rules and these two numbers.
+    rule = plan.competition
+    judge = known and [sum_or_none(referee.path), sum_or_none(plan.folder.rules_of(game)), f"{rule.strikes} {rule.faults.replaced}"]
     is_known = bool(judge) and None not in judge
     parts = [part.encode() for part in judge] if is_known else []
     files = zip(matches, records, accounts) if is_known else ()

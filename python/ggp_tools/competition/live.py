@@ -14,13 +14,14 @@ from collections.abc import Container
 from dataclasses import dataclass
 from typing import NamedTuple
 
+from ggp_tools.competition.choices import counted_result
 from ggp_tools.competition.competition_file import EACH_MATCH
 from ggp_tools.competition.files import STAGES, Folder, lock_place
 from ggp_tools.competition.live_board import Answers, Labels, LiveBoard
 from ggp_tools.competition.plan import Plan
 from ggp_tools.competition.playing import NOT_BEGUN
 from ggp_tools.competition.replaced import MOST_OF_MATCH, Replaced, newest, replaced_moves
-from ggp_tools.competition.results import Result, fault_of_record, result_of
+from ggp_tools.competition.results import Result, fault_of_record
 from ggp_tools.competition.schedule import Match
 from ggp_tools.competition.tail import Tail
 from ggp_tools.match_log import ENDS, SHORTAGE, START, Event, Host, Message, Open, Other, Runs, event_of
@@ -468,7 +469,8 @@ class Reader:
             own = identity(found)
             if not self.delay.has_passed(name, own):
                 return
-            record = read_record(self.plan.read_record(match))
+            data = self.plan.read_record(match)
+            record = read_record(data)
         except FileNotFoundError:
             return
         except (OSError, NoRecord) as why:
@@ -482,7 +484,7 @@ class Reader:
             self.faults[name] = fault
             return
         self.faults.pop(name, None)
-        self.results[name] = result_of(record, match, self.plan.competition.forfeit)
+        self.results[name] = counted_result(record, data, match, self.plan.competition, self.plan.rules[match.game])
         self.results_version += 1
         self.note_replaced(match, record, found.st_mtime)
 

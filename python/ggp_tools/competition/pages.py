@@ -22,7 +22,7 @@ from ggp_tools.competition.round_pages import count_of_all, round_text, rounds_p
 from ggp_tools.competition.side_by_side import made_side_by_side
 from ggp_tools.competition.sittings import Sitting, sitting_of_values, sittings_of, values_of
 from ggp_tools.competition.table import Table, loaded_ratings, tables_of
-from ggp_tools.competition.table_text import FORFEIT, METHOD, crosstable_rows, notes, standings_rows, without_record
+from ggp_tools.competition.table_text import METHOD, crosstable_rows, forfeit_rule, notes, standings_rows, without_record
 from ggp_tools.descriptions.loading import Rules, sum_of
 from ggp_tools.match_log import last_run
 from ggp_tools.records.match_logs import logged
@@ -219,7 +219,7 @@ class Site:
         # A match in whose place another one was ordered is none of these, as in the table.
         count, (begin, end) = sum(not result.match.again for result in results), self.span(results)
         told = {"count": count, "of_all": count_of_all(plan), "rounds": rounds_words(plan), "begin": begin, "end": end}
-        games, forfeit = [game.name for game in plan.competition.games], FORFEIT if plan.competition.forfeit else ""
+        games, forfeit = [game.name for game in plan.competition.games], forfeit_rule(plan.competition)
         return part("head", name=plan.competition.name, games=games, forfeit=forfeit, **told)
 
     def first_parts(self, tables: list[Table], results: list[Result]) -> PageParts:

@@ -3,7 +3,7 @@
 import json
 from collections import Counter
 from collections.abc import Iterator
-from dataclasses import dataclass
+from dataclasses import astuple, dataclass
 from typing import NamedTuple
 
 from ggp_tools.competition.schedule import Match
@@ -19,21 +19,24 @@ MOST_CITED = 200
 
 @dataclass(frozen=True)
 class Retirement:
-    """Why a role was retired: the kinds of the errors of those turns in a row that the strikes are, and the last of these turns."""
+    """Why a role was retired, or has lost its match: the kinds of its errors in those turns that were one too many, and the last of these
+    turns; and the first one if they are not in a row."""
 
     errors: tuple[str, ...]
     turn: int
+    first: int = 0
 
     def words(self) -> str:
-        kinds = ", ".join(dict.fromkeys(self.errors))
-        first = self.turn - len(self.errors) + 1
-        return f"{kinds} in turn{f' {self.turn}' if first == self.turn else f's {first} to {self.turn}'}"
+        kinds, count = ", ".join(dict.fromkeys(self.errors)), len(self.errors)
+        first = self.first or self.turn - count + 1
+        several = f"turns {first} to {self.turn}" if count == self.turn - first + 1 else f"{count} of turns {first} to {self.turn}"
+        return f"{kinds} in {f'turn {self.turn}' if first == self.turn else several}"
 
 
 @dataclass(frozen=True)
 class Result:
     """What a record says of its match: by roles the goals (none where the match has none), how often each error came, and why roles
-    were retired. And whether the competition has a match lost for who was retired in it."""
+    were retired. And whether the competition has a match lost for who was retired in it, and who has lost it by too many replaced moves."""
 
     match: Match
     goals: tuple[int, ...]
@@ -43,6 +46,7 @@ class Result:
     phase: str
     cause: str | None
     has_forfeits: bool = False
+    lapses: tuple[Retirement | None, ...] = ()
 
     def replaced(self, role: int) -> int:
         return sum(self.errors[role].values())
@@ -53,16 +57,18 @@ class Result:
 
     def forfeits(self) -> dict[int, Retirement]:
         """Returns the roles whose players have lost the match by forfeit, with the reason."""
-        return {role: why for role, why in enumerate(self.retirements) if why} if self.has_forfeits else {}
+        retired = self.retirements if self.has_forfeits else ()
+        return {role: why for found in (self.lapses, retired) for role, why in enumerate(found) if why}
 
     def counted(self) -> tuple[int | None, ...]:
-        """Returns the goals that count, by roles: none where none does. After a forfeit no goal of the match counts, since moves that no
-        player made have led to it: who forfeited it gets 0, and the others share the full goal."""
+        """Returns the goals that count, by roles: none where none does. Who forfeited the match gets 0. A single opponent gets the full
+        goal, since moves that no player made have led to its own. Several keep their goals; where there are none they share the full goal."""
         lost, roles = self.forfeits(), range(len(self.retirements))
         if not lost:
             return self.goals or (None,) * len(roles)
-        left = len(roles) - len(lost)
-        return tuple(0 if role in lost else FULL_GOAL // left for role in roles)
+        shared = FULL_GOAL // max(1, len(roles) - len(lost))
+        kept = self.goals if self.goals and len(roles) > 2 else (shared,) * len(roles)
+        return tuple(0 if role in lost else kept[role] for role in roles)
 
     def worths(self) -> tuple[int, ...] | None:
         """Returns what orders the players of the match, by roles: the goals that count, and below each of them a forfeit. None where
@@ -151,26 +157,26 @@ def retirement_of(record: dict, role: int) -> Retirement | None:
     return None
 
 
-def result_of(record: dict, match: Match, has_forfeits: bool = False) -> Result:
-    """Returns what a record says of its match, in a competition with or without forfeits."""
+def result_of(record: dict, match: Match, has_forfeits: bool = False, lapses: tuple[Retirement | None, ...] = ()) -> Result:
+    """Returns what a record says of its match, in a competition with or without forfeits, where these roles have lost it by replaced moves."""
     roles = range(len(match.players))
     errors = tuple(Counter(kind_of(turn[role]) for turn in record["errors"] if turn[role]) for role in roles)
     retirements = tuple(retirement_of(record, role) for role in roles)
     end = record["phase"], record["cause"]
-    return Result(match, tuple(record["goalValues"]), len(record["moves"]), errors, retirements, *end, has_forfeits)
+    return Result(match, tuple(record["goalValues"]), len(record["moves"]), errors, retirements, *end, has_forfeits, lapses)
 
 
 def values_of(result: Result) -> list:
     """Returns what a record says of its match, as values of JSON."""
-    retirements = [why and [why.errors, why.turn] for why in result.retirements]
-    return [result.goals, result.turns, result.errors, retirements, result.phase, result.cause]
+    whys = [[why and astuple(why) for why in found] for found in (result.retirements, result.lapses)]
+    return [result.goals, result.turns, result.errors, *whys, result.phase, result.cause]
 
 
 def result_of_values(values: list, match: Match, has_forfeits: bool) -> Result:
     """Returns the result of a match that these values say."""
-    goals, turns, errors, retirements, *end = values
-    found = tuple(why and Retirement(tuple(why[0]), why[1]) for why in retirements)
-    return Result(match, tuple(goals), turns, tuple(map(Counter, errors)), found, *end, has_forfeits)
+    goals, turns, errors, *whys, phase, cause = values
+    retirements, lapses = (tuple(why and Retirement(tuple(why[0]), *why[1:]) for why in found) for found in whys)
+    return Result(match, tuple(goals), turns, tuple(map(Counter, errors)), retirements, phase, cause, has_forfeits, lapses)
 
 
 def read_record(data: bytes) -> dict:

@@ -1,9 +1,9 @@
 """The table of a competition: what each player got in each game and in all, who got what against whom, and the ratings.
 
 It follows from the records alone. A player's result in a match is won where its goal is above that of every other player, lost where
-one is above its own, else drawn; in a match of one role, or without goals, it is none of the three. With `forfeit` a player that was
-retired in a match has lost it, whatever the goals and also without any, against each player that was not. Its goal counts as 0, and who
-is left gets 100, which several share and have drawn."""
+one is above its own, else drawn; in a match of one role, or without goals, it is none of the three. A player that has forfeited a match
+has lost it, whatever the goals and also without any, against each player that has not. Its goal counts as 0. A single opponent gets 100;
+several keep their goals, or share 100 where there are none."""
 
 import typing
 from collections.abc import Callable, Iterable, Sequence

@@ -5,7 +5,7 @@ import io
 import json
 from collections.abc import Iterable, Iterator, Mapping, Sequence
 
-from ggp_tools.competition.competition_file import BY_POINTS, KNOCKOUT, SWISS
+from ggp_tools.competition.competition_file import BY_POINTS, KNOCKOUT, SWISS, Competition
 from ggp_tools.competition.plan import Plan
 from ggp_tools.competition.results import FULL_GOAL, Result, again_words
 from ggp_tools.competition.rounds import rounds_of
@@ -23,7 +23,12 @@ METHOD = (
 )
 
 
-FORFEIT = f"A match in which a player was retired is lost for it; who is left gets {FULL_GOAL} goals, which several share."
+def forfeit_rule(competition: Competition) -> str:
+    """Returns by what a player loses a match, and what counts then; empty where nothing does it."""
+    most = competition.faults.replaced
+    whys = ["was retired"] * competition.forfeit + [f"had {most:,} or more moves replaced in turns in which it had a choice"] * bool(most)
+    counts = f"its goal counts as 0; a single opponent gets {FULL_GOAL}, several keep their goals, or share {FULL_GOAL} if the match was aborted"
+    return f"A player that {' or '.join(whys)} has lost that match: {counts}." if whys else ""
 
 
 def in_order(plan: Plan, results: Mapping[str, Result]) -> list[Result]:
@@ -141,8 +146,8 @@ def table_text(plan: Plan, tables: list[Table]) -> str:
     """Returns the tables as text."""
     rounds = f", {len(plan.rounds)} of {rounds_of(plan.competition)} rounds" if plan.rounds else ""
     lines = [f"{plan.competition.name}: {tables[0].matches} of {count_of_planned(plan)} matches{rounds}"]
-    if plan.competition.forfeit:
-        lines.append(FORFEIT)
+    if rule := forfeit_rule(plan.competition):
+        lines.append(rule)
     for table in tables:
         lines += ["", table.game, "", *columns(list(standings_rows(table)))]
         if table.is_of_pairs():
@@ -165,6 +170,7 @@ def json_text(plan: Plan, tables: list[Table]) -> str:
         "matches": tables[0].matches,
         "planned": count_of_planned(plan),
         "forfeit": plan.competition.forfeit,
+        "replaced": plan.competition.faults.replaced,
         "order": plan.competition.order,
         "rounds": [{"round": found.number, "pairs": found.pairs, "byes": found.byes} for found in plan.rounds],
         "ratings": METHOD,

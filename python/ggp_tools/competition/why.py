@@ -8,8 +8,10 @@ from collections.abc import Iterator
 from dataclasses import dataclass
 
 from ggp_tools.answers import Illegal, game_of, no_expression
+from ggp_tools.competition.choices import counted_result
 from ggp_tools.competition.files import Refused, file_bytes, opened_file
 from ggp_tools.competition.plan import Plan
+from ggp_tools.competition.results import Result, forfeit_words
 from ggp_tools.competition.schedule import Match
 from ggp_tools.match_log import PLAY, START, Message, Other, Runs, events
 from ggp_tools.moments import MOMENT, moment_at
@@ -88,8 +90,10 @@ class Told:
     def __init__(self, plan: Plan, match: Match) -> None:
         self.plan, self.match, self.folder = plan, match, plan.folder
         file = self.folder.record(match.id)
-        self.record = read_record(file_bytes(file)) if file.is_file() else None
+        data = file_bytes(file) if file.is_file() else b""
+        self.record = read_record(data) if data else None
         self.roles = plan.roles(match.game)
+        self.result: Result | None = self.record and counted_result(self.record, data, match, plan.competition, plan.rules[match.game])
 
     def noted(self) -> Iterator[Said]:
         """Gives what `play` has noted of the match, with the player of an INFO or an ABORT."""
@@ -186,14 +190,16 @@ class Told:
         said = [f"turns {late[0]} to {late[-1]}: {self.mark_words('RT', 'PLAY')}; its first legal moves were played"] if late else []
         replaced = sum(bool(error) for error in errors)
         goal = f"goal {record['goalValues'][role]}" if record["goalValues"] else f"no goal, since the match was given up: {record['cause']}"
-        return [*said, f"{goal}; {replaced} of {len(errors)} moves replaced"]
+        lost = [forfeit_words(self.result)] if role in self.result.forfeits() else []
+        return [*said, f"{goal}; {replaced} of {len(errors)} moves replaced", *lost]
 
     def lines(self, players: list[str]) -> Iterator[str]:
         """Gives all that is known of these players in the match."""
         match, notes = self.match, list(self.noted())
         who = ", ".join(f"{player} is {role}" for player, role in zip(match.players, self.roles))
-        strikes = self.plan.competition.strikes
+        strikes, most = self.plan.competition.strikes, self.plan.competition.faults.replaced
         more = f", retired after {strikes} turns in a row without a move of its own" if strikes else ""
+        more += f", lost by {most} replaced moves in turns in which the player had a choice" if most else ""
         yield f"{match.id}, {match.game}: {who}; {match.start} s for START, {match.play} s for each other message{more}"
         events = in_order(notes, self.logged(), match.id)
         for player in players:

@@ -2,6 +2,7 @@
 
 import functools
 import json
+from collections.abc import Iterator
 
 from ggp_tools.kif import Expression, expressions, spelled
 
@@ -41,17 +42,16 @@ def without_states(data: bytes) -> bytes:
     return data if at < 0 or end < at else data[: at + len(STATES)] + data[end:]
 
 
-def first_states(data: bytes, most: int) -> list:
-    """Returns the first states of a record, as many as have so many bytes."""
+def states_in(data: bytes, most: int | None = None) -> Iterator[list[str]]:
+    """Gives the states of a record one after the other, as many as have so many bytes."""
     begin = data.find(STATES) + len(STATES)
-    text, at, found = data[begin : begin + most].decode("latin-1"), 0, []
+    text, at = data[begin : None if most is None else begin + most].decode("latin-1"), 0
     decoder = json.JSONDecoder()
     try:
         while text[at] == "[":
             state, at = decoder.raw_decode(text, at)
-            found.append(state)
+            yield state
             at += 1
     except (IndexError, ValueError):
         # The next one is cut.
-        pass
-    return found
+        return

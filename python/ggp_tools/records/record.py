@@ -10,7 +10,7 @@ from typing import BinaryIO
 
 from ggp_tools.kif import Refused
 from ggp_tools.printable import counted, shown
-from ggp_tools.records.lengths import USUAL_RECORD, first_states, without_states
+from ggp_tools.records.lengths import USUAL_RECORD, states_in, without_states
 
 LONGEST_RECORD = USUAL_RECORD
 TOO_LONG = "it is longer than 16 MiB"
@@ -236,7 +236,7 @@ def read_record(data: bytes) -> dict:
         raise NoRecord(TOO_LONG)
     record = parsed(rest)
     if isinstance(record, dict):
-        record["states"] = first_states(data, LONGEST_RECORD)
+        record["states"] = list(states_in(data, LONGEST_RECORD))
     return checked_record(record, is_cut=True)
 
 
