@@ -45,6 +45,7 @@ NEEDS = (
     Need("python3", ("/usr/bin/python3",), "runs the Python tests"),
     Need("python3-jinja2", (f"{MODULES}/jinja2",), "makes pages from templates"),
     Need("python3-aiohttp", (f"{MODULES}/aiohttp",), "serves the live pages of a competition"),
+    Need("nginx", ("nginx",), "the proxy in front of live pages"),
     Need("python3-numpy", (f"{MODULES}/numpy",), "computes ratings"),
     Need("libopenblas0-serial", (f"{LIBRARIES}/openblas-serial/libblas.so.3",), "lets numpy compute the ratings of many players fast"),
     Need("python3-bs4", (f"{MODULES}/bs4",), "reads pages in tests"),

@@ -39,7 +39,8 @@ class Served(unittest.TestCase):
     """A server of a competition in a folder. Nobody looks at the folder but the tests."""
 
     MOST = 40
-    STRIKES = ""
+    STRIKES = BASE = ""
+    NAMES = ORIGINS = ()
 
     def setUp(self):
         # On a busy computer a look at the records, and the referee, may take long. Here nothing waits for that, and nothing is late.
@@ -60,7 +61,7 @@ class Served(unittest.TestCase):
         self.addCleanup(self.in_loop, stopped.set)
 
     async def serve(self, begun):
-        self.server, stopped = http_server.Server(self.site, self.MOST), asyncio.Event()
+        self.server, stopped = http_server.Server(self.site, self.MOST, self.BASE, self.NAMES, self.ORIGINS), asyncio.Event()
         begun.put((asyncio.get_running_loop(), stopped, (await self.server.begin("127.0.0.1", 0))[1]))
         await stopped.wait()
         self.server.end()
@@ -90,12 +91,16 @@ class Served(unittest.TestCase):
         self.assertEqual(status, 200, path)
         return text
 
-    def events(self, page):
-        """Opens the events of a page, and returns the answer."""
+    def opened(self, path, **headers):
+        """Returns an answer that is still to be read."""
         asking = http.client.HTTPConnection("127.0.0.1", self.port, timeout=60)
         self.addCleanup(asking.close)
-        asking.request("GET", f"""/{re.search('data-events="([^"]*)"', page)[1].replace('../', '')}""")
+        asking.request("GET", path, headers=headers)
         return asking.getresponse()
+
+    def events(self, page):
+        """Opens the events of a page, and returns the answer."""
+        return self.opened(f"""/{re.search('data-events="([^"]*)"', page)[1].replace('../', '')}""")
 
     def next_event(self, answer):
         """Returns what the next event tells; lines that only say that the server is there are skipped."""
@@ -389,12 +394,12 @@ class Delayed(Served):
         self.plan.folder.schedule.write_text("another")
         # Whatever time the file has.
         os.utime(self.plan.folder.schedule, (0, 0))
-        token = self.site.token
+        reader = self.site.reader
         self.look()
         self.look_at(59)
-        self.assertEqual(self.site.token, token)
+        self.assertIs(self.site.reader, reader)
         self.look_at(2)
-        self.assertNotEqual(self.site.token, token)
+        self.assertIsNot(self.site.reader, reader)
 
 
 class Refused(Served):

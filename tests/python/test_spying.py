@@ -12,7 +12,7 @@ from collections import Counter
 from dataclasses import dataclass
 from unittest.mock import patch
 
-from ggp_tools.competition import live, live_board, live_site
+from ggp_tools.competition import live, live_api, live_board, live_site
 from ggp_tools.competition.files import STAGES
 from ggp_tools.competition.live_site import LiveSite
 from ggp_tools.match_log import Host, line_of
@@ -61,10 +61,11 @@ class Spying(Served):
         self.site.look()
 
     def all_pages(self):
-        """Returns all that is served, but for the time of day and the numbers of versions, which change with the pages."""
+        """Returns all that is served, but for the time of day and how many visitors there are."""
         paths = ["/", "/index.html", "/matches.html", "/games/heap.html", *(f"/matches/{match.id}.html" for match in self.plan.matches)]
         paths += [f"/players/player-{name}.html" for name in NAMES]
-        return {path: re.sub('data-now="[^"]*"', "", self.page(path)) for path in paths}
+        paths += ["/api/table", "/api/matches", *(f"/api/matches/{match.id}" for match in self.plan.matches), "/metrics"]
+        return {path: re.sub('data-now="[^"]*"|"now": [0-9.]*|ggp_serve_.*', "", self.page(path)) for path in paths}
 
     def lines(self, number, message, answers):
         return [line(self.match, role, number, message, answer) for role, answer in enumerate(answers)]
@@ -208,16 +209,19 @@ class Watched:
         self.plan = plan_in(room, NAMES, head=head, rules=rules_of(roles), roles=roles)
         self.log = begin(self.plan, self.plan.matches[0])
         self.site = LiveSite(self.plan, Desk(), lambda: self.plan, delay=delay)
-        self.site.token = "token"
-        self.paths = ["/index.html", f"/matches/{self.plan.matches[0].id}.html", f"/players/player-{self.plan.matches[0].players[0]}.html"]
+        self.site.versions = itertools.count()
+        first = self.plan.matches[0]
+        self.paths = ["/index.html", f"/matches/{first.id}.html", f"/players/player-{first.players[0]}.html"]
+        self.data = ["/api/table", "/api/matches", f"/api/matches/{first.id}", "/metrics"]
 
     def look(self, is_judged):
         self.site.reader.next_judging = 0.0 if is_judged else float("inf")
         self.site.look()
 
     def served(self):
-        """Returns all pages, and what those who have them open are told of."""
-        pages = {path: self.site.page(path) for path in self.paths}
+        """Returns all pages and what programs get, and what those who have them open are told of."""
+        pages = {path: self.site.page(path) for path in self.paths} | {path: self.site.data(path) for path in self.data}
+        self.site.opened(live_api.FEED)
         for page in self.site.pages.values():
             page.viewers = 1
         return pages, {path: page.events for path, page in self.site.pages.items()}

@@ -5,17 +5,19 @@ import concurrent.futures
 import contextlib
 import ipaddress
 import logging
+import re
 import socket
 import sys
 import time
 import weakref
 from collections import Counter
-from collections.abc import Callable, Iterator
+from collections.abc import Callable, Iterator, Sequence
 from http import HTTPStatus
 from typing import TypeVar
 
 from aiohttp import web
 
+from ggp_tools.competition.live_api import FEED, METRICS, json_bytes, metrics_text
 from ggp_tools.competition.live_site import LiveSite, OpenPage
 from ggp_tools.holding.game import MOST_CALLS
 from ggp_tools.human.server import is_own_name
@@ -31,9 +33,12 @@ HEADERS = {
     "Cache-Control": "no-store",
     "X-Content-Type-Options": "nosniff",
     "Referrer-Policy": "no-referrer",
-    "X-Frame-Options": "DENY",
     "Server": "ggp_competition",
 }
+# What is sent, by its path: pages, and what is for programs.
+PAGE, JSON, NUMBERS = "text/html", "application/json", "text/plain; version=0.0.4"
+NOBODY = ("'none'",)
+VERSION = re.compile("[0-9]{1,20}")
 # What is wrong with a request that cannot be read is for its sender, so nobody else gets a row about it.
 SILENT = logging.Logger("requests")
 SILENT.addHandler(logging.NullHandler())
@@ -41,6 +46,10 @@ SILENT.addHandler(logging.NullHandler())
 
 # The visitors of this computer, whose addresses are loopback addresses.
 THIS_COMPUTER = "this computer"
+
+
+def kind_of(path: str) -> str:
+    return JSON if path.startswith("/api/") else NUMBERS if path == METRICS else PAGE
 
 
 def client_of(address: str) -> str:
@@ -156,10 +165,13 @@ class Connection(web.RequestHandler):
 
 
 class Server:
-    """The server of a competition's live pages. One thread reads the folder and makes the pages; the event loop does all else."""
+    """The server of a competition's live pages, below a path. One thread reads the folder and makes the pages; the event loop does all else.
+    Browsers may use these names for it, and pages of these origins may show its pages and read its data."""
 
-    def __init__(self, site: LiveSite, most: int) -> None:
+    def __init__(self, site: LiveSite, most: int, base: str = "", names: Sequence[str] = (), origins: Sequence[str] = ()) -> None:
         self.site, self.visitors, self.address, self.told = site, Visitors(most), "", ""
+        self.base, self.names, self.origins = base, ["localhost", *names], origins
+        self.headers = {**HEADERS, "Content-Security-Policy": f"frame-ancestors {' '.join(origins or NOBODY)}"}
         self.thread = concurrent.futures.ThreadPoolExecutor(1, initializer=lambda: sys.setrecursionlimit(MOST_CALLS))
         # By clients, as long as they wait for something.
         self.turns: weakref.WeakValueDictionary[str, asyncio.Lock] = weakref.WeakValueDictionary()
@@ -210,21 +222,29 @@ class Server:
 
     def is_open_to(self, host: str) -> bool:
         """Returns whether a browser may ask under this name: at a loopback address no other site may give it a name of its own."""
-        return not host or client_of(self.address) != THIS_COMPUTER or is_own_name(host, "localhost")
+        return not host or client_of(self.address) != THIS_COMPUTER or any(is_own_name(host, name) for name in self.names)
 
     async def answer(self, request: web.BaseRequest) -> web.StreamResponse:
         """Answers a request, and ends the connection if the visitor does not take the answer in time."""
         request.protocol.has_asked()
-        asked, _, query = request.raw_path.partition("?")
+        whole, _, query = request.raw_path.partition("?")
+        asked = whole.removeprefix(self.base) if whole.startswith(f"{self.base}/") else ""
         try:
             if request.method != "GET":
                 return await self.send(request, HTTPStatus.METHOD_NOT_ALLOWED)
             if not self.is_open_to(request.headers.get("Host", "")):
                 return await self.send(request, HTTPStatus.FORBIDDEN)
-            if asked.startswith("/events/"):
+            if not asked:
+                return await self.send(request, HTTPStatus.PERMANENT_REDIRECT if whole == self.base else HTTPStatus.NOT_FOUND)
+            if asked == FEED or asked.startswith("/events/"):
                 known = request.headers.get("Last-Event-ID") or query.removeprefix("after=")
                 return await self.send_events(request, asked.removeprefix("/events"), known)
-            data = await self.for_client(request.protocol.client, self.site.page, "/index.html" if asked == "/" else asked)
+            if kind_of(asked) == PAGE:
+                data = await self.for_client(request.protocol.client, self.site.page, "/index.html" if asked == "/" else asked)
+            else:
+                data = await self.for_client(request.protocol.client, self.site.data, request.raw_path.removeprefix(self.base))
+            if asked == METRICS and data:
+                data += metrics_text({"serve_connections": {"": len(self.visitors.connections)}, "serve_viewers": {"": self.visitors.viewers.total()}})
             return await self.send(request, HTTPStatus.NOT_FOUND if data is None else HTTPStatus.OK, data)
         except (OSError, TimeoutError):
             request.protocol.end()
@@ -233,10 +253,21 @@ class Server:
             print(f"ggp_competition: a page could not be made: {why!r}", file=sys.stderr)
             return await self.send(request, HTTPStatus.INTERNAL_SERVER_ERROR)
 
+    def headers_of(self, request: web.BaseRequest, kind: str) -> dict[str, str]:
+        """Returns the headers of an answer. Of other origins only these may read it."""
+        origin = request.headers.get("Origin")
+        known = {"Access-Control-Allow-Origin": origin} if origin in self.origins else {}
+        return {**self.headers, **known, "Vary": "Origin", "Content-Type": f"{kind}; charset=utf-8"}
+
     async def send(self, request: web.BaseRequest, status: HTTPStatus, data: bytes | None = None) -> web.StreamResponse:
-        """Sends a page, or only what a status means."""
-        body, kind = (status.phrase.encode(), "text/plain") if data is None else (data, "text/html")
-        response = web.Response(status=status, body=body, content_type=kind, charset="utf-8", headers=HEADERS)
+        """Sends what was asked for, or only what a status means."""
+        path = request.raw_path.removeprefix(self.base)
+        kind = kind_of(path)
+        if data is None:
+            data = json_bytes({"error": f"{status.phrase}: {path}"}) if kind == JSON else status.phrase.encode()
+            kind = JSON if kind == JSON else "text/plain"
+        headers = self.headers_of(request, kind) | ({"Location": f"{self.base}/"} if status == HTTPStatus.PERMANENT_REDIRECT else {})
+        response = web.Response(status=status, body=data, headers=headers)
         response.force_close()
         async with asyncio.timeout(PATIENCE):
             await response.prepare(request)
@@ -244,18 +275,18 @@ class Server:
         return response
 
     async def send_events(self, request: web.BaseRequest, path: str, known: str) -> web.StreamResponse:
-        """Sends what changes of a page, as long as the browser takes it."""
+        """Sends what changes, since a version or from now on, as long as the visitor takes it."""
         client = request.protocol.client
         with self.visitors.viewing(client) as has_room:
             found = await self.for_client(client, self.site.opened, path) if has_room else None
             if found is None:
                 return await self.send(request, HTTPStatus.NOT_FOUND if has_room else HTTPStatus.SERVICE_UNAVAILABLE)
-            response = web.StreamResponse(headers={**HEADERS, "Content-Type": "text/event-stream"})
+            response = web.StreamResponse(headers={**self.headers_of(request, "text/event-stream"), "X-Accel-Buffering": "no"})
             response.force_close()
             await response.prepare(request)
             found.viewers += 1
             try:
-                await self.send_changes(response, found, self.site.version_of(known))
+                await self.send_changes(response, found, int(known) if VERSION.fullmatch(known) else -1 if known else found.version)
             finally:
                 found.viewers, found.touched = found.viewers - 1, time.monotonic()
             return response

@@ -146,6 +146,8 @@ class Seen:
         self.ends: Answers = {}
         self.last: Answers = {}
         self.missed: Counter[int] = Counter()
+        # The kind and the milliseconds of each message of finished rounds, by its role and number.
+        self.times: dict[tuple[int, int], tuple[str, int]] = {}
         # When the last answer of each turn was there.
         self.moments: dict[int, float] = {}
         self.replaced: list[Replaced] = []
@@ -215,6 +217,11 @@ class Seen:
         """Shows what a finished round was answered with."""
         self.last = {**self.last, **answers, **(self.ends if self.is_over() else {})}
         self.missed.update(role for role, message in answers.items() if message.error and message.error != SHORTAGE)
+        self.times |= {(role, message.number): (message.kind.lower(), message.ms) for role, message in answers.items()}
+
+    def messages(self) -> list[list[tuple[str, int]]]:
+        """Returns the messages of each role in finished rounds, each as its kind and its milliseconds."""
+        return [[self.times[at] for at in sorted(self.times) if at[0] == role] for role in range(len(self.match.players))]
 
     def look(self, room: Room, now: float) -> None:
         """Reads what has come."""

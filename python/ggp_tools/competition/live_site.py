@@ -2,6 +2,7 @@
 thread does all that changes something here."""
 
 import contextlib
+import itertools
 import re
 import sys
 import time
@@ -10,7 +11,7 @@ from collections import OrderedDict
 from collections.abc import Callable
 from dataclasses import dataclass
 
-from ggp_tools.competition import live_pages
+from ggp_tools.competition import live_api, live_pages
 from ggp_tools.competition.files import Folder, Refused
 from ggp_tools.competition.live import Delay, Reader, Seen, for_visitors
 from ggp_tools.competition.page_changes import changes, event_text
@@ -20,7 +21,7 @@ from ggp_tools.competition.plan import Plan
 from ggp_tools.competition.player_pages import page_name, standing_of, standing_texts
 from ggp_tools.competition.results import Result
 from ggp_tools.competition.table import Table, tables_of
-from ggp_tools.competition.table_text import in_order
+from ggp_tools.competition.table_text import in_order, json_text
 from ggp_tools.records.show import NoRecord
 from ggp_tools.referee import NoReferee, Referee, Unchecked
 from ggp_tools.templating import page
@@ -34,7 +35,6 @@ SHARE, FOLLOW = 10, 0.25
 IDLE, MOST_PAGES, MOST_EVENTS = 30.0, 200, 60
 # Of the pages of matches that are over so many bytes are kept. A browser without a script loads a page again after so many seconds.
 MOST_KEPT, RELOAD = 64 << 20, 10
-RELOADED = b'data: {"reload": true}\n\n'
 NAME = "[A-Za-z0-9_.-]+"
 PATH = re.compile(rf"/(?:(index|matches(?:-[1-9][0-9]{{0,5}})?)|(matches|games)/({NAME})|players/player-({NAME}))\.html")
 
@@ -62,13 +62,14 @@ def reason_for_visitors(folder: Folder, why: Exception) -> str:
 
 @dataclass
 class OpenPage:
-    """A page that somebody has open, or had a moment ago. `stamp` is what it was made of. The last changes are in `events`, each with the
-    version of the page that it leads to; they are replaced as a whole, so that another thread may read them."""
+    """A page that somebody has open, or had a moment ago; or what programs have of matches that get events. `stamp` is what it was made of. The
+    last changes are in `events`, each with the version of the page that it leads to; they are replaced as a whole, so that another thread may
+    read them."""
 
     title: str
-    parts: PageParts
+    parts: PageParts | live_api.Keys
     stamp: tuple
-    events: tuple[tuple[int, bytes], ...] = ((0, b""),)
+    events: tuple[tuple[int, bytes], ...]
     viewers: int = 0
     touched: float = 0.0
     is_final: bool = False
@@ -82,7 +83,7 @@ class OpenPage:
         not known any more, the page must be loaded again."""
         is_final, events = self.is_final, self.events
         if is_final or not events[0][0] <= version <= events[-1][0]:
-            return [RELOADED], events[-1][0], True
+            return [event_text(events[-1][0], {"reload": True})], events[-1][0], True
         return [text for number, text in events if number > version], events[-1][0], False
 
 
@@ -91,9 +92,9 @@ class LiveSite:
 
     def __init__(self, plan: Plan, referee: Referee, read_plan: Callable[[], Plan], stamp: tuple | None = None, delay: float = 0.0) -> None:
         self.referee, self.read_plan, self.delay = referee, read_plan, Delay(delay)
-        self.kept: OrderedDict[str, tuple[Result, bytes]] = OrderedDict()
-        # Versions of pages of another run, or of another plan, are none of this one's.
-        self.token = f"{time.time_ns():x}"
+        self.kept: OrderedDict[str, tuple[object, bytes]] = OrderedDict()
+        # No two versions of pages are the same, also of another run.
+        self.versions = itertools.count(time.time_ns())
         self.pages: OrderedDict[str, OpenPage] = OrderedDict()
         self.begin(plan, plan_stamp(plan.folder) if stamp is None else stamp)
 
@@ -159,7 +160,6 @@ class LiveSite:
             said = reason_for_visitors(self.plan.folder, why)
             self.trouble = f"The plan has changed, and can't be read, so what stands here is of the plan before: {said}"
             return
-        self.token = f"{time.time_ns():x}"
         for found in self.pages.values():
             found.is_final = True
         self.pages = OrderedDict()
@@ -206,6 +206,8 @@ class LiveSite:
 
     def own_stamp(self, path: str) -> tuple | None:
         """Returns what a page is made of beside what each of them has."""
+        if path == live_api.FEED:
+            return self.reader.version, self.reader.results_version, self.tables_version
         found = PATH.fullmatch(path)
         if not found:
             return None
@@ -226,8 +228,10 @@ class LiveSite:
         seen = self.reader.open.get(name)
         return (seen.version,) if seen else ("waits", self.reader.faults.get(name), self.reader.given_up.get(name))
 
-    def make(self, path: str) -> tuple[str, PageParts]:
-        """Returns the title and the parts of a page that is there."""
+    def make(self, path: str) -> tuple[str, PageParts | live_api.Keys]:
+        """Returns the title and the parts of a page that is there, or what the events for programs are about."""
+        if path == live_api.FEED:
+            return "", live_api.snapshot(self.reader, self.tables_version)
         title, parts = self.made(path)
         return title, [live_pages.trouble_part(self.trouble or self.fault), *parts]
 
@@ -269,10 +273,11 @@ class LiveSite:
             found.is_final = True
             return
         found.title, parts = self.make(path)
-        told, found.parts = changes(found.parts, parts), parts
+        told = live_api.news(self.reader, found.parts, parts) if path == live_api.FEED else changes(found.parts, parts)
+        found.parts = parts
         if told:
-            version = found.version + 1
-            found.events = (*found.events[1 - MOST_EVENTS :], (version, event_text(f"{self.token}-{version}", told, self.delay.now())))
+            version = next(self.versions)
+            found.events = (*found.events[1 - MOST_EVENTS :], (version, event_text(version, {**told, "now": self.delay.now()})))
 
     def opened(self, path: str) -> OpenPage | None:
         """Returns a page as it is now, none where there is no such page, or it is that of a match that is over."""
@@ -283,7 +288,7 @@ class LiveSite:
             stamp = self.stamp(path)
             if stamp is None or not self.tables:
                 return None
-            found = self.pages[path] = OpenPage(*self.make(path), stamp)
+            found = self.pages[path] = OpenPage(*self.make(path), stamp, ((next(self.versions), b""),))
         found.touched = time.monotonic()
         self.pages.move_to_end(path)
         return found
@@ -292,33 +297,43 @@ class LiveSite:
         """Returns the page at a path, none where there is none."""
         if found := self.opened(path):
             # It gets the changes from its version on.
-            events = f"{'../' * (path.count('/') - 1)}events{path}?after={self.token}-{found.version}"
+            events = f"{'../' * (path.count('/') - 1)}events{path}?after={found.version}"
             live = {"now": self.delay.now(), "events": events, "reload": RELOAD}
             return page("parts", title=found.title, script="live.js", live=live, parts=found.parts)
         match = PATH.fullmatch(path)
         result = self.reader.results.get(match[3]) if match and match[2] == "matches" else None
-        data = result and self.page_of_match(path, result)
+        data = result and self.kept_data(path, result, lambda: self.site.match_page(result, self.plan.read_record(result.match)))
         trouble = live_pages.trouble_part(self.trouble).text.encode("ascii", "xmlcharrefreplace")
         return data and data.replace(b"<body>", b"<body>" + trouble, 1)
 
-    def page_of_match(self, path: str, result: Result) -> bytes | None:
-        """Returns the page of a match that is over, and keeps it for a while; none where its record is not there any more."""
-        if path in self.kept and self.kept[path][0] is result:
+    def data(self, path: str) -> bytes | None:
+        """Returns what is at a path for other programs, none where there is nothing."""
+        if path == live_api.METRICS:
+            return live_api.metrics(self.reader, self.tables[0]) if self.tables else None
+        found = live_api.API.fullmatch(path)
+        if not found:
+            return None
+        if found[1]:
+            return self.kept_data(path, self.tables, lambda: json_text(self.plan, self.tables).encode("ascii")) if self.tables else None
+        if match := self.reader.known.get(found[3]):
+            result, make = self.reader.results.get(match.id), lambda: live_api.json_bytes(live_api.own_keys(self.reader, match))
+            return self.kept_data(path, result, make) if result else make()
+        said = None if found[3] else live_api.list_keys(self.reader, int(found[2] or 1))
+        return said and live_api.json_bytes({**said, "now": self.delay.now(), "trouble": self.trouble or self.fault})
+
+    def kept_data(self, path: str, made_of: object, make: Callable[[], bytes]) -> bytes | None:
+        """Returns what is made of a result or of tables, and keeps it for a while; none where the record is not there any more."""
+        if path in self.kept and self.kept[path][0] is made_of:
             self.kept.move_to_end(path)
             return self.kept[path][1]
         try:
-            data = self.site.match_page(result, self.plan.read_record(result.match))
+            data = make()
         except (OSError, NoRecord):
             return None
-        self.kept[path] = result, data
+        self.kept[path] = made_of, data
         while sum(len(kept) for _, kept in self.kept.values()) > MOST_KEPT:
             self.kept.popitem(last=False)
         return data
-
-    def version_of(self, known: str) -> int:
-        """Returns the version that a browser knows: one before all others where it is none of this run."""
-        token, _, number = known.rpartition("-")
-        return int(number) if token == self.token and number.isdecimal() and len(number) < 12 else -1
 
     def drop_idle_pages(self) -> None:
         now = time.monotonic()

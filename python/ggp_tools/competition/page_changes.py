@@ -44,6 +44,6 @@ def changes(old: PageParts, new: PageParts) -> dict | None:
     return {"drop": dropped, "set": replaced, "add": added} if dropped or replaced or added else None
 
 
-def event_text(version: str, told: dict, now: float) -> bytes:
+def event_text(version: int, told: dict) -> bytes:
     """Returns the event that tells a browser of changes."""
-    return f"id: {version}\ndata: {json.dumps({**told, 'now': now})}\n\n".encode("ascii")
+    return f"id: {version}\ndata: {json.dumps(told)}\n\n".encode("ascii")

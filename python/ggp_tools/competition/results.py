@@ -199,6 +199,12 @@ def again_keys(match: Match) -> dict[str, object]:
     return {key: value for key, value in said.items() if value}
 
 
+def result_keys(result: Result) -> dict[str, object]:
+    """Returns how a match ended."""
+    ended = {"turns": result.turns, "phase": result.phase, "cause": result.cause}
+    return {"goals": result.goals, **forfeit_keys(result), **again_keys(result.match), **ended}
+
+
 class Sums(NamedTuple):
     """The sums of what a result comes from: of the record, of the rules, and of the description that these were made from."""
 
@@ -217,12 +223,7 @@ def match_line(result: Result, sums: Sums, logged: Beginning, broken: list[dict[
         "rules": sums.rules,
         "description": sums.description,
         "players": match.players,
-        "goals": result.goals,
-        **forfeit_keys(result),
-        **again_keys(match),
-        "turns": result.turns,
-        "phase": result.phase,
-        "cause": result.cause,
+        **result_keys(result),
         "errors": [dict(sorted(errors.items())) for errors in result.errors],
         **dict(zip(("begin", "end", "host"), logged.times())),
         "messages": logged.by_role(len(match.players)),

@@ -4,6 +4,7 @@ import argparse
 import asyncio
 import ipaddress
 import os
+import re
 import signal
 from collections.abc import Callable
 
@@ -15,6 +16,7 @@ from ggp_tools.streams import say
 from ggp_tools.templating import end_without
 
 MOST_CONNECTIONS, MOST_DELAY = 4_096, 3_600
+NAME = "[A-Za-z0-9]([A-Za-z0-9.-]{0,251}[A-Za-z0-9])?"
 
 
 def whole(least: int, most: int) -> Callable[[str], int]:
@@ -36,6 +38,22 @@ def address(text: str) -> str:
         raise argparse.ArgumentTypeError(f"{text} is no address, as 127.0.0.1 or ::1") from None
 
 
+def matching(form: str, wanted: str) -> Callable[[str], str]:
+    """Returns what reads a text of this form."""
+
+    def text(found: str) -> str:
+        if not re.fullmatch(form, found):
+            raise argparse.ArgumentTypeError(f"expected {wanted}, found {found!r}")
+        return found
+
+    return text
+
+
+HOST = matching(NAME, "a host name, such as cup.example.org")
+BASE = matching("(/[A-Za-z0-9_~-][A-Za-z0-9._~-]*)*", "a path that begins with / and does not end with it, such as /cup")
+ORIGIN = matching(f"https?://{NAME}(:[0-9]{{1,5}})?", "an origin, such as https://club.example")
+
+
 def add_serve(command: argparse.ArgumentParser) -> None:
     """Adds the options of `serve`."""
     command.add_argument("--port", type=whole(0, 65_535), default=8_000, metavar="P", help="the port (8000); 0: any that is free")
@@ -45,6 +63,11 @@ def add_serve(command: argparse.ArgumentParser) -> None:
     command.add_argument("--connections", type=whole(1, MOST_CONNECTIONS), default=256, metavar="N", help=text)
     text = "shows everything so many seconds late (0)"
     command.add_argument("--delay", type=whole(0, MOST_DELAY), default=0, metavar="SECONDS", help=text)
+    text = "a name under which a proxy asks for pages; may be given several times"
+    command.add_argument("--host", type=HOST, action="append", default=[], metavar="NAME", help=text)
+    command.add_argument("--base-path", type=BASE, default="", metavar="PATH", help="the path below which a proxy has the pages, such as /cup")
+    text = "an origin whose pages may show these pages in a frame, such as https://club.example; may be given several times"
+    command.add_argument("--embed", type=ORIGIN, action="append", default=[], metavar="ORIGIN", help=text)
 
 
 def run_serve(asked: argparse.Namespace, referee: Referee) -> int:
@@ -61,7 +84,7 @@ async def serve(site: LiveSite, asked: argparse.Namespace) -> None:
         from ggp_tools.competition.http_server import Server
     except ImportError as why:
         end_without(why)
-    server, stopped = Server(site, asked.connections), asyncio.Event()
+    server, stopped = Server(site, asked.connections, asked.base_path, asked.host, asked.embed), asyncio.Event()
     # A shell that runs this in the background has interrupts ignored.
     for number in (signal.SIGINT, signal.SIGTERM):
         asyncio.get_running_loop().add_signal_handler(number, stopped.set)
@@ -69,7 +92,7 @@ async def serve(site: LiveSite, asked: argparse.Namespace) -> None:
         host, port = await server.begin(asked.bind, asked.port)
     except OSError as why:
         raise Refused(f"{asked.bind} port {asked.port} can't be served: {os.strerror(why.errno)}") from None
-    say(f"http://{f'[{host}]' if ':' in host else host}:{port}/")
+    say(f"http://{f'[{host}]' if ':' in host else host}:{port}{asked.base_path}/")
     watching = asyncio.create_task(server.watch())
     await stopped.wait()
     watching.cancel()

@@ -1,0 +1,116 @@
+"""What `serve` sends to other programs: the matches as JSON, what changes, and numbers for Prometheus. It says no more about an open match than
+the pages, so all of it follows from finished rounds. docs/SERVING.md has the keys."""
+
+import json
+import re
+
+from ggp_tools.competition.files import PLAYING
+from ggp_tools.competition.live import Reader, Seen
+from ggp_tools.competition.live_pages import status_of
+from ggp_tools.competition.results import result_keys
+from ggp_tools.competition.schedule import Match
+from ggp_tools.competition.table import Table
+from ggp_tools.records.match_logs import logged
+from ggp_tools.records.record import read_record
+
+# The paths: the events, and the others.
+FEED, METRICS = "/api/events", "/metrics"
+API = re.compile(r"/api/(?:(table)|matches(?:\?page=([1-9][0-9]{0,5}))?|matches/([A-Za-z0-9_.-]+))")
+# A page of the list, and an event, has at most so many matches.
+MOST_LISTED = 500
+TABLE = ""
+Keys = dict[str, object]
+
+
+def stage_of(seen: Seen) -> str:
+    if seen.stage != PLAYING:
+        return seen.stage
+    return "stopping" if seen.is_ending() else "playing" if seen.turn() else "starting"
+
+
+def state_keys(reader: Reader, match: Match) -> Keys:
+    """Returns how far a match is."""
+    if result := reader.results.get(match.id):
+        outcomes, replaced = zip(*((result.outcome(role), result.replaced(role)) for role in range(len(match.players))))
+        return {"state": "over", **result_keys(result), "outcomes": outcomes, "replaced": replaced}
+    if seen := reader.open.get(match.id):
+        status = status_of(seen)
+        return {"state": "open", "stage": stage_of(seen), "turns": len(seen.board.position.moves), "since": status.since, "awaited": status.players}
+    why = reader.faults.get(match.id) or reader.given_up.get(match.id)
+    return {"state": "given up", "why": why} if why else {"state": "waiting"}
+
+
+def match_keys(reader: Reader, match: Match) -> Keys:
+    """Returns what the list says of a match."""
+    return {"id": match.id, "game": match.game, "players": match.players, **state_keys(reader, match)}
+
+
+def list_keys(reader: Reader, number: int) -> Keys | None:
+    """Returns a page of the list of all matches, in the schedule's order. None if it has no such page."""
+    matches, first = reader.plan.matches, (number - 1) * MOST_LISTED
+    if number > 1 and first >= len(matches):
+        return None
+    shown = [match_keys(reader, match) for match in matches[first : first + MOST_LISTED]]
+    return {"name": reader.plan.competition.name, "page": number, "pages": -(-len(matches) // MOST_LISTED), "matches": shown}
+
+
+def numbered(states: list[list[str]], turns: int) -> list[Keys]:
+    """Returns the first state and the last ones, each with the number of the turn after which it was."""
+    return [{"turn": at and turns - len(states) + 1 + at, "terms": terms} for at, terms in enumerate(states)]
+
+
+def own_keys(reader: Reader, match: Match) -> Keys:
+    """Returns all keys of a match. If it is over, they come from its record and its log."""
+    plan, said = reader.plan, {}
+    if match.id in reader.results:
+        record, messages = read_record(plan.read_record(match)), logged(plan.folder.run_of(match.id)).by_role(len(match.players))
+        said = {"states": numbered(record["states"], len(record["states"]) - 1), "moves": record["moves"], "errors": record["errors"]}
+        said["messages"] = messages
+    elif seen := reader.open.get(match.id):
+        position = seen.board.position
+        said = {"states": numbered(position.states, len(position.moves)), "moves": position.moves, "errors": position.errors}
+        said |= {"messages": seen.messages(), "trouble": seen.board.trouble}
+    return {**match_keys(reader, match), "roles": plan.roles(match.game), "start": match.start, "play": match.play, **said}
+
+
+# ---- events
+
+
+def snapshot(reader: Reader, table: object) -> Keys:
+    """Returns what the events are about: the keys or the results of matches that do not wait, and under an empty name the table's version."""
+    named = [*reader.open, *reader.given_up, *reader.faults]
+    return {TABLE: table, **{name: match_keys(reader, reader.known[name]) for name in named if name in reader.known}, **reader.results}
+
+
+def news(reader: Reader, old: Keys, new: Keys) -> Keys | None:
+    """Returns what has changed from one snapshot to the next."""
+    names = [name for name in old.keys() | new.keys() if old.get(name) is not new.get(name) and old.get(name) != new.get(name)]
+    if len(names) > MOST_LISTED:
+        return {"reload": True}
+    matches = [match_keys(reader, reader.known[name]) for name in sorted(names) if name]
+    return {"matches": matches, "table": TABLE in names} if names else None
+
+
+# ---- numbers
+
+
+def metrics(reader: Reader, table: Table) -> bytes:
+    """Returns the numbers of a competition."""
+    lost = sum(name not in reader.results and name not in reader.open for name in reader.given_up.keys() | reader.faults.keys())
+    counts = {"open": len(reader.open), "over": len(reader.results), "given up": lost}
+    counts["waiting"] = len(reader.known) - sum(counts.values())
+    found = {"play_running": {"": int(reader.is_held)}, "records_unread": {"": len(reader.unread)}}
+    found["matches"] = {f'{{state="{state}"}}': count for state, count in counts.items()}
+    for name in ("matches", "moves", "replaced"):
+        found[f"player_{name}"] = {f'{{player="{line.player}"}}': getattr(line, name) for line in table.lines.values()}
+    return metrics_text(found)
+
+
+def metrics_text(found: dict[str, dict[str, int]]) -> bytes:
+    """Returns numbers in Prometheus's text format: by their names, and by their labels."""
+    rows = (f"ggp_{name}{label} {value}\n" for name, values in found.items() for label, value in values.items())
+    return "".join(rows).encode("ascii")
+
+
+def json_bytes(value: object) -> bytes:
+    return (json.dumps(value) + "\n").encode("ascii")
