@@ -107,11 +107,16 @@ class Described(InFolder):
         said = self.planned('player_rules = "variables"')
         self.assertEqual(said[0], 2)
         self.assertIn('ground.kif has no variables: "ground" is wanted', said[2])
-        said = self.planned('described = "ground.kif"')
-        self.assertEqual(said[0], 2)
-        self.assertIn("ground.kif has no variables", said[2])
-        (self.folder / "ground.kif").write_bytes(NIM.read_bytes())
-        said = self.planned('described = "nim.kif"')
-        self.assertEqual(said[0], 2)
-        self.assertIn("it has variables, and so needs no description beside it", said[2])
+        for name, text, words in (
+            ("ground.kif", (self.folder / "ground.kif").read_bytes(), "its description ground.kif has no variables"), ("other.kif", None, "its description other.kif: it can't be read: No such file or directory"),
+            ("other.kif", b"(role ?x)\n(", "its description other.kif: line 2, column 1: a list that is not closed"), ("other.kif", b"(<= p (q ?x)) ()", "its description other.kif: line 1, column 15: "),
+            ("nim.kif", None, "it has variables, and so needs no description beside it"),
+        ):
+            if text:
+                (self.folder / name).write_bytes(text)
+            if name == "nim.kif":
+                (self.folder / "ground.kif").write_bytes(NIM.read_bytes())
+            status, _, said = self.planned(f'described = "{name}"')
+            self.assertEqual(status, 2)
+            self.assertIn(f"ground.kif: {words}", said)
         self.assertTrue(has_variables(NIM.read_bytes()))

@@ -159,14 +159,18 @@ def load_description(path: pathlib.Path, referee: Referee, tells_variables: bool
 
 def load_described(path: pathlib.Path, described: pathlib.Path, referee: Referee, tells_variables: bool) -> Rules:
     """Returns the rules that a file has, with the text that its players get, by the description with variables that stands beside it."""
-    ground, text = read_text(path), read_text(described)
+    ground = read_text(path)
     if has_variables(ground):
         raise NoDescription("it has variables, and so needs no description beside it")
     sentence_starts(ground)
-    sentence_starts(text)
-    look_at_sentences(text)
+    try:
+        text = read_text(described)
+        sentence_starts(text)
+        look_at_sentences(text)
+    except NoDescription as why:
+        raise NoDescription(f"its description {described}: {why}") from None
     if not has_variables(text):
-        raise NoDescription(f"{described} has no variables")
+        raise NoDescription(f"its description {described} has no variables")
     player_rules = None
     if tells_variables:
         heads = [Rule(0, sentence[1] if sentence[0] == "<=" else sentence, ()) for sentence in kif.expressions(ground.decode("latin-1"))]
