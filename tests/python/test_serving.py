@@ -169,6 +169,16 @@ class Pages(Served):
         own = self.page(f"/matches/{match.id}.html")
         self.assertIn("State 1, after turn 1", own)
 
+    def test_each_open_match_has_its_board(self):
+        moves = dict(zip(self.plan.matches, (["(take 1)", "2 2: black king"], ["(take 2)", "1 2: black king"])))
+        for match, (move, _) in moves.items():
+            begin(self.plan, match, started(match) + self.play(match, 2, "NIL", [move, "noop"]))
+        self.page("/")
+        self.look()
+        first = parsed(self.page("/"))
+        for match, (_, title) in moves.items():
+            self.assertEqual([cell["title"] for cell in first.select(f"#board-{match.id} i[title]")], ["1 1: white man", title])
+
     def test_each_link_leads_to_a_page(self):
         begin(self.plan, self.plan.matches[0], started(self.plan.matches[0]))
         end(self.plan, self.plan.matches[1], record_of(self.plan.matches[1], [["(take 2)", "noop"]], [["", "TO"]], [50, 50]))
@@ -613,6 +623,7 @@ class Events(Served):
             self.assertEqual(self.visitors.viewers.total(), 1)
         while self.visitors.viewers:
             self.look()
+        self.assertEqual(self.site.pages["/index.html"].viewers, 0)
 
     def test_who_comes_late_gets_what_it_missed(self):
         match = self.plan.matches[0]
