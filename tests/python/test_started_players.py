@@ -175,13 +175,14 @@ def test_all_that_a_player_has_started_is_ended(tmp_path):
 
     async def play():
         await ann.ready("cup-001")
+        while len(ann.log.path.read_text().split()) < 3:
+            await asyncio.sleep(0.01)
         first = process_of(ann)
         await ann.end()
         return first
 
     first = asyncio.run(play())
-    processes = [first, *map(int, (tmp_path / "players/ann.log").read_text().split())]
-    assert len(processes) == 4
+    processes = [first, *map(int, ann.log.path.read_text().split())]
     assert [process for process in processes if is_alive(process)] == []
 
 

@@ -4,11 +4,12 @@ table is what a plain recount of the records gives."""
 
 import json
 import signal
+import subprocess
 import time
 
 import pytest
 from players import TestPlayer
-from support import GAMES, ODD, InFolder, run, slowness, start
+from support import GAMES, ODD, InFolder, program, run, slowness, start
 
 BAD = {2: "slow", 4: "closing", 6: "dripping", 8: "lying", 10: "dying"}
 HEAD = """start = {start}
@@ -114,3 +115,28 @@ class Whole(InFolder):
             counted = recount([record for match, record in records.items() if table["game"] in ("all games", games[match])])
             plain = {who: (round(goals / of, 2), n, *rest) for who, (n, goals, of, *rest) in counted.items()}
             self.assertEqual(told(table), plain, table["game"])
+
+
+def test_a_round_begins_for_all_players_at_once():
+    """Ann answers so late that bob asks for his next message only every 0.8 s by then. If ann's next message does not wake him, it comes
+    about 0.7 s before his. On a busy computer one of the first rounds may be late."""
+    ann, bob = (TestPlayer(name, "good", at) for at, name in enumerate(("ann", "bob")))
+    answers, came, gaps = ann.answer, [], []
+
+    def note(message):
+        came.append(time.monotonic())
+        return bob_answers(message)
+
+    def late(message):
+        if message[0] == "play":
+            began = time.monotonic()
+            while len(came) < len(gaps) + 2:
+                time.sleep(0.002)
+            gaps.append(came[-1] - began)
+            time.sleep(0.8 * (min(gaps[1:], default=1) > 0.3))
+        return answers(message)
+
+    bob_answers, bob.answer, ann.answer = bob.answer, note, late
+    words = ["run", "--rules-file", GAMES / "tictactoe.kif", "--id", "m", "--start=60", "--play=60", *(f"{player.name}@{player.place()}" for player in (ann, bob))]
+    subprocess.run([program(), *words], check=True, capture_output=True)
+    assert min(gaps[1:]) < 0.3, gaps
