@@ -420,7 +420,7 @@ class Command(unittest.TestCase):
         status, said, _ = self.run_it(nim, data=wrong + b"\n" + record)
         self.assertEqual((status, said[-1], said[0][:40]), (1, "the same: 0 turns", "differs: the first state lacks (heap a 1"))
         self.assertEqual(self.run_it(nim, data=b"{}")[0], 3)
-        self.assertEqual(self.run_it("--seconds", "0.000001", GAMES / "general/large/checkchess.kif", data=record)[0], 3)
+        self.assertEqual(self.run_it("--seconds", "0.000001", GAMES / "general/large/fullchess.kif", data=record)[0], 3)
         self.assertEqual(self.run_it(nim.with_name("none.kif"), data=record)[0], 2)
         self.assertEqual(self.run_it("--seconds", "0", nim, data=record)[0], 2)
         self.assertEqual(self.run_it(TOP / "README.md", data=record)[0], 3)
