@@ -211,7 +211,7 @@ class Game(InFolder):
         for text, words in [("", "line 1, column 1: there is no sentence"), ("(role a", "line 1, column 1: a list that is not closed; add a `)`")]:
             self.assertEqual(self.look(text), (1, [f"game.kif is not accepted: {words}", "the rest was not looked at"]))
         self.assertEqual(self.look("(" * 70 + "a" + ")" * 70)[1][-1], "the rest was not looked at")
-        said = ["game.kif is not accepted: it has more than 4,194,304 bytes", "the rest was not looked at"]
+        said = ["game.kif is not accepted: it has 4,194,305 bytes; at most 1,048,576 are accepted, or 4,194,304 with --large", "the rest was not looked at"]
         self.assertEqual(self.look(" x" * (1 << 21) + "x"), (1, said))
         # Past the usual limit of bytes the limits for large games are taken.
         status, lines = self.look(SOUND + ";" * (1 << 20), "--matches", "0")

@@ -118,7 +118,7 @@ class Loading(unittest.TestCase):
         self.path.write_bytes(b"x" * (4 << 20))
         self.assertEqual(len(read_text(self.path)), 4_194_304)
         self.path.write_bytes(b"x" * ((4 << 20) + 1))
-        self.assert_refused("it has more than 4,194,304 bytes", read_text, self.path)
+        self.assert_refused("it has 4,194,305 bytes; at most 1,048,576 are accepted, or 4,194,304 with --large", read_text, self.path)
         self.assert_refused("it can't be read: No such file or directory", read_text, self.folder / "none")
         self.assert_refused("it can't be read: Is a directory", read_text, self.folder)
 

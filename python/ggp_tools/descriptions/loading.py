@@ -12,7 +12,7 @@ from dataclasses import dataclass
 
 from ggp_tools import kif
 from ggp_tools.descriptions import kept
-from ggp_tools.instantiating.limits import LARGE, LARGE_NOTE
+from ggp_tools.instantiating.limits import LARGE, LARGE_NOTE, MOST
 from ggp_tools.gdl import Relations, Rule, all_rules, as_read
 from ggp_tools.instantiating.for_players import text_for_players as text_for_players
 from ggp_tools.referee import BadRules, Referee
@@ -133,11 +133,11 @@ def read_text(path: pathlib.Path) -> bytes:
     """Returns the bytes of a description."""
     try:
         with open(path, "rb") as file:
-            text = file.read(MOST_BYTES + 1)
+            text, size = file.read(MOST_BYTES + 1), os.fstat(file.fileno()).st_size
     except OSError as why:
         raise NoDescription(f"it can't be read: {why.strerror}") from None
     if len(text) > MOST_BYTES:
-        raise NoDescription(f"it has more than {MOST_BYTES:,} bytes")
+        raise NoDescription(f"it has {max(size, len(text)):,} bytes; at most {MOST['bytes']:,} are accepted, or {MOST_BYTES:,} with --large")
     return text
 
 
