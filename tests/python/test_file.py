@@ -27,6 +27,9 @@ MISTAKES = [
     ("strikes = 3", 'forfeit = "yes"', [(3, "forfeit", "true or false")]),
     ("strikes = 3", 'order = "wins"', [(3, "order", "'wins' is none of goals, points")]),
     ("strikes = 3", 'absent = "wait"', [(3, "absent", "none of leave, play")]),
+    ("strikes = 3", "absent_rounds = 1", [(3, "absent_rounds", "only the kinds swiss and knockout have this key")]),
+    ("strikes = 3", 'withdrawn_results = "drop"', [(3, "withdrawn_results", "none of keep, void")]),
+    ("concurrent = 3", 'withdrawn = " a reason"', [(23, "players.withdrawn", "true or a reason is expected")]),
     ("strikes = 3", "faults = {replaced = 0}", [(3, "faults.replaced", "0 is not from 1 to 10,000")]),
     ("strikes = 3", "faults = {replace = 1}", [(3, "faults.replace", "no such key; there are replaced"), (3, "faults.replaced", "missing")]),
     ('["srun", "-N1"]', "[]", [(4, "launcher.command", "at least one text is expected")]),
@@ -63,7 +66,7 @@ MISTAKES = [
     ('"[::1]:9148"', '"fe80%eth0:9148"', [(19, "players.address", "is no HOST:PORT")]),
     ('"[::1]:9148"', '"host:65536"', [(19, "players.address", "the port 65536")]),
     ('"[::1]:9148"', '"host:0"', [(19, "players.address", "the port 0")]),
-    ('address = "[::1]:9148"', 'address = "[::1]:9148"\nmem = "1G"', [(20, "players.mem", "no such key; there are name, address, concurrent, command, launcher, directory, environment, memory")]),
+    ('address = "[::1]:9148"', 'address = "[::1]:9148"\nmem = "1G"', [(20, "players.mem", "no such key; there are name, address, concurrent, command, withdrawn, launcher, directory, environment, memory")]),
     ('address = "[::1]:9148"', 'address = "[::1]:9148"\nlauncher = ["srun"]', [(20, "players.launcher", "only a player with a `command` has this key")]),
     ('address = "[::1]:9148"', 'command = ["x", "{port}"]\nlauncher = []', [(20, "players.launcher", "at least one text is expected"), (17, "players.command", "launcher")]),
     ('address = "[::1]:9148"', 'address = "[::1]:9148"\nmemory = "1G"', [(20, "players.memory", "only a player with a `command` has this key")]),
@@ -142,6 +145,8 @@ class CompetitionFile(unittest.TestCase):
             self.assertEqual(mistakes_of(toml(PLAYERS, GAMES, f"kind = {kind}").encode()), [])
             found = mistakes_of(toml(PLAYERS, GAMES, f"kind = {kind}", 'order = "goals"').encode())
             self.assertEqual(found, [(2, "order", f"the kind {kind.split(chr(34))[1]} has an order of its own")])
+        found = mistakes_of(toml(PLAYERS, GAMES, 'kind = "knockout"', 'withdrawn_results = "void"').encode())
+        self.assertEqual(found, [(2, "withdrawn_results", "what was played in a knockout counts, since others have left by it")])
 
     def test_what_players_are_told(self):
         found = read_competition(GOOD.replace('file = "go.kif"', 'file = "go.kif"\nplayer_rules = "variables"').encode())

@@ -61,7 +61,7 @@ class ByRounds(unittest.TestCase):
     def play(self, plan, goals_of=lambda match: [100, 0] if match.players < match.players[::-1] else [0, 100]):
         """Writes records of all matches that have none: the player with the lower number wins, unless it is said otherwise."""
         for match in plan.matches:
-            if not self.folder.record(match.id).exists() and not match.again:
+            if not self.folder.record(match.id).exists() and match.counts():
                 self.folder.record(match.id).write_text(json.dumps(record(match, goals_of(match))) + "\n")
                 self.folder.account(match.id).write_text(f"0\topen {match.id} x\topened\n")
         return {match.id: found for match in plan.matches if (found := result_in_file(self.folder, plan.competition, plan.rules, match))}
@@ -207,6 +207,43 @@ class ByRounds(unittest.TestCase):
         self.play(self.make())
         self.write(4, 'kind = "knockout"')
         self.assert_refused("the number of players was 3 and is 4", self.make)
+
+    def withdraw(self, *numbers):
+        text = self.folder.competition.read_text()
+        for number in numbers:
+            text = text.replace(f'"h:{number + 1}"\n', f'"h:{number + 1}"\nwithdrawn = true\n')
+        self.folder.competition.write_text(text)
+        return self.make()
+
+    def test_players_withdraw_from_a_knockout(self):
+        self.write(4, 'kind = "knockout"')
+        plan = self.make()
+        # p0 meets p3, and one match of it is over when p3 withdraws.
+        first = plan.matches[0]
+        self.folder.record(first.id).write_text(json.dumps(record(first, [0, 100])) + "\n")
+        plan = self.withdraw(3)
+        self.assertEqual([match.withdrawn for match in plan.matches], ["", "", "p3 has withdrawn", ""])
+        plan_next_round(plan, self.play(plan, lambda _: [50, 50]))
+        self.assertEqual(self.pairs(plan)[1], ((("p0", "p1"),), ()))
+        # Before the last round is begun its winner is known.
+        for match in plan.matches[4:]:
+            self.folder.record(match.id).unlink(missing_ok=True)
+        plan = self.withdraw(1)
+        self.assertEqual((rounds_left(plan), [match.id for match in plan.matches if match.withdrawn]), (0, ["cup-003", "cup-005", "cup-006"]))
+        results = self.play(plan)
+        table = tables_of(plan.competition, list(results.values()), plan.rounds)[0]
+        self.assertEqual([(line.player, line.rounds_won) for line in table.standings()], [("p0", 2), ("p1", 1), ("p2", 0), ("p3", 0)])
+
+    def test_a_last_round_without_an_opponent_is_a_bye(self):
+        for form, rounds in (('kind = "knockout"', 2), (SWISS.format(3), 3)):
+            with self.subTest(form):
+                self.setUp()
+                self.write(3, form)
+                plan = self.make()
+                results = self.play(plan)
+                plan = self.withdraw(*(range(1, 3) if rounds == 3 else [1]))
+                self.assertEqual((plan_next_round(plan, results), rounds_left(plan), len(plan.matches)), ([], 0, 2))
+                self.assertEqual((self.pairs(plan)[-1], self.read().rounds), (((), ("p0",)), plan.rounds))
 
     def test_players_may_stand_in_another_order(self):
         self.write(4, SWISS.format(2))

@@ -3,11 +3,12 @@
 import json
 
 from players import TestPlayer
-from support import toml
-from test_archive import changed
+from support import GAMES, toml
+from test_archive import changed, without
 from test_grown import InArchive
 
 HEAD = "start = 5\nplay = 5\n"
+COUNTDOWN = [("countdown", GAMES / "countdown.kif")]
 
 
 def turns(*goals):
@@ -52,3 +53,59 @@ class Rules(InArchive):
         text = (self.folder / "competition.toml").read_text()
         (self.folder / "competition.toml").write_text(text.replace("replaced = 2", "replaced = 1"))
         self.assertIn("faults.replaced was 2 and is 1: put back what was changed", self.refused("plan"))
+
+    def table(self):
+        """Returns the lines of the table of all games by their players, and its notes."""
+        self.ran("table")
+        found = json.loads((self.folder / "table.json").read_text())["tables"][0]
+        return {line["player"]: line for line in found["lines"]}, found["notes"]
+
+    def test_a_player_withdraws_from_a_round_robin(self):
+        ann, bob, cid = players = [(TestPlayer(name),) for name in ("ann", "bob", "cid")]
+        self.new_folder()
+        for rounds in (1, 2):
+            self.write(players, COUNTDOWN, form=f'kind = "round_robin"\nrounds = {rounds}', head=HEAD)
+            self.ran("plan")
+            _ = self.ran("play") if rounds == 1 else None
+        self.write([ann, bob, (*cid, 'withdrawn = "its disk is full"')], COUNTDOWN, form='kind = "round_robin"\nrounds = 2', head=HEAD)
+        self.assertEqual(self.ran("plan")[-1], "schedule.tsv: 12 matches of 3 players; nothing is added; 4 are not played, since a player has withdrawn")
+        self.assertEqual(self.ran("play")[-1], "8 of 8 matches have a lawful record; 4 are not played, since a player has withdrawn")
+        lines, notes = self.table()
+        self.assertEqual(([lines[name]["matches"] for name in ("ann", "bob", "cid")], notes[0]), ([6, 6, 4], "cid has withdrawn: its disk is full; the matches that it has played count"))
+        self.ran("publish")
+        self.assertIn("8 records and accounts", self.ran("check", "cup.tar.gz")[0])
+        void = changed("cup/competition.toml", lambda text: b'withdrawn_results = "void"\n' + text)
+        self.assert_spoilt({
+            "it has not withdrawn": (changed("cup/competition.toml", lambda text: text.replace(b"withdrawn = ", b"# ")), "earlier/12.toml asks for the same matches"),
+            "its matches do not count": (void, "table.json does not follow"),
+            "a match of another one is missing": (without("cup/records/cup-007.json"), "cup-007: it has no record"),
+        })
+        self.write(players, COUNTDOWN, form='kind = "round_robin"\nrounds = 2', head=HEAD)
+        self.assertIn("the player cid has withdrawn, and can't come back", self.refused("plan"))
+
+    def test_players_withdraw_from_a_swiss_competition(self):
+        names = ("ann", "eve", "bob", "dan", "cid")
+        players = [(TestPlayer(name, "lying" if name == "eve" else "good"),) for name in names]
+        self.new_folder()
+        self.write(players, COUNTDOWN, form='kind = "swiss"\nrounds = 1', head=HEAD)
+        for word in ("plan", "play"):
+            self.ran(word)
+        players[3] = (*players[3], "withdrawn = true")
+        self.write(players, COUNTDOWN, form='kind = "swiss"\nrounds = 3', head=f'{HEAD}withdrawn_results = "void"\nabsent_rounds = 1\n')
+        self.ran("plan")
+        self.ran("play")
+        schedule = [line.split("\t")[4].split() for line in (self.folder / "schedule.tsv").read_text().splitlines()[1:]]
+        self.assertEqual((len(schedule), {name for pair in schedule[4:] for name in pair}), (8, {"ann", "bob", "cid"}))
+        lines, notes = self.table()
+        # The matches against eve and dan are points of byes, and add nothing to Buchholz's number.
+        self.assertEqual(sorted(line["byes"] for line in lines.values()), [1, 2, 2])
+        self.assertEqual(sum(line["points"] for line in lines.values()), 2 * 5 + 4)
+        absent = "eve has withdrawn: absent in 1 whole round; the matches that it has played do not count"
+        self.assertEqual(notes[:2], [absent, "dan has withdrawn; the matches that it has played do not count"])
+        self.ran("publish")
+        self.assertIn("8 records and accounts", self.ran("check", "cup.tar.gz")[0])
+        self.assert_spoilt({
+            "they count": (changed("cup/competition.toml", lambda text: text.replace(b'"void"', b'"keep"')), "schedule.tsv is not what"),
+            "one is not withdrawn": (changed("cup/competition.toml", lambda text: text.replace(b"withdrawn = true", b"")), "schedule.tsv is not what"),
+            "who is absent stays": (changed("cup/competition.toml", lambda text: text.replace(b"absent_rounds = 1", b"")), "schedule.tsv is not what"),
+        })

@@ -179,12 +179,12 @@ class Tables(unittest.TestCase):
     def test_a_line_and_a_table_begin_with_nothing(self):
         values = vars(Line("x"))
         self.assertEqual({name: value for name, value in values.items() if value}, {"player": "x"})
-        self.assertEqual([name for name, value in values.items() if value is None], ["rating", "buchholz", "rounds_won"])
+        self.assertEqual([name for name, value in values.items() if value is None], ["rating", "round_points", "buchholz", "rounds_won"])
         table = Table("two", {})
         self.assertEqual((table.matches, table.points, table.met, table.by, table.again, table.rounds, table.standings(), table.places(), table.is_of_pairs(), table.has_forfeits()), (0, {}, {}, "", [], (), [], [], False, False))
 
     def test_what_orders_a_line(self):
-        line = Line("x", scored=3, goals=200, won=3, drawn=3, lost=1, bye_points=4)
+        line = Line("x", scored=3, goals=200, won=3, drawn=3, lost=1, round_points=8.5)
         self.assertEqual((line.points(), line.mean(), Line("x", scored=3, goals=100).mean(), Line("x").mean()), (8.5, 66.67, 33.33, None))
         self.assertEqual((line.order("goals"), line.order("points")), ((-66.67, -3, 1), (-8.5, -66.67, -3, 1)))
         self.assertEqual((Line("x").order("goals"), Line("x").order("points")), ((0, 0, 0), (0, 0, 0, 0)))
@@ -202,8 +202,8 @@ class Tables(unittest.TestCase):
         rounds = [Round(1, (("ann", "bob"),), ("cid",)), Round(2, (("cid", "ann"),), ("bob",))]
         results = [(("ann", "bob"), [100, 0], 1, ""), (("bob", "ann"), [50, 50], 1, ""), (("bob", "ann"), [100, 0], 1, "m2"), (("cid", "ann"), [0, 100], 2, "")]
         whole, two, other = self.by_rounds("swiss", rounds, results)
-        self.assertEqual([(of.player, of.byes, of.bye_points, of.points(), of.buchholz, of.rounds_won) for of in whole.standings()],
-                         [("bob", 1, 4, 4.5, 2.5, None), ("cid", 1, 4, 4, 2.5, None), ("ann", 0, 0, 2.5, 8.5, None)])
+        self.assertEqual([(of.player, of.byes, of.points(), of.buchholz, of.rounds_won) for of in whole.standings()],
+                         [("bob", 1, 4.5, 2.5, None), ("cid", 1, 4, 2.5, None), ("ann", 0, 2.5, 8.5, None)])
         self.assertEqual((whole.places(), whole.rounds, whole.by, whole.matches, len(whole.again)), ([1, 2, 3], rounds, "swiss", 3, 1))
         # The tables of games know nothing of rounds.
         self.assertEqual([(of.player, of.byes, of.points()) for of in two.standings()], [("ann", 0, 2.5), ("bob", 0, 0.5), ("cid", 0, 0)])
@@ -217,7 +217,7 @@ class Tables(unittest.TestCase):
         rounds = [Round(1, (("bob", "cid"),), ("ann",)), Round(2, (("ann", "cid"),), ())]
         first = [(pair, goals, 1, "") for pair, goals in ((("bob", "cid"), [0, 100]), (("cid", "bob"), [100, 0])) for _ in range(2)]
         whole, two, _ = self.by_rounds("knockout", rounds, [*first, (("ann", "cid"), [100, 0], 2, "")])
-        self.assertEqual([(of.player, of.rounds_won, of.byes, of.buchholz, of.bye_points) for of in whole.standings()], [("ann", 1, 1, None, 0), ("cid", 1, 0, None, 0), ("bob", 0, 0, None, 0)])
+        self.assertEqual([(of.player, of.rounds_won, of.byes, of.buchholz) for of in whole.standings()], [("ann", 1, 1, None), ("cid", 1, 0, None), ("bob", 0, 0, None)])
         self.assertEqual((whole.places(), whole.by, two.by), ([1, 1, 3], "knockout", "points"))
         second = [(pair, goals, 2, "") for pair, goals in ((("ann", "cid"), [0, 100]), (("cid", "ann"), [100, 0])) for _ in range(2)]
         self.assertEqual([(of.player, of.rounds_won) for of in self.by_rounds("knockout", rounds, [*first, *second])[0].standings()], [("cid", 2), ("ann", 1), ("bob", 0)])

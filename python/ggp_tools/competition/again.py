@@ -2,9 +2,10 @@
 
 from dataclasses import replace
 
+from ggp_tools.competition.competition_file import REASON
 from ggp_tools.competition.files import Refused, held, write_whole
 from ggp_tools.competition.growth import Again
-from ggp_tools.competition.history import REASON, again_text
+from ggp_tools.competition.history import again_text
 from ggp_tools.competition.kept import looked_at
 from ggp_tools.competition.plan import Plan, read_plan, schedule_of
 from ggp_tools.competition.schedule import Match, schedule_text
@@ -18,6 +19,8 @@ def refuse_match(plan: Plan, referee: Referee, match: str) -> Match:
         raise Refused(f"{plan.folder.schedule} has no match {match}")
     if found.again:
         raise Refused(f"{match} was ordered again already, as {found.again}: {found.reason}")
+    if found.withdrawn:
+        raise Refused(f"{match} does not count: {found.withdrawn}")
     if found.round < len(plan.rounds):
         raise Refused(f"{match} is of round {found.round}, by which the next one was paired, so it can't be played again")
     if not plan.folder.record(match).exists():

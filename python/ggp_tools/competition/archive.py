@@ -211,9 +211,10 @@ def faults_of_matches(plan: Plan, referee: Referee) -> tuple[list[Result], list[
     faults |= misfits
     found = [f"{match}: {why}" for match, why in faults.items()]
     # What GAPS.tsv has to say is looked at later.
-    wanted = [match for match in plan.matches if match.id in results or match.id in faults or not (plan.folder.path / GAPS).is_file()]
-    found += [f"{match.id}: it has no record" for match in wanted if match.id not in results and match.id not in faults]
-    found += [f"{match.id}: its log is missing" for match in wanted if not plan.folder.has_log(match.id)]
+    known = results | faults
+    gaps = [] if (plan.folder.path / GAPS).is_file() else [match for match in plan.matches if match.id not in known and not match.withdrawn]
+    found += [f"{match.id}: it has no record" for match in gaps]
+    found += [f"{match.id}: its log is missing" for match in plan.matches if (match.id in known or match in gaps) and not plan.folder.has_log(match.id)]
     found += [f"records/{name}: it is of no match of the schedule" for name in strangers(plan)]
     found += faults_of_logs(plan, in_order(plan, results), is_published=True)
     return in_order(plan, results), found
@@ -293,7 +294,7 @@ def what_is_right(path: pathlib.Path, room: pathlib.Path, referee: Referee) -> s
     held, faults = held_matches(plan, results, folder)
     refuse(faults)
     refuse(faults_of_files(plan, referee, results))
-    missing, left = len(plan.matches) - len(results), rounds_left(plan)
+    missing, left = len(without_record(plan, results)), rounds_left(plan)
     gaps = f"; {missing} of {len(plan.matches)} matches have no record, {GAPS} names them" if missing else ""
     gaps += f"; {left} of {left + len(plan.rounds)} rounds were not planned" if left else ""
     said = f"the sums, the schedule, {len(results)} records and accounts, the table and the pages are right{gaps}"

@@ -25,7 +25,7 @@ from ggp_tools.referee import NoReferee, Referee, Unchecked, find_program
 from ggp_tools.competition.seats import Seats
 from ggp_tools.competition.serving import add_serve, run_serve, whole
 from ggp_tools.competition.table import tables_of
-from ggp_tools.competition.table_text import in_order, table_files, table_text
+from ggp_tools.competition.table_text import in_order, table_files, table_text, without_record
 from ggp_tools.competition.trying import try_player
 from ggp_tools.competition.why import said_of_match
 from ggp_tools.printable import printable
@@ -132,15 +132,21 @@ def said_of_game(plan: Plan, matches: list[Match]) -> str:
 def run_plan(asked: argparse.Namespace, referee: Referee) -> int:
     plan = make_plan(asked.folder, referee)
     for game in plan.competition.games:
-        say(f"{game.name}: {said_of_game(plan, [match for match in plan.matches if match.game == game.name and not match.again])}")
+        say(f"{game.name}: {said_of_game(plan, [match for match in plan.matches if match.game == game.name and match.counts()])}")
         for note in plan.rules[game.name].notes:
             say(f"{game.name}: {note}")
     if plan.competition.forfeit and not plan.competition.strikes:
         say("forfeit: without `strikes` no player is retired, so none loses a match by it")
     if plan.rounds:
         say(round_words(plan, [match for match in plan.matches if match.round == len(plan.rounds)]))
-    say(f"{plan.folder.schedule}: {len(plan.matches)} matches of {len(plan.competition.players)} players{said_of_growth(plan)}")
+    say(f"{plan.folder.schedule}: {len(plan.matches)} matches of {len(plan.competition.players)} players{said_of_growth(plan)}{not_played(plan)}")
     return 0
+
+
+def not_played(plan: Plan) -> str:
+    """Returns how many matches are not played since a player has withdrawn."""
+    count = sum(bool(match.withdrawn) and not plan.folder.record(match.id).exists() for match in plan.matches)
+    return f"; {count} are not played, since a player has withdrawn" if count else ""
 
 
 def said_of_growth(plan: Plan) -> str:
@@ -206,7 +212,7 @@ def run_play(asked: argparse.Namespace, referee: Referee) -> int:
     left = rounds_left(plan)
     if left:
         reporter.sum_up(f"rounds that are not planned yet: {left} of {left + len(plan.rounds)}")
-    reporter.sum_up(f"{len(playing.results)} of {len(plan.matches)} matches have a lawful record")
+    reporter.sum_up(f"{len(playing.results)} of {len(playing.results) + len(missing)} matches have a lawful record{not_played(plan)}")
     if reporter.fault:
         raise reporter.fault
     return bool(missing or lacks_pages or left)
@@ -259,7 +265,7 @@ def run_publish(asked: argparse.Namespace, referee: Referee) -> int:
     plan = read_plan(asked.folder, referee)
     path, known = archive_path(plan, asked.to), Known(plan.folder.path)
     results, is_faulty = known_results(plan, referee, known)
-    missing, left = len(plan.matches) - len(results), rounds_left(plan)
+    missing, left = len(without_record(plan, results)), rounds_left(plan)
     faults = []
     if missing and (is_faulty or not asked.gaps):
         # What is wrong is not a gap: it is played again, or put right.

@@ -1,7 +1,7 @@
 """Reads competition.toml: what is played, by whom, and in which form. Each mistake is reported with its line and key."""
 
 import re
-from collections.abc import Callable, Iterable
+from collections.abc import Callable, Iterable, Mapping
 from dataclasses import dataclass, field, fields
 from typing import Any
 
@@ -29,9 +29,13 @@ MOST_PROCESSORS, MOST_START_SECONDS = 4_096, 3_600
 INSTANTIATING, MOST_INSTANTIATING = 60, 1_000_000
 # Those that plan each round by the results of the one before.
 ROUND_KINDS = SWISS, KNOCKOUT = "swiss", "knockout"
+ROUND_KEYS = ("absent_rounds",)
 # The keys of each kind beside `kind`.
 KINDS = {"round_robin": ("rounds",), "gauntlet": ("rounds", "one"), "schedule": ("lines",), SWISS: ("rounds",), KNOCKOUT: ()}
 ABSENT = ("leave", "play")
+# Whether the played matches count of a player that has withdrawn.
+WITHDRAWN_RESULTS = KEEP, VOID = "keep", "void"
+REASON = re.compile(r"(?! )[\x20-\x7e]{1,200}(?<! )")
 # How the ids of the matches are made.
 IDS = COUNTED_IDS, RANDOM_IDS = "counted", "random"
 # What the standings are ordered by.
@@ -142,6 +146,15 @@ class Section:
             self.mistake(key, f"{found!r} is no name: 1 to {longest} letters, digits, `-`, `_` and `.` are wanted{more}")
         return found
 
+    def reason(self, key: str) -> str | None:
+        """Returns a reason, an empty one for `true`, or none without the key or for `false`."""
+        found = self.table.get(key, False)
+        if type(found) is bool:
+            return "" if found else None
+        if type(found) is not str or not REASON.fullmatch(found):
+            self.mistake(key, "true or a reason is expected: 1 to 200 printable characters of ASCII, without a space at either end")
+        return str(found)
+
     def texts(self, key: str) -> list[Text]:
         """Returns the texts of an array."""
         found = []
@@ -208,9 +221,9 @@ class Section:
         return Section(table, (*self.path, key), self.lines, self.mistakes)
 
 
-def read_by(read: Callable, *limits: object, key: str = "") -> Any:
+def read_by(read: Callable, *limits: object, key: str = "", **more: object) -> Any:
     """Returns a field that a method of a section reads within these limits, from the key of this name or of the field's own."""
-    return field(metadata={"read": lambda section, name: read(section, key or name, *limits), "key": key})
+    return field(metadata={"read": lambda section, name: read(section, key or name, *limits), "key": key}, **more)
 
 
 def line_of(key: str = "") -> Any:
@@ -263,13 +276,15 @@ class Command:
 
 @dataclass(frozen=True)
 class Player:
-    """A player, and in how many matches it may play at a time. It has an address, or a command that starts it."""
+    """A player, and in how many matches it may play at a time. It has an address, or a command that starts it. If it has withdrawn there is
+    a reason, which may be empty."""
 
     name: str = read_by(Section.name, PLAYER_NAME, 64)
     address: str = read_by(Section.address)
     concurrent: int = read_by(Section.number, 1, MOST_AT_A_TIME, 1)
     line: int = line_of()
     command: Command | None = None
+    withdrawn: str | None = read_by(Section.reason, default=None)
 
     def place(self) -> str:
         return f"{self.name}@{self.address}"
@@ -316,6 +331,8 @@ class Competition:
     forfeit: bool = read_by(Section.flag)
     order: str = read_by(Section.word, ORDERS, BY_GOALS)
     ids: str = read_by(Section.word, IDS, COUNTED_IDS)
+    withdrawn_results: str = read_by(Section.word, WITHDRAWN_RESULTS, KEEP)
+    absent_rounds: int = read_by(Section.number, 0, MOST_ROUNDS, 0)
     launcher: Launcher | None
     faults: Faults
     form: Form
@@ -324,6 +341,14 @@ class Competition:
 
     def player(self, name: str) -> Player:
         return next(player for player in self.players if player.name == name)
+
+    def withdrawn(self) -> dict[str, str]:
+        """Returns the players that have withdrawn, with the reasons."""
+        return {player.name: player.withdrawn for player in self.players if player.withdrawn is not None}
+
+    def is_void(self, players: Iterable[str], withdrawn: Mapping[str, str]) -> bool:
+        """Returns whether a match of these players does not count although it was played, since one of these has withdrawn."""
+        return self.withdrawn_results == VOID and any(player in withdrawn for player in players)
 
 
 def refuse_twice(sections: list[Section], key: str) -> None:
@@ -458,8 +483,14 @@ def read_competition(data: bytes) -> Competition:
     clocks = {key: root.number(key, 1, MOST_SECONDS, 10) for key in ("start", "play")}
     more = {"launcher": table_of(root, "launcher", Launcher), "faults": table_of(root, "faults", Faults) or Faults(0)}
     found = root.read(Competition, **clocks, **more, form=form_of(root), games=games_of(root, clocks), players=players_of(root))
-    if "order" in root.table and found.form.kind in ROUND_KINDS:
-        root.mistake("order", f"the kind {found.form.kind} has an order of its own")
+    kind = found.form.kind
+    if "order" in root.table and kind in ROUND_KINDS:
+        root.mistake("order", f"the kind {kind} has an order of its own")
+    for key in ROUND_KEYS if kind not in ROUND_KINDS else ():
+        if key in root.table:
+            root.mistake(key, f"only the kinds {' and '.join(ROUND_KINDS)} have this key")
+    if kind == KNOCKOUT and found.withdrawn_results == VOID:
+        root.mistake("withdrawn_results", "what was played in a knockout counts, since others have left by it")
     if mistakes:
         raise Mistaken(sorted(mistakes, key=lambda mistake: mistake.line))
     return found

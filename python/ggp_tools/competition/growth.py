@@ -12,7 +12,7 @@ from dataclasses import dataclass, replace
 
 from ggp_tools.competition.competition_file import KNOCKOUT, SWISS, Competition
 from ggp_tools.competition.results import Result
-from ggp_tools.competition.rounds import Round, Rounds, is_by_rounds, meetings, rounds_of
+from ggp_tools.competition.rounds import Round, Rounds, is_by_rounds, meetings, rounds_of, withdrawn_by, withdrawn_words
 from ggp_tools.competition.schedule import Match, asked, id_of, refuse_numbers, refuse_too_many
 
 # The number of matches that were planned when a file was replaced; none of the present one.
@@ -49,8 +49,9 @@ class History:
 def shape(competition: Competition) -> tuple[object, ...]:
     """Returns all of a competition that its schedule follows from."""
     form, games = competition.form, [(game.name, game.start, game.play) for game in competition.games]
-    names = [player.name for player in competition.players]
-    return competition.name, competition.ids, form.kind, form.rounds, form.one, [line.text.split() for line in form.lines], games, names
+    names = [(player.name, player.withdrawn is None) for player in competition.players]
+    rules = competition.name, competition.ids, competition.withdrawn_results, competition.absent_rounds
+    return *rules, form.kind, form.rounds, form.one, [line.text.split() for line in form.lines], games, names
 
 
 def refuse_unchanged(history: History, competition: Competition) -> None:
@@ -67,6 +68,8 @@ def refuse_changes(before: Competition, after: Competition) -> None:
         # Who meets whom in later rounds follows from these too.
         said += [("forfeit", before.forfeit, after.forfeit), ("the number of games", len(before.games), len(after.games))]
         said += [("the number of players", len(before.players), len(after.players))] if after.form.kind == KNOCKOUT else []
+    if before.withdrawn() or before.absent_rounds:
+        said += [("withdrawn_results", before.withdrawn_results, after.withdrawn_results)]
     for key, old, new in said:
         if old != new:
             raise Misfit(f"{key} was {old!r} and is {new!r}")
@@ -81,6 +84,8 @@ def refuse_changes(before: Competition, after: Competition) -> None:
             raise Misfit(f"the clocks of {game.name} were {game.start} and {game.play}, and are {now}")
     if gone := new_players(after, before):
         raise Misfit(f"the player {gone[0]} is there no more")
+    if back := [name for name in before.withdrawn() if name not in after.withdrawn()]:
+        raise Misfit(f"the player {back[0]} has withdrawn, and can't come back")
 
 
 def new_players(before: Competition, after: Competition) -> list[str]:
@@ -124,24 +129,32 @@ class Growing:
         if is_by_rounds(competition):
             refuse_numbers(competition, self.roles)
             self.add_again(competition, until)
-            while (most is None or len(self.matches) < most) and (found := self.next_round(competition)):
+            while found := self.next_round(competition, most):
+                self.rounds.add(found)
                 self.add_all(competition, meetings(competition, found), found.number)
                 self.add_again(competition, until)
             return
         found = asked(competition, self.roles) if before is None else added(before, competition, self.roles, self.matches)
         self.width = self.width or len(str(len(found)))
-        self.add_all(competition, found)
+        # Who has withdrawn sits in no further match.
+        self.add_all(competition, [(game, players) for game, players in found if not competition.withdrawn().keys() & players])
         self.add_again(competition, until)
 
-    def next_round(self, competition: Competition) -> Round | None:
-        """Plans the next round, where there is one and the last one is over."""
-        number = len(self.rounds.found)
-        results = [self.result_of(match) for match in self.of_round(number)]
-        return None if number == rounds_of(competition) or None in results else self.rounds.plan(competition, results)
+    def next_round(self, competition: Competition, most: Until = None) -> Round | None:
+        """Returns the next round, where there is one and the last one is over. After the most matches it is one without a match, as where all
+        but one player have withdrawn."""
+        number, withdrawn, is_full = len(self.rounds.found), competition.withdrawn(), most is not None and len(self.matches) >= most
+        if number == rounds_of(competition) or is_full and not withdrawn and not competition.absent_rounds:
+            return None
+        results = {match: self.result_of(match) for match in self.of_round(number)}
+        if any(result is None and not withdrawn.keys() & match.players for match, result in results.items()):
+            return None
+        found = self.rounds.next(competition, [result for result in results.values() if result])
+        return None if is_full and found.pairs else found
 
     def of_round(self, number: int) -> list[Match]:
         """Returns the matches of the last round that count."""
-        return [match for match in self.matches[-self.since(number) :] if not match.again] if number else []
+        return [match for match in self.matches[len(self.matches) - self.since(number) :] if not match.again] if number else []
 
     def since(self, number: int) -> int:
         """Returns how many matches were planned since a round began."""
@@ -160,6 +173,14 @@ class Growing:
 
     def next_id(self, competition: Competition) -> str:
         return id_of(competition, len(self.matches) + 1, self.width, self.key)
+
+    def leave_out(self, competition: Competition) -> None:
+        """Has the matches not count, or not be played, of the players that have withdrawn."""
+        withdrawn = withdrawn_by(competition, self.rounds.found)
+        for at, match in enumerate(self.matches) if withdrawn else ():
+            name = next((player for player in match.players if player in withdrawn), None)
+            if name and not match.again and (competition.is_void(match.players, withdrawn) or self.result_of(match) is None):
+                self.matches[at] = replace(match, withdrawn=withdrawn_words(name, withdrawn[name]))
 
     def add_again(self, competition: Competition, until: Until) -> None:
         """Adds the matches that were ordered again at this point."""
@@ -186,6 +207,7 @@ def grown(history: History, competition: Competition, roles: Mapping[str, int], 
         if until is not None and len(growing.matches) != until:
             raise Misfit(f"{len(growing.matches)} matches were planned when earlier/{until}.toml was replaced, and not {until}")
         before = version
+    growing.leave_out(competition)
     if growing.again:
         raise Misfit(f"{min(growing.again)}, which was ordered again, is not the next match")
     return growing

@@ -10,7 +10,6 @@ from ggp_tools.competition.growth import Again, History
 
 HEAD = b"match\tinstead of\treason\n"
 LINE = re.compile(rb"([A-Za-z0-9_.-]{1,60})\t([A-Za-z0-9_.-]{1,60})\t([\x20-\x7e]{1,200})\n")
-REASON = re.compile(r"(?! )[\x20-\x7e]{1,200}(?<! )")
 KEY = re.compile(rb"[0-9a-f]{32}\n")
 EARLIER = re.compile(r"([1-9][0-9]{0,5})\.toml")
 

@@ -217,7 +217,7 @@ class Site:
     def head(self, results: list[Result]) -> Part:
         plan = self.plan
         # A match in whose place another one was ordered is none of these, as in the table.
-        count, (begin, end) = sum(not result.match.again for result in results), self.span(results)
+        count, (begin, end) = sum(result.match.counts() for result in results), self.span(results)
         told = {"count": count, "of_all": count_of_all(plan), "rounds": rounds_words(plan), "begin": begin, "end": end}
         games, forfeit = [game.name for game in plan.competition.games], forfeit_rule(plan.competition)
         return part("head", name=plan.competition.name, games=games, forfeit=forfeit, **told)

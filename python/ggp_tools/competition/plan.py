@@ -346,7 +346,7 @@ def refuse_wrong_records(plan: Plan, referee: Referee) -> None:
 def refuse_lost_record(folder: Folder, found: Growing, schedule: bytes) -> None:
     """Refuses a schedule with a round that can't be planned, since a match of the round before has no record."""
     number = len(found.rounds.found)
-    lost = [match.id for match in found.of_round(number) if found.result_of(match) is None]
+    lost = [match.id for match in found.of_round(number) if match.counts() and found.result_of(match) is None]
     if lost and schedule.startswith(schedule_text(found.matches)):
         words = f"{folder.schedule} has round {number + 1}, which was paired by {lost[0]}, and that has no record of this match"
         raise Refused(words, f"put it back; where no match of a later round has a record, {WRITES} without these rounds")
@@ -355,7 +355,7 @@ def refuse_lost_record(folder: Folder, found: Growing, schedule: bytes) -> None:
 def refuse_lost_results(plan: Plan, results: Mapping[str, Result]) -> None:
     """Refuses to go on where the record of a match does not count by which a later round was paired."""
     last = len(plan.rounds)
-    lost = [match.id for match in plan.matches if match.round < last and not match.again and match.id not in results]
+    lost = [match.id for match in plan.matches if match.round < last and match.counts() and match.id not in results]
     if last and lost:
         raise Refused(f"{lost[0]} has no record that counts, and a later round was paired by it", "put its record, account and log back")
 
@@ -368,19 +368,19 @@ def rounds_left(plan: Plan) -> int:
 def plan_next_round(plan: Plan, results: Mapping[str, Result]) -> list[Match]:
     """Plans the next round where the last one is over, and writes the schedule. Returns its matches: none where there is no further round,
     or the last one is not over."""
-    if not rounds_left(plan) or any(match.id not in results and not match.again for match in plan.matches):
+    if not rounds_left(plan) or any(match.id not in results and match.counts() for match in plan.matches):
         return []
     roles = {name: len(ground.roles) for name, ground in plan.rules.items()}
     # Not yet another round after this one: no match of it has a result.
     found = grown(plan.history, plan.competition, roles, lambda match: results.get(match.id))
     write_whole(plan.folder.schedule, schedule_text(found.matches))
     new = found.matches[len(plan.matches) :]
-    plan.matches += new
-    plan.rounds += found.rounds.found[len(plan.rounds) :]
+    plan.matches, plan.rounds = found.matches, found.rounds.found
     return new
 
 
 def round_words(plan: Plan, matches: list[Match]) -> str:
     """Returns what there is to say of the last round that was planned, with these matches."""
     found = plan.rounds[-1]
-    return f"round {found.number} of {rounds_of(plan.competition)}: {matches[0].id} to {matches[-1].id}{found.byes_words()}"
+    span = f"{matches[0].id} to {matches[-1].id}" if matches else "no match"
+    return f"round {found.number} of {rounds_of(plan.competition)}: {span}{found.byes_words()}"

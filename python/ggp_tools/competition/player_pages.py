@@ -82,8 +82,8 @@ def errors_part(sittings: list[Sitting]) -> Part:
 def player_parts(competition: str, player: str, standing: str, sittings: list[Sitting]) -> PageParts:
     """Returns the parts of a player's page before the list of its matches; `standing` is a sentence. A match in whose place another one
     was ordered counts in none of them."""
-    ordered = [sitting for sitting in in_time(sittings) if not sitting.result.match.again]
-    left_out = [again_words(sitting.result.match) for sitting in sittings if sitting.result.match.again]
+    ordered = [sitting for sitting in in_time(sittings) if sitting.result.match.counts()]
+    left_out = [again_words(sitting.result.match) for sitting in sittings if not sitting.result.match.counts()]
     goals = goals_plot([goal for sitting in ordered if (goal := sitting.goal()) is not None])
     times = times_plot([sum(counts) for counts in zip(*(sitting.times for sitting in ordered))] or [0] * BARS)
     return [

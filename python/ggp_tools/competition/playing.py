@@ -218,5 +218,6 @@ def play(playing: Playing) -> dict[str, str]:
         asyncio.set_child_watcher(asyncio.PidfdChildWatcher())
     prepare(playing)
     asyncio.run(playing.play_rounds())
-    missing = {match.id: match.again and f"its record does not count, and {match.again} stays in its place" for match in playing.plan.matches}
+    matches = [match for match in playing.plan.matches if not match.withdrawn]
+    missing = {match.id: match.again and f"its record does not count, and {match.again} stays in its place" for match in matches}
     return {match: playing.left.get(match) or why or NOT_BEGUN for match, why in missing.items() if match not in playing.results}

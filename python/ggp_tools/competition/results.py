@@ -107,14 +107,14 @@ def winner_words(result: Result) -> str:
 
 def again_words(match: Match) -> str:
     """Returns why a match does not count any more."""
-    return f"{match.id} does not count: {match.again} was ordered in its place: {match.reason}"
+    return f"{match.id} does not count: {match.withdrawn or f'{match.again} was ordered in its place: {match.reason}'}"
 
 
 def remarks(result: Result) -> Iterator[str]:
     """Gives what there is to say of a match beside its goals: by what it was decided, and whether it counts."""
     if result.forfeits():
         yield forfeit_words(result)
-    if result.match.again:
+    if not result.match.counts():
         yield again_words(result.match)
     if result.match.instead_of:
         yield f"{result.match.id} was ordered in the place of {result.match.instead_of}"
@@ -194,8 +194,9 @@ def forfeit_keys(result: Result) -> dict[str, object]:
 
 
 def again_keys(match: Match) -> dict[str, object]:
-    """Returns what the line of a match says of its round, of the match that was ordered in its place and why, and in whose place it is."""
-    said = {"round": match.round, "again": match.again, "reason": match.reason, "insteadOf": match.instead_of}
+    """Returns what the line of a match says of its round, of the match that was ordered in its place and why, in whose place it is, and who has
+    withdrawn so that it does not count."""
+    said = {"round": match.round, "again": match.again, "reason": match.reason, "insteadOf": match.instead_of, "withdrawn": match.withdrawn}
     return {key: value for key, value in said.items() if value}
 
 

@@ -55,7 +55,7 @@ def set_all_aside(playing: "Playing", faults: dict[str, str]) -> None:
         if match.id not in playing.results and set_aside(playing.plan, match.id):
             fault = faults.get(match.id)
             what = f"refused {match.id}: {fault}; its files" if fault else f"aside {match.id}: it has no record; its other files"
-            then = f"{match.again} stays in its place" if match.again else "it is played again" if fault else "it is played"
+            then = f"{match.again} stays in its place" if match.again else match.withdrawn or ("it is played again" if fault else "it is played")
             playing.reporter.line(f"{what} are set aside, and {then}")
 
 
@@ -84,4 +84,4 @@ def prepare(playing: "Playing") -> None:
         raise Refused(f"{folder.record(match)} is lawful, and of another match: {why}")
     set_all_aside(playing, faults)
     free_players(playing, rooms)
-    playing.waiting.extend(match for match in plan.matches if match.id not in playing.results and not match.again)
+    playing.waiting.extend(match for match in plan.matches if match.id not in playing.results and match.counts())

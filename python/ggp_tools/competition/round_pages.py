@@ -33,7 +33,7 @@ def round_text(competition: Competition, match: Match) -> str:
 
 def rounds_part(plan: Plan, results: list[Result], most: int) -> Part:
     """Returns who meets whom in each round that is planned, the last one first, and what came of it; so many rows at most."""
-    of_meeting = by_meeting(result for result in results if not result.match.again)
+    of_meeting = by_meeting(result for result in results if result.match.counts())
     rows = [row for found in reversed(plan.rounds) for row in rows_of(plan.competition, found, of_meeting)]
     return part("rounds", rows=rows[:most], count=len(rows)) if rows else Part("rounds", "")
 

@@ -5,11 +5,15 @@ points, then of Buchholz's number (the points of all opponents together), then o
 down each one meets the next that it has met least often. Then, from the bottom up, two that met before exchange with the nearest pair above
 so that nobody meets again, if that can be. If the number of players is odd, the last one of those with the fewest byes has a bye, which
 counts as if it had won all matches of a meeting. In a knockout the winners of the meetings go on: who has more points, then more goals,
-then the better seed. The seeds stand in the usual bracket, in which the first two can meet only at the end, and byes go to the best."""
+then the better seed. The seeds stand in the usual bracket, in which the first two can meet only at the end, and byes go to the best.
 
+A player that has withdrawn meets nobody any more. A match against it that does not count, or is not played, gives its opponent a point, as
+those of a bye do. In a knockout its opponent goes on unless the meeting was played to its end."""
+
+import itertools
 from collections import Counter, defaultdict
-from collections.abc import Iterable, Mapping, Sequence
-from dataclasses import dataclass
+from collections.abc import Collection, Iterable, Mapping, Sequence
+from dataclasses import dataclass, replace
 
 from ggp_tools.competition.competition_file import KNOCKOUT, ROUND_KINDS, SWISS, Competition
 from ggp_tools.competition.results import DRAWN, WON, Result
@@ -20,11 +24,16 @@ Meeting = tuple[int, frozenset[str]]
 
 @dataclass(frozen=True)
 class Round:
-    """A round: its number, from 1 on, who meets whom, and who has a bye."""
+    """A round: its number, from 1 on, who meets whom, and who has a bye; and who was withdrawn before it since it was absent, with the
+    reason."""
 
     number: int
     pairs: tuple[tuple[str, str], ...]
     byes: tuple[str, ...]
+    absent: tuple[tuple[str, str], ...] = ()
+
+    def players(self) -> set[str]:
+        return {*self.byes, *(name for pair in self.pairs for name in pair)}
 
     def byes_words(self) -> str:
         return f"; bye: {', '.join(self.byes)}" if self.byes else ""
@@ -41,15 +50,20 @@ class Scores:
         self.opponents: dict[str, list[str]] = defaultdict(list)
         self.met: Counter[frozenset[str]] = Counter()
 
-    def count_round(self, found: Round) -> None:
-        """Counts who meets whom, and the byes."""
+    def count_round(self, found: Round, withdrawn: Mapping[str, str], of_meeting: Mapping[Meeting, list[Result]]) -> None:
+        """Counts who meets whom, and the byes; and as points of byes what was not played, or does not count, since a player has withdrawn."""
         for bye in found.byes:
             self.byes[bye] += 1
             self.points[bye] += self.meeting
         for pair in found.pairs:
             self.met[frozenset(pair)] += 1
+            lacking = self.meeting - len(of_meeting[found.number, frozenset(pair)]) if withdrawn.keys() & pair else 0
             for name, opponent in (pair, pair[::-1]):
-                self.opponents[name].append(opponent)
+                if lacking < self.meeting:
+                    self.opponents[name].append(opponent)
+                if name not in withdrawn:
+                    self.byes[name] += lacking == self.meeting
+                    self.points[name] += lacking
 
     def count_result(self, result: Result) -> None:
         for role, player in enumerate(result.match.players):
@@ -75,10 +89,19 @@ def matches_to_come(competition: Competition, rounds: Sequence[Round]) -> int:
     """Returns how many matches the rounds have that are not planned yet, with the players that there are now."""
     if competition.form.kind == KNOCKOUT:
         # Each meeting has one player leave.
-        left = len(competition.players) - 1 - sum(len(found.pairs) for found in rounds)
+        left = len(rounds[-1].pairs) + len(rounds[-1].byes) - 1
     else:
-        left = (rounds_of(competition) - len(rounds)) * (len(competition.players) // 2)
-    return left * 2 * len(competition.games)
+        left = (rounds_of(competition) - len(rounds)) * ((len(competition.players) - len(withdrawn_by(competition, rounds))) // 2)
+    return max(0, left) * 2 * len(competition.games)
+
+
+def withdrawn_by(competition: Competition, rounds: Iterable[Round]) -> dict[str, str]:
+    """Returns the players that have withdrawn, or were withdrawn before one of these rounds, with the reasons."""
+    return {name: why for found in rounds for name, why in found.absent} | competition.withdrawn()
+
+
+def withdrawn_words(name: str, why: str) -> str:
+    return f"{name} has withdrawn{f': {why}' if why else ''}"
 
 
 def is_by_rounds(competition: Competition) -> bool:
@@ -111,9 +134,9 @@ def exchange(pairs: list[tuple[str, str]], at: int, met: Counter[frozenset[str]]
                 return
 
 
-def swiss_round(competition: Competition, number: int, scores: Scores) -> Round:
+def swiss_round(competition: Competition, number: int, scores: Scores, withdrawn: Mapping[str, str]) -> Round:
     """Returns the next round of a Swiss competition."""
-    order = sorted((player.name for player in competition.players), key=scores.swiss_order)
+    order = sorted((player.name for player in competition.players if player.name not in withdrawn), key=scores.swiss_order)
     byes: tuple[str, ...] = ()
     if len(order) % 2:
         # The last one of those with the fewest: the order is that of the standings, which is kept.
@@ -130,25 +153,26 @@ def bracket(count: int) -> list[int]:
     return seeds
 
 
-def winner(pair: tuple[str, str], results: Iterable[Result], seeds: dict[str, int], competition: Competition) -> str:
-    """Returns who goes on from a meeting."""
-    scores = scores_of(competition, (), results)
-    return min(pair, key=lambda player: (-scores.points[player], -scores.goals[player], seeds[player]))
+def winner(pair: tuple[str, str], results: Collection[Result], competition: Competition, withdrawn: Mapping[str, str]) -> str | None:
+    """Returns who goes on from a meeting that is over; none if it was not played to its end and both have withdrawn."""
+    scores, seeds = Scores(competition), [player.name for player in competition.players]
+    left = [name for name in pair if name not in withdrawn]
+    for result in results:
+        scores.count_result(result)
+    if len(results) < scores.meeting and len(left) < 2:
+        return left[0] if left else None
+    return min(pair, key=lambda player: (-scores.points[player], -scores.goals[player], seeds.index(player)))
 
 
-def knockout_round(competition: Competition, before: Sequence[Round], of_meeting: Mapping[Meeting, list[Result]]) -> Round:
-    """Returns the next round of a knockout, where those before it are over, by the results of their meetings."""
+def knockout_round(competition: Competition, before: Sequence[Round], winners: Collection[str | None], withdrawn: Mapping[str, str]) -> Round:
+    """Returns the next round of a knockout, where those before it are over, by the winners of the last one."""
     names = [player.name for player in competition.players]
     places: list[str | None] = [names[seed] if seed < len(names) else None for seed in bracket(len(names))]
-    seeds = {name: seed for seed, name in enumerate(names)}
-    for found in before:
-        met = {frozenset(pair): of_meeting[found.number, frozenset(pair)] for pair in found.pairs}
-        places = [
-            first or second if None in (first, second) else winner((first, second), met[frozenset((first, second))], seeds, competition)
-            for first, second in zip(places[::2], places[1::2])
-        ]
+    for going_on in [*(found.players() for found in before[1:]), {*winners, *before[-1].byes}] if before else ():
+        places = [next((name for name in pair if name and name in going_on), None) for pair in zip(places[::2], places[1::2])]
+    places = [None if name in withdrawn else name for name in places]
     pairs = list(zip(places[::2], places[1::2]))
-    byes = tuple(first or second for first, second in pairs if None in (first, second))
+    byes = tuple(first or second for first, second in pairs if (first is None) != (second is None))
     return Round(len(before) + 1, tuple(pair for pair in pairs if None not in pair), byes)
 
 
@@ -158,21 +182,45 @@ class Rounds:
     def __init__(self) -> None:
         self.found: list[Round] = []
         self.scores: Scores | None = None
-        self.of_meeting: dict[Meeting, list[Result]] = {}
+        # The results of the rounds so far, in how many whole rounds each player was absent, and of how many rounds all this is.
+        self.results: list[Result] = []
+        self.absences: Counter[str] = Counter()
+        self.counted = 0
+        self.withdrawn: dict[str, str] = {}
 
-    def plan(self, competition: Competition, results: Iterable[Result]) -> Round:
+    def next(self, competition: Competition, results: Sequence[Result]) -> Round:
         """Returns the next round, by the results of the last one that count."""
-        self.scores, results = self.scores or Scores(competition), list(results)
+        self.scores = self.scores or Scores(competition)
+        if self.counted < len(self.found):
+            self.count(results)
+        known, least = withdrawn_by(competition, self.found), competition.absent_rounds or len(self.found) + 1
+        new = {name: f"absent in {count} whole round{'s' * (count > 1)}" for name, count in self.absences.items() if count >= least and name not in known}
+        withdrawn = new | known
+        if withdrawn.keys() != self.withdrawn.keys():
+            self.scores = scores_of(competition, self.found, self.results, withdrawn)
+        self.withdrawn = withdrawn
+        if competition.form.kind == SWISS:
+            found = swiss_round(competition, len(self.found) + 1, self.scores, withdrawn)
+        else:
+            of_meeting, pairs = by_meeting(results), self.found[-1].pairs if self.found else ()
+            winners = [winner(pair, of_meeting[len(self.found), frozenset(pair)], competition, withdrawn) for pair in pairs]
+            found = knockout_round(competition, self.found, winners, withdrawn)
+        return replace(found, absent=tuple(new.items()))
+
+    def count(self, results: Sequence[Result]) -> None:
+        """Counts the results of the last round."""
+        self.counted = len(self.found)
+        self.results += results
+        plays: dict[str, list[bool]] = defaultdict(list)
         for result in results:
             self.scores.count_result(result)
-        if competition.form.kind == SWISS:
-            found = swiss_round(competition, len(self.found) + 1, self.scores)
-        else:
-            self.of_meeting |= by_meeting(results)
-            found = knockout_round(competition, self.found, self.of_meeting)
-        self.scores.count_round(found)
+            for role, player in enumerate(result.match.players):
+                plays[player].append(result.is_absent(role))
+        self.absences.update(player for player, absences in plays.items() if all(absences))
+
+    def add(self, found: Round) -> None:
         self.found.append(found)
-        return found
+        self.scores.count_round(found, {}, {})
 
 
 def by_meeting(results: Iterable[Result]) -> dict[Meeting, list[Result]]:
@@ -183,14 +231,16 @@ def by_meeting(results: Iterable[Result]) -> dict[Meeting, list[Result]]:
     return found
 
 
-def rounds_won(competition: Competition, rounds: Iterable[Round], results: Iterable[Result]) -> Counter[str]:
+def rounds_won(competition: Competition, rounds: Sequence[Round], results: Iterable[Result]) -> Counter[str]:
     """Returns how many rounds of a knockout each player has come through, by meetings that are over and byes."""
-    seeds, won, of_meeting = {player.name: seed for seed, player in enumerate(competition.players)}, Counter(), by_meeting(results)
-    for found in rounds:
+    won, of_meeting, withdrawn = Counter(), by_meeting(results), withdrawn_by(competition, rounds)
+    for found, following in itertools.zip_longest(rounds, rounds[1:]):
         won.update(found.byes)
         for pair in found.pairs:
             of_pair = of_meeting[found.number, frozenset(pair)]
-            won.update([winner(pair, of_pair, seeds, competition)] if len(of_pair) == 2 * len(competition.games) else [])
+            going_on = following.players().intersection(pair) if following else ()
+            if going_on or len(of_pair) == 2 * len(competition.games) or withdrawn.keys() & pair:
+                won.update([*going_on] or filter(None, [winner(pair, of_pair, competition, withdrawn)]))
     return won
 
 
@@ -199,11 +249,13 @@ def meetings(competition: Competition, found: Round) -> list[tuple[str, tuple[st
     return [(game.name, pair[::turn]) for game in competition.games for turn in (1, -1) for pair in found.pairs]
 
 
-def scores_of(competition: Competition, rounds: Iterable[Round], results: Iterable[Result]) -> Scores:
-    """Returns what rounds came to, with the results that count."""
-    scores = Scores(competition)
+def scores_of(competition: Competition, rounds: Sequence[Round], results: Iterable[Result], withdrawn: Mapping[str, str] | None = None) -> Scores:
+    """Returns what rounds came to, with the results that count, where these players have withdrawn: else those of the rounds."""
+    withdrawn = withdrawn_by(competition, rounds) if withdrawn is None else withdrawn
+    scores, counted = Scores(competition), [result for result in results if not competition.is_void(result.match.players, withdrawn)]
+    of_meeting = by_meeting(counted)
     for found in rounds:
-        scores.count_round(found)
-    for result in results:
+        scores.count_round(found, withdrawn, of_meeting)
+    for result in counted:
         scores.count_result(result)
     return scores

@@ -20,7 +20,8 @@ ROW = re.compile(r"[A-Za-z0-9_.-]{1,60}\t[A-Za-z0-9_.-]{1,40}\t[0-9]{1,5}\t[0-9]
 @dataclass(frozen=True)
 class Match:
     """A match: its id, its game, its clocks, and its players' names in the order of the roles. Its round, in a competition by rounds. And
-    where it does not count any more, the match that was ordered in its place, with the reason; that one names this one."""
+    where it does not count any more, the match that was ordered in its place, with the reason; that one names this one. Or who has withdrawn,
+    so that it does not count, or is not played."""
 
     id: str
     game: str
@@ -31,6 +32,10 @@ class Match:
     again: str = ""
     reason: str = ""
     instead_of: str = ""
+    withdrawn: str = ""
+
+    def counts(self) -> bool:
+        return not self.again and not self.withdrawn
 
     def line(self) -> str:
         return f"{self.id}\t{self.game}\t{self.start}\t{self.play}\t{' '.join(self.players)}\n"

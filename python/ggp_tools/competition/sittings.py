@@ -38,7 +38,7 @@ class Sitting:
 
     def goal(self) -> int | None:
         """Returns the goal that counts, none where there is none, or where another match was ordered in the place of this one."""
-        return None if self.result.match.again else self.result.counted()[self.role]
+        return None if not self.result.match.counts() else self.result.counted()[self.role]
 
 
 def times_of_role(lines: list[Message]) -> tuple[tuple[int, ...], int | None, int | None]:

@@ -9,9 +9,9 @@ import typing
 from collections.abc import Callable, Iterable, Sequence
 from dataclasses import dataclass, field
 
-from ggp_tools.competition.competition_file import BY_POINTS, KNOCKOUT, SWISS, Competition
+from ggp_tools.competition.competition_file import BY_POINTS, KNOCKOUT, SWISS, VOID, Competition
 from ggp_tools.competition.results import DRAWN, LOST, WON, Result
-from ggp_tools.competition.rounds import Round, is_by_rounds, rounds_won, scores_of
+from ggp_tools.competition.rounds import Round, is_by_rounds, rounds_won, scores_of, withdrawn_by, withdrawn_words
 from ggp_tools.competition.schedule import Match
 from ggp_tools.templating import end_without
 
@@ -41,7 +41,7 @@ class Line:
     rating: "Rating | None" = None
     # In a competition by rounds, and of all games together.
     byes: int = 0
-    bye_points: int = 0
+    round_points: float | None = None
     buchholz: float | None = None
     rounds_won: int | None = None
 
@@ -49,8 +49,8 @@ class Line:
         return round(self.goals / self.scored, 2) if self.scored else None
 
     def points(self) -> float:
-        """Returns a point for each match that was won, half of one for each that was drawn, and those of byes."""
-        return self.won + self.drawn / 2 + self.bye_points
+        """Returns a point for each match that was won, half of one for each that was drawn, and in a Swiss competition those of byes."""
+        return self.won + self.drawn / 2 if self.round_points is None else self.round_points
 
     def order(self, by: str) -> tuple[float, ...]:
         """Returns what orders the line: the mean goals as they are printed, 0 where there are none, then wins, then losses; or all of it
@@ -66,8 +66,8 @@ class Line:
 @dataclass
 class Table:
     """The lines of a game, or of all, in the order of the standings; by pairs of players the points of the first against the second, and
-    how often they met; what the lines are ordered by; the matches that do not count, since others were ordered in their place; and the
-    rounds, if it is of all games."""
+    how often they met; what the lines are ordered by; the matches that do not count, since others were ordered in their place; and, if it is
+    of all games, the rounds, and what there is to say of players that have withdrawn."""
 
     game: str
     lines: dict[str, Line]
@@ -77,6 +77,7 @@ class Table:
     by: str = ""
     again: list[Match] = field(default_factory=list)
     rounds: Sequence[Round] = ()
+    withdrawn: Sequence[str] = ()
 
     def standings(self) -> list[Line]:
         """Returns the lines of who has played, in order; equal ones as they stand in competition.toml."""
@@ -130,12 +131,12 @@ def count_pairs(table: Table, result: Result) -> None:
 
 def count_rounds(table: Table, competition: Competition, results: Iterable[Result]) -> None:
     """Counts in the table of all games what follows from the rounds."""
-    counted = [result for result in results if not result.match.again]
+    counted = [result for result in results if result.match.counts()]
     scores, won = scores_of(competition, table.rounds, counted), rounds_won(competition, table.rounds, counted)
     for player, line in table.lines.items():
         line.byes = scores.byes[player]
         if competition.form.kind == SWISS:
-            line.bye_points, line.buchholz = line.byes * scores.meeting, scores.buchholz(player)
+            line.round_points, line.buchholz = scores.points[player], scores.buchholz(player)
         else:
             line.rounds_won = won[player]
 
@@ -156,7 +157,9 @@ def tables_of(competition: Competition, results: Sequence[Result], rounds: Seque
     kind = competition.form.kind if is_by_rounds(competition) else ""
     by = [(ALL, kind or competition.order), *((game.name, BY_POINTS if kind else competition.order) for game in competition.games)]
     found = [Table(game, {name: Line(name) for name in names}, by=order) for game, order in by]
-    found[0].rounds = rounds
+    found[0].rounds, counts = rounds, "do not count" if competition.withdrawn_results == VOID else "count"
+    withdrawn = withdrawn_by(competition, rounds).items()
+    found[0].withdrawn = [f"{withdrawn_words(name, why)}; the matches that it has played {counts}" for name, why in withdrawn]
     by_game = {table.game: table for table in found[1:]}
     for result in results:
         for table in (found[0], by_game[result.match.game]):
@@ -170,8 +173,8 @@ def tables_of(competition: Competition, results: Sequence[Result], rounds: Seque
 
 
 def count_result(table: Table, result: Result) -> None:
-    if result.match.again:
-        table.again.append(result.match)
+    if not result.match.counts():
+        table.again += [result.match] * bool(result.match.again)
         return
     table.matches += 1
     for role, player in enumerate(result.match.players):

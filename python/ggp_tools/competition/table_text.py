@@ -4,6 +4,7 @@ import csv
 import io
 import json
 from collections.abc import Iterable, Iterator, Mapping, Sequence
+from dataclasses import replace
 
 from ggp_tools.competition.competition_file import BY_POINTS, KNOCKOUT, SWISS, Competition
 from ggp_tools.competition.plan import Plan
@@ -32,14 +33,15 @@ def forfeit_rule(competition: Competition) -> str:
 
 
 def in_order(plan: Plan, results: Mapping[str, Result]) -> list[Result]:
-    """Returns the results in the schedule's order."""
-    return [results[match.id] for match in plan.matches if match.id in results]
+    """Returns the results in the schedule's order, with what it says of their matches by now."""
+    found = ((results[match.id], match) for match in plan.matches if match.id in results)
+    return [result if result.match is match else replace(result, match=match) for result, match in found]
 
 
 def without_record(plan: Plan, results: Iterable[Result]) -> list[Match]:
-    """Returns the matches that are not among the results, in the schedule's order."""
+    """Returns the matches that are not among the results, in the schedule's order, but for those of players that have withdrawn."""
     known = {result.match.id for result in results}
-    return [match for match in plan.matches if match.id not in known]
+    return [match for match in plan.matches if match.id not in known and not match.withdrawn]
 
 
 def rounded(number: float | None, places: int) -> float | None:
@@ -123,6 +125,7 @@ def crosstable_rows(table: Table) -> Iterator[list[str]]:
 
 def notes(table: Table) -> Iterator[str]:
     """Gives what a reader of the standings has to know."""
+    yield from table.withdrawn
     yield from map(again_words, table.again)
     yield from (f"round {found.number}{found.byes_words()}" for found in table.rounds if found.byes)
     for line in table.standings():
@@ -139,7 +142,7 @@ def notes(table: Table) -> Iterator[str]:
 
 def count_of_planned(plan: Plan) -> int:
     """Returns how many matches of the schedule count, if each is played."""
-    return sum(not match.again for match in plan.matches)
+    return sum(match.counts() for match in plan.matches)
 
 
 def table_text(plan: Plan, tables: list[Table]) -> str:

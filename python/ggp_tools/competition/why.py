@@ -184,7 +184,7 @@ class Told:
         """Returns how the match ended for a role."""
         record = self.record
         if not record:
-            return ["the match has no record that counts"]
+            return [f"the match is not played: {self.match.withdrawn}" if self.match.withdrawn else "the match has no record that counts"]
         errors = [turn[role] for turn in record["errors"]]
         late = [turn for turn, error in enumerate(errors, 1) if error == "RT"]
         said = [f"turns {late[0]} to {late[-1]}: {self.mark_words('RT', 'PLAY')}; its first legal moves were played"] if late else []
