@@ -8,10 +8,10 @@ import threading
 import unittest
 
 from ggp_tools.holding.game import Game
-from ggp_tools.human.game import Shown, places_of
+from ggp_tools.human.game import Shown
 from ggp_tools.human.seat import Seat, Unread, read_message
 from ggp_tools.human.server import Server
-from ggp_tools.records.show import boards_of
+from ggp_tools.records.show import boards_of, places_of
 from support import GAMES
 
 RULES = (GAMES / "tictactoe.kif").read_text(encoding="ascii")

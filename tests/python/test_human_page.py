@@ -11,6 +11,9 @@ from support import GAMES
 RULES = (GAMES / "tictactoe.kif").read_text(encoding="ascii")
 EVIL = "<img/src=x/onerror=document.title=1>"
 HOSTILE = f"(role {EVIL}) (init (cell 1 1 {EVIL})) (init (cell 2 2 b)) (init </script><b>) (legal {EVIL} {EVIL}) (legal {EVIL} <script>document.title=1</script>)"
+# A piece moves and becomes one of two others, or not.
+PROMOTING = "(role a) (init (cell 1 1 pawn)) (init (cell 2 2 none)) (legal a pass) (legal a (move 1 1 2 2 queen)) (legal a (move 1 1 2 2 rook)) terminal (goal a 100)"
+MOVE = "document.querySelector('#moves button')"
 CELLS = "[...document.querySelectorAll('.board button')]"
 
 
@@ -46,9 +49,9 @@ class InBrowser(unittest.TestCase):
         page = self.begin("xplayer", RULES)
         asked = self.ask("(PLAY M NIL)")
         page.until("document.querySelectorAll('.board button.can').length === 9")
-        for words in ("Match M, turn 1: you are xplayer", "(control xplayer)", "(mark 3 3)"):
+        for words in ("Match M, turn 1: you are xplayer", "(control xplayer)"):
             self.assertIn(words, page.text())
-        page.until("/^[0-9]+ s$/.test(document.getElementById('clock').textContent)")
+        page.until("/^[0-9]+ of [0-9]+ s$/.test(document.getElementById('clock').textContent)")
         self.assertEqual(set(self.cells().values()), {"\u00b7"})
         self.assertEqual(page.unreadable(), [])
         page.click(f"{CELLS}.find((cell) => cell.title.startsWith('2 2'))")
@@ -59,7 +62,7 @@ class InBrowser(unittest.TestCase):
         page.until("document.querySelectorAll('.board button.can').length === 7")
         shown = self.cells()
         self.assertEqual((shown["2 2: x"], shown["1 3: o"]), ("\u2715", "\u25ef"))
-        self.go_to(page, "(mark 3 1)")
+        self.go_to(page, "3 1: b")
         page.press("Enter")
         self.assertEqual(self.answered(asked), "(mark 3 1)")
         # The filter leaves the moves that are typed.
@@ -69,7 +72,7 @@ class InBrowser(unittest.TestCase):
         page.value("document.getElementById('filter').focus()")
         page.tell("Input.insertText", text="1 1")
         page.until("document.querySelectorAll('#moves button').length === 1")
-        page.click("document.querySelector('#moves button')")
+        page.click(MOVE)
         self.assertEqual(self.answered(asked), "(mark 1 1)")
         self.assertEqual(self.answered(self.ask("(STOP M ((mark 1 1) noop))")), "done")
         # The end stays to be read where the player ends at once, as that of a single match does.
@@ -77,13 +80,37 @@ class InBrowser(unittest.TestCase):
         page.value("events.onerror()")
         self.assertRegex(page.text(), r"The match is over: xplayer .*, oplayer .*\. The player does not answer")
 
-    def go_to(self, page: Page, move: str) -> None:
-        """Goes by the keyboard, place by place and move by move, to a move of the list; each is seen to be reached."""
+    def go_to(self, page: Page, place: str) -> None:
+        """Goes by the keyboard, place by place, to one of the board; each is seen to be reached."""
         reached = ""
-        while reached != move:
+        while reached != place:
             page.press("Tab")
-            reached, is_seen = page.value("[document.activeElement.innerText, getComputedStyle(document.activeElement).outlineStyle !== 'none']")
+            _, reached, is_seen = page.reached()
             self.assertTrue(is_seen, reached)
+
+    def test_a_move_is_made_by_its_column_by_its_place_and_by_a_button(self) -> None:
+        page = self.begin("red", (GAMES / "general/connectfour.kif").read_text(encoding="ascii"))
+        asked = self.ask("(PLAY M NIL)")
+        page.until("document.querySelectorAll('.board button.can').length === 42 && !document.querySelector('#moves button')")
+        page.click(f"{CELLS}.find((cell) => cell.title.startsWith('3 5'))")
+        self.assertEqual(self.answered(asked), "(drop 3)")
+        self.assertEqual(self.answered(self.ask("(PLAY M ((drop 3) noop))")), "noop")
+        asked = self.ask("(PLAY M (noop (drop 4)))")
+        page.until("view.phase === 'moving'")
+        rows = page.value("[...document.querySelectorAll('#players tr')].map((row) => row.innerText.trim().split(/\\s*\\t\\s*/))")
+        self.assertEqual(rows, [["red", "you", "(drop 3)", "to move"], ["yellow", "(drop 4)"]])
+        self.assertEqual(page.value(f"{CELLS}.filter((cell) => cell.matches('.changed')).map((cell) => cell.title)"), ["4 1: yellow"])
+        self.answered(self.ask("(ABORT M)"))
+        asked.join(HANGS)
+        # Several moves with the same places are buttons, and so are moves without places.
+        page = self.begin("a", PROMOTING)
+        asked = self.ask("(PLAY M NIL)")
+        page.until("document.querySelectorAll('#moves button').length === 1")
+        for place in ("1 1", "2 2"):
+            page.click(f"{CELLS}.find((cell) => cell.title.startsWith('{place}'))")
+        page.until("document.querySelectorAll('#moves button').length === 2")
+        page.click(MOVE)
+        self.assertIn(self.answered(asked), ("(move 1 1 2 2 queen)", "(move 1 1 2 2 rook)"))
 
     def test_what_a_referee_says_is_text(self) -> None:
         page = self.begin(EVIL, HOSTILE)

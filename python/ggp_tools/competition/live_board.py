@@ -1,6 +1,7 @@
 """Follows a match that is open, as the referee judges it: the answers of its log go to a desk of the program, which says what was played,
 what was replaced, and whose answers are due."""
 
+import functools
 import itertools
 import re
 from collections.abc import Iterator
@@ -8,10 +9,10 @@ from dataclasses import dataclass, field
 from pathlib import Path
 
 from ggp_tools.competition.schedule import Match
-from ggp_tools.kif import expressions, spelled
+from ggp_tools.kif import expressions
 from ggp_tools.match_log import ERRORS, NO_TIME, SHORTAGE, START, Message
-from ggp_tools.records.marks import Mark, marks_of
-from ggp_tools.records.show import Board, visible, words_of
+from ggp_tools.records.marks import Mark
+from ggp_tools.records.show import Board, Named, board_marks, named_by
 from ggp_tools.referee import MOST_OF_MOVE, MOST_OF_SCRIPT, Referee, Unchecked
 
 # Boards are formed from so many of the last states, and so many of the last turns are listed.
@@ -60,25 +61,20 @@ class Position:
 
 
 class Labels:
-    """The labels that may be on the boards of a game in any state, so that each looks the same in all of them."""
+    """What the rules of a game name, and what boards show of it, which looks the same in all states."""
 
     def __init__(self, rules: bytes) -> None:
         self.rules, self.known = rules, {}
 
-    def words(self) -> Iterator[list[str]]:
-        """Gives the words of each term that a state may have."""
-        for sentence in expressions(self.rules.decode("latin-1")):
-            head = sentence[1] if sentence[0] == "<=" else sentence
-            if head[0] in ("init", "next") and (found := words_of(spelled(head[1]))):
-                yield found
+    @functools.cached_property
+    def named(self) -> Named:
+        return named_by(expressions(self.rules.decode("latin-1")))
 
     def marks(self, board: Board) -> dict[str, Mark]:
         """Returns what a board shows of each label."""
         forms = tuple(sorted((form, tuple(labels)) for form, (_, labels) in board.forms.items()))
         if forms not in self.known:
-            own = dict(forms)
-            found = ([words[at] for at in own[words[0], len(words)]] for words in self.words() if (words[0], len(words)) in own)
-            self.known[forms] = marks_of(visible(" ".join(label)) for label in found)
+            self.known[forms] = board_marks(board, self.named)
         return self.known[forms]
 
 

@@ -81,7 +81,7 @@ def board_html(board: LiveBoard) -> "Markup":
     if not board.position.states:
         return html_of("live", "state", boards="", terms=[], more=0, notes=notes)
     first, states = board.position.states[0], board.position.states[-MOST_STATES:]
-    boards = boards_of([first, *states])
+    boards = boards_of([first, *states], board.labels.named)
     drawn, on_boards = [], {form for drawing in boards for form in drawing.forms}
     for drawing in boards:
         places = [board_places(drawing, state) for state in states[-2:]]

@@ -4,8 +4,8 @@
 
 It is a player as any other: the referee reaches it at `NAME@HOST:P`. It prints the address of its page, which the person opens. The address
 has a token: without it nobody sees the page or moves. INFO is answered `busy` and START waits until the page is open. The page shows the
-board, the legal moves, the clock, what the others did and what was replaced. A move is made by a click on its places, or from the list. A
-single legal move is made without asking while the page is open. Rules may have variables (`--player-rules` of the referee).
+board, the clock, the last moves and what was replaced. A move is made by clicks on its places or its column, or by a button. A single legal
+move is made without asking while the page is open. Rules may have variables (`--player-rules` of the referee).
 """
 
 import argparse

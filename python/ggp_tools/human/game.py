@@ -1,40 +1,37 @@
-"""What a person sees of a game: its boards, the places that a move names, and what stands where."""
-
-from collections.abc import Iterable, Iterator, Sequence
+"""What a person sees of a game: its boards, the places that a move names, and what is where."""
 
 from ggp_tools.holding.game import Game
 from ggp_tools.holding.match import texts_of
-from ggp_tools.kif import head_of, is_variable, spelled
-from ggp_tools.records.marks import marks_of
-from ggp_tools.records.show import Board, board_places, boards_of, visible, words_of
+from ggp_tools.kif import spelled
+from ggp_tools.printable import visible
+from ggp_tools.records.show import Board, Group, board_marks, board_places, boards_of, is_on_board, named_by, places_of, words_of
 
 State = frozenset
 Place = tuple[int, int]
-
-
-def places_of(move: str, board: Board) -> list[Place]:
-    """Returns the places of a board that a move names by two arguments in a row, in their order."""
-    words, found, at = words_of(move), [], 1
-    while at + 1 < len(words):
-        if words[at] in board.across and words[at + 1] in board.up:
-            found.append((board.across.index(words[at]) + 1, board.up.index(words[at + 1]) + 1))
-            at += 2
-        else:
-            at += 1
-    return found
+# In the place of a row, for a move that names a column.
+ANY_ROW = 0
 
 
 class Shown:
     """A match as it is shown: all its states so far, so that a board keeps its size."""
 
     def __init__(self, game: Game) -> None:
-        self.game, self.states = game, [texts_of(game.initial)]
+        self.game, self.states, self.named = game, [texts_of(game.initial)], named_by(game.sentences)
         self.state: State = game.initial
+        # The moves that were legal so far, by their relations; the last one of each role that had a choice; and the roles that have one.
+        self.known: dict[Group, set[str]] = {}
+        self.made: dict[object, str] = {}
+        self.choosing = self.roles_with_choice()
 
     def advance(self, moves: tuple) -> None:
         """Makes a joint move, in the order of the roles."""
         self.state = frozenset(self.game.following(self.game.position(self.state, moves)))
         self.states.append(texts_of(self.state))
+        self.made |= {role: spelled(move) for role, move in zip(self.game.roles, moves) if role in self.choosing}
+        self.choosing = self.roles_with_choice()
+
+    def roles_with_choice(self) -> set[object]:
+        return {role for role in self.game.roles if len(self.legal(role)) > 1}
 
     def legal(self, role: object) -> list[str]:
         """Returns the legal moves of a role."""
@@ -47,36 +44,37 @@ class Shown:
         return {role: values[0] if len(values) == 1 else None for role, values in found.items()}
 
     def picture(self, legal: list[str]) -> dict:
-        """Returns the boards, the terms that none shows, and the legal moves with the places that they name on each board."""
-        boards = boards_of(self.states)
+        """Returns the boards, the terms that none shows, the legal moves with the places that they name on each board, and of each role
+        whether it has several moves and which one it made last."""
+        boards = boards_of(self.states, self.named)
         forms = {form for board in boards for form in board.forms}
-        rest = [term for term in self.states[-1] if not (words_of(term) and (words_of(term)[0], len(words_of(term))) in forms)]
+        for move in filter(words_of, legal):
+            self.known.setdefault((words_of(move)[0], len(words_of(move))), set()).add(move)
+        placed = list(map(self.placed, boards))
         return {
-            "boards": [board_value(board, self.states[-1], self.signs(board)) for board in boards],
-            "terms": rest,
-            "legal": [{"text": move, "places": [places_of(move, board) for board in boards]} for move in legal],
+            "boards": [self.board_value(board) for board in boards],
+            "terms": [term for term in self.states[-1] if not is_on_board(term, forms)],
+            "legal": [{"text": move, "places": [places.get(move, []) for places in placed]} for move in legal],
+            "players": [{"role": spelled(role), "made": self.made.get(role, ""), "can": role in self.choosing} for role in self.game.roles],
         }
 
+    def placed(self, board: Board) -> dict[str, list[Place]]:
+        """Returns the places of a board that moves name. Either all moves of a relation name places, or none does: so 1 and 2 are no place
+        in (push 1 2) of a game with (push 0 0). A move with one argument names a column if these arguments are all columns."""
+        found: dict[str, list[Place]] = {}
+        for group, known in self.known.items():
+            places = {move: places_of(move, board) for move in known}
+            if group[1] == 2 and {words_of(move)[1] for move in known} == set(board.across):
+                places = {move: [(board.across.index(words_of(move)[1]) + 1, ANY_ROW)] for move in known}
+            found |= places if all(places.values()) else {}
+        return found
 
-    def signs(self, board: Board) -> dict[str, tuple[str, str]]:
-        """Returns the text that a board shows of each label, and its kinds. A label that the rules name looks the same in all states."""
-        heads = map(head_of, self.game.sentences)
-        terms = (words_of(spelled(head[1])) for head in heads if head[0] in ("init", "next") and len(head) == 2)
-        named = ([word for at, word in enumerate(term) if at in places] for term, places in labelled(terms, board))
-        labels = {" ".join(words) for words in named if not any(map(is_variable, words))}
-        labels |= {label for state in self.states for found in board_places(board, state).values() for label in found}
-        marks = marks_of(map(visible, labels))
-        return {label: (marks[visible(label)].text, " ".join(marks[visible(label)].kinds())) for label in labels}
-
-
-def labelled(terms: Iterable[list[str]], board: Board) -> Iterator[tuple[list[str], Sequence[int]]]:
-    """Gives the terms that a board shows, each with the places of the words of its label."""
-    for term in terms:
-        if term and (term[0], len(term)) in board.forms:
-            yield term, board.forms[term[0], len(term)][1]
-
-
-def board_value(board: Board, state: list[str], signs: dict[str, tuple[str, str]]) -> dict:
-    """Returns a board as the page draws it: its axes, what stands at each place, and what is shown of it."""
-    cells = {f"{across},{up}": labels for (across, up), labels in board_places(board, state).items()}
-    return {"across": board.across, "up": board.up, "cells": cells, "signs": signs}
+    def board_value(self, board: Board) -> dict:
+        """Returns a board as the page draws it: its axes, what is at each place and what is shown of it, and the places that have changed."""
+        places, before = (board_places(board, state) for state in (self.states[-1], self.states[-2:][0]))
+        labels = {label for state in self.states for found in board_places(board, state).values() for label in found}
+        marks = board_marks(board, self.named, labels)
+        signs = {label: (marks[visible(label)].text, " ".join(marks[visible(label)].kinds())) for label in labels}
+        cells = {f"{across},{up}": found for (across, up), found in places.items()}
+        changed = [at for at in places.keys() | before.keys() if places.get(at) != before.get(at)]
+        return {"across": board.across, "up": board.up, "cells": cells, "signs": signs, "changed": sorted(changed)}

@@ -126,8 +126,8 @@ class Seat:
         deadline, play_clock = time.monotonic() + clock_of(start) - SPARE, clock_of(play)
         asked = self.next_message(clock_of(start))
         try:
-            game, own = game_of(rules), spelled(role)
-            roles = [spelled(role) for role in game.roles]
+            shown, own = Shown(game_of(rules)), spelled(role)
+            roles = [spelled(role) for role in shown.game.roles]
             if own not in roles:
                 raise Refused(f"they have no role {own}")
         except BAD_RULES as why:
@@ -137,7 +137,7 @@ class Seat:
             if self.asked != asked:
                 return "busy"
             self.match, self.receiver, self.role, self.play_clock, self.sent = match, receiver, role, play_clock, None
-            self.shown, self.roles = Shown(game), roles
+            self.shown, self.roles = shown, roles
             self.show("ready", [], f"Match {match}: you are {own}.")
             self.changed.wait_for(lambda: self.is_person_there() or self.asked != asked, max(0.0, deadline - time.monotonic()))
         return "ready"
@@ -188,11 +188,9 @@ class Seat:
         """Makes the joint move of a message. Returns what is to be said of it."""
         if not moves or self.shown is None:
             return ""
-        texts = [spelled(move) for move in moves]
         self.shown.advance(moves)
-        own = texts[self.roles.index(spelled(self.role))]
-        said = ", ".join(f"{role} {text}" for role, text in zip(self.roles, texts))
-        return f"Last turn: {said}." + (f" Your move was replaced by {own}." if own != self.sent else "")
+        own = spelled(moves[self.roles.index(spelled(self.role))])
+        return f"Your move was replaced by {own}." if own != self.sent else ""
 
     # ---- what the person sees and does
 
@@ -200,7 +198,7 @@ class Seat:
         """Shows the present state."""
         picture = self.shown.picture(legal) if self.shown else {}
         turn = len(self.shown.states) if self.shown else 0
-        named = {"match": self.match, "role": spelled(self.role), "roles": self.roles, "turn": turn, "sent": self.sent}
+        named = {"match": self.match, "role": spelled(self.role), "name": self.receiver, "turn": turn, "clock": self.play_clock, "sent": self.sent}
         self.say(phase=phase, note=note, asked=self.asked, **named, **picture)
 
     def say(self, **view: object) -> None:
@@ -236,5 +234,5 @@ class Seat:
         """Returns the view once it is another one than that of a version, or after some seconds, with the seconds that the person has left."""
         with self.changed:
             self.changed.wait_for(lambda: self.version != version, seconds)
-            left = max(0.0, self.deadline - time.monotonic()) if self.view["phase"] == "moving" else None
+            left = max(0.0, self.deadline - time.monotonic()) if self.view["phase"] in ("moving", "sent") else None
             return self.version, {**self.view, "left": left}

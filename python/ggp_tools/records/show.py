@@ -3,12 +3,13 @@
 import argparse
 import functools
 import re
-from collections.abc import Callable, Iterable, Iterator
+from collections.abc import Callable, Iterable, Iterator, Sequence
 from dataclasses import dataclass
-from typing import TYPE_CHECKING, BinaryIO
+from typing import TYPE_CHECKING, BinaryIO, NamedTuple
 
 from ggp_tools.answers import Whys
 from ggp_tools.holding.game import Game
+from ggp_tools.kif import Expression, head_of, is_variable, spelled
 from ggp_tools.printable import visible
 from ggp_tools.records.marks import PIECES, Mark, marks_of
 from ggp_tools.records.record import ACCOUNT_LINE, CAUSE, LONGEST_RECORD, TOO_LONG, NoRecord, numbered_lines, read_record
@@ -56,8 +57,10 @@ ERRORS = {
     "IL": "the answer was no legal move",
 }
 
-# What stands at each place of a board.
+# What is at each place of a board.
 Places = dict[tuple[int, int], list[str]]
+# A relation and the number of its members.
+Group = tuple[str, int]
 
 
 # ---- reading
@@ -129,9 +132,35 @@ class Board:
         return self.across.index(words[at]) + 1, self.up.index(words[at + 1]) + 1, " ".join(words[place] for place in labels)
 
 
-def form_of(words_by_state: list[list[list[str]]], number: int) -> tuple[int, list[int]] | None:
-    """Returns where the terms of one relation, of so many members, name a place and where its label stands; None if they name none."""
-    terms = [words for state in words_by_state for words in state]
+class Named(NamedTuple):
+    """The words of each term that rules give a state, with or without variables, and the moves that they make legal."""
+
+    terms: Sequence[list[str]] = ()
+    moves: Sequence[str] = ()
+
+
+def named_by(sentences: Iterable[Expression]) -> Named:
+    heads = [head for head in map(head_of, sentences) if head[0] in ("init", "next", "legal") and len(head) > 1]
+    terms = (words_of(spelled(head[1])) for head in heads if head[0] != "legal")
+    return Named(list(filter(None, terms)), list(dict.fromkeys(spelled(head[-1]) for head in heads if head[0] == "legal")))
+
+
+def places_of(move: str, board: "Board") -> list[tuple[int, int]]:
+    """Returns the places of a board that a move names by two arguments in a row, in their order."""
+    words, found, at = words_of(move), [], 1
+    while at + 1 < len(words):
+        if words[at] in board.across and words[at + 1] in board.up:
+            found.append((board.across.index(words[at]) + 1, board.up.index(words[at + 1]) + 1))
+            at += 2
+        else:
+            at += 1
+    return found
+
+
+def form_of(words_by_state: list[list[list[str]]], number: int, further: Iterable[list[str]] = ()) -> tuple[int, list[int]] | None:
+    """Returns where the terms of one relation, of so many members, name a place and where its label is; None if they name none. Further
+    terms may be in other states."""
+    terms = [*(words for state in words_by_state for words in state), *further]
     # (on X Y); (cell X Y V) and (cell X Y V W); (piece V X Y)
     for at, labels in {3: [(1, [0])], 4: [(1, [3]), (2, [1])], 5: [(1, [3, 4])]}.get(number, []):
         if axis_of({term[at] for term in terms}) and axis_of({term[at + 1] for term in terms}):
@@ -143,17 +172,30 @@ def form_of(words_by_state: list[list[list[str]]], number: int) -> tuple[int, li
     return None
 
 
-def boards_of(states: list[list[str]]) -> list[Board]:
-    """Returns the boards of a match: one for each relation like (cell X Y V), and one for all others with the same kinds of places."""
-    grouped = {}
+def boards_of(states: list[list[str]], named: Named = Named()) -> list[Board]:
+    """Returns the boards of a match: one for each relation like (cell X Y V), and one for all others with the same kinds of places. A board
+    also has the places that the rules name. If the states show none, the rules show one: it has places that moves name, and may be empty."""
+    grouped, further = {}, {}
     for at, state in enumerate(states):
         for words in filter(None, map(words_of, state)):
             grouped.setdefault((words[0], len(words)), {}).setdefault(at, []).append(words)
+    for words in named.terms:
+        if not any(map(is_variable, words)):
+            further.setdefault((words[0], len(words)), []).append(words)
+    if found := grouped_boards(grouped, further):
+        return found
+    found = grouped_boards({group: {0: terms} for group, terms in further.items()}, {})
+    # Rows have no letters: (on a b) is a pile.
+    return [board for board in found if kind_of(board.up) != "letters" and any(places_of(move, board) for move in named.moves)]
+
+
+def grouped_boards(grouped: dict[Group, dict[int, list[list[str]]]], further: dict[Group, list[list[str]]]) -> list[Board]:
+    """Returns the boards of terms by their relations and states."""
     forms = {}
     for group, by_state in grouped.items():
-        form = form_of(list(by_state.values()), group[1])
-        if form:
-            places = [{term[form[0] + side] for terms in by_state.values() for term in terms} for side in (0, 1)]
+        if form := form_of(list(by_state.values()), group[1], further.get(group, ())):
+            terms = [term for terms in (*by_state.values(), further.get(group, ())) for term in terms]
+            places = [{term[form[0] + side] for term in terms} for side in (0, 1)]
             own = group if form[0] == 1 and group[1] > 3 else tuple(kind_of(axis_of(place)) for place in places)
             board = forms.setdefault(own, ({}, set(), set()))
             board[0][group] = form
@@ -161,6 +203,13 @@ def boards_of(states: list[list[str]]) -> list[Board]:
             board[2].update(places[1])
     axes = [(axis_of(across), axis_of(up), found) for found, across, up in forms.values()]
     return [Board(*axis) for axis in axes if axis[0] and axis[1]]
+
+
+def board_marks(board: Board, named: Named, labels: Iterable[str] = ()) -> dict[str, Mark]:
+    """Returns what a board shows of each label that the rules name, and of further ones, so that a label looks the same in all states."""
+    own = ([words[at] for at in board.forms[words[0], len(words)][1]] for words in named.terms if (words[0], len(words)) in board.forms)
+    known = {" ".join(label) for label in own if not any(map(is_variable, label))}
+    return marks_of(map(visible, known.union(labels)))
 
 
 # ---- the page

@@ -9,13 +9,20 @@ function element(name, text, kind) {
   return made;
 }
 
-const same = (one, other) => one[0] === other[0] && one[1] === other[1];
+// A move that names a column has 0 in the place of a row.
+const same = (one, other) => one[0] === other[0] && (one[1] === other[1] || !one[1]);
+const chosenOf = (board) => chosen.filter((it) => it.board === board).length;
 // Whether a move names the chosen places of a board, in their order.
 function fits(move) {
   return chosen.every(({ board, place }, at) => {
     const earlier = chosen.slice(0, at).filter((it) => it.board === board).length;
     return move.places[board].slice(earlier).some((it) => same(it, place));
   });
+}
+
+// Whether a move names no further place than those that are chosen: on one board, since two boards may have the same places.
+function isWhole(move) {
+  return move.places.every((own) => !own.length) || move.places.some((own, board) => own.length && own.length <= chosenOf(board));
 }
 
 async function play(move) {
@@ -28,7 +35,7 @@ function choose(board, place) {
   if (at >= 0) chosen.splice(at); else chosen.push({ board, place });
   let left = view.legal.filter(fits);
   if (!left.length) { chosen = [{ board, place }]; left = view.legal.filter(fits); }
-  if (left.length === 1 && left[0].places.flat().length <= chosen.length) play(left[0].text);
+  if (left.length === 1 && isWhole(left[0])) play(left[0].text);
   draw();
 }
 
@@ -44,6 +51,7 @@ function drawCell(board, number, place) {
   cell.title = `${board.across[across - 1]} ${board.up[up - 1]}: ${labels.join(", ") || "nothing"}`;
   if (view.legal.some((move) => fits(move) && move.places[number].some((it) => same(it, place)))) cell.classList.add("can");
   if (chosen.some((it) => it.board === number && same(it.place, place))) cell.classList.add("chosen");
+  if (board.changed.some((it) => same(it, place))) cell.classList.add("changed");
   cell.disabled = !view.legal.length;
   cell.addEventListener("click", () => choose(number, place));
   return placed(cell, across, up);
@@ -60,13 +68,22 @@ function drawBoard(board, number) {
   return grid;
 }
 
+function drawPlayer({ role, made, can }) {
+  const row = element("tr", ""), name = view.name ? `you (${view.name})` : "you";
+  const words = [role, role === view.role ? name : "", made, can && deadline !== null ? "to move" : ""];
+  row.append(...words.map((text) => element("td", text)));
+  return row;
+}
+
 function draw() {
   $("title").textContent = view.match ? `Match ${view.match}, turn ${view.turn}: you are ${view.role}` : "Waiting for a match";
   $("note").textContent = view.note || "";
+  $("table").hidden = !view.players;
+  $("players").replaceChildren(...(view.players || []).map(drawPlayer));
   $("boards").replaceChildren(...(view.boards || []).map(drawBoard));
   $("terms").textContent = (view.terms || []).join("  ");
   const word = $("filter").value.toLowerCase();
-  const moves = (view.legal || []).filter((move) => fits(move) && move.text.includes(word));
+  const moves = (view.legal || []).filter((move) => fits(move) && (word ? move.text.includes(word) : isWhole(move)));
   $("choice").hidden = !(view.legal || []).length;
   $("moves").replaceChildren(...moves.slice(0, 400).map((move) => {
     const item = element("li", ""), button = element("button", move.text);
@@ -90,4 +107,8 @@ events.onerror = () => {
   $("note").textContent = `${end} The player does not answer: it has ended, or is being started again.`.trim();
 };
 $("filter").addEventListener("input", draw);
-setInterval(() => { $("clock").textContent = deadline === null ? "" : `${Math.max(0, Math.ceil((deadline - Date.now()) / 1000))} s`; }, 200);
+setInterval(() => {
+  const left = Math.max(0, Math.ceil((deadline - Date.now()) / 1000));
+  $("clock").textContent = deadline === null ? "" : `${left} of ${view.clock} s`;
+  $("clock").className = view.phase === "sent" ? "dim" : "";
+}, 200);
