@@ -40,7 +40,7 @@ NEEDS = (
     Need("munge", ("munged",), "lets the nodes of this cluster know each other"),
     Need("iproute2", ("ip",), "gives players and referees networks"),
     Need("nftables", ("nft",), "gives a player and the referee firewalls"),
-    Need("util-linux", ("unshare", "nsenter", "setpriv"), "namespaces, and tests as another user"),
+    Need("util-linux", ("unshare", "nsenter", "setpriv"), "matches that end with their competition, namespaces, and tests as another user"),
     Need("mount", ("mount", "umount"), "a full disk"),
     Need("python3", ("/usr/bin/python3",), "runs the Python tests"),
     Need("python3-jinja2", (f"{MODULES}/jinja2",), "makes pages from templates"),

@@ -158,6 +158,17 @@ def test_a_process_that_reads_no_input_is_no_error(caplog):
     assert caplog.records == []
 
 
+def test_a_process_begun_as_this_one_ends_does_not_run(monkeypatch):
+    monkeypatch.setattr(os, "getpid", lambda: 0)
+    assert asyncio.run(run(["echo", "one"])).printed == b""
+
+
+def test_a_command_that_is_not_there_is_an_error_of_its_file():
+    with pytest.raises(FileNotFoundError) as why:
+        asyncio.run(run(["/none", "one"]))
+    assert why.value.filename == "/none"
+
+
 def test_a_process_whose_time_is_over_is_ended():
     done = asyncio.run(run(["sh", "-c", "echo one; sleep 600"], seconds=0.2))
     assert (done.status, done.seconds >= 0.2) == (None, True)

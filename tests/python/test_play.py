@@ -13,7 +13,7 @@ import tempfile
 import time
 import unittest
 
-from ggp_tools.competition.children import UNSAID, end_with
+from ggp_tools.competition.children import UNSAID
 from ggp_tools.competition.files import held
 from ggp_tools.competition.command import MOST_LINES
 from players import TestPlayer
@@ -322,10 +322,6 @@ class Play(InFolder):
         # A match takes longer than a test may take.
         while self.at_play():
             time.sleep(0.01)
-
-    def test_a_match_begun_as_its_run_is_killed_is_not_played(self):
-        with subprocess.Popen(["sleep", "60"], preexec_fn=lambda: end_with(0)) as orphan:
-            self.assertEqual(orphan.wait(), -signal.SIGKILL)
 
     def test_an_abort_without_an_answer_is_due_until_it_is_answered(self):
         self.planned(["slow", "slow"], head=HEAD.replace("tries = 2", "tries = 1"), form='kind = "schedule"\nlines = ["countdown p0 p1"]')

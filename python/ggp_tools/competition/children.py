@@ -2,8 +2,9 @@
 
 import asyncio
 import contextlib
-import ctypes
+import errno
 import os
+import shutil
 import signal
 import time
 from collections.abc import AsyncIterator
@@ -11,17 +12,11 @@ from dataclasses import dataclass
 
 from ggp_tools.printable import message_lines
 
-END_WITH_PARENT = 1
+# Before a command and the number of this process: runs the command, which is killed when this process ends. If it has ended before, the
+# command does not begin.
+WITH_PARENT = ("setpriv", "--pdeathsig", "KILL", "--", "sh", "-c", 'test "$PPID" = "$0" && exec "$@"')
 UNSAID = "it ended with status {} and no message"
 MOST_AT_ONCE = 1 << 16
-LIBRARY = ctypes.CDLL(None)
-
-
-def end_with(parent: int) -> None:
-    """Has the process that calls it end when its parent does, also if that has ended before it could ask."""
-    LIBRARY.prctl(END_WITH_PARENT, signal.SIGKILL)
-    if os.getppid() != parent:
-        os.kill(os.getpid(), signal.SIGKILL)
 
 
 class Watched(asyncio.subprocess.SubprocessStreamProtocol):
@@ -44,9 +39,10 @@ class Watched(asyncio.subprocess.SubprocessStreamProtocol):
 async def started(words: list[str], ends_itself: bool = False) -> AsyncIterator[tuple[asyncio.subprocess.Process, asyncio.Event]]:
     """Gives a process, and what is set once it has ended. In the end it is killed, with what it has started. It also ends with this process,
     unless it sees to that itself. Ctrl-C at the terminal does not reach it."""
-    parent, loop = os.getpid(), asyncio.get_running_loop()
-    more = {} if ends_itself else {"preexec_fn": lambda: end_with(parent)}
-    transport, watched = await loop.subprocess_exec(Watched, *words, start_new_session=True, **more)
+    loop, before = asyncio.get_running_loop(), () if ends_itself else (*WITH_PARENT, str(os.getpid()))
+    if not shutil.which(words[0]):
+        raise FileNotFoundError(errno.ENOENT, os.strerror(errno.ENOENT), words[0])
+    transport, watched = await loop.subprocess_exec(Watched, *before, *words, start_new_session=True)
     try:
         yield asyncio.subprocess.Process(transport, watched, loop), watched.ended
     finally:
