@@ -12,7 +12,7 @@ from ggp_tools.competition.schedule import Match
 from ggp_tools.kif import expressions
 from ggp_tools.match_log import ERRORS, NO_TIME, SHORTAGE, START, Message
 from ggp_tools.records.marks import Mark
-from ggp_tools.records.show import Board, Named, board_marks, named_by
+from ggp_tools.records.show import Board, Named, board_marks
 from ggp_tools.referee import MOST_OF_MOVE, MOST_OF_SCRIPT, Referee, Unchecked
 
 # Boards are formed from so many of the last states, and so many of the last turns are listed.
@@ -68,7 +68,7 @@ class Labels:
 
     @functools.cached_property
     def named(self) -> Named:
-        return named_by(expressions(self.rules.decode("latin-1")))
+        return Named(expressions(self.rules.decode("latin-1")))
 
     def marks(self, board: Board) -> dict[str, Mark]:
         """Returns what a board shows of each label."""

@@ -4,7 +4,7 @@ from ggp_tools.holding.game import Game
 from ggp_tools.holding.match import texts_of
 from ggp_tools.kif import spelled
 from ggp_tools.printable import visible
-from ggp_tools.records.show import Board, Group, board_marks, board_places, boards_of, is_on_board, named_by, places_of, words_of
+from ggp_tools.records.show import Board, Group, Named, board_marks, board_places, boards_of, is_on_board, places_of, words_of
 
 State = frozenset
 Place = tuple[int, int]
@@ -16,7 +16,7 @@ class Shown:
     """A match as it is shown: all its states so far, so that a board keeps its size."""
 
     def __init__(self, game: Game) -> None:
-        self.game, self.states, self.named = game, [texts_of(game.initial)], named_by(game.sentences)
+        self.game, self.states, self.named = game, [texts_of(game.initial)], Named(game.sentences)
         self.state: State = game.initial
         # The moves that were legal so far, by their relations; the last one of each role that had a choice; and the roles that have one.
         self.known: dict[Group, set[str]] = {}

@@ -3,9 +3,9 @@
 import argparse
 import functools
 import re
-from collections.abc import Callable, Iterable, Iterator, Sequence
+from collections.abc import Callable, Iterable, Iterator
 from dataclasses import dataclass
-from typing import TYPE_CHECKING, BinaryIO, NamedTuple
+from typing import TYPE_CHECKING, BinaryIO
 
 from ggp_tools.answers import Whys
 from ggp_tools.holding.game import Game
@@ -132,20 +132,7 @@ class Board:
         return self.across.index(words[at]) + 1, self.up.index(words[at + 1]) + 1, " ".join(words[place] for place in labels)
 
 
-class Named(NamedTuple):
-    """The words of each term that rules give a state, with or without variables, and the moves that they make legal."""
-
-    terms: Sequence[list[str]] = ()
-    moves: Sequence[str] = ()
-
-
-def named_by(sentences: Iterable[Expression]) -> Named:
-    heads = [head for head in map(head_of, sentences) if head[0] in ("init", "next", "legal") and len(head) > 1]
-    terms = (words_of(spelled(head[1])) for head in heads if head[0] != "legal")
-    return Named(list(filter(None, terms)), list(dict.fromkeys(spelled(head[-1]) for head in heads if head[0] == "legal")))
-
-
-def places_of(move: str, board: "Board") -> list[tuple[int, int]]:
+def places_of(move: str, board: Board) -> list[tuple[int, int]]:
     """Returns the places of a board that a move names by two arguments in a row, in their order."""
     words, found, at = words_of(move), [], 1
     while at + 1 < len(words):
@@ -157,45 +144,64 @@ def places_of(move: str, board: "Board") -> list[tuple[int, int]]:
     return found
 
 
-def form_of(words_by_state: list[list[list[str]]], number: int, further: Iterable[list[str]] = ()) -> tuple[int, list[int]] | None:
-    """Returns where the terms of one relation, of so many members, name a place and where its label is; None if they name none. Further
-    terms may be in other states."""
-    terms = [*(words for state in words_by_state for words in state), *further]
+def members_of(states: Iterable[list[list[str]]]) -> list[set[str]]:
+    """Returns the words that each member of a relation is in some states."""
+    return list(map(set, zip(*(words for state in states for words in state))))
+
+
+def form_of(words_by_state: list[list[list[str]]], members: list[set[str]]) -> tuple[int, list[int]] | None:
+    """Returns where the terms of one relation name a place and where its label is; None if they name none. Their members may be these words."""
     # (on X Y); (cell X Y V) and (cell X Y V W); (piece V X Y)
-    for at, labels in {3: [(1, [0])], 4: [(1, [3]), (2, [1])], 5: [(1, [3, 4])]}.get(number, []):
-        if axis_of({term[at] for term in terms}) and axis_of({term[at + 1] for term in terms}):
-            if terms[0][0] in PIECES:
+    for at, labels in {3: [(1, [0])], 4: [(1, [3]), (2, [1])], 5: [(1, [3, 4])]}.get(len(members), []):
+        if axis_of(members[at]) and axis_of(members[at + 1]):
+            if members[0] & PIECES:
                 # Of (king white X Y) and (rook X Y) the relation is the piece, of which there may be one.
                 return at, sorted({0, *labels})
-            is_function = is_pairing(words_by_state) if number == 3 else max(map(len, words_by_state)) < 2
+            is_function = is_pairing(words_by_state) if len(members) == 3 else max(map(len, words_by_state)) < 2
             return None if is_function else (at, labels)
     return None
 
 
+class Named:
+    """What rules name: by relations the words of each term that they give a state, with or without variables, and the moves that may be legal."""
+
+    def __init__(self, sentences: Iterable[Expression] = ()) -> None:
+        heads = [head for head in map(head_of, sentences) if head[0] in ("init", "next", "legal") and len(head) > 1]
+        self.moves = list(dict.fromkeys(spelled(head[-1]) for head in heads if head[0] == "legal"))
+        self.terms: dict[Group, list[list[str]]] = {}
+        for words in filter(None, (words_of(spelled(head[1])) for head in heads if head[0] != "legal")):
+            self.terms.setdefault((words[0], len(words)), []).append(words)
+        self.ground = {group: [words for words in terms if not any(map(is_variable, words))] for group, terms in self.terms.items()}
+        # By relations, the words that each member may be.
+        self.members = {group: members_of([terms]) for group, terms in self.ground.items() if terms}
+
+    @functools.cached_property
+    def boards(self) -> list[Board]:
+        """The boards that are known without a state: moves name places on them. Rows have no letters: (on a b) is a pile."""
+        found = grouped_boards({group: {0: terms} for group, terms in self.ground.items() if terms}, {})
+        return [board for board in found if kind_of(board.up) != "letters" and any(places_of(move, board) for move in self.moves)]
+
+
 def boards_of(states: list[list[str]], named: Named = Named()) -> list[Board]:
     """Returns the boards of a match: one for each relation like (cell X Y V), and one for all others with the same kinds of places. A board
-    also has the places that the rules name. If the states show none, the rules show one: it has places that moves name, and may be empty."""
-    grouped, further = {}, {}
+    also has the places that the rules name; if the states show none, it may be empty."""
+    grouped: dict[Group, dict[int, list[list[str]]]] = {}
     for at, state in enumerate(states):
         for words in filter(None, map(words_of, state)):
             grouped.setdefault((words[0], len(words)), {}).setdefault(at, []).append(words)
-    for words in named.terms:
-        if not any(map(is_variable, words)):
-            further.setdefault((words[0], len(words)), []).append(words)
-    if found := grouped_boards(grouped, further):
-        return found
-    found = grouped_boards({group: {0: terms} for group, terms in further.items()}, {})
-    # Rows have no letters: (on a b) is a pile.
-    return [board for board in found if kind_of(board.up) != "letters" and any(places_of(move, board) for move in named.moves)]
+    return grouped_boards(grouped, named.members) or named.boards
 
 
-def grouped_boards(grouped: dict[Group, dict[int, list[list[str]]]], further: dict[Group, list[list[str]]]) -> list[Board]:
-    """Returns the boards of terms by their relations and states."""
+def grouped_boards(grouped: dict[Group, dict[int, list[list[str]]]], members: dict[Group, list[set[str]]]) -> list[Board]:
+    """Returns the boards of terms by their relations and states, with the words that each member of a relation may be."""
     forms = {}
     for group, by_state in grouped.items():
-        if form := form_of(list(by_state.values()), group[1], further.get(group, ())):
-            terms = [term for terms in (*by_state.values(), further.get(group, ())) for term in terms]
-            places = [{term[form[0] + side] for term in terms} for side in (0, 1)]
+        states, seen = list(by_state.values()), members_of(by_state.values())
+        words = [word | more for word, more in zip(seen, members.get(group, seen))]
+        # What rules name may be no places at all, as what is off the board.
+        words = words if form_of(states, words) else seen
+        if form := form_of(states, words):
+            places = words[form[0] : form[0] + 2]
             own = group if form[0] == 1 and group[1] > 3 else tuple(kind_of(axis_of(place)) for place in places)
             board = forms.setdefault(own, ({}, set(), set()))
             board[0][group] = form
@@ -207,7 +213,7 @@ def grouped_boards(grouped: dict[Group, dict[int, list[list[str]]]], further: di
 
 def board_marks(board: Board, named: Named, labels: Iterable[str] = ()) -> dict[str, Mark]:
     """Returns what a board shows of each label that the rules name, and of further ones, so that a label looks the same in all states."""
-    own = ([words[at] for at in board.forms[words[0], len(words)][1]] for words in named.terms if (words[0], len(words)) in board.forms)
+    own = ([words[at] for at in places] for group, (_, places) in board.forms.items() for words in named.terms.get(group, ()))
     known = {" ".join(label) for label in own if not any(map(is_variable, label))}
     return marks_of(map(visible, known.union(labels)))
 
