@@ -12,16 +12,24 @@ from unittest.mock import patch
 from ggp_tools.competition import live, live_board
 from ggp_tools.competition.files import held
 from ggp_tools.competition.live import Reader
-from ggp_tools.competition.live_board import NO_LINE, NO_VERDICT, TOO_LONG, Labels, LiveBoard, text_in_line
-from ggp_tools.competition.live_pages import awaited_text, board_html, now_part, replaced_part, turn_row
+from ggp_tools.competition.live_board import NO_LINE, NO_VERDICT, TOO_LONG, LiveBoard, text_in_line
+from ggp_tools.competition.live_pages import now_part, open_row, replaced_part, state_html, turn_row
 from ggp_tools.competition.open_match import leave_players
 from ggp_tools.competition.schedule import Match
 from ggp_tools.match_log import Message, event_of
+from ggp_tools.records.show import named_in
 from ggp_tools.referee import Referee
+from html_pages import parsed, text_of
 from live_support import RULES, SILENT, Missed, begin, end, line, opened, plan_in, record_of, started
 from support import GAMES, program
 
 NEVER = float("inf")
+ROLES = "red", "blue"
+
+
+def shown(seen):
+    """Returns what the row of an open match says of whom it waits for."""
+    return text_of(parsed(open_row(seen, ROLES)[1])("td")[4])
 
 
 def setUpModule():
@@ -29,6 +37,11 @@ def setUpModule():
     unittest.enterModuleContext(patch.object(live, "READING", 1e9))
     for share in ("SHARE", "JUDGING_SHARE"):
         unittest.enterModuleContext(patch.object(live, share, 0))
+
+
+def drawn(board):
+    """Returns the last state of a match, as pages have it."""
+    return state_html(board.position.states, ROLES, named_in(board.rules.read_bytes(), False), [board.trouble])
 
 
 class InRoom(unittest.TestCase):
@@ -85,25 +98,28 @@ class Lines(InRoom):
         self.look(reader)
         seen = reader.open[self.match.id]
         self.assertEqual((seen.stage, seen.turn(), seen.awaited()), ("playing", 0, [0, 1]))
+        self.assertEqual(shown(seen), "the answers to START")
         self.say(log, started(self.match))
         self.look(reader)
-        self.assertEqual((seen.turn(), seen.awaited()), (1, [0, 1]))
+        # The state says whose turn it is, and that is shown until the turn is over.
+        self.assertEqual((seen.turn(), seen.awaited(), shown(seen)), (1, [0], f"red to move: {self.match.players[0]}"))
         before = reader.version, seen.since
         self.say(log, self.play(2, "NIL", ["(take 1)"], [0]))
         os.utime(log, (1_000.0, 1_000.0))
         self.look(reader)
         # That one has answered is known here, and changes no page.
         self.assertEqual((seen.turn(), seen.awaited(), reader.version, seen.since), (1, [1], *before))
-        self.assertEqual(awaited_text(seen, ""), "the answers to turn 1")
+        self.assertEqual(shown(seen), f"red to move: {self.match.players[0]}")
+        with patch.object(seen, "is_late", True):
+            self.assertEqual(shown(seen), f"{self.match.players[1]}: turn 1")
         # The time of day in the log may be wrong.
         self.say(log, line(self.match, 1, 2, f"(PLAY {self.match.id} NIL)", SILENT, 5_000, 1_195_000))
         with patch.object(time, "time", lambda: 1_300.0):
             self.look(reader)
         self.assertEqual(seen.since, 1_300.0)
-        self.assertEqual((seen.turn(), seen.awaited(), seen.missed), (2, [0, 1], {1: 1}))
+        self.assertEqual((seen.turn(), seen.awaited(), seen.missed), (2, [1], {1: 1}))
         self.assertEqual([(entry.player, entry.turn, entry.error, entry.move) for entry, _ in reader.last_replaced()], [(self.match.players[1], 1, "TO", "noop")])
-        seen.is_late = True
-        self.assertIn(f"{self.match.players[0]}</a>, <a", awaited_text(seen, ""))
+        self.assertEqual(shown(seen), f"blue to move: {self.match.players[1]}")
 
     def seen_after(self, *texts, strikes=0, start=None):
         """Returns what is seen of the first match after these lines."""
@@ -116,7 +132,7 @@ class Lines(InRoom):
     def test_a_player_that_is_retired_is_not_awaited(self):
         for one, two in (("(bad)", "(bad)"), (SILENT, Missed("CE (no connection)")), ("a b", "; (take 1)")):
             turns = self.play(2, "NIL", [one, "noop"]), self.play(3, "((take 1) noop)", [two, "(take 1)"])
-            self.assertEqual(self.seen_after(*turns).awaited(), [0, 1])
+            self.assertEqual(self.seen_after(*turns).awaited(), [0])
             seen = self.seen_after(*turns, strikes=2)
             self.assertEqual((seen.turn(), seen.awaited()), (3, [1]))
             seen = self.seen_after(*turns, self.play(4, "(noop (take 1))", ["", "noop"], [1]), strikes=2)
@@ -183,7 +199,7 @@ class Lines(InRoom):
         log = line(other, 0, 2, f"(PLAY {other.id} NIL)", "noop") + opened(other)
         log += "".join(line(stranger, role, 2, f"(PLAY {self.match.id} NIL)", "noop") for role in (0, 2))
         seen = self.seen_after(log)
-        self.assertEqual((seen.turn(), seen.awaited(), seen.last[0].kind), (1, [0, 1], "START"))
+        self.assertEqual((seen.turn(), seen.awaited(), seen.last[0].kind), (1, [0], "START"))
 
     def test_how_many_moves_were_replaced_is_said(self):
         log = self.play(2, "NIL", [SILENT, SILENT]) + self.play(3, "((take 1) noop)", [SILENT, SILENT])
@@ -347,7 +363,7 @@ class States(InRoom):
         """Returns the board of a match after these messages, as the referee has it."""
         file = self.plan.folder.path / "own-rules"
         file.write_bytes(rules)
-        board = LiveBoard(match or self.match, strikes, file, Labels(rules))
+        board = LiveBoard(match or self.match, strikes, file)
         return self.follow(board, started(self.match) + log)
 
     def follow(self, board, log):
@@ -381,7 +397,7 @@ class States(InRoom):
         self.assertEqual((len(board.position.moves), board.trouble), (1, ""))
         self.follow(board, self.play(4, "(noop (take 1))", ["", "(take 1)"], [1]))
         self.assertEqual((len(board.position.moves), board.trouble), (1, NO_LINE))
-        self.assertIn(html.escape(NO_LINE), str(board_html(board)))
+        self.assertIn(html.escape(NO_LINE), str(drawn(board)))
         self.assertFalse(board.is_due())
         # It goes on once the line is there.
         self.follow(board, self.play(3, "((take 1) noop)", ["", "(take 1)"], [1]) + self.play(5, "(noop (take 1))", ["noop"], [0]))
@@ -420,9 +436,9 @@ class States(InRoom):
     def test_a_label_looks_the_same_in_each_state(self):
         # At first there is one kind of label, which alone might mean anything.
         board = self.board(rules=(GAMES / "tictactoe.kif").read_bytes())
-        self.assertEqual(re.findall("<i class=\"ground\"[^>]*>(.*?)</i>", board_html(board)), ["\u00b7"] * 9)
+        self.assertEqual(re.findall("<i class=\"ground\"[^>]*>(.*?)</i>", drawn(board)), ["\u00b7"] * 9)
 
     def test_the_board(self):
-        text = board_html(self.board(self.play(2, "NIL", ["(take 2)", "noop"])))
+        text = drawn(self.board(self.play(2, "NIL", ["(take 2)", "noop"])))
         self.assertEqual(re.findall(r'title="([^"]*)"', html.unescape(text)), ["1 1: white man", "1 2: black king"])
-        self.assertIn("(heap 1)  (turn blue)", text)
+        self.assertEqual([term.text for term in parsed(text).select("li:not(.gone)")], ["(heap 1)"])

@@ -11,7 +11,7 @@ import threading
 import pytest
 
 from ggp_tools.competition.live import Room, Seen
-from ggp_tools.competition.live_board import Labels, LiveBoard
+from ggp_tools.competition.live_board import LiveBoard
 from ggp_tools.competition.schedule import Match
 from ggp_tools.competition.tail import Tail
 from ggp_tools.match_log import ENDS, Message, event_of
@@ -100,7 +100,7 @@ class Matches(InFolder):
     def follow(self, lines: list[bytes], record: dict) -> None:
         log, referee, count = self.folder / "log", Counting(program()), 0
         log.write_bytes(b"")
-        board = LiveBoard(self.match, record["strikes"], self.folder / "rules", Labels(RULES.encode()))
+        board = LiveBoard(self.match, record["strikes"], self.folder / "rules")
         seen = Seen(self.match, Tail(str(log), event_of), board)
         messages = [event for event in map(event_of, lines) if isinstance(event, Message)]
         for line in lines:

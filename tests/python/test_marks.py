@@ -3,7 +3,7 @@
 import unittest
 
 from ggp_tools.records.marks import LONGEST, Mark, marks_of, numbered, shortened
-from ggp_tools.records.show import board_page, board_places, boards_of, marks_of_board
+from ggp_tools.records.show import Named, board_page, board_places, boards_of
 from html_pages import parsed
 
 KING, PAWN, MAN, CROWNED, STONE = "\u265a", "\u265f\ufe0e", "\u26c2", "\u26c3", "\u25cf"
@@ -88,7 +88,7 @@ class Boards(unittest.TestCase):
     def cells(self, *terms):
         """Returns of each cell of the board of these terms its classes, its title and its text."""
         (board,) = boards_of([list(terms)])
-        page = board_page(board, board_places(board, list(terms)), None, None, marks_of_board(board, [list(terms)]))
+        page = board_page(board, board_places(board, list(terms)), None, None, board.marks(Named()))
         found = parsed(page)("i")
         return [(" ".join(cell.get("class", [])), cell.get("title", ""), cell.has_attr("tabindex"), cell.text) for cell in found]
 

@@ -17,10 +17,12 @@ from ggp_tools.competition import side_by_side
 from ggp_tools.competition.competition_file import read_competition
 from ggp_tools.descriptions.loading import Rules
 from ggp_tools.competition.files import Folder
-from ggp_tools.competition.pages import Pages, seconds_between, spelt
+from ggp_tools.competition.growth import History, grown
+from ggp_tools.competition.pages import Pages, Site, seconds_between, spelt
 from ggp_tools.competition.plan import Plan
 from ggp_tools.competition.results import result_of
 from ggp_tools.competition.side_by_side import made_side_by_side
+from ggp_tools.competition.table import tables_of
 from ggp_tools.match_log import End, line_of
 from ggp_tools.referee import Unchecked
 from html_pages import links_of, parsed, rows_of, text_of
@@ -80,6 +82,29 @@ class SideBySide(unittest.TestCase):
             list(made_side_by_side(killed, [(1,), (2,)]))
 
 
+class Knockout(unittest.TestCase):
+    def test_the_bracket_and_who_has_won(self):
+        folder = Folder(pathlib.Path(self.enterContext(tempfile.TemporaryDirectory())))
+        competition = read_competition(toml([(name, f"h:{at}") for at, name in enumerate(("ann", "bob", "cid"), 1)], [("one", "f", 'board = "hex"')], 'kind = "knockout"').encode())
+        plan, results, found = Plan(folder, competition, {"one": Rules(b"(role a)", "0" * 64, ("a", "b"))}, []), {}, []
+        for goals in ({}, {"bob": 0, "cid": 100}, {"ann": 50, "cid": 50}):
+            results |= {match.id: result_of(record_of(match, 0) | {"goalValues": [goals[name] for name in match.players]}, match) for match in plan.matches[-2:]}
+            growing = grown(History(), competition, {"one": 2}, lambda match: results.get(match.id))
+            plan.matches, plan.rounds = growing.matches, growing.rounds.found
+            parts = Site(plan).first_parts(tables_of(competition, list(results.values()), plan.rounds), list(results.values()))
+            page = parsed("".join(part.html() for part in parts))
+            pairs = [rows_of(pair) for pair in page.select("#bracket li")]
+            through = [text_of(row.td) for row in page.select("#bracket .through")]
+            found.append((pairs, through, [text_of(said) for said in page.select(".result span")]))
+        first = [["ann", ""], ["(bye)", ""]]
+        self.assertEqual(found[0], ([first, [["bob", ""], ["cid", ""]], [["ann", ""], ["?", ""]]], ["ann"], []))
+        self.assertEqual(found[1], ([first, [["bob", "0"], ["cid", "2"]], [["ann", ""], ["cid", ""]]], ["ann", "cid"], []))
+        # With the same points and goals the better seed goes on.
+        self.assertEqual(found[2][1:], (["ann", "cid", "ann"], ["Winner: ann", "Second: cid", "Third: bob"]))
+        row = next(row for row in rows_of(page.find(id="matches")) if row[0] == plan.matches[-1].id)
+        self.assertEqual((row[2], row[3]), (" and ".join(plan.matches[-1].players) + " drew", ", ".join(f"{name} 50" for name in plan.matches[-1].players)))
+
+
 class PagesOfMany(unittest.TestCase):
     def setUp(self):
         folder = Folder(pathlib.Path(self.enterContext(tempfile.TemporaryDirectory())))
@@ -120,6 +145,7 @@ class PagesOfMany(unittest.TestCase):
         first, game = (self.page(pages, name) for name in ("index.html", "games/one.html"))
         self.assertIn("300 of 300 matches are over. From 2026-01-02 03:04:05 to 2026-01-02 03:04:07 UTC.", text_of(first))
         self.assertEqual({row[-1] for row in rows_of(first.find(id="matches"))}, {"2.5"})
+        self.assertEqual([text_of(said) for said in first.select(".result span")], ["Winner: p24", "Second: p23", "Third: p22"])
         self.assertEqual([text.get_text() for text in game("pre")], ["(role ?<script>)", "; </pre><script>\n(role a)"])
         self.assertEqual(first("script") + game("script"), [])
 
@@ -188,7 +214,7 @@ class PagesOfMany(unittest.TestCase):
         pages.write([result_of(record, match)])
         errors = self.page(pages, f"players/player-{match.players[1]}.html").find(id="errors")
         self.assertEqual([row[1] for row in rows_of(errors)[1:]], [str(turn) for turn in range(15, 5, -1)])
-        self.assertEqual(links_of(errors)[1], f"../matches/{match.id}.html#state-15")
+        self.assertEqual(links_of(errors)[1], f"../matches/{match.id}.html#turn=15")
         for words in ("The last 100, and of a match the last 10.", "5 more stand in the records"):
             self.assertIn(words, text_of(errors))
 

@@ -129,16 +129,18 @@ class Pages(Served):
         first, own = self.page("/index.html"), self.page(f"/matches/{match.id}.html")
         self.assertIn("after turn 1", first)
         self.assertIn('title="1 2: black king"', first)
-        self.assertEqual(rows_of(parsed(first).find(id="open"))[0][3:5], ["2", "the answers to turn 2"])
-        self.assertIn("State 1, after turn 1", own)
-        self.assertIn("<code>(take 2)</code>", own)
+        self.assertEqual(rows_of(parsed(first).find(id="open"))[0][3:5], ["2", f"blue to move: {match.players[1]}"])
+        self.assertIn("After turn 1: blue to move", own)
+        # The other role had one legal move.
+        turn = parsed(own).find(id="turn-1")
+        self.assertEqual((rows_of(parsed(own).find(id="turns")), text_of(turn.select_one(".idle"))), ([["1", "(take 2)", "noop"]], "noop"))
         self.say(log, self.play(match, 3, "((take 2) noop)", [SILENT]))
         self.assertNotIn("no answer came in time", self.page("/"))
         # Once half of the clock is over the page names who is awaited.
         self.site.reader.open[match.id].began -= 1_000
         self.look()
         now = parsed(self.page(f"/matches/{match.id}.html")).find(id="now")
-        self.assertRegex(text_of(now), r"awaited: bob: turn 2 \(")
+        self.assertRegex(text_of(now), r"blue to move: bob \(")
         self.assertEqual(links_of(now), ["../players/player-bob.html"])
         self.say(log, self.play(match, 3, "((take 2) noop)", [SILENT, "(take 1)"]).splitlines(keepends=True)[1])
         self.assertIn("no answer came in time", self.page("/"))
@@ -148,8 +150,8 @@ class Pages(Served):
         self.look()
         self.assertIn("1 of 6 matches are over.", self.page("/"))
         over = self.page(f"/matches/{match.id}.html")
-        self.assertIn('id="state-2"', over)
-        self.assertIn(f"<p>{match.players[1]} won.</p>", over)
+        self.assertIn('id="turn=2"', over)
+        self.assertEqual([text_of(said) for said in parsed(over).select("strong, #turn\\=2 h2")], ["bob won.", "After turn 2: bob won."])
         self.assertEqual([text_of(winner) for winner in parsed(self.page("/")).select("#matches strong")], [f"{match.players[1]} 100"])
         player = self.page("/players/player-ann.html")
         for text in ("no answer came in time", f"(PLAY {match.id} ((take 2) noop))", "<code>TO</code>", f"<code>{SILENT}</code>", "5 ms", "<svg"):
@@ -165,9 +167,23 @@ class Pages(Served):
         self.assertIn("before turn 1", self.page("/index.html"))
         # The site has no moment to look between the last answer of a turn and the first one of the next.
         self.say(log, self.play(match, 2, "NIL", ["(take 2)", "noop"]) + self.play(match, 3, "((take 2) noop)", ["noop"]))
-        self.assertIn("after turn 1; awaited: the answers to turn 2 (", self.page("/index.html"))
-        own = self.page(f"/matches/{match.id}.html")
-        self.assertIn("State 1, after turn 1", own)
+        self.assertIn(f"after turn 1; blue to move: {match.players[1]} (", text_of(parsed(self.page("/index.html"))))
+        self.assertIn("After turn 1: blue to move", self.page(f"/matches/{match.id}.html"))
+
+    def test_the_board_of_a_match_stays_for_a_minute_once_it_is_over(self):
+        match, other = self.plan.matches[:2]
+        begin(self.plan, match, started(match))
+        self.look()
+        self.page("/")
+        moves, errors = [["(take 2)", "noop"], ["noop", "(take 1)"]], [["", ""], ["", ""]]
+        for over in (match, other):
+            end(self.plan, over, record_of(over, moves, errors, [0, 100]))
+        found = []
+        for moment in (1_000.0, 1_059.0, 1_060.0):
+            with patch.object(live, "clock", lambda: moment):
+                self.look()
+                found.append([text_of(board.select_one(".dim")) for board in parsed(self.page("/")).select("#boards > div")])
+        self.assertEqual(found, [[f"after turn 2: {match.players[1]} won."]] * 2 + [[]])
 
     def test_each_open_match_has_its_board(self):
         moves = dict(zip(self.plan.matches, (["(take 1)", "2 2: black king"], ["(take 2)", "1 2: black king"])))
@@ -393,12 +409,12 @@ class Delayed(Served):
         page = self.page(f"/matches/{match.id}.html")
         self.look()
         page = self.page(f"/matches/{match.id}.html")
-        self.assertIn("after turn 1", page)
+        self.assertIn("After turn 1", page)
         self.assertNotIn("(take 1)", page)
         self.assertIn(f'data-now="{self.moment - 60:.1f}"', page)
         self.assertEqual(self.look_at(50), ("1 match is open", "0 of 6"))
         self.assertEqual(self.look_at(10), ("0 matches are open", "1 of 6"))
-        self.assertIn('id="state-2"', self.page(f"/matches/{match.id}.html"))
+        self.assertIn('id="turn=2"', self.page(f"/matches/{match.id}.html"))
 
     def test_a_plan_is_shown_late(self):
         self.plan.folder.schedule.write_text("another")

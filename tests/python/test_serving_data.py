@@ -33,7 +33,7 @@ class Data(Served):
         log = begin(self.plan, match, started(match) + self.play(match, 2, "NIL", ["(take 1)", "noop"]))
         self.look()
         said = self.json(own)
-        shown = {"state": "open", "stage": "playing", "turns": 1, "awaited": [], "moves": [["(take 1)", "noop"]], "errors": [["", ""]], "trouble": ""}
+        shown = {"state": "open", "stage": "playing", "turns": 1, "awaited": [match.players[1]], "moves": [["(take 1)", "noop"]], "errors": [["", ""]], "trouble": ""}
         self.assertEqual({key: said[key] for key in shown}, shown)
         self.assertEqual([state["turn"] for state in said["states"]], [0, 1])
         self.assertIn("(heap 2)", said["states"][1]["terms"])

@@ -3,11 +3,14 @@ a browser would load or run except the page's own script. What is not a record i
 
 import copy
 import json
+import pathlib
+import re
 import subprocess
 
 import pytest
 from ggp_tools.printable import visible
 from ggp_tools.records import show
+from browser import Browser
 from html_pages import links_of, parsed
 from support import GAMES, TOP, program
 
@@ -45,8 +48,8 @@ FORMS = [
 # What a board of tic-tac-toe shows.
 SHOWN = {"x": "\u2715", "o": "\u25ef", "b": "\u00b7"}
 TAGS = {"html", "head", "meta", "title", "style", "body", "h1", "p", "span", "table", "tr", "th", "td", "div", "main", "nav", "button"}
-TAGS |= {"section", "h2", "ul", "li", "b", "i", "br", "a", "code", "script"}
-ATTRIBUTES = {"lang", "charset", "name", "http-equiv", "content", "class", "id", "style", "title", "tabindex", "href", "data-key"}
+TAGS |= {"section", "h2", "ul", "li", "b", "i", "br", "a", "code", "script", "strong", "label", "input"}
+ATTRIBUTES = {"lang", "charset", "name", "http-equiv", "content", "class", "id", "style", "title", "tabindex", "href", "data-key", "type"}
 
 
 def made(record):
@@ -82,19 +85,25 @@ def parts_of(record: dict) -> tuple[dict, dict]:
     on_boards = sum(bool(cell.text) or cell.has_attr("title") for cell in shown("i")) + len(shown("br"))
     found = {
         "turns": len(shown.select("tr.turn")),
-        "moves": [cell.find(string=True, recursive=False) for cell in shown.select("tr.turn td + td")],
+        "moves": [next(cell.strings) for cell in shown.select("tr.turn td + td")],
         "errors": [why.text for why in shown.select("span.why")],
         "substituted moves": len(shown.select("td.substituted")),
         "roles": [row[1] for row in players_rows],
         "players": [row[2] for row in players_rows],
         "states": [state["id"] for state in shown.select("section.state")],
         "terms": on_boards + len(shown.select("li:not(.gone)")),
+        "titles": [title.text for title in shown.select("section.state h2")],
         "scripts": (len(shown("script")), page.count(b"<script")),
         "numbers of turns": [link.text for link in shown("a")],
     }
+    # Whose turn it is stands in the heading of a state, that of the last one says who won.
+    turns = [[role for role in record["roles"] if {f"(control {role})", f"(turn {role})"} & set(state)] for state in record["states"]]
+    said = [f": {role[0]} to move" if role else "" for role in turns]
+    best = [name for name, goal in zip(players, record["goalValues"]) if goal == max(record["goalValues"]) and len(players) > 1]
+    said[-1] = f": {' and '.join(best)} {'won' if len(best) == 1 else 'drew'}." if best else said[-1]
     assert {element.name for element in shown.find_all()} <= TAGS
     assert all(element.attrs.keys() <= ATTRIBUTES for element in shown.find_all())
-    assert all(link.startswith("#state-") for link in links_of(shown))
+    assert all(link.startswith("#turn=") for link in links_of(shown))
     wanted = {
         "turns": len(record["moves"]),
         "moves": moves,
@@ -102,8 +111,9 @@ def parts_of(record: dict) -> tuple[dict, dict]:
         "substituted moves": len(errors),
         "roles": roles,
         "players": players,
-        "states": [f"state-{at}" for at in range(len(record["states"]))],
-        "terms": sum(map(len, record["states"])),
+        "states": [f"turn={at}" for at in range(len(record["states"]))],
+        "terms": sum(map(len, record["states"])) - sum(map(len, turns)),
+        "titles": [f"{f'After turn {at}' if at else 'Before turn 1'}{words}" for at, words in enumerate(said)],
         "scripts": (1, 1),
         "numbers of turns": [str(turn + 1) for turn in range(len(record["moves"]))],
     }
@@ -181,7 +191,55 @@ def test_the_board_of_tictactoe_and_what_each_turn_changed() -> None:
     record = example("tictactoe")
     shown = parsed(made(record)[0])
     assert [cell.text for cell in shown("i")] == [SHOWN[term[-2]] for state in record["states"] for term in state if term.startswith("(cell ")]
-    assert [len(shown.select(kind)) for kind in ("i.new", "li.new", "li.gone")] == [len(record["moves"])] * 3
+    assert [len(shown.select(kind)) for kind in ("i.new", "li.new", "li.gone", ".idle")] == [len(record["moves"]), 0, 0, len(record["moves"])]
+
+
+def test_a_page_in_a_browser(tmp_path: pathlib.Path) -> None:
+    record = example("tictactoe")
+    (tmp_path / "page.html").write_bytes(made(record)[0])
+    address, title = f"file://{tmp_path}/page.html", "document.querySelector('.state.shown h2').innerText"
+    with Browser() as browser:
+        page = browser.page(address)
+        assert page.value(title) == f"After turn 5: {record['players'][0]} won."
+        page.go(f"{address}#turn=2")
+        page.until(f"{title} === 'After turn 2: xplayer to move'")
+        page.click("document.querySelector('[data-key=ArrowRight]')")
+        assert page.value("location.hash") == "#turn=3"
+        forced = "document.querySelector('.turn .idle').checkVisibility()"
+        assert not page.value(forced)
+        page.click("document.querySelector('.idle-too input')")
+        assert page.value(forced)
+        page.click("document.querySelector('[data-key=p]')")
+        page.until("location.hash === '#turn=5'")
+
+
+def placed(places: list[tuple[int, int]]) -> list[str]:
+    return [f"(cell {x} {y} b)" for x, y in places]
+
+
+SQUARE = [(x, y) for x in range(1, 6) for y in range(1, 6)]
+
+
+@pytest.mark.parametrize(
+    ("places", "is_hex", "lean"),
+    [
+        (SQUARE, False, 0),
+        (SQUARE, True, 1),
+        ([(x, y) for x, y in SQUARE if 4 <= x + y <= 8], False, 1),
+        ([(x, y) for x, y in SQUARE if abs(x - y) <= 2], False, -1),
+        ([(x, y) for x, y in SQUARE if y <= x], False, -1),
+        ([(x, y) for x, y in SQUARE if x + y > 3], False, 0),
+    ],
+    ids=["square", "rhombus", "hexagon", "mirrored hexagon", "triangle", "square without a corner"],
+)
+def test_boards_of_hexagons(places: list[tuple[int, int]], is_hex: bool, lean: int) -> None:
+    named = show.named_in(" ".join(f"(init {term})" for term in placed(places)).encode(), is_hex)
+    first = placed(places[: len(places) // 2])
+    (board,) = show.boards_of([first], named)
+    assert (board.lean, len(board.places)) == (lean, len(places))
+    page = parsed(show.page_of({**example("countdown"), "moves": [], "errors": [], "states": [first]}, None, None, "", named))
+    cells = [tuple(map(int, re.findall("[0-9]+", cell["style"]))) for cell in page.select(".hex i")]
+    assert cells == (sorted(places) if lean else [])
 
 
 @pytest.mark.parametrize(("state", "count"), FORMS)

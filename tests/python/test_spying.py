@@ -196,7 +196,9 @@ class Desk:
         phase = "starting" if not at else "playing" if playing else "aborting"
         record = {"phase": phase, "errors": errors, "moves": [[f"(say zq{turn}x{role})" for role in range(roles)] for turn in range(1, len(errors) + 1)]}
         replies = ["opened", *("taken" for word, *_ in calls if word != "next"), *("owe x" if role in playing or not playing else "hold" for role in range(roles))]
-        return replies, record | {"states": [[f"(step {turn})"] for turn in range(len(errors) + 1)]}
+        # Every other state says whose turn it is, though all may say something.
+        states = [[f"(step {turn})", f"(control r{turn // 2 % roles})"][: 1 + turn % 2] for turn in range(len(errors) + 1)]
+        return replies, record | {"states": states, "roles": [f"r{role}" for role in range(roles)]}
 
     def taking(self, _):
         return self

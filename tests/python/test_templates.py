@@ -25,16 +25,18 @@ HARMLESS = "name"
 def values_of(text: str) -> dict[str, object]:
     """Returns what macros get for their arguments by the names of these. Each text is this one, wherever a text comes from outside."""
     match = Value(id=text, game=text, players=(text, text), start=1, play=2)
-    seen = Value(players=((text, text), (text, text)), text=text, since=1.0, clock=text, is_of_players=True)
+    seen = Value(players=((text, text), (text, text)), text=text, since=1.0, clock=text, is_of_players=True, mover=text)
+    found = Value(boards=markupsafe.Markup("<p>made</p>"), terms=[text, text], before={text}, gone=[text], is_empty=True)
     html = markupsafe.Markup("<p>made</p>")
     texts = [text, text]
     numbers = dict.fromkeys(("count", "of_all", "shown", "waiting", "lost", "open", "unread", "turn", "turns", "number", "more", "mean", "moment"), 2)
     numbers |= dict.fromkeys(("x", "y", "width", "height", "radius"), 3) | {"is_ground": False, "is_held": False}
-    made = dict.fromkeys(("plot", "boards", "state"), html)
+    made = dict.fromkeys(("plot", "boards", "state", "control"), html)
     lists = dict.fromkeys(("notes", "remarks", "lines", "left_out", "ids", "terms", "now", "gone", "heads", "games", "roles", "names", "across"), texts)
-    pairs = {"missed": [(text, 1)], "replaced": [(text, 1)], "spans": [(text, text), ("other", text)], "moves": [(text, text, True)], "players": seen.players}
+    pairs = {"missed": [(text, 1)], "replaced": [(text, 1)], "spans": [(text, text), ("other", text)], "players": seen.players}
+    pairs["moves"] = [Value(text=text, error=error, why=text, is_idle=is_idle) for error, is_idle in ((text, False), ("", True), ("", False))]
     others = {"seats": [(text, text, True), (text, text, False)], "marks": [Value(text=text, side=text)] * 2, "matches": [match]}
-    others |= {"match": match, "seen": seen, "clocks": match, "player_text": text.encode("utf-8", "replace"), "up": texts}
+    others |= {"match": match, "seen": seen, "found": found, "clocks": match, "player_text": text.encode("utf-8", "replace"), "up": texts}
     return numbers | made | lists | pairs | others
 
 
@@ -46,6 +48,8 @@ def values_of_macro(text: str) -> dict[str, dict[str, object]]:
     return {
         "competition.standings": {"rows": [(text, ["1", text, text])], "up": "../"},
         "competition.crosstable": {"rows": [["1", text, text]]},
+        "competition.head": {"first": [(text, [text, text])]},
+        "competition.bracket": {"rounds": [[[(text, text, True), (text, text, False)]]], "first": 1},
         "competition.rounds": {"rows": [(1, (text, text), [text]), (1, (text, ""), [text])], "count": 5},
         "competition.rules": {"text": text.encode("utf-8", "replace")},
         "competition.seats": {"rows": [(text, text, [text])]},
@@ -53,10 +57,10 @@ def values_of_macro(text: str) -> dict[str, dict[str, object]]:
         "live.replaced": {"rows": [(error, 1, text, text)]},
         "live.matches": {"rows": [(match, text)]},
         "live.answers": {"rows": [(text, text, text, 1)]},
-        "live.turn_row": {"moves": [(text, text), (text, "")]},
         "live.seats": {"players": (text, text)},
         "live.waiting": {"waiting": text},
         "boards.terms": {"before": None},
+        "boards.open_hexagons": {"lean": 1, "shift": 2, "halves": 3, "tops": {1: 2}},
         "boards.cell": {"marks": [Value(text=visible(text), side=text)] * 2},
         "plots.ratings": {"rows": [row], "ticks": [(1, text)]},
         "plots.goals": {"lines": [(1, text)], "dots": [(1, 2)], "means": [(1, 2)]},
@@ -106,7 +110,7 @@ def whole_pages(text: str) -> list[bytes]:
     record = json.loads((GAMES / "tictactoe.out").read_text().splitlines()[-1])
     record |= {"matchId": text, "players": [text] * 2, "roles": [text] * 2, "startMarks": [text] * 2, "endMarks": [text] * 2}
     record |= {"moves": [[text] * 2 for _ in record["moves"]], "errors": [[text] * 2 for _ in record["errors"]], "states": [[text] for _ in record["states"]]}
-    row = {"name": text, "page": text, "game": text, "players": [(text, 1)], "phase": text, "turns": 1, "verdict": text, "is_lawful": False}
+    row = {"name": text, "page": text, "game": text, "players": [(text, 1)], "phase": text, "turns": 1, "winner": text, "verdict": text, "is_lawful": False}
     live = {"now": 1.0, "events": text, "reload": 10}
     return [
         page_of(read_record(json.dumps(record).encode())),

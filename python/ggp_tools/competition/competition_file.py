@@ -42,6 +42,8 @@ IDS = COUNTED_IDS, RANDOM_IDS = "counted", "random"
 ORDERS = BY_GOALS, BY_POINTS = "goals", "points"
 # What START carries: the rules that the referee plays, or the description that they were made from.
 PLAYER_RULES = ("ground", "variables")
+# How pages draw the boards of a game: by the shape of the places, or with hexagons.
+BOARDS = "shape", "hex"
 # Keys that had another name before version 0.2.0, by that name.
 RENAMED = {"told": "player_rules", "hosts": "launcher"}
 
@@ -240,7 +242,7 @@ def keys_of(kind: type) -> list[str]:
 class Game:
     """A game that is played: its name, the file of its description, its clocks in seconds, and which rules its players get, with the line
     that says so; the file of the description with variables, where it stands beside ground rules (else empty); the seconds in which it is
-    instantiated; whether it is planned though its random matches are aborted; and whether its rules may be large."""
+    instantiated; whether it is planned though its random matches are aborted; whether its rules may be large; and how its boards are drawn."""
 
     name: str = read_by(Section.name, NAME, 40, FIRST)
     file: str = read_by(Section.path_of_file)
@@ -253,6 +255,7 @@ class Game:
     line: int = line_of()
     aborts: bool = read_by(Section.flag)
     large: bool = read_by(Section.flag)
+    board: str = read_by(Section.word, BOARDS, BOARDS[0])
 
     def tells_variables(self) -> bool:
         """Returns whether players get the description with variables."""

@@ -17,7 +17,7 @@ from typing import NamedTuple
 from ggp_tools.competition.choices import counted_result
 from ggp_tools.competition.competition_file import EACH_MATCH
 from ggp_tools.competition.files import STAGES, Folder, lock_place
-from ggp_tools.competition.live_board import Answers, Labels, LiveBoard
+from ggp_tools.competition.live_board import Answers, LiveBoard
 from ggp_tools.competition.plan import Plan
 from ggp_tools.competition.playing import NOT_BEGUN
 from ggp_tools.competition.replaced import MOST_OF_MATCH, Replaced, newest, replaced_moves
@@ -35,6 +35,8 @@ from ggp_tools.referee import Referee
 SHARE, READING = 10, 1.0
 # The list of many locks is read in pieces, and may lack one where others go meanwhile. So in so many lists it has to be missing.
 LOOKS = 5
+# So many seconds the last state of a match stays where its boards were, once it is over.
+STAYS = 60
 # A match whose room names its players alone: they are sent ABORT for a run that was ended.
 WAITING = "waiting"
 FAULT = "these pages have a fault, so what they show of it may be wrong: {!r}"
@@ -115,8 +117,9 @@ def note_of(line: bytes) -> str | None:
 @dataclass
 class Seen:
     """A match that is open, as its room and its log show it. What is shown follows from the rounds that are finished, and from a clock of
-    this computer that begins when the last of them was found finished. Once half of the open round's time is over it is shown whose answers
-    are awaited, and nothing else of that round. `version` counts what has changed of this."""
+    this computer that begins when the last of them was found finished. If the state says whose turn it is, that role is awaited. Once half
+    of the open round's time is over it is shown whose answers are awaited, and nothing else of that round. `version` counts what has changed
+    of this."""
 
     match: Match
     tail: Tail[Event]
@@ -168,11 +171,19 @@ class Seen:
         return self.is_over() or self.board.position.is_ending()
 
     def awaited(self) -> list[int]:
-        """Returns the roles that have not answered in the open round."""
+        """Returns the roles that have not answered in the open round: of these only the one whose turn it is, if the state says it."""
         position = self.board.position
         if self.is_ending():
             return [role for role in range(len(self.match.players)) if role not in self.ends]
-        return sorted(position.owing - self.board.answers.get(position.round(), {}).keys())
+        found = sorted(position.owing - self.board.answers.get(position.round(), {}).keys())
+        return [position.mover()] if position.mover() in found else found
+
+    def named(self) -> list[int] | None:
+        """Returns the awaited roles that are shown, as far as they are: at first the one whose turn it is, which follows from the state."""
+        if self.is_late:
+            return self.awaited()
+        mover = None if self.is_ending() else self.board.position.mover()
+        return None if mover is None else [mover]
 
     def take_event(self, event: Event) -> None:
         """Takes an event of the match. A message to another player says nothing of this one."""
@@ -241,7 +252,7 @@ class Seen:
         if self.shown[:1] != (since,):
             self.since, self.began = self.now, clock()
         self.is_late = clock() - self.began > (self.match.play if self.turn() else self.match.start) / 2
-        shown = since, self.board.version, self.awaited() if self.is_late else None
+        shown = since, self.board.version, self.named()
         self.version += shown != self.shown
         self.shown = shown
 
@@ -291,10 +302,12 @@ class Reader:
 
     def __init__(self, plan: Plan, referee: Referee, delay: Delay | None = None) -> None:
         self.plan, self.referee, self.known, self.delay = plan, referee, {match.id: match for match in plan.matches}, delay or Delay()
-        self.labels = {game: Labels(rules.text) for game, rules in plan.rules.items()}
         self.place = {match.id: at for at, match in enumerate(plan.matches)}
         self.open: dict[str, Seen] = {}
         self.results: dict[str, Result] = {}
+        # The matches that were open here and have no result yet, and those that got it a moment ago, with that moment of the clock.
+        self.ending: set[str] = set()
+        self.ended: dict[str, float] = {}
         self.faults: dict[str, str] = {}
         # What each record was when it was read, and those that are to be read.
         self.identities: dict[str, Identity] = {}
@@ -323,7 +336,9 @@ class Reader:
         for name in gone:
             self.look_at_record(name)
         self.look_at_records()
-        self.version += sight.is_held != self.is_held
+        staying = {name: moment for name, moment in self.ended.items() if name in self.results and clock() - moment < STAYS}
+        self.version += (staying != self.ended) + (sight.is_held != self.is_held)
+        self.ended = staying
         self.is_held = sight.is_held
 
     def rooms_there(self) -> dict[str, Room]:
@@ -343,10 +358,11 @@ class Reader:
         for name in gone:
             del self.open[name]
             self.troubles.pop(name, None)
+        self.ending.update(gone)
         for name in sorted(rooms.keys() - self.open.keys() - self.results.keys(), key=self.place.__getitem__):
             self.faults.pop(name, None)
             match = self.known[name]
-            board = LiveBoard(match, strikes, folder.rules_of(match.game), self.labels[match.game])
+            board = LiveBoard(match, strikes, folder.rules_of(match.game))
             self.open[name] = Seen(match, Tail(str(folder.room_log(name)), event_of, str(folder.log(name))), board)
         self.version += len(gone) + sum(self.look_at_room(name, seen, rooms[name]) for name, seen in self.open.items())
         return gone
@@ -493,6 +509,9 @@ class Reader:
         self.faults.pop(name, None)
         self.results[name] = counted_result(record, data, match, self.plan.competition, self.plan.rules[match.game])
         self.results_version += 1
+        if name in self.ending:
+            self.ending.remove(name)
+            self.ended[name] = clock()
         self.note_replaced(match, record, found.st_mtime)
 
     def refuse(self, name: str, why: OSError | NoRecord) -> None:

@@ -34,7 +34,7 @@ def state_keys(reader: Reader, match: Match) -> Keys:
         outcomes, replaced = zip(*((result.outcome(role), result.replaced(role)) for role in range(len(match.players))))
         return {"state": "over", **result_keys(result), "outcomes": outcomes, "replaced": replaced}
     if seen := reader.open.get(match.id):
-        status = status_of(seen)
+        status = status_of(seen, reader.plan.roles(match.game))
         return {"state": "open", "stage": stage_of(seen), "turns": len(seen.board.position.moves), "since": status.since, "awaited": status.players}
     why = reader.faults.get(match.id) or reader.given_up.get(match.id)
     return {"state": "given up", "why": why} if why else {"state": "waiting"}

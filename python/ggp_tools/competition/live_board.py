@@ -1,7 +1,6 @@
 """Follows a match that is open, as the referee judges it: the answers of its log go to a desk of the program, which says what was played,
 what was replaced, and whose answers are due."""
 
-import functools
 import itertools
 import re
 from collections.abc import Iterator
@@ -9,10 +8,8 @@ from dataclasses import dataclass, field
 from pathlib import Path
 
 from ggp_tools.competition.schedule import Match
-from ggp_tools.kif import expressions
 from ggp_tools.match_log import ERRORS, NO_TIME, SHORTAGE, START, Message
-from ggp_tools.records.marks import Mark
-from ggp_tools.records.show import Board, Named, board_marks
+from ggp_tools.records.show import mover_of
 from ggp_tools.referee import MOST_OF_MOVE, MOST_OF_SCRIPT, Referee, Unchecked
 
 # Boards are formed from so many of the last states, and so many of the last turns are listed.
@@ -30,11 +27,17 @@ Answers = dict[int, Message]
 
 @dataclass(frozen=True)
 class Turn:
-    """A turn, counted from 1: the moves by roles, and the errors beside them."""
+    """A turn, counted from 1: the moves by roles, the errors beside them, and the role whose turn it was, if the state said it."""
 
     number: int
     moves: tuple[str, ...]
     errors: tuple[str, ...]
+    mover: int | None
+
+
+def last_states(states: list[list[str]]) -> list[list[str]]:
+    """Returns the first state and the last ones."""
+    return [*states[:1], *states[1:][-MOST_STATES:]]
 
 
 def round_of(phase: str, moves: list) -> int:
@@ -45,37 +48,25 @@ def round_of(phase: str, moves: list) -> int:
 @dataclass(frozen=True)
 class Position:
     """How far a match is: the phase, the roles that owe an answer in the round that is open, and what is recorded. Of the states it has the
-    first and the last ones."""
+    first and the last ones, and of all of them the roles whose turn it is."""
 
     phase: str = "starting"
     owing: frozenset[int] = frozenset()
     states: list[list[str]] = field(default_factory=list)
     moves: list[list[str]] = field(default_factory=list)
     errors: list[list[str]] = field(default_factory=list)
+    movers: list[int | None] = field(default_factory=list)
+
+    def mover(self) -> int | None:
+        """Returns the role that alone has a choice in the open round, if the state says it."""
+        mover = self.movers[-1] if self.movers else None
+        return mover if mover in self.owing and self.phase == "playing" else None
 
     def round(self) -> int:
         return round_of(self.phase, self.moves)
 
     def is_ending(self) -> bool:
         return self.phase in ENDING
-
-
-class Labels:
-    """What the rules of a game name, and what boards show of it, which looks the same in all states."""
-
-    def __init__(self, rules: bytes) -> None:
-        self.rules, self.known = rules, {}
-
-    @functools.cached_property
-    def named(self) -> Named:
-        return Named(expressions(self.rules.decode("latin-1")))
-
-    def marks(self, board: Board) -> dict[str, Mark]:
-        """Returns what a board shows of each label."""
-        forms = tuple(sorted((form, tuple(labels)) for form, (_, labels) in board.forms.items()))
-        if forms not in self.known:
-            self.known[forms] = board_marks(board, self.named)
-        return self.known[forms]
 
 
 def text_in_line(answer: str) -> bytes:
@@ -88,8 +79,8 @@ class LiveBoard:
     """The turns of a match, as far as its log has whole rounds. What an open round is answered with is only held: the referee is asked of
     finished rounds alone, so all that is shown follows from these. `version` counts how often the position or the trouble has changed."""
 
-    def __init__(self, match: Match, strikes: int, rules: Path, labels: Labels) -> None:
-        self.match, self.strikes, self.rules, self.labels = match, strikes, rules, labels
+    def __init__(self, match: Match, strikes: int, rules: Path) -> None:
+        self.match, self.strikes, self.rules = match, strikes, rules
         self.version = 0
         self.begin()
 
@@ -164,8 +155,8 @@ class LiveBoard:
         now = round_of(record["phase"], record["moves"])
         self.answers = {at: found for at, found in self.answers.items() if at >= now}
         owing = frozenset(role for role, reply in enumerate(due) if reply.startswith("owe "))
-        first, *states = record["states"]
-        self.position = Position(record["phase"], owing, [first, *states[-MOST_STATES:]], record["moves"], known)
+        movers = [*self.position.movers, *(mover_of(state, record["roles"]) for state in record["states"][len(self.position.movers) :])]
+        self.position = Position(record["phase"], owing, last_states(record["states"]), record["moves"], known, movers)
 
     def script(self, rounds: dict[int, Answers]) -> bytes:
         """Returns the calls up to the end of these rounds: of a recorded turn the moves that were played, and whose were replaced."""
@@ -191,8 +182,8 @@ class LiveBoard:
 
     def turns(self) -> list[Turn]:
         """Returns the last turns, with the reasons of missed answers as the log has them."""
-        recorded = list(enumerate(zip(self.position.moves, self.position.errors), 1))[-MOST_TURNS:]
-        return [Turn(turn, tuple(moves), tuple(self.said_errors(turn, errors))) for turn, (moves, errors) in recorded]
+        recorded = list(enumerate(zip(self.position.moves, self.position.errors, self.position.movers), 1))[-MOST_TURNS:]
+        return [Turn(turn, tuple(moves), tuple(self.said_errors(turn, errors)), mover) for turn, (moves, errors, mover) in recorded]
 
     def said_errors(self, turn: int, errors: list[str]) -> Iterator[str]:
         for role, error in enumerate(errors):

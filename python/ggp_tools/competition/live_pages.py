@@ -8,21 +8,21 @@ from collections.abc import Iterable
 
 from ggp_tools.competition.competition_file import Competition
 from ggp_tools.competition.live import Reader, Seen
-from ggp_tools.competition.live_board import MOST_STATES, LiveBoard, Turn
+from ggp_tools.competition.live_board import Turn
 from ggp_tools.competition.page_parts import Item, Items, PageParts, Part, html_of, rows_part
 from ggp_tools.competition.player_pages import reason_of
 from ggp_tools.competition.replaced import MOST_OF_MATCH, MOST_REPLACED, Replaced
+from ggp_tools.competition.results import Result, winner_words
 from ggp_tools.competition.round_pages import round_text
 from ggp_tools.competition.schedule import Match
 from ggp_tools.match_log import shown
-from ggp_tools.records.show import board_page, board_places, boards_of, ground_of, is_on_board
-from ggp_tools.templating import joined
+from ggp_tools.records.show import Named, states_of_page, turn_of_page
 
 if typing.TYPE_CHECKING:
     from markupsafe import Markup
 
-# The first page has boards of so many open matches, and lists so many that wait.
-BOARDS, QUEUE = 12, 20
+# The first page has boards of so many open matches, and of so many that are just over, and lists so many that wait.
+BOARDS, BOARDS_OVER, QUEUE = 12, 6, 20
 # Of what no board shows so many terms are listed.
 MOST_TERMS = 60
 STAGES = {"asking": "its players are asked whether they are free", "checking": "its record is being checked"}
@@ -32,13 +32,14 @@ REPLACED = f"The last {MOST_REPLACED}, and of a match the last {MOST_OF_MATCH}."
 
 @dataclasses.dataclass(frozen=True)
 class Status:
-    """What an open match waits for, and since when. Only once half of the clock is over it names the players: how fast a player answers
-    may tell what."""
+    """What an open match waits for, and since when: for a role that is to move, or for answers. Before half of the clock is over it names no
+    other player: how fast a player answers may tell what."""
 
     text: str
     since: float
     is_of_players: bool = False
     players: tuple[str, ...] = ()
+    mover: str = ""
 
     @property
     def clock(self) -> str:
@@ -50,53 +51,44 @@ def live_part(name: str, macro: str = "", /, **values: object) -> Part:
     return Part(name, html_of("live", macro or name, **values))
 
 
-def status_of(seen: Seen) -> Status:
+def status_of(seen: Seen, roles: tuple[str, ...]) -> Status:
     if seen.stage in STAGES:
         return Status(STAGES[seen.stage], seen.since)
-    found = seen.awaited()
+    found, mover = seen.named(), seen.board.position.mover()
     what = "the end" if seen.is_ending() else f"turn {seen.turn()}" if seen.turn() else "START"
-    if found == []:
+    if seen.is_over() or found == []:
         return Status("all have answered", seen.since)
-    if not seen.is_late:
+    if found is None:
         return Status(f"the answers to {what}", seen.since, True)
-    return Status(what, seen.since, True, tuple(seen.match.players[role] for role in found))
+    players = tuple(seen.match.players[role] for role in found)
+    return Status("", seen.since, False, players, roles[mover]) if found == [mover] else Status(what, seen.since, True, players)
 
 
-def awaited_text(seen: Seen, up: str) -> "Markup":
-    """Returns what an open match waits for."""
-    status = status_of(seen)
-    return html_of("live", "awaited", players=status.players, text=status.text, up=up)
-
-
-def open_row(seen: Seen) -> Item:
+def open_row(seen: Seen, roles: tuple[str, ...]) -> Item:
     """Returns the row of an open match."""
     missed = [(seen.match.players[role], count) for role, count in sorted(seen.missed.items())]
     turn = seen.turn() if seen.stage == "playing" else ""
-    return f"open-{seen.match.id}", html_of("live", "open_row", match=seen.match, turn=turn, seen=status_of(seen), missed=missed)
+    return f"open-{seen.match.id}", html_of("live", "open_row", match=seen.match, turn=turn, seen=status_of(seen, roles), missed=missed)
 
 
-def board_html(board: LiveBoard) -> "Markup":
-    """Returns the state after the last turn that was followed: its boards, and the terms that none shows."""
-    notes = [board.trouble] if board.trouble else []
-    if not board.position.states:
-        return html_of("live", "state", boards="", terms=[], more=0, notes=notes)
-    first, states = board.position.states[0], board.position.states[-MOST_STATES:]
-    boards = boards_of([first, *states], board.labels.named)
-    drawn, on_boards = [], {form for drawing in boards for form in drawing.forms}
-    for drawing in boards:
-        places = [board_places(drawing, state) for state in states[-2:]]
-        before = places[0] if len(places) > 1 else None
-        # What an empty place shows is what is at most places at first.
-        ground = ground_of(drawing, board_places(drawing, first))
-        drawn.append(board_page(drawing, places[-1], before, ground, board.labels.marks(drawing)))
-    terms = [term for term in states[-1] if not is_on_board(term, on_boards)]
-    return html_of("live", "state", boards=joined(drawn), terms=terms[:MOST_TERMS], more=max(0, len(terms) - MOST_TERMS), notes=notes)
+def state_html(states: list[list[str]], roles: tuple[str, ...], named: Named, notes: list[str]) -> "Markup":
+    """Returns the last one of states, where there is one."""
+    found = next(states_of_page(states, roles, named, len(states) - 1), None)
+    more = max(0, len(found["terms"]) - MOST_TERMS) if found else 0
+    shown = found and {**found, "terms": found["terms"][:MOST_TERMS], "gone": found["gone"][:MOST_TERMS]}
+    return html_of("live", "state", found=shown, more=more, notes=notes)
 
 
 def board_item(seen: Seen, state: "Markup", roles: tuple[str, ...]) -> Item:
     """Returns the board of an open match on the first page."""
     name, turn = f"board-{seen.match.id}", len(seen.board.position.moves)
-    return name, html_of("live", "board", name=name, match=seen.match, roles=roles, turn=turn, seen=status_of(seen), state=state)
+    return name, html_of("live", "board", name=name, match=seen.match, roles=roles, turn=turn, seen=status_of(seen, roles), said="", state=state)
+
+
+def last_board_item(result: Result, state: "Markup", roles: tuple[str, ...]) -> Item:
+    """Returns the last state of a match that is over, with what came of it."""
+    name, said = f"board-{result.match.id}", winner_words(result) or "It is over."
+    return name, html_of("live", "board", name=name, match=result.match, roles=roles, turn=result.turns, seen=None, said=said, state=state)
 
 
 def trouble_part(trouble: str) -> Part:
@@ -139,7 +131,7 @@ def live_parts(reader: Reader, boards: list[Item]) -> PageParts:
     left, why = reader.waiting(), reader.given_up
     given_up = [(match, why[match.id]) for match in left if match.id in why] if why else []
     waiting = ((match, "") for match in left if match.id not in why)
-    count, rows = len(left) - len(given_up), list(map(open_row, reader.open_matches()))
+    count, rows = len(left) - len(given_up), [open_row(seen, reader.plan.roles(seen.match.game)) for seen in reader.open_matches()]
     return [
         now_part(reader, count, len(given_up)),
         Items("boards", '<div class="boards" id="boards">', tuple(boards), "</div>"),
@@ -159,7 +151,8 @@ def match_head(match: Match, competition: Competition, roles: tuple[str, ...]) -
 
 def turn_row(turn: Turn) -> Item:
     """Returns the row of a turn: the moves, and why one was replaced."""
-    return f"turn-{turn.number}", html_of("live", "turn_row", number=turn.number, moves=list(zip(turn.moves, turn.errors)))
+    moves = turn_of_page(turn.moves, turn.errors, turn.mover, lambda _, error: reason_of(error))
+    return f"turn-{turn.number}", html_of("live", "turn_row", number=turn.number, moves=moves)
 
 
 def answers_part(seen: Seen) -> Part:
@@ -170,12 +163,12 @@ def answers_part(seen: Seen) -> Part:
 
 def open_match_parts(seen: Seen, state: "Markup", head: Part, roles: tuple[str, ...]) -> PageParts:
     """Returns the page of a match that is open."""
-    turns = [turn_row(past) for past in reversed(seen.board.turns())]
+    turns, mover = [turn_row(past) for past in reversed(seen.board.turns())], seen.board.position.mover()
     return [
         head,
-        live_part("now", "match_now", seen=status_of(seen)),
-        live_part("state", "match_state", turn=len(seen.board.position.moves), state=state),
-        rows_part("turns", "Last turns", ["turn", *roles], turns, "No turn is over."),
+        live_part("now", "match_now", seen=status_of(seen, roles)),
+        live_part("state", "match_state", turn=len(seen.board.position.moves), mover="" if mover is None else roles[mover], state=state),
+        rows_part("turns", "Last turns", ["turn", *roles], turns, "No turn is over.", html_of("boards", "idle_too")),
         answers_part(seen),
     ]
 

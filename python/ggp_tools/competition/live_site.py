@@ -14,15 +14,16 @@ from dataclasses import dataclass
 from ggp_tools.competition import live_api, live_pages
 from ggp_tools.competition.files import Folder, Refused
 from ggp_tools.competition.live import Delay, Reader, Seen, for_visitors
+from ggp_tools.competition.live_board import last_states
 from ggp_tools.competition.page_changes import changes, event_text
 from ggp_tools.competition.page_parts import PageParts
-from ggp_tools.competition.pages import Site, by_game, by_player, pages_of_all, titled
+from ggp_tools.competition.pages import PageOf, Site, pages_of, titled
 from ggp_tools.competition.plan import Plan
-from ggp_tools.competition.player_pages import page_name, standing_of, standing_texts
 from ggp_tools.competition.results import Result
+from ggp_tools.competition.schedule import Match
 from ggp_tools.competition.table import Table, tables_of
 from ggp_tools.competition.table_text import in_order, json_text
-from ggp_tools.records.show import NoRecord
+from ggp_tools.records.show import NoRecord, read_record
 from ggp_tools.referee import NoReferee, Referee, Unchecked
 from ggp_tools.templating import page
 
@@ -35,8 +36,7 @@ SHARE, FOLLOW = 10, 0.25
 IDLE, MOST_PAGES, MOST_EVENTS = 30.0, 200, 60
 # Of the pages of matches that are over so many bytes are kept. A browser without a script loads a page again after so many seconds.
 MOST_KEPT, RELOAD = 64 << 20, 10
-NAME = "[A-Za-z0-9_.-]+"
-PATH = re.compile(rf"/(?:(index|matches(?:-[1-9][0-9]{{0,5}})?)|(matches|games)/({NAME})|players/player-({NAME}))\.html")
+FIRST, MATCH = "/index.html", re.compile(r"/matches/([A-Za-z0-9_.-]+)\.html")
 
 
 def plan_stamp(folder: Folder) -> tuple:
@@ -103,13 +103,11 @@ class LiveSite:
         self.plan, self.trouble, self.fault, self.plan_stamp = plan, "", "", stamp
         self.reader = Reader(plan, self.referee, self.delay)
         self.site = Site(plan, written=lambda result: self.reader.identities[result.match.id][2])
-        self.names = {player.name for player in plan.competition.players}
         # The states of open matches as HTML, each with the version of its board.
         self.states: dict[str, tuple[int, "Markup"]] = {}
         self.tables: list[Table] = []
-        self.results: list[Result] = []
-        self.standing: dict[str, str] = {}
-        self.own: dict[str, list[Result]] = {}
+        # The pages of results.
+        self.made: dict[str, PageOf] = {}
         self.tables_version, self.next_tables = None, 0.0
 
     # ---- looking at the folder
@@ -172,11 +170,9 @@ class LiveSite:
         version = self.reader.results_version, not self.reader.unread
         if self.tables_version == version or began < self.next_tables:
             return
-        self.results = in_order(self.plan, self.reader.results)
-        self.tables = tables_of(self.plan.competition, self.results, self.plan.rounds, is_rated=not self.reader.unread)
-        self.standing = standing_texts(self.tables[0])
-        self.own = {f"/games/{name}.html": found for name, found in by_game(self.results).items()}
-        self.own |= {f"/{page_name(name)}": found for name, found in by_player(self.results).items()}
+        results = in_order(self.plan, self.reader.results)
+        self.tables = tables_of(self.plan.competition, results, self.plan.rounds, is_rated=not self.reader.unread)
+        self.made = pages_of(self.site, self.tables, results)
         self.tables_version = version
         ended = time.monotonic()
         self.next_tables = ended + SHARE * (ended - began)
@@ -186,16 +182,19 @@ class LiveSite:
         now = time.monotonic()
         looked = {path for path, found in self.pages.items() if found.viewers or now - found.touched < IDLE}
         shown = self.reader.open_matches()[: live_pages.BOARDS] if "/index.html" in looked else []
-        names = {found[3] for found in map(PATH.fullmatch, looked) if found and found[2] == "matches"}
+        names = {found[1] for found in map(MATCH.fullmatch, looked) if found}
         self.reader.judge(now + FOLLOW, names | {seen.match.id for seen in shown})
-        self.states = {name: found for name, found in self.states.items() if name in self.reader.open}
+        self.states = {name: found for name, found in self.states.items() if name in self.reader.open or name in self.reader.ended}
 
-    def state(self, seen: Seen) -> "Markup":
-        """Returns the state of an open match. It is drawn again only if it has changed."""
-        name, version = seen.match.id, seen.board.version
-        if self.states.get(name, (None,))[0] != version:
-            self.states[name] = version, live_pages.board_html(seen.board)
-        return self.states[name][1]
+    def state(self, match: Match, version: int, states: Callable[[], list], notes: list[str]) -> "Markup":
+        """Returns the last one of the states of a match. It is drawn again only if its version has changed."""
+        if self.states.get(match.id, (None,))[0] != version:
+            self.states[match.id] = version, live_pages.state_html(states(), self.plan.roles(match.game), self.site.named(match.game), notes)
+        return self.states[match.id][1]
+
+    def state_of(self, seen: Seen) -> "Markup":
+        board = seen.board
+        return self.state(seen.match, board.version, lambda: board.position.states, [board.trouble] if board.trouble else [])
 
     # ---- pages
 
@@ -208,19 +207,12 @@ class LiveSite:
         """Returns what a page is made of beside what each of them has."""
         if path == live_api.FEED:
             return self.reader.version, self.reader.results_version, self.tables_version
-        found = PATH.fullmatch(path)
-        if not found:
-            return None
-        if found[1] == "index":
+        if path == FIRST:
             return self.reader.version, self.tables_version
-        if found[1]:
-            return (self.tables_version,) if found[1] in pages_of_all(self.results) else None
-        own = tuple(self.own.get(path, ()))
-        if found[4]:
-            return (own, self.standing.get(found[4])) if found[4] in self.names else None
-        if found[2] == "games":
-            return (own,) if found[3] in self.plan.rules else None
-        return self.match_stamp(found[3])
+        if found := self.made.get(path[1:]):
+            return tuple(found.results), found.words
+        match = MATCH.fullmatch(path)
+        return self.match_stamp(match[1]) if match else None
 
     def match_stamp(self, name: str) -> tuple | None:
         if name not in self.reader.known or name in self.reader.results:
@@ -232,35 +224,35 @@ class LiveSite:
         """Returns the title and the parts of a page that is there, or what the events for programs are about."""
         if path == live_api.FEED:
             return "", live_api.snapshot(self.reader, self.tables_version)
-        title, parts = self.made(path)
-        return title, [live_pages.trouble_part(self.trouble or self.fault), *parts]
-
-    def made(self, path: str) -> tuple[str, PageParts]:
-        """Returns the title of a page, and the parts that are its own."""
-        found = PATH.fullmatch(path)
-        if found[1] == "index":
-            head, rounds, standings, *rest = self.site.first_parts(self.tables, self.results)
+        found = self.made.get(path[1:])
+        parts = self.match_parts(MATCH.fullmatch(path)[1]) if found is None else found.parts()
+        if path == FIRST:
+            head, bracket, rounds, standings, *rest = parts
             now, boards, opened, given_up, *more = live_pages.live_parts(self.reader, self.board_items())
-            return titled(self.plan, ""), [head, now, boards, rounds, standings, opened, given_up, *rest, *more]
-        if found[1]:
-            return titled(self.plan, "all matches"), self.site.all_matches(self.results, found[1])
-        if found[4]:
-            own = self.own.get(path, [])
-            return titled(self.plan, found[4]), self.site.player_parts(found[4], standing_of(self.standing, found[4], bool(own)), own)
-        if found[2] == "games":
-            table = next(table for table in self.tables[1:] if table.game == found[3])
-            return titled(self.plan, found[3]), self.site.game_parts(table, self.own.get(path, []))
-        match, seen = self.reader.known[found[3]], self.reader.open.get(found[3])
+            parts = [head, now, boards, bracket, rounds, standings, opened, given_up, *rest, *more]
+        title = MATCH.fullmatch(path)[1] if found is None else found.title
+        return titled(self.plan, title), [live_pages.trouble_part(self.trouble or self.fault), *parts]
+
+    def match_parts(self, name: str) -> PageParts:
+        """Returns the page of a match that is not over."""
+        match, seen = self.reader.known[name], self.reader.open.get(name)
         roles = self.plan.roles(match.game)
         head = live_pages.match_head(match, self.plan.competition, roles)
         if not seen:
             why = self.reader.faults.get(match.id, ""), self.reader.given_up.get(match.id, "")
-            return titled(self.plan, match.id), live_pages.waiting_match_parts(*why, head)
-        return titled(self.plan, match.id), live_pages.open_match_parts(seen, self.state(seen), head, roles)
+            return live_pages.waiting_match_parts(*why, head)
+        return live_pages.open_match_parts(seen, self.state_of(seen), head, roles)
 
     def board_items(self) -> list[tuple[str, str]]:
+        """Returns the boards of the first page, in the schedule's order."""
         shown = [seen for seen in self.reader.open_matches()[: live_pages.BOARDS] if seen.stage != "asking"]
-        return [live_pages.board_item(seen, self.state(seen), self.plan.roles(seen.match.game)) for seen in shown]
+        found = {seen.match.id: live_pages.board_item(seen, self.state_of(seen), self.plan.roles(seen.match.game)) for seen in shown}
+        for name in sorted(self.reader.ended, key=self.reader.ended.__getitem__)[-live_pages.BOARDS_OVER :]:
+            result = self.reader.results[name]
+            with contextlib.suppress(OSError, NoRecord):
+                state = self.state(result.match, -1, lambda: last_states(read_record(self.plan.read_record(result.match))["states"]), [])
+                found[name] = live_pages.last_board_item(result, state, self.plan.roles(result.match.game))
+        return [found[name] for name in sorted(found, key=self.reader.place.__getitem__)]
 
     def renew(self, path: str, found: OpenPage) -> None:
         """Makes a page again if its data has changed, and keeps what has changed of it."""
@@ -286,7 +278,7 @@ class LiveSite:
             self.renew(path, found)
         if not found or found.is_final:
             stamp = self.stamp(path)
-            if stamp is None or not self.tables:
+            if stamp is None or not self.made:
                 return None
             found = self.pages[path] = OpenPage(*self.make(path), stamp, ((next(self.versions), b""),))
         found.touched = time.monotonic()
@@ -300,8 +292,8 @@ class LiveSite:
             events = f"{'../' * (path.count('/') - 1)}events{path}?after={found.version}"
             live = {"now": self.delay.now(), "events": events, "reload": RELOAD}
             return page("parts", title=found.title, script="live.js", live=live, parts=found.parts)
-        match = PATH.fullmatch(path)
-        result = self.reader.results.get(match[3]) if match and match[2] == "matches" else None
+        match = MATCH.fullmatch(path)
+        result = self.reader.results.get(match[1]) if match else None
         data = result and self.kept_data(path, result, lambda: self.site.match_page(result, self.plan.read_record(result.match)))
         trouble = live_pages.trouble_part(self.trouble).text.encode("ascii", "xmlcharrefreplace")
         return data and data.replace(b"<body>", b"<body>" + trouble, 1)

@@ -50,7 +50,7 @@ def part(macro: str, /, **values: object) -> Part:
     return Part(macro, html_of("competition", macro, **values))
 
 
-def rows_part(name: str, title: str, heads: list[str], rows: list[Item], nothing: str) -> Items:
-    """Returns a table whose rows come and go, and what it says if it has no row."""
-    opening = html_of("links", "open_table", name=name, title=title, heads=heads, nothing=nothing)
+def rows_part(name: str, title: str, heads: list[str], rows: list[Item], nothing: str, control: str = "") -> Items:
+    """Returns a table whose rows come and go, what it says if it has no row, and the HTML of a control that is above it."""
+    opening = html_of("links", "open_table", name=name, title=title, heads=heads, nothing=nothing, control=control)
     return Items(name, opening, tuple(rows), "</tbody></table></div>")

@@ -1,16 +1,18 @@
 """The pages of a competition: a folder of plain HTML that opens without a server. They follow from the folder's files alone."""
 
 import datetime
+import functools
 import hashlib
 import heapq
 import io
 import os
 import time
 import typing
-from collections.abc import Callable, Iterator
+from collections.abc import Callable, Iterable, Iterator
 from dataclasses import dataclass
 
 from ggp_tools.answers import MOST_RULES, game_of
+from ggp_tools.competition.competition_file import BOARDS, KNOCKOUT
 from ggp_tools.competition.files import UNFINISHED, drop_unfinished, write_whole
 from ggp_tools.competition.known import Known, sum_or_none
 from ggp_tools.competition.page_parts import Item, Items, PageParts, Part, html_of, part, rows_part
@@ -18,7 +20,8 @@ from ggp_tools.competition.plan import Plan
 from ggp_tools.competition.player_pages import page_name, player_parts, standing_of, standing_texts
 from ggp_tools.competition.plots import rating_plot
 from ggp_tools.competition.results import WON, Result, remarks, winner_words
-from ggp_tools.competition.round_pages import count_of_all, round_text, rounds_part, rounds_words
+from ggp_tools.competition.round_pages import bracket_part, count_of_all, round_text, rounds_part, rounds_words
+from ggp_tools.competition.schedule import Match
 from ggp_tools.competition.side_by_side import made_side_by_side
 from ggp_tools.competition.sittings import Sitting, sitting_of_values, sittings_of, values_of
 from ggp_tools.competition.table import Table, loaded_ratings, tables_of
@@ -26,7 +29,7 @@ from ggp_tools.competition.table_text import METHOD, crosstable_rows, forfeit_ru
 from ggp_tools.descriptions.loading import Rules, sum_of
 from ggp_tools.match_log import last_run
 from ggp_tools.records.match_logs import logged
-from ggp_tools.records.show import NoRecord, page_of, read_record
+from ggp_tools.records.show import Named, NoRecord, named_in, page_of, read_record
 from ggp_tools.templating import environment, page
 
 if typing.TYPE_CHECKING:
@@ -44,7 +47,7 @@ TOGETHER = 64 << 20
 MOST_OF_LOG, LOG_WORDS = 16 << 20, "16 MiB"
 
 SET_BACK = "the clock was set back"
-MATCH_HEADS = ["match", "game", "players and goals", "turns", "replaced moves", "begin (UTC)", "seconds"]
+MATCH_HEADS = ["match", "game", "result", "players and goals", "turns", "replaced moves", "begin (UTC)", "seconds"]
 
 
 def standings(found: Table, up: str) -> PageParts:
@@ -59,6 +62,15 @@ def standings(found: Table, up: str) -> PageParts:
         part("ratings", plot=plot) if plot else Part("ratings", ""),
         part("crosstable", rows=crosstable) if found.is_of_pairs() else Part("crosstable", ""),
     ]
+
+
+def first_places(found: Table, is_over: bool) -> list[tuple[str, list[str]]]:
+    """Returns who has won a competition, and who is second and third, each with a title; who leads one that is not over, but for a knockout."""
+    titles = {1: "Winner", 2: "Second", 3: "Third"} if is_over else {1: "Leader"} if found.by != KNOCKOUT else {}
+    places: dict[int, list[str]] = {}
+    for place, line in zip(found.places(), found.standings()):
+        places.setdefault(place, []).append(line.player)
+    return [(titles[place] + "s" * (place == 1 < len(names)), names) for place, names in places.items() if place in titles]
 
 
 def seconds_between(times: dict) -> str:
@@ -81,7 +93,8 @@ def match_row(result: Result, times: dict, up: str) -> Item:
     goals = result.goals or ["none"] * len(match.players)
     seats = [(player, goals[role], result.outcome(role) == WON) for role, player in enumerate(match.players)]
     replaced = [(name, result.replaced(role)) for role, name in enumerate(match.players) if result.replaced(role)]
-    told = {"seats": seats, "cause": result.cause, "remarks": list(remarks(result)), "turns": result.turns, "replaced": replaced}
+    told = {"seats": seats, "winner": winner_words(result).rstrip("."), "cause": result.cause, "remarks": list(remarks(result))}
+    told |= {"turns": result.turns, "replaced": replaced}
     when = {"begin": spelt(times["begin"]), "seconds": seconds_between(times)}
     return f"match-{match.id}", html_of("competition", "match_row", match=match, **told, **when, up=up)
 
@@ -102,9 +115,9 @@ def rules_part(rules: Rules) -> Part:
     return part("rules", text=rules.text, sum=sum_of(rules.text), player_text=told, player_sum=sum_of(told) if told is not None else "")
 
 
-def match_page(head: "Markup", data: bytes, rules: bytes, answers: dict[tuple[int, int], str]) -> bytes:
+def match_page(head: "Markup", data: bytes, rules: bytes, answers: dict[tuple[int, int], str], named: Named, winner: str) -> bytes:
     """Returns the page of a match: that of its record, as `ggp-show-record` makes it, with a head. With rules it says what was legal."""
-    return page_of(read_record(data), (lambda: game_of(rules)) if rules else None, answers, head)
+    return page_of(read_record(data), (lambda: game_of(rules)) if rules else None, answers, head, named, winner)
 
 
 @dataclass(frozen=True)
@@ -131,6 +144,7 @@ class Site:
         loaded_ratings()
         self.plan, self.shows_gaps, self.written = plan, shows_gaps, written
         self.told: dict[str, Told] = {}
+        self.games = {game.name: game for game in plan.competition.games}
 
     def told_of(self, result: Result) -> Told:
         """Returns what is told of a match. Where its files are there no more, its times are unknown."""
@@ -166,24 +180,29 @@ class Site:
 
     def way_of_match(self, result: Result) -> "Markup":
         """Returns the head of the page of a match: the way back, and what there is to say of the match."""
-        lines = [line for line in (winner_words(result), *remarks(result)) if line]
         told = {"name": self.plan.competition.name, "round": round_text(self.plan.competition, result.match)}
-        return html_of("competition", "way_of_match", match=result.match, lines=lines, **told)
+        return html_of("competition", "way_of_match", match=result.match, lines=list(remarks(result)), **told)
+
+    def named(self, game: str) -> Named:
+        """Returns how the boards of a game are drawn."""
+        return named_in(self.plan.rules[game].text, self.games[game].board == BOARDS[1])
 
     def answers(self, result: Result) -> dict[tuple[int, int], str]:
         """Returns those answers of a match's log that were no expressions, as far as they are told, by role and turn from 0 on."""
         faults = [(sitting.role, fault) for sitting in self.told_of(result).sittings for fault in sitting.faults]
         return {(role, fault.turn - 1): fault.answer for role, fault in faults if fault.error == "IL ?" and fault.message}
 
-    def match_work(self, result: Result, data: bytes) -> tuple["Markup", bytes, bytes, dict[tuple[int, int], str]]:
+    def match_work(self, result: Result, data: bytes) -> tuple["Markup", bytes, bytes, dict[tuple[int, int], str], Named, str]:
         """Returns what the page of a match is made of: what stands at its head, its record, the rules where they tell more of a replaced
-        move and are not too long, and answers."""
+        move and are not too long, answers, how its boards are drawn, and who won."""
         rules = self.plan.rules[result.match.game].text if any(errors["IL"] for errors in result.errors) else b""
-        return self.way_of_match(result), data, rules if len(rules) <= MOST_RULES else b"", self.answers(result)
+        more = self.answers(result), self.named(result.match.game), winner_words(result)
+        return self.way_of_match(result), data, rules if len(rules) <= MOST_RULES else b"", *more
 
     def key_of_page(self, known: Known, result: Result, data: bytes) -> str:
         """Returns the sum of all that the page of a match follows from."""
         head = self.plan.competition.name, round_text(self.plan.competition, result.match), result, self.answers(result)
+        head += (self.games[result.match.game].board,)
         return known.key(repr(head).encode(), data, self.plan.rules[result.match.game].sum.encode())
 
     def match_page(self, result: Result, data: bytes) -> bytes:
@@ -214,17 +233,19 @@ class Site:
         begins, ends = [match.begin for match in told if match.begin], [match.end for match in told if match.end]
         return (spelt(min(begins)), spelt(max(ends))) if begins and ends else ("", "")
 
-    def head(self, results: list[Result]) -> Part:
+    def head(self, table: Table, results: list[Result]) -> Part:
         plan = self.plan
         # A match in whose place another one was ordered is none of these, as in the table.
         count, (begin, end) = sum(result.match.counts() for result in results), self.span(results)
         told = {"count": count, "of_all": count_of_all(plan), "rounds": rounds_words(plan), "begin": begin, "end": end}
+        told["first"] = first_places(table, count == told["of_all"])
         games, forfeit = [game.name for game in plan.competition.games], forfeit_rule(plan.competition)
         return part("head", name=plan.competition.name, games=games, forfeit=forfeit, **told)
 
     def first_parts(self, tables: list[Table], results: list[Result]) -> PageParts:
-        rounds, method = rounds_part(self.plan, results, MOST_LISTED), part("method", text=METHOD)
-        return [self.head(results), rounds, *standings(tables[0], ""), method, *self.gaps(results), self.last_matches(results)]
+        rounds = bracket_part(self.plan, results), rounds_part(self.plan, results, MOST_LISTED)
+        head, method = self.head(tables[0], results), part("method", text=METHOD)
+        return [head, *rounds, *standings(tables[0], ""), method, *self.gaps(results), self.last_matches(results)]
 
     def all_matches(self, results: list[Result], name: str) -> PageParts:
         """Returns a page of the list of all matches, with links to the others."""
@@ -236,9 +257,8 @@ class Site:
 
     def game_parts(self, found: Table, results: list[Result]) -> PageParts:
         """Returns the page of a game, from its table and its own results."""
-        clocks = next(candidate for candidate in self.plan.competition.games if candidate.name == found.game)
         rules = self.plan.rules[found.game]
-        head = part("game", name=self.plan.competition.name, title=found.game, roles=rules.roles, clocks=clocks)
+        head = part("game", name=self.plan.competition.name, title=found.game, roles=rules.roles, clocks=self.games[found.game])
         return [head, *standings(found, "../"), *self.own_matches(results), rules_part(rules)]
 
     def player_parts(self, player: str, standing: str, results: list[Result]) -> PageParts:
@@ -249,18 +269,38 @@ class Site:
         return [*player_parts(self.plan.competition.name, player, standing, own), note, *self.own_matches(results)]
 
 
-def by_game(results: list[Result]) -> dict[str, list[Result]]:
+def grouped(results: list[Result], names_of: Callable[[Match], Iterable[str]]) -> dict[str, list[Result]]:
+    """Returns results by names that their matches have."""
     found: dict[str, list[Result]] = {}
     for result in results:
-        found.setdefault(result.match.game, []).append(result)
+        for name in names_of(result.match):
+            found.setdefault(name, []).append(result)
     return found
 
 
-def by_player(results: list[Result]) -> dict[str, list[Result]]:
-    found: dict[str, list[Result]] = {}
-    for result in results:
-        for player in dict.fromkeys(result.match.players):
-            found.setdefault(player, []).append(result)
+class PageOf(typing.NamedTuple):
+    """A page of results: its title, the results and the words that it is made of, and what makes it."""
+
+    title: str
+    results: list[Result]
+    words: str
+    parts: Callable[[], PageParts]
+
+
+def pages_of(site: Site, tables: list[Table], results: list[Result]) -> dict[str, PageOf]:
+    """Returns the pages of results by their names, but for those of matches."""
+    texts, of_game = standing_texts(tables[0]), grouped(results, lambda match: [match.game])
+    of_player = grouped(results, lambda match: dict.fromkeys(match.players))
+    found = {"index.html": PageOf("", results, "", functools.partial(site.first_parts, tables, results))}
+    for name in pages_of_all(results):
+        found[f"{name}.html"] = PageOf("all matches", results, "", functools.partial(site.all_matches, results, name))
+    for table in tables[1:]:
+        own, words = of_game.get(table.game, []), "rated" if any(line.rating for line in table.lines.values()) else ""
+        found[f"games/{table.game}.html"] = PageOf(table.game, own, words, functools.partial(site.game_parts, table, own))
+    for name in (player.name for player in site.plan.competition.players):
+        own = of_player.get(name, [])
+        standing = standing_of(texts, name, bool(own))
+        found[page_name(name)] = PageOf(name, own, standing, functools.partial(site.player_parts, name, standing, own))
     return found
 
 
@@ -287,15 +327,11 @@ class Pages:
         for name in ("matches", "games", "players"):
             (self.folder / name).mkdir(parents=True, exist_ok=True)
         self.write_matches(results)
-        tables = tables_of(self.plan.competition, results, self.plan.rounds)
-        self.write_games(tables[1:], by_game(results))
-        self.write_players(tables[0], by_player(results))
-        lists = {f"{name}.html": name for name in pages_of_all(results)}
-        for file, name in lists.items():
-            self.put_parts(file, "all matches", self.site.all_matches(results, name))
-        self.put_parts("index.html", "", self.site.first_parts(tables, results))
-        names = {"index.html", *lists, *(f"matches/{result.match.id}.html" for result in results)}
-        names |= {f"games/{table.game}.html" for table in tables[1:]} | {page_name(player.name) for player in self.plan.competition.players}
+        pages = pages_of(self.site, tables_of(self.plan.competition, results, self.plan.rounds), results)
+        # The first page comes last: what it links is there by then.
+        for name, found in reversed(pages.items()):
+            self.put_if_changed(name, found)
+        names = {*pages, *(f"matches/{result.match.id}.html" for result in results)}
         for form in ("matches-*.html", "matches/*.html", "games/*.html", "players/*.html"):
             for file in self.folder.glob(form):
                 if str(file.relative_to(self.folder)) not in names and not file.name.startswith(UNFINISHED):
@@ -329,23 +365,11 @@ class Pages:
             if self.known:
                 self.known.put("pages", key, hashlib.sha256(data).hexdigest())
 
-    def write_games(self, tables: list[Table], results: dict[str, list[Result]]) -> None:
-        for table in tables:
-            own = results.get(table.game, [])
-            self.put_if_changed(f"games/{table.game}.html", table.game, (own, ""), lambda: self.site.game_parts(table, own))
-
-    def write_players(self, found: Table, results: dict[str, list[Result]]) -> None:
-        texts = standing_texts(found)
-        for name in (player.name for player in self.plan.competition.players):
-            own = results.get(name, [])
-            standing = standing_of(texts, name, bool(own))
-            self.put_if_changed(page_name(name), name, (own, standing), lambda: self.site.player_parts(name, standing, own))
-
-    def put_if_changed(self, name: str, title: str, made_of: tuple[list[Result], str], parts: Callable[[], PageParts]) -> None:
+    def put_if_changed(self, name: str, found: PageOf) -> None:
         """Writes a page, unless it is the file that was written last, of the same matches and words: another run may have written it too."""
-        key = hash(tuple(result.match.id for result in made_of[0])), made_of[1]
+        key = hash(tuple(result.match.id for result in found.results)), found.words
         if self.stamps.get(name) != (key, self.stamp(name)):
-            self.put_parts(name, title, parts())
+            self.put(name, page("parts", title=titled(self.plan, found.title), script="", live=None, parts=found.parts()))
             self.stamps[name] = key, self.stamp(name)
 
     def stamp(self, name: str) -> tuple[int, int] | None:
@@ -358,9 +382,6 @@ class Pages:
 
     def put(self, name: str, data: bytes) -> None:
         write_whole(self.folder / name, data, is_lasting=False)
-
-    def put_parts(self, name: str, title: str, parts: PageParts) -> None:
-        self.put(name, page("parts", title=titled(self.plan, title), script="", live=None, parts=parts))
 
 
 def titled(plan: Plan, title: str) -> str:

@@ -9,6 +9,7 @@ from typing import NamedTuple
 from ggp_tools.competition.schedule import Match
 from ggp_tools.records.lengths import without_states
 from ggp_tools.records.match_logs import Beginning
+from ggp_tools.records.show import winner_words as winner_of_worths
 
 WON, DRAWN, LOST = "won", "drawn", "lost"
 # What a player that is left alone by a forfeit gets, and several that are left share.
@@ -98,11 +99,7 @@ def forfeit_words(result: Result) -> str:
 
 def winner_words(result: Result) -> str:
     """Returns who won a match, or who drew. Empty where no goals count, and for one role."""
-    outcomes = [result.outcome(role) for role in range(len(result.match.players))]
-    for outcome, said in ((WON, "won"), (DRAWN, "drew")):
-        if names := [player for player, own in zip(result.match.players, outcomes) if own == outcome]:
-            return f"{' and '.join(names)} {said}."
-    return ""
+    return winner_of_worths(result.match.players, result.worths() or ())
 
 
 def again_words(match: Match) -> str:

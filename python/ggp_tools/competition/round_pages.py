@@ -1,15 +1,21 @@
 """What the pages say of the rounds of a Swiss competition or a knockout: how many there are, who meets whom, and what came of it."""
 
-from ggp_tools.competition.competition_file import Competition
+from collections.abc import Iterator, Mapping
+
+from ggp_tools.competition.competition_file import KNOCKOUT, Competition
 from ggp_tools.competition.page_parts import Part, part
 from ggp_tools.competition.plan import Plan
 from ggp_tools.competition.results import Result
-from ggp_tools.competition.rounds import Meeting, Round, by_meeting, matches_to_come, rounds_of, scores_of
+from ggp_tools.competition.rounds import Meeting, Round, bracket, by_meeting, matches_to_come, rounds_of, scores_of, winner
 from ggp_tools.competition.schedule import Match
 from ggp_tools.competition.table_text import count_of_planned, points_text
 
 # A round, a pair, of whom the second may be missing, and their points, goals and matches.
 Row = tuple[int, tuple[str, str], list[str]]
+# A player in a bracket, its points, and whether it has come through; the name is empty as long as it is not known.
+Place = tuple[str, str, bool]
+# Of a bracket the rounds of so many pairs at most are drawn. BYE is in the place of an opponent.
+MOST_PAIRS, BYE = 32, "(bye)"
 
 
 def count_of_all(plan: Plan) -> int:
@@ -47,3 +53,31 @@ def rows_of(competition: Competition, found: Round, of_meeting: dict[Meeting, li
         points, goals = (" : ".join(points_text(counts[player]) for player in pair) for counts in (scores.points, scores.goals))
         rows.append((found.number, pair, [points, goals, f"{len(over)} of {scores.meeting}"]))
     return rows + [(found.number, (player, ""), [""] * 3) for player in found.byes]
+
+
+def bracket_part(plan: Plan, results: list[Result]) -> Part:
+    """Returns the bracket of a knockout."""
+    if plan.competition.form.kind != KNOCKOUT or not plan.rounds:
+        return Part("bracket", "")
+    of_meeting = by_meeting(result for result in results if not result.match.again)
+    rounds = [pairs for pairs in bracket_rounds(plan, of_meeting) if len(pairs) <= MOST_PAIRS]
+    return part("bracket", rounds=rounds, first=rounds_of(plan.competition) - len(rounds) + 1, bye=BYE)
+
+
+def bracket_rounds(plan: Plan, of_meeting: Mapping[Meeting, list[Result]]) -> Iterator[list[tuple[Place, Place]]]:
+    """Gives the pairs of each round in the order of the bracket, also of rounds that are not planned."""
+    competition, names = plan.competition, [player.name for player in plan.competition.players]
+    places = [names[seed] if seed < len(names) else BYE for seed in bracket(len(names))]
+    for number in range(1, rounds_of(competition) + 1):
+        planned = plan.rounds[number] if number < len(plan.rounds) else Round(0, (), ())
+        through, pairs = {*planned.byes, *(player for pair in planned.pairs for player in pair)}, []
+        for pair in zip(places[::2], places[1::2]):
+            over = of_meeting.get((number, frozenset(pair)), [])
+            scores = scores_of(competition, (), over)
+            if BYE in pair:
+                through |= {*pair} - {BYE}
+            elif len(over) == scores.meeting:
+                through.add(winner(pair, over, {name: seed for seed, name in enumerate(names)}, competition))
+            pairs.append([(name, points_text(scores.points[name]) if over else "", name in through) for name in pair])
+        yield pairs
+        places = [next((name for name, _, is_through in pair if is_through), "") for pair in pairs]

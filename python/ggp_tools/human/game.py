@@ -4,7 +4,7 @@ from ggp_tools.holding.game import Game
 from ggp_tools.holding.match import texts_of
 from ggp_tools.kif import spelled
 from ggp_tools.printable import visible
-from ggp_tools.records.show import Board, Group, Named, board_marks, board_places, boards_of, is_on_board, places_of, words_of
+from ggp_tools.records.show import Board, Group, Named, board_places, boards_of, is_on_board, places_of, words_of
 
 State = frozenset
 Place = tuple[int, int]
@@ -72,9 +72,8 @@ class Shown:
     def board_value(self, board: Board) -> dict:
         """Returns a board as the page draws it: its axes, what is at each place and what is shown of it, and the places that have changed."""
         places, before = (board_places(board, state) for state in (self.states[-1], self.states[-2:][0]))
-        labels = {label for state in self.states for found in board_places(board, state).values() for label in found}
-        marks = board_marks(board, self.named, labels)
-        signs = {label: (marks[visible(label)].text, " ".join(marks[visible(label)].kinds())) for label in labels}
+        marks = board.marks(self.named)
+        signs = {label: (marks[visible(label)].text, " ".join(marks[visible(label)].kinds())) for _, _, label in board.known.values()}
         cells = {f"{across},{up}": found for (across, up), found in places.items()}
         changed = [at for at in places.keys() | before.keys() if places.get(at) != before.get(at)]
         return {"across": board.across, "up": board.up, "cells": cells, "signs": signs, "changed": sorted(changed)}

@@ -6,7 +6,7 @@ from collections.abc import Iterable
 
 from ggp_tools.records.collection import Judged
 from ggp_tools.records.record import NoRecord, checked_record
-from ggp_tools.records.show import page_of
+from ggp_tools.records.show import page_of, winner_words
 from ggp_tools.templating import page
 
 # What a file's name may hold of a match's id.
@@ -30,7 +30,7 @@ def index_row(number: int, judged: Judged, record: dict | None) -> dict[str, obj
     if record:
         goals = record["goalValues"] or [None] * len(record["players"])
         found |= {"page": page_name(number, judged.line.match_id), "players": [*zip(record["players"], goals)]}
-        found |= {"phase": record["phase"], "turns": len(record["moves"])}
+        found |= {"winner": winner_words(record["players"], record["goalValues"]).rstrip("."), "phase": record["phase"], "turns": len(record["moves"])}
     return found
 
 

@@ -13,15 +13,19 @@ function show(wanted) {
   history.replaceState(null, "", "#" + states[shown].id);
 }
 
+const button = document.querySelector("[data-key=p]");
+
 function stop() {
   clearInterval(playing);
   playing = null;
+  button.textContent = "Play";
 }
 
 function play() {
   if (playing) return stop();
   if (shown === states.length - 1) show(0);
   playing = setInterval(() => { show(shown + 1); if (shown === states.length - 1) stop(); }, 1000);
+  button.textContent = "Pause";
 }
 
 const go = (wanted) => { stop(); show(wanted); };
@@ -41,9 +45,9 @@ document.addEventListener("keydown", (event) => {
     steps[event.key]();
   }
 });
-for (const button of document.querySelectorAll("nav button")) button.addEventListener("click", () => steps[button.dataset.key]());
+for (const it of document.querySelectorAll("nav button")) it.addEventListener("click", () => steps[it.dataset.key]());
 turns.forEach((turn, at) => turn.addEventListener("click", () => go(at + 1)));
-// Without a state in its address the page opens on the last one.
+// An address such as #turn=12 opens the page on the state after that turn, any other one on the last state.
 const asked = () => states.findIndex((state) => "#" + state.id === location.hash);
 const goToAsked = () => go(asked() >= 0 ? asked() : states.length - 1);
 addEventListener("hashchange", goToAsked);
