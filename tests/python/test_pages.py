@@ -168,7 +168,7 @@ class PagesOfMany(unittest.TestCase):
             self.assertEqual({file.name for file in pages.folder.iterdir() if file.is_file()}, {"index.html", "matches.html"})
             gaps = Pages(self.plan, shows_gaps=True)
             gaps.write(self.results[:10])
-            self.assertIn("And 170 more, which GAPS.tsv names.", text_of(self.page(gaps, "index.html")))
+            self.assertIn("and 170 more, which GAPS.tsv names", text_of(self.page(gaps, "index.html")))
 
     def test_what_a_log_says_is_text(self):
         for match in self.plan.matches:

@@ -55,7 +55,7 @@ def values_of_macro(text: str) -> dict[str, dict[str, object]]:
         "competition.seats": {"rows": [(text, text, [text])]},
         "competition.errors": {"rows": [errors], "count": 5},
         "live.replaced": {"rows": [(error, 1, text, text)]},
-        "live.matches": {"rows": [(match, text)]},
+        "competition.match_list": {"rows": [(match, text)]},
         "live.answers": {"rows": [(text, text, text, 1)]},
         "live.seats": {"players": (text, text)},
         "live.waiting": {"waiting": text},

@@ -4,12 +4,11 @@ import dataclasses
 import datetime
 import itertools
 import typing
-from collections.abc import Iterable
 
 from ggp_tools.competition.competition_file import Competition
 from ggp_tools.competition.live import Reader, Seen
 from ggp_tools.competition.live_board import Turn
-from ggp_tools.competition.page_parts import Item, Items, PageParts, Part, html_of, rows_part
+from ggp_tools.competition.page_parts import Item, Items, PageParts, Part, html_of, list_part, rows_part
 from ggp_tools.competition.player_pages import reason_of
 from ggp_tools.competition.replaced import MOST_OF_MATCH, MOST_REPLACED, Replaced
 from ggp_tools.competition.results import Result, winner_words
@@ -119,26 +118,20 @@ def replaced_part(replaced: list[tuple[Replaced, int]]) -> Part:
     return live_part("replaced", rows=rows, said=REPLACED)
 
 
-def matches_part(name: str, title: str, found: Iterable[tuple[Match, str]], count: int) -> Part:
-    """Returns a list of so many matches that are neither open nor over, the first ones, each with what there is to say of it."""
-    if not count:
-        return Part(name, "")
-    return live_part(name, "matches", title=title, rows=list(itertools.islice(found, QUEUE)), more=max(0, count - QUEUE))
-
-
 def live_parts(reader: Reader, boards: list[Item]) -> PageParts:
     """Returns what the first page says of the matches that are not over."""
     left, why = reader.waiting(), reader.given_up
     given_up = [(match, why[match.id]) for match in left if match.id in why] if why else []
     waiting = ((match, "") for match in left if match.id not in why)
-    count, rows = len(left) - len(given_up), [open_row(seen, reader.plan.roles(seen.match.game)) for seen in reader.open_matches()]
+    count, first = len(left) - len(given_up), list(itertools.islice(waiting, QUEUE))
+    rows = [open_row(seen, reader.plan.roles(seen.match.game)) for seen in reader.open_matches()]
     return [
         now_part(reader, count, len(given_up)),
         Items("boards", '<div class="boards" id="boards">', tuple(boards), "</div>"),
         rows_part("open", "Open matches", OPEN_HEADS, rows, "No match is open."),
-        matches_part("given-up", "Matches that were given up", given_up, len(given_up)),
+        list_part("given-up", "Matches that were given up", "The next run plays them.", given_up[:QUEUE], len(given_up[QUEUE:])),
         replaced_part(reader.last_replaced()),
-        matches_part("queue", "Waiting matches", waiting, count),
+        list_part("queue", "Waiting matches", "Each begins once its players are free.", first, count - len(first)),
     ]
 
 

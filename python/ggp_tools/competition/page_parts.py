@@ -8,6 +8,8 @@ from ggp_tools.templating import macros
 if typing.TYPE_CHECKING:
     from markupsafe import Markup
 
+    from ggp_tools.competition.schedule import Match
+
 # An item of a page: its name, which is its id, and its HTML.
 Item = tuple[str, str]
 
@@ -48,6 +50,11 @@ def html_of(template: str, macro: str, **values: object) -> "Markup":
 def part(macro: str, /, **values: object) -> Part:
     """Returns the part that a macro of competition.html makes, which has its name."""
     return Part(macro, html_of("competition", macro, **values))
+
+
+def list_part(name: str, title: str, intro: str, rows: list[tuple["Match", str]], more: int, where: str = "") -> Part:
+    """Returns a list of matches without a result, each with what there is to say of it, and how many more there are. Empty without any."""
+    return Part(name, html_of("competition", "match_list", title=title, intro=intro, rows=rows, more=more, where=where) if rows else "")
 
 
 def rows_part(name: str, title: str, heads: list[str], rows: list[Item], nothing: str, control: str = "") -> Items:

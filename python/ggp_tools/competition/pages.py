@@ -8,14 +8,14 @@ import io
 import os
 import time
 import typing
-from collections.abc import Callable, Iterable, Iterator
+from collections.abc import Callable, Iterable
 from dataclasses import dataclass
 
 from ggp_tools.answers import MOST_RULES, game_of
 from ggp_tools.competition.competition_file import BOARDS, KNOCKOUT
 from ggp_tools.competition.files import UNFINISHED, drop_unfinished, write_whole
 from ggp_tools.competition.known import Known, sum_or_none
-from ggp_tools.competition.page_parts import Item, Items, PageParts, Part, html_of, part, rows_part
+from ggp_tools.competition.page_parts import Item, Items, PageParts, Part, html_of, list_part, part, rows_part
 from ggp_tools.competition.plan import Plan
 from ggp_tools.competition.player_pages import page_name, player_parts, standing_of, standing_texts
 from ggp_tools.competition.plots import rating_plot
@@ -219,11 +219,11 @@ class Site:
         found = heapq.nlargest(LAST, results, self.written or (lambda result: self.told_of(result).end or ""))
         return matches_part([self.told_of(result).above for result in found], "Last matches")
 
-    def gaps(self, results: list[Result]) -> Iterator[Part]:
-        """Gives what the first page says of the matches that have no record, where it does."""
-        missing = without_record(self.plan, results) if self.shows_gaps else []
-        if missing:
-            yield part("gaps", matches=missing[:MOST_LISTED], more=max(0, len(missing) - MOST_LISTED))
+    def gaps(self, results: list[Result]) -> Part:
+        """Returns what the first page says of the matches that have no record."""
+        missing = [(match, "") for match in without_record(self.plan, results)] if self.shows_gaps else []
+        rest = len(missing[MOST_LISTED:]), ", which GAPS.tsv names"
+        return list_part("gaps", "Matches without a record", "These count for nobody.", missing[:MOST_LISTED], *rest)
 
     def span(self, results: list[Result]) -> tuple[str, str]:
         """Returns when the first match began and the last one ended; empty texts if no log says it."""
@@ -245,7 +245,7 @@ class Site:
     def first_parts(self, tables: list[Table], results: list[Result]) -> PageParts:
         rounds = bracket_part(self.plan, results), rounds_part(self.plan, results, MOST_LISTED)
         head, method = self.head(tables[0], results), part("method", text=METHOD)
-        return [head, *rounds, *standings(tables[0], ""), method, *self.gaps(results), self.last_matches(results)]
+        return [head, *rounds, *standings(tables[0], ""), method, self.gaps(results), self.last_matches(results)]
 
     def all_matches(self, results: list[Result], name: str) -> PageParts:
         """Returns a page of the list of all matches, with links to the others."""

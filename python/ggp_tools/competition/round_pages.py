@@ -6,7 +6,7 @@ from ggp_tools.competition.competition_file import KNOCKOUT, Competition
 from ggp_tools.competition.page_parts import Part, part
 from ggp_tools.competition.plan import Plan
 from ggp_tools.competition.results import Result
-from ggp_tools.competition.rounds import Meeting, Round, bracket, by_meeting, matches_to_come, rounds_of, scores_of, winner
+from ggp_tools.competition.rounds import Meeting, Round, bracket, by_meeting, matches_to_come, rounds_of, scores_of, winner, withdrawn_by
 from ggp_tools.competition.schedule import Match
 from ggp_tools.competition.table_text import count_of_planned, points_text
 
@@ -59,25 +59,26 @@ def bracket_part(plan: Plan, results: list[Result]) -> Part:
     """Returns the bracket of a knockout."""
     if plan.competition.form.kind != KNOCKOUT or not plan.rounds:
         return Part("bracket", "")
-    of_meeting = by_meeting(result for result in results if not result.match.again)
+    of_meeting = by_meeting(result for result in results if result.match.counts())
     rounds = [pairs for pairs in bracket_rounds(plan, of_meeting) if len(pairs) <= MOST_PAIRS]
     return part("bracket", rounds=rounds, first=rounds_of(plan.competition) - len(rounds) + 1, bye=BYE)
 
 
 def bracket_rounds(plan: Plan, of_meeting: Mapping[Meeting, list[Result]]) -> Iterator[list[tuple[Place, Place]]]:
     """Gives the pairs of each round in the order of the bracket, also of rounds that are not planned."""
-    competition, names = plan.competition, [player.name for player in plan.competition.players]
+    competition, withdrawn = plan.competition, withdrawn_by(plan.competition, plan.rounds)
+    names = [player.name for player in competition.players]
     places = [names[seed] if seed < len(names) else BYE for seed in bracket(len(names))]
     for number in range(1, rounds_of(competition) + 1):
-        planned = plan.rounds[number] if number < len(plan.rounds) else Round(0, (), ())
-        through, pairs = {*planned.byes, *(player for pair in planned.pairs for player in pair)}, []
+        through, pairs = plan.rounds[number].players() if number < len(plan.rounds) else set(), []
         for pair in zip(places[::2], places[1::2]):
             over = of_meeting.get((number, frozenset(pair)), [])
             scores = scores_of(competition, (), over)
-            if BYE in pair:
+            if number == len(plan.rounds) and BYE in pair:
                 through |= {*pair} - {BYE}
-            elif len(over) == scores.meeting:
-                through.add(winner(pair, over, {name: seed for seed, name in enumerate(names)}, competition))
+            elif number == len(plan.rounds) and (len(over) == scores.meeting or withdrawn.keys() & pair):
+                through.add(winner(pair, over, competition, withdrawn))
             pairs.append([(name, points_text(scores.points[name]) if over else "", name in through) for name in pair])
         yield pairs
-        places = [next((name for name, _, is_through in pair if is_through), "") for pair in pairs]
+        nobody = BYE if number < len(plan.rounds) else ""
+        places = [next((name for name, _, is_through in pair if is_through), nobody) for pair in pairs]
