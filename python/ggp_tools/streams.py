@@ -4,6 +4,7 @@ import argparse
 import contextlib
 import errno
 import gzip
+import ipaddress
 import os
 import pathlib
 import sys
@@ -15,7 +16,7 @@ from ggp_tools.printable import visible
 
 STANDARD_INPUT, STANDARD_OUTPUT = "standard input", "standard output"
 PACKED = b"\x1f\x8b"
-MOST_SECONDS = 1_000_000
+MOST_SECONDS, MOST_DIGITS = 1_000_000, 20
 
 
 class Ended(Exception):
@@ -116,6 +117,26 @@ def status_of(command: str, perform: Callable[[], int], failed: int, known: tupl
         # The referee's own messages keep its name.
         report("\n".join(visible(line if line.startswith("ggp_manager: ") else f"{command}: {line}") for line in words.splitlines()))
     return failed
+
+
+def whole(least: int, most: int) -> Callable[[str], int]:
+    """Returns what parses a whole number in these limits."""
+
+    def parse(text: str) -> int:
+        if text.isascii() and text.isdigit() and len(text) <= MOST_DIGITS and least <= int(text) <= most:
+            return int(text)
+        found = ascii(text if len(text) <= MOST_DIGITS else f"{text[:MOST_DIGITS]}..")
+        raise argparse.ArgumentTypeError(f"expected a number from {least:,} to {most:,}, found {found}")
+
+    return parse
+
+
+def address(text: str) -> str:
+    """Parses an IP address."""
+    try:
+        return str(ipaddress.ip_address(text))
+    except ValueError:
+        raise argparse.ArgumentTypeError(f"expected an IP address, such as 192.0.2.7 or ::1, found {ascii(text)}") from None
 
 
 def seconds(text: str) -> float:

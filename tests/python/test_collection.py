@@ -201,7 +201,7 @@ class Commands(unittest.TestCase):
             (["sqlite", "--explain", "o", self.pile], "`sqlite` has no option --explain"), (["check", "--games", "x", self.pile], "`check` has no option --games"),
             (["csv", "--refereed-by", "x", "o", self.pile], "`csv` has no option --refereed-by"), (["check"], "the following arguments are required: PILE"),
             (["pages"], "the following arguments are required: DIR, PILE"), (["facts", "o"], "the following arguments are required: PILE"), (["log"], "the following arguments are required: LOG"),
-            (["--jobs", "0", "check", self.pile], "--jobs is at least 1"),
+            (["--jobs", "0", "check", self.pile], "argument --jobs: expected a number from 1 to 1,024, found '0'"),
         ):
             found = self.run_records(*words)
             self.assertEqual((found.returncode, found.stderr.splitlines()[-1]), (2, f"ggp-records: error: {said}"))

@@ -714,7 +714,8 @@ class Command(InFolder):
 
     def test_what_is_asked_wrong(self):
         for words in (("--port", "65536"), ("--port", "x"), ("--bind", "localhost"), ("--connections", "0"), ("--delay", "3601")):
-            self.assertEqual(run(self.folder, "serve", *words)[0], 2, words)
+            status, _, said = run(self.folder, "serve", *words)
+            self.assertEqual((status, said.endswith(f", found {words[1]!r}\n")), (2, True), words)
         self.assertEqual(run(self.folder, "serve")[0], 2)
 
 

@@ -23,14 +23,14 @@ from ggp_tools.competition.results import Result
 from ggp_tools.competition.schedule import Match
 from ggp_tools.referee import NoReferee, Referee, Unchecked, find_program
 from ggp_tools.competition.seats import Seats
-from ggp_tools.competition.serving import add_serve, run_serve, whole
+from ggp_tools.competition.serving import add_serve, run_serve
 from ggp_tools.competition.table import tables_of
 from ggp_tools.competition.table_text import in_order, table_files, table_text, without_record
 from ggp_tools.competition.trying import try_player
 from ggp_tools.competition.why import said_of_match
 from ggp_tools.printable import printable
 from ggp_tools.reporting import Journal, Reporter
-from ggp_tools.streams import ready_streams, say
+from ggp_tools.streams import ready_streams, say, whole
 
 MOST_AT_ONCE = 1_024
 # Up to so many matches that are missing for one reason have a line each. Of more only the number is reported.

@@ -1,7 +1,6 @@
 """Looks at the description of a game: whether the referee accepts it, what is suspicious in it, and how random matches of it end."""
 
 import argparse
-import functools
 import pathlib
 import re
 import shutil
@@ -20,13 +19,14 @@ from ggp_tools.referee import Referee, Unchecked
 from ggp_tools.descriptions.refused import why_refused
 from ggp_tools.descriptions.suspicious import NOT_ALL, Suspicions, suspicions
 from ggp_tools.reporting import Reporter
+from ggp_tools.streams import MOST_SECONDS, whole
 
 HELP = "says whether the description of a game is accepted, what is suspicious in it, and how random matches of it end"
 STATUS = """status 0: nothing is wrong, though something may be suspicious. 1: the description is not accepted, a match is aborted, none
 ends within the seconds, or a record is another one than it has to be. 2: the command is wrong, or the file can't be read. 3: there is no
 verdict, as where the referee or the grounder is missing something or was ended, or no temporary file can be written.
 """
-MOST_MATCHES, MOST_SECONDS, MOST_SEED, MOST_DIGITS = 10_000, 1_000_000, 10**18, 20
+MOST_MATCHES, MOST_SEED = 10_000, 10**18
 # So many seeds are listed, and so many bytes of a state.
 LISTED, MOST_STATE = 10, 500
 INTERPRETER = "the interpreter of ggp_competition"
@@ -37,24 +37,14 @@ NO_VERDICT = re.compile(
 )
 
 
-def number_of(text: str, least: int, most: int) -> int:
-    """Returns the whole number that a word says. It has to be a number from the least to the most."""
-    if not (len(text) <= MOST_DIGITS and text.isascii() and text.isdigit() and least <= int(text) <= most):
-        shown = text if text and text.isprintable() else repr(text)
-        shown = shown if len(shown) <= MOST_DIGITS else f"{shown[:MOST_DIGITS]}.."
-        raise argparse.ArgumentTypeError(f"{shown} is no number from {least:,} to {most:,}")
-    return int(text)
-
-
 def add_game(commands: Any) -> argparse.ArgumentParser:
     """Adds the command `game` to those of the command line, and returns it."""
     command = commands.add_parser("game", help=HELP, description=f"{HELP[0].upper()}{HELP[1:]}.", epilog=STATUS)
     command.add_argument("file", metavar="FILE", help="the description, with or without variables")
     command.add_argument("--large", action="store_true", help="do not try for the usual limits of the program, but take those for large games")
-    matches, seed = (functools.partial(number_of, least=0, most=most) for most in (MOST_MATCHES, MOST_SEED))
-    seconds = functools.partial(number_of, least=1, most=MOST_SECONDS)
-    command.add_argument("--matches", type=matches, default=20, metavar="N", help="play N random matches (20)")
-    command.add_argument("--seed", type=seed, default=1, metavar="S", help="the seed of the first match; each further one has the next (1)")
+    seconds = whole(1, MOST_SECONDS)
+    command.add_argument("--matches", type=whole(0, MOST_MATCHES), default=20, metavar="N", help="play N random matches (20)")
+    command.add_argument("--seed", type=whole(0, MOST_SEED), default=1, metavar="S", help="the seed of the first match; each further one has the next (1)")
     text = "the seconds of a processor in which a description with variables is instantiated (60)"
     command.add_argument("--instantiate", type=seconds, default=INSTANTIATING, metavar="T", help=text)
     text = "search for T seconds at most, and begin no turn after T seconds of matches (60)"

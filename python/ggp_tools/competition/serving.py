@@ -2,7 +2,6 @@
 
 import argparse
 import asyncio
-import ipaddress
 import os
 import re
 import signal
@@ -12,30 +11,11 @@ from ggp_tools.competition.files import Folder, Refused
 from ggp_tools.competition.live_site import LiveSite, plan_stamp
 from ggp_tools.competition.plan import read_plan
 from ggp_tools.referee import Referee
-from ggp_tools.streams import say
+from ggp_tools.streams import address, say, whole
 from ggp_tools.templating import end_without
 
 MOST_CONNECTIONS, MOST_DELAY = 4_096, 3_600
 NAME = "[A-Za-z0-9]([A-Za-z0-9.-]{0,251}[A-Za-z0-9])?"
-
-
-def whole(least: int, most: int) -> Callable[[str], int]:
-    """Returns what reads a whole number in these limits."""
-
-    def number(text: str) -> int:
-        found = int(text)
-        if not least <= found <= most:
-            raise argparse.ArgumentTypeError(f"{found} is not from {least} to {most:,}")
-        return found
-
-    return number
-
-
-def address(text: str) -> str:
-    try:
-        return str(ipaddress.ip_address(text))
-    except ValueError:
-        raise argparse.ArgumentTypeError(f"{text} is no address, as 127.0.0.1 or ::1") from None
 
 
 def matching(form: str, wanted: str) -> Callable[[str], str]:

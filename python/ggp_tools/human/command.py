@@ -9,25 +9,18 @@ move is made without asking while the page is open. Rules may have variables (`-
 """
 
 import argparse
-import ipaddress
 import sys
 
 from ggp_tools.human.seat import Seat
 from ggp_tools.human.server import Server
+from ggp_tools.streams import address, whole
 
 MOST_CALLS = 20_000
 
 
-def address(text: str) -> str:
-    try:
-        return str(ipaddress.ip_address(text))
-    except ValueError:
-        raise argparse.ArgumentTypeError(f"expected an IP address, such as 192.0.2.7, found {text!r}") from None
-
-
 def main() -> int:
     words = argparse.ArgumentParser("ggp-human", description=__doc__, formatter_class=argparse.RawDescriptionHelpFormatter)
-    words.add_argument("--port", type=int, default=9150, metavar="P", help="the port (9150)")
+    words.add_argument("--port", type=whole(0, 65_535), default=9150, metavar="P", help="the port (9150)")
     words.add_argument("--bind", default="127.0.0.1", metavar="ADDRESS", help="the address to listen on (127.0.0.1)")
     text = "take matches only from this address, which may be given several times (that of the first INFO or START)"
     words.add_argument("--referee", type=address, action="append", default=[], metavar="ADDRESS", help=text)

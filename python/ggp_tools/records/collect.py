@@ -45,8 +45,9 @@ from ggp_tools.records.match_logs import MatchLogs, lines_of_logs
 from ggp_tools.records.pgn import write_pgn
 from ggp_tools.records.record import json_lines
 from ggp_tools.records.tables import write_csv, write_sqlite
+from ggp_tools.records.verify_many import MOST_JOBS
 from ggp_tools.referee import NoReferee, Referee, Unchecked, find_program
-from ggp_tools.streams import report, say, status_of
+from ggp_tools.streams import report, say, status_of, whole
 
 COMMAND = "ggp-records"
 # What an action writes, and the options that only some have.
@@ -111,7 +112,7 @@ def arguments(words: list[str]) -> argparse.Namespace:
     reader.add_argument("--program", metavar="FILE", help="ggp_manager, if it is not beside this program or on the path")
     reader.add_argument("--rules", metavar="FOLDER", help="the games: a file NAME.kif of ground rules each")
     reader.add_argument("--large", action="store_true", help="the limits of the rules are those for large games")
-    reader.add_argument("--jobs", type=int, default=len(os.sched_getaffinity(0)), metavar="N", help="at most N processes at a time")
+    reader.add_argument("--jobs", type=whole(1, MOST_JOBS), default=len(os.sched_getaffinity(0)), metavar="N", help="at most N processes at a time")
     reader.add_argument("--explain", action="store_true", help="`check`: say why a record is not lawful")
     reader.add_argument("--log", action="append", metavar="LOG", help="`ggp-base`, `pgn`, `facts`: a log of matches, or a folder of logs; may be given again")
     reader.add_argument("--games", metavar="URL", help="`ggp-base`: where the games are published: the game NAME at URL/NAME/")
@@ -130,8 +131,6 @@ def arguments(words: list[str]) -> argparse.Namespace:
     missing += [] if given.files else ["LOG" if given.action == "log" else "PILE"]
     if missing:
         reader.error(f"the following arguments are required: {', '.join(missing)}")
-    if given.jobs < 1:
-        reader.error("--jobs is at least 1")
     if given.output and os.path.lexists(given.output):
         reader.error(f"{given.output} is there already")
     return given
