@@ -3,6 +3,7 @@ import contextlib
 import os
 import pty
 import re
+import resource
 import socket
 import struct
 import subprocess
@@ -62,6 +63,14 @@ def asked(program, words, text=b""):
     """Returns what the program comes to with these words, on this input."""
     ran = subprocess.run([program, *words], input=text, capture_output=True, timeout=PATIENCE)
     return Said(ran.returncode, ran.stdout, ran.stderr.decode())
+
+
+def asked_for_seconds(program, words, text=b""):
+    """Returns what the program comes to, and the seconds of a processor that it took. No other process may end meanwhile."""
+    before = resource.getrusage(resource.RUSAGE_CHILDREN)
+    said = asked(program, words, text)
+    after = resource.getrusage(resource.RUSAGE_CHILDREN)
+    return said, after.ru_utime + after.ru_stime - before.ru_utime - before.ru_stime
 
 
 def asked_in_shell(program, words, streams, text=b"", before=""):
