@@ -109,3 +109,37 @@ class Rules(InArchive):
             "one is not withdrawn": (changed("cup/competition.toml", lambda text: text.replace(b"withdrawn = true", b"")), "schedule.tsv is not what"),
             "who is absent stays": (changed("cup/competition.toml", lambda text: text.replace(b"absent_rounds = 1", b"")), "schedule.tsv is not what"),
         })
+
+    def test_a_pause_a_final_seeds_and_one_table_of_two_competitions(self):
+        players = [(TestPlayer(name),) for name in ("ann", "bob", "cid", "dan")]
+        self.new_folder()
+        first, form = self.folder, 'kind = "swiss"\nrounds = 1\nfinal = 2'
+        self.write(players, COUNTDOWN, form=form, head=f"{HEAD}pause = true\nanchor = {{ann = 1500}}\n")
+        self.assertEqual((self.ran("plan", "--preview")[:2], (first / "schedule.tsv").exists()), (["round 1 of 2: cup-001 to cup-004", "cup-001 countdown ann bob"], False))
+        self.ran("plan")
+        paused = "pause: the next `ggp_competition play` plays round 2 of 2: cup-005 to cup-006"
+        self.assertEqual(self.ran("play")[-2:], [paused, "4 of 4 matches have a lawful record"])
+        heads, *rows = self.ran("plan", "--preview")
+        self.assertEqual((heads, len(rows), self.ran("play")[-1]), ("round 2 of 2: cup-005 to cup-006", 2, "6 of 6 matches have a lawful record"))
+        lines, _ = self.table()
+        order = list(lines)
+        self.assertEqual([lines[name]["rounds_won"] for name in order], [1, 0, None, None])
+        self.assertEqual({name for row in rows for name in row.split()[2:]}, set(order[:2]))
+        self.assertTrue(lines["ann"]["rating"] in (1500, None))
+        self.ran("publish")
+        self.assertIn("6 records and accounts", self.ran("check", "cup.tar.gz")[0])
+        self.assert_spoilt({
+            "there is no final": (changed("cup/competition.toml", lambda text: text.replace(b"final = 2", b"")), "schedule.tsv is not what"),
+            "an anchor is another": (changed("cup/competition.toml", lambda text: text.replace(b"1500", b"1600")), "table.txt does not follow"),
+        })
+        self.new_folder()
+        text = toml([(player.name, player.place()) for player, in players], COUNTDOWN, 'kind = "knockout"', f'{HEAD}seeds = "{first}"\n')
+        (self.folder / "competition.toml").write_text(text.replace('"cup"', '"last"'))
+        for words in (["plan"], ["play"], ["publish"], ["check", "last.tar.gz"]):
+            self.ran(*words)
+        pair = (self.folder / "schedule.tsv").read_text().splitlines()[1].split("\t")[4]
+        self.assertEqual(pair, f"{order[0]} {order[3]}")
+        (self.folder / "cup.tar.gz").write_bytes((self.folder / "last.tar.gz").read_bytes())
+        self.assert_spoilt({"the seeds are others": (changed("last/seeds.csv", lambda text: text.replace(order[0].encode(), b"x")), "schedule.tsv is not what")})
+        self.assertEqual(self.ran("table", first, ".")[0], "cup + last: 12 of 12 matches")
+        self.assertIn("two of the folders have a competition of the name cup", self.refused("table", first, first))

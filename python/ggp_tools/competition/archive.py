@@ -11,13 +11,12 @@ from collections.abc import Callable, Iterable, Iterator, Sequence
 
 from ggp_tools.competition.described import DIFFERS, IS_SAME, held_records
 from ggp_tools.competition.files import Refused, written_whole
-from ggp_tools.competition.history import history_files
 from ggp_tools.competition.kept import PROCESSORS, look_at_records, strangers
 from ggp_tools.competition.known import Known, sum_of_file, sum_or_none
 from ggp_tools.competition.log_faults import faults_of_logs
 from ggp_tools.competition.packing import Spoilt, pack, unpack
 from ggp_tools.competition.pages import Pages
-from ggp_tools.competition.plan import Plan, faults_of_descriptions, key_files, read_plan, read_sums, rounds_left, sums_of, sums_text
+from ggp_tools.competition.plan import Plan, faults_of_descriptions, files_of_origin, read_plan, read_sums, rounds_left, sums_of, sums_text
 from ggp_tools.descriptions.loading import has_variables
 from ggp_tools.competition.side_by_side import made_side_by_side
 from ggp_tools.printable import printable
@@ -48,7 +47,8 @@ The rules are ground descriptions; games has the descriptions that they were mad
 rules/DESCRIPTIONS.sha256. Where rules/GAME.players is there, the players of that game were told this in place of rules/GAME.kif. The
 version of the referee with which this was published is in VERSION. Where GAPS.tsv is there, it has the matches of the schedule that
 have no record. Where again.tsv is there, it has the matches that were played again, with the reasons: the earlier records do not count.
-Where earlier is there, the competition grew: earlier/N.toml is competition.toml as it was when N matches were planned.
+Where earlier is there, the competition grew: earlier/N.toml is competition.toml as it was when N matches were planned. Where seeds.csv is
+there, it is the table of another competition, which the order of the players is from.
 What this does not show: that the players of these names sent these answers, and when. Keep the sum of the archive as you got it.
 """
 
@@ -105,7 +105,7 @@ def contents(plan: Plan, referee: Referee, results: list[Result], known: Known |
     folder = plan.folder
     yield "competition.toml", plan.text
     yield "schedule.tsv", folder.schedule
-    for file in (*history_files(folder), *key_files(plan)):
+    for file in files_of_origin(plan):
         yield str(file.relative_to(folder.path)), file
     for file in (folder.rule_sums(), folder.description_sums()):
         yield f"rules/{file.name}", file
@@ -133,7 +133,7 @@ def own_files(plan: Plan) -> list[pathlib.Path]:
     # The last four are there where the folder comes out of an archive.
     others = (folder.path / name for name in (*TABLE_FILES, SUMS, VERSION, HOW, GAPS))
     descriptions = (file for game in plan.competition.games for file in (folder.description(game), folder.given(game)))
-    return [folder.competition, folder.schedule, folder.planned, folder.again, folder.matches, folder.journal, *others, *descriptions]
+    return [folder.competition, folder.schedule, folder.planned, folder.again, folder.seeds, folder.matches, folder.journal, *others, *descriptions]
 
 
 def publish(plan: Plan, referee: Referee, results: list[Result], path: pathlib.Path, known: Known | None) -> str:

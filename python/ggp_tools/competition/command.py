@@ -13,11 +13,12 @@ from ggp_tools.competition.archive import check_archive, matches_text, own_files
 from ggp_tools.competition.files import Refused, held, write_whole
 from ggp_tools.competition.game import add_game, run_game
 from ggp_tools.competition.kept import look_at_records
+from ggp_tools.competition.joined import joined
 from ggp_tools.competition.known import Known
 from ggp_tools.competition.log_faults import faults_of_logs
 from ggp_tools.competition.packing import TooLarge
 from ggp_tools.competition.pages import Pages
-from ggp_tools.competition.plan import WRITES, Plan, faults_of_descriptions, make_plan, read_plan, round_words, rounds_left
+from ggp_tools.competition.plan import WRITES, Plan, faults_of_descriptions, make_plan, next_plan, read_plan, round_words, rounds_left
 from ggp_tools.competition.playing import Playing, play
 from ggp_tools.competition.results import Result
 from ggp_tools.competition.schedule import Match
@@ -62,10 +63,16 @@ def add_options(command: argparse.ArgumentParser, name: str) -> None:
         command.add_argument("player", nargs="?", metavar="PLAYER", help="the name of a player (all of the match)")
         return
     text = "the folder of the competition, with competition.toml (the present one)"
+    if name == "table":
+        command.add_argument("folder", nargs="*", default=["."], metavar="FOLDER", help=f"{text}; of several one table is printed")
+        command.add_argument("--to", metavar="FOLDER", help="where the files of a table of several are written")
+        return
     command.add_argument("folder", nargs="?", default=".", metavar="FOLDER", help=text)
     if name == "again":
         command.add_argument("match", metavar="MATCH", help="the match, which has a lawful record")
         command.add_argument("--reason", required=True, metavar="TEXT", help="why: it stands in the table, the pages and the archive")
+    if name == "plan":
+        command.add_argument("--preview", action="store_true", help="print the matches that it would add, or those of the next round, and write nothing")
     if name == "play":
         command.add_argument("--at-once", type=whole(1, MOST_AT_ONCE), default=4, metavar="N", help="at most N matches at once (4)")
         command.add_argument("--watch", action="store_true", help="write the pages anew as matches end")
@@ -129,7 +136,23 @@ def said_of_game(plan: Plan, matches: list[Match]) -> str:
     return f"{said}; each two players: {spread(pairs)}" if len(roles) > 1 else said
 
 
+def preview(path: str, referee: Referee) -> int:
+    """Prints the matches that `plan` would add, or those of the round that follows from the records. Nothing is written."""
+    plan = make_plan(path, referee, is_preview=True)
+    missing = 0
+    if plan.rounds and plan.known is not None:
+        results, _ = known_results(plan, referee, None)
+        missing, plan = len(without_record(plan, results)), next_plan(plan, {result.match.id: result for result in results}) or plan
+    if plan.rounds:
+        say(f"round {len(plan.rounds)} is not over: {missing} matches have no record" if missing else round_words(plan))
+    for match in plan.new_matches():
+        say(f"{match.id} {match.game} {' '.join(match.players)}")
+    return 0
+
+
 def run_plan(asked: argparse.Namespace, referee: Referee) -> int:
+    if asked.preview:
+        return preview(asked.folder, referee)
     plan = make_plan(asked.folder, referee)
     for game in plan.competition.games:
         say(f"{game.name}: {said_of_game(plan, [match for match in plan.matches if match.game == game.name and match.counts()])}")
@@ -138,7 +161,7 @@ def run_plan(asked: argparse.Namespace, referee: Referee) -> int:
     if plan.competition.forfeit and not plan.competition.strikes:
         say("forfeit: without `strikes` no player is retired, so none loses a match by it")
     if plan.rounds:
-        say(round_words(plan, [match for match in plan.matches if match.round == len(plan.rounds)]))
+        say(round_words(plan))
     say(f"{plan.folder.schedule}: {len(plan.matches)} matches of {len(plan.competition.players)} players{said_of_growth(plan)}{not_played(plan)}")
     return 0
 
@@ -153,7 +176,7 @@ def said_of_growth(plan: Plan) -> str:
     """Returns what a plan has added to that of a competition of which matches were played."""
     if plan.known is None:
         return ""
-    new = plan.matches[plan.known :]
+    new = plan.new_matches()
     return f"; added: {len(new)}, {new[0].id} to {new[-1].id}" if new else "; nothing is added"
 
 
@@ -210,7 +233,10 @@ def run_play(asked: argparse.Namespace, referee: Referee) -> int:
     for line in said_of_missing(missing):
         reporter.sum_up(line)
     left = rounds_left(plan)
-    if left:
+    if plan.competition.pause and (following := next_plan(plan, playing.results)):
+        reporter.sum_up(f"pause: the next `ggp_competition play` plays {round_words(following)}")
+        left = 0
+    elif left:
         reporter.sum_up(f"rounds that are not planned yet: {left} of {left + len(plan.rounds)}")
     reporter.sum_up(f"{len(playing.results)} of {len(playing.results) + len(missing)} matches have a lawful record{not_played(plan)}")
     if reporter.fault:
@@ -218,8 +244,26 @@ def run_play(asked: argparse.Namespace, referee: Referee) -> int:
     return bool(missing or lacks_pages or left)
 
 
+def run_several(asked: argparse.Namespace, referee: Referee) -> int:
+    """Prints one table of several competitions."""
+    plans = [read_plan(folder, referee) for folder in asked.folder]
+    whole, known = joined(plans), [Known(plan.folder.path) for plan in plans]
+    found = [known_results(plan, referee, own) for plan, own in zip(plans, known)]
+    tables = tables_of(whole.competition, [result for results, _ in found for result in results])
+    say(table_text(whole, tables), end="")
+    for name, data in table_files(whole, tables).items() if asked.to else ():
+        write_whole(pathlib.Path(asked.to) / name, data)
+    for own in known:
+        own.write()
+    return any(is_faulty for _, is_faulty in found)
+
+
 def run_table(asked: argparse.Namespace, referee: Referee) -> int:
-    plan = read_plan(asked.folder, referee)
+    if len(asked.folder) > 1:
+        return run_several(asked, referee)
+    if asked.to:
+        raise Refused("--to: only the table of several folders is written elsewhere")
+    plan = read_plan(asked.folder[0], referee)
     known = Known(plan.folder.path)
     results, is_faulty = known_results(plan, referee, known)
     tables = tables_of(plan.competition, results, plan.rounds)

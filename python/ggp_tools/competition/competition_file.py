@@ -24,14 +24,14 @@ RESTARTS = WHEN_DEAD, EACH_MATCH, NEVER = "when_dead", "each_match", "never"
 PORT = "{port}"
 RUNS_ELSEWHERE = "a program that runs its arguments on another machine"
 MEMORY = re.compile(r"([1-9][0-9]{0,5})([KMGT])")
-MOST_PROCESSORS, MOST_START_SECONDS = 4_096, 3_600
+MOST_PROCESSORS, MOST_START_SECONDS, MOST_RATING = 4_096, 3_600, 10_000
 # The seconds in which a description is instantiated, where no others are given, and the most of them.
 INSTANTIATING, MOST_INSTANTIATING = 60, 1_000_000
 # Those that plan each round by the results of the one before.
 ROUND_KINDS = SWISS, KNOCKOUT = "swiss", "knockout"
-ROUND_KEYS = ("absent_rounds",)
+ROUND_KEYS = ("absent_rounds", "pause")
 # The keys of each kind beside `kind`.
-KINDS = {"round_robin": ("rounds",), "gauntlet": ("rounds", "one"), "schedule": ("lines",), SWISS: ("rounds",), KNOCKOUT: ()}
+KINDS = {"round_robin": ("rounds",), "gauntlet": ("rounds", "one"), "schedule": ("lines",), SWISS: ("rounds", "final"), KNOCKOUT: ()}
 ABSENT = ("leave", "play")
 # Whether the played matches count of a player that has withdrawn.
 WITHDRAWN_RESULTS = KEEP, VOID = "keep", "void"
@@ -120,7 +120,7 @@ class Section:
     def path_of_file(self, key: str, default: str | None = None) -> str | None:
         """Returns a text that can name a file."""
         found = self.text(key, default)
-        if found is not None and key in self.table and (not found or CONTROL.search(found)):
+        if found is self.table.get(key) and found is not None and (not found or CONTROL.search(found)):
             self.mistake(key, f"{found!r} is no path of a file")
         return found
 
@@ -201,6 +201,17 @@ class Section:
                 self.mistake(key, f"{name!r} is not a variable with a text in quotes")
                 return ()
         return tuple(found.items())
+
+    def anchors(self, key: str) -> dict[str, int]:
+        """Returns ratings by the names of players."""
+        found, players = self.value(key, dict, "a table of ratings", {}), self.names("players")
+        for name, rating in found.items():
+            line = self.lines.get((*self.path, key, name))
+            if type(rating) is not int or abs(rating) > MOST_RATING:
+                self.mistake(key, f"{name}: a whole number from -{MOST_RATING:,} to {MOST_RATING:,} is expected", line)
+            elif name not in players:
+                self.mistake(key, f"there is no player {name!r}", line)
+        return found
 
     def names(self, key: str) -> set[str]:
         """Returns the names in an array of tables, whatever else is wrong with it."""
@@ -310,13 +321,15 @@ class Faults:
 
 @dataclass(frozen=True)
 class Form:
-    """The pairing: round robin, gauntlet of one against all, the lines of a schedule, each of a game and its players, or by rounds."""
+    """The pairing: round robin, gauntlet of one against all, the lines of a schedule, each of a game and its players, or by rounds. After the
+    rounds of a Swiss competition the best players may have a knockout, so many of them."""
 
     kind: str
     rounds: int
     one: str
     lines: tuple[Text, ...]
-    line: int
+    final: int
+    line: int = line_of()
 
 
 @dataclass(frozen=True)
@@ -334,6 +347,9 @@ class Competition:
     forfeit: bool = read_by(Section.flag)
     order: str = read_by(Section.word, ORDERS, BY_GOALS)
     ids: str = read_by(Section.word, IDS, COUNTED_IDS)
+    pause: bool = read_by(Section.flag)
+    seeds: str = read_by(Section.path_of_file, "")
+    anchor: dict[str, int] = read_by(Section.anchors)
     withdrawn_results: str = read_by(Section.word, WITHDRAWN_RESULTS, KEEP)
     absent_rounds: int = read_by(Section.number, 0, MOST_ROUNDS, 0)
     launcher: Launcher | None
@@ -426,13 +442,16 @@ def form_of(root: Section) -> Form:
     section.refuse_others(keys_of(Form))
     kind = section.word("kind", tuple(KINDS), "round_robin")
     rounds = section.number("rounds", 1, MOST_ROUNDS, None if kind == SWISS else 1)
+    final = section.number("final", 2, MOST_PLAYERS) if "final" in section.table and kind == SWISS else 0
+    if final and final > len(root.names("players")):
+        section.mistake("final", f"there are {len(root.names('players'))} players")
     one = section.text("one") if kind == "gauntlet" else ""
     if one and one not in root.names("players"):
         section.mistake("one", f"there is no player {one!r}")
     lines = lines_of_schedule(section, root.names("games"), root.names("players")) if kind == "schedule" else []
     for key in section.table.keys() & set(keys_of(Form)) - {"kind", *KINDS[kind]}:
         section.mistake(key, f"the kind {kind} has no such key")
-    return Form(kind, rounds, one, tuple(lines), section.first)
+    return Form(kind, rounds, one, tuple(lines), final, section.first)
 
 
 def lines_of_schedule(section: Section, games: set[str], players: set[str]) -> list[Text]:

@@ -152,6 +152,8 @@ class Folder:
         self.planned, self.earlier, self.again = self.path / "planned.toml", self.path / "earlier", self.path / "again.tsv"
         # What the ids of the matches follow from, if they are not to be guessed.
         self.key = self.path / "ids.key"
+        # The table of another competition that the seeds are from.
+        self.seeds = self.path / "seeds.csv"
         self.rules, self.open = self.path / "rules", self.path / "open"
         self.records, self.accounts, self.logs = (self.path / name for name in ("records", "accounts", "logs"))
         self.matches, self.pages = self.path / "matches.jsonl", self.path / "pages"

@@ -51,7 +51,7 @@ def shape(competition: Competition) -> tuple[object, ...]:
     form, games = competition.form, [(game.name, game.start, game.play) for game in competition.games]
     names = [(player.name, player.withdrawn is None) for player in competition.players]
     rules = competition.name, competition.ids, competition.withdrawn_results, competition.absent_rounds
-    return *rules, form.kind, form.rounds, form.one, [line.text.split() for line in form.lines], games, names
+    return *rules, form.kind, form.rounds, form.one, form.final, [line.text.split() for line in form.lines], games, names
 
 
 def refuse_unchanged(history: History, competition: Competition) -> None:
@@ -63,9 +63,10 @@ def refuse_unchanged(history: History, competition: Competition) -> None:
 
 def refuse_changes(before: Competition, after: Competition) -> None:
     """Refuses what can't change any more once matches were played, by its name."""
-    said = [("name", before.name, after.name), ("ids", before.ids, after.ids), ("form.kind", before.form.kind, after.form.kind), ("strikes", before.strikes, after.strikes), ("faults.replaced", before.faults.replaced, after.faults.replaced)]
+    said = [("name", before.name, after.name), ("ids", before.ids, after.ids), ("seeds", before.seeds, after.seeds), ("form.kind", before.form.kind, after.form.kind), ("strikes", before.strikes, after.strikes), ("faults.replaced", before.faults.replaced, after.faults.replaced)]
     if is_by_rounds(before):
         # Who meets whom in later rounds follows from these too.
+        said += [("form.final", before.form.final, after.form.final)] + [("form.rounds", before.form.rounds, after.form.rounds)] * bool(before.form.final)
         said += [("forfeit", before.forfeit, after.forfeit), ("the number of games", len(before.games), len(after.games))]
         said += [("the number of players", len(before.players), len(after.players))] if after.form.kind == KNOCKOUT else []
     if before.withdrawn() or before.absent_rounds:

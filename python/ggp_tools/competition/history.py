@@ -1,12 +1,16 @@
 """The history of a competition that grew, in its folder: `earlier` has the files by which it was planned before, each under the number of
 matches that were planned when the next one replaced it, and `again.tsv` the matches that were ordered again, with the reasons."""
 
+import csv
+import io
 import re
+from dataclasses import replace
 from pathlib import Path
 
 from ggp_tools.competition.competition_file import RANDOM_IDS, Competition, Mistaken, read_competition, mistake_lines
 from ggp_tools.competition.files import UNFINISHED, Folder, Refused, file_bytes
 from ggp_tools.competition.growth import Again, History
+from ggp_tools.competition.table import ALL
 
 HEAD = b"match\tinstead of\treason\n"
 LINE = re.compile(rb"([A-Za-z0-9_.-]{1,60})\t([A-Za-z0-9_.-]{1,60})\t([\x20-\x7e]{1,200})\n")
@@ -31,12 +35,25 @@ def read_again(folder: Folder) -> tuple[Again, ...]:
     return found
 
 
-def competition_of_file(path: Path, text: bytes) -> Competition:
-    """Returns the competition that the bytes of a file say."""
+def competition_of_file(path: Path, text: bytes, seeds: Path | None = None) -> Competition:
+    """Returns the competition that the bytes of a file say, with its seeds from another file if it asks for that and one is given."""
     try:
-        return read_competition(text)
+        found = read_competition(text)
     except Mistaken as why:
         raise Refused(mistake_lines(path, why.mistakes)) from None
+    return seeded(found, seeds) if seeds and found.seeds else found
+
+
+def seeded(competition: Competition, path: Path) -> Competition:
+    """Returns a competition with its players in the order of another competition's table; those that it does not have come last."""
+    try:
+        rows = list(csv.DictReader(io.StringIO(file_bytes(path).decode("ascii"))))
+        seeds = {row["player"]: at for at, row in enumerate(rows) if row["game"] == ALL}
+    except OSError as why:
+        raise Refused(f"{path} can't be read: {why.strerror}; `seeds` needs the table.csv that `ggp_competition table` writes") from None
+    except (KeyError, csv.Error, UnicodeDecodeError):
+        raise Refused(f"{path} is not a table.csv that `ggp_competition table` writes") from None
+    return replace(competition, players=tuple(sorted(competition.players, key=lambda player: seeds.get(player.name, len(rows)))))
 
 
 def earlier_files(folder: Folder) -> list[Path]:
@@ -50,7 +67,7 @@ def earlier_files(folder: Folder) -> list[Path]:
 
 def read_history(folder: Folder) -> History:
     """Returns how a competition came to its schedule."""
-    earlier = tuple((int(file.stem), competition_of_file(file, file_bytes(file))) for file in earlier_files(folder))
+    earlier = tuple((int(file.stem), competition_of_file(file, file_bytes(file), folder.seeds)) for file in earlier_files(folder))
     return History(earlier, read_again(folder))
 
 

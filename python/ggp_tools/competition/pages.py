@@ -25,7 +25,7 @@ from ggp_tools.competition.schedule import Match
 from ggp_tools.competition.side_by_side import made_side_by_side
 from ggp_tools.competition.sittings import Sitting, sitting_of_values, sittings_of, values_of
 from ggp_tools.competition.table import Table, loaded_ratings, tables_of
-from ggp_tools.competition.table_text import METHOD, crosstable_rows, forfeit_rule, notes, standings_rows, without_record
+from ggp_tools.competition.table_text import crosstable_rows, forfeit_rule, method_of, notes, standings_rows, without_record
 from ggp_tools.descriptions.loading import Rules, sum_of
 from ggp_tools.match_log import last_run
 from ggp_tools.records.match_logs import logged
@@ -244,7 +244,7 @@ class Site:
 
     def first_parts(self, tables: list[Table], results: list[Result]) -> PageParts:
         rounds = bracket_part(self.plan, results), rounds_part(self.plan, results, MOST_LISTED)
-        head, method = self.head(tables[0], results), part("method", text=METHOD)
+        head, method = self.head(tables[0], results), part("method", text=method_of(self.plan.competition))
         return [head, *rounds, *standings(tables[0], ""), method, self.gaps(results), self.last_matches(results)]
 
     def all_matches(self, results: list[Result], name: str) -> PageParts:

@@ -12,7 +12,7 @@ from ggp_tools.competition.addresses import mistakes_of_addresses, places_now, w
 from ggp_tools.competition.competition_file import Competition, Game, Mistake, Mistaken, mistake_lines
 from ggp_tools.competition.files import UNFINISHED, Folder, Refused, file_bytes, held, write_whole
 from ggp_tools.competition.growth import Growing, History, Misfit, grown, refuse_changes, refuse_unchanged, shape
-from ggp_tools.competition.history import competition_of_file, history_files, read_history, read_key
+from ggp_tools.competition.history import competition_of_file, history_files, read_history, read_key, seeded
 from ggp_tools.competition.kept import look_at_records, most_of_record, result_in_file, size_of
 from ggp_tools.competition.results import Result
 from ggp_tools.competition.rounds import Round, is_by_rounds, rounds_of
@@ -24,6 +24,8 @@ from ggp_tools.referee import Referee, Unchecked
 
 SUM_LINE = re.compile(rb"([0-9a-f]{64})  ([^\n]+)\n")
 SUMS_ALONE = re.compile(rb"(?:[0-9a-f]{64}  [^\n]+\n)*")
+# The file of a table that the seeds of another competition are read from.
+TABLE = "table.csv"
 WRITES = "`ggp_competition plan` writes it"
 PUT_BACK = "put back what was changed: once matches were played, the plan only grows"
 
@@ -47,6 +49,10 @@ class Plan:
         name = self.competition.name
         width = len(self.matches[0].id.removeprefix(f"{name}-").partition("-")[0])
         return id_of(self.competition, len(self.matches) + 1, width, self.history.key)
+
+    def new_matches(self) -> list[Match]:
+        """Returns the matches that were added just now."""
+        return self.matches[self.known or 0 :]
 
     def roles(self, game: str) -> tuple[str, ...]:
         return self.rules[game].roles
@@ -93,7 +99,7 @@ def refused_plan(folder: Folder, path: Path) -> Refused:
 def competition_of(folder: Folder) -> tuple[Competition, bytes]:
     """Returns the competition, and the bytes that say it."""
     text = read_file(folder.competition)
-    return competition_of_file(folder.competition, text), text
+    return competition_of_file(folder.competition, text, folder.seeds), text
 
 
 def schedule_of(folder: Folder, competition: Competition, rules: Mapping[str, Rules], history: History, most: int | None = None) -> Growing:
@@ -148,26 +154,42 @@ def sums_text(sums: Mapping[str, str]) -> bytes:
     return "".join(f"{digest}  {name}\n" for name, digest in sorted(sums.items())).encode("utf-8")
 
 
-def make_plan(path: str, referee: Referee) -> Plan:
+def is_begun(folder: Folder) -> bool:
+    """Returns whether matches were played. Where a competition grew they were, although the records are elsewhere."""
+    return is_played(folder) or bool(history_files(folder))
+
+
+def seeds_of(folder: Folder, competition: Competition) -> Path | None:
+    """Returns the file that the seeds of a competition are from, none if that is its own. Once matches were played it is the copy of it."""
+    if not competition.seeds or is_begun(folder) and folder.seeds.exists():
+        return folder.seeds if competition.seeds else None
+    found = folder.path / competition.seeds
+    return found / TABLE if found.is_dir() else found
+
+
+def make_plan(path: str, referee: Referee, is_preview: bool = False) -> Plan:
     """Writes the rules and the schedule of the competition in a folder, and returns it. Nothing is written where anything is wrong, where
-    the schedule of matches that were played does not grow but change, or while any are played."""
+    the schedule of matches that were played does not grow but change, or while any are played; nor for a preview."""
     folder = Folder(path)
-    competition, text = competition_of(folder)
+    text = read_file(folder.competition)
+    competition = competition_of_file(folder.competition, text)
+    if seeds := seeds_of(folder, competition):
+        competition = seeded(competition, seeds)
     refuse_addresses(folder, competition)
     rules = loaded_games(folder, competition, referee)
     files = {folder.rules_of(name): ground.text for name, ground in rules.items()}
     files |= {folder.player_rules_of(name): ground.player_rules for name, ground in rules.items() if ground.player_rules is not None}
     sums = sums_text({file.name: sum_of(data) for file, data in files.items()})
     with held(folder.path):
-        # Where it grew, matches were played whose records are elsewhere.
-        is_begun = is_played(folder) or bool(history_files(folder))
-        known = count_of_matches(folder) if is_begun else None
+        has_begun = is_begun(folder)
+        known = count_of_matches(folder) if has_begun else None
         key = read_key(folder, competition)
         new_key = secrets.token_hex(16).encode("ascii") + b"\n" if key is None else key
-        history, wanted = history_of(folder, competition, rules, new_key) if is_begun else (History(key=new_key), {})
-        if is_begun and key is None:
+        history, wanted = history_of(folder, competition, rules, new_key) if has_begun else (History(key=new_key), {})
+        if has_begun and key is None:
             raise lost_key(folder)
         wanted |= {folder.key: new_key} if key is None else {}
+        wanted |= {folder.seeds: read_file(seeds)} if seeds else {}
         schedule = schedule_of(folder, competition, rules, history, known)
         wanted |= files
         wanted[folder.description_sums()] = sums_text({f"{name}.kif": ground.description_sum for name, ground in rules.items()})
@@ -175,7 +197,8 @@ def make_plan(path: str, referee: Referee) -> Plan:
         wanted[folder.rule_sums()] = sums
         wanted[folder.planned] = text
         wanted[folder.schedule] = schedule_text(schedule.matches)
-        write_plan(folder, wanted, is_begun)
+        if not is_preview:
+            write_plan(folder, wanted, has_begun)
     return Plan(folder, competition, rules, schedule.matches, text, history, schedule.rounds.found, known)
 
 
@@ -200,7 +223,7 @@ def history_of(folder: Folder, competition: Competition, rules: Mapping[str, Rul
     if not folder.planned.exists():
         return history, {}
     text = read_file(folder.planned)
-    before = competition_of_file(folder.planned, text)
+    before = competition_of_file(folder.planned, text, folder.seeds)
     try:
         refuse_changes(before, competition)
     except Misfit as why:
@@ -247,9 +270,10 @@ def lost_key(folder: Folder) -> Refused:
     return Refused(f"{folder.key} is not there", "put it back: the ids of the matches follow from it")
 
 
-def key_files(plan: Plan) -> list[Path]:
-    """Returns the file of the key that the ids of the matches follow from, where there is one."""
-    return [plan.folder.key] if plan.history.key else []
+def files_of_origin(plan: Plan) -> list[Path]:
+    """Returns the files beside competition.toml that the schedule follows from."""
+    folder = plan.folder
+    return [*history_files(folder), *([folder.key] if plan.history.key else []), *([folder.seeds] if plan.competition.seeds else [])]
 
 
 def read_sums(data: bytes) -> dict[str, str] | None:
@@ -365,22 +389,29 @@ def rounds_left(plan: Plan) -> int:
     return rounds_of(plan.competition) - len(plan.rounds)
 
 
-def plan_next_round(plan: Plan, results: Mapping[str, Result]) -> list[Match]:
-    """Plans the next round where the last one is over, and writes the schedule. Returns its matches: none where there is no further round,
-    or the last one is not over."""
+def next_plan(plan: Plan, results: Mapping[str, Result]) -> Plan | None:
+    """Returns the plan with the next round, which is not written yet; none where there is no further round, or the last one is not over."""
     if not rounds_left(plan) or any(match.id not in results and match.counts() for match in plan.matches):
-        return []
+        return None
     roles = {name: len(ground.roles) for name, ground in plan.rules.items()}
     # Not yet another round after this one: no match of it has a result.
     found = grown(plan.history, plan.competition, roles, lambda match: results.get(match.id))
+    return replace(plan, matches=found.matches, rounds=found.rounds.found, known=len(plan.matches))
+
+
+def plan_next_round(plan: Plan, results: Mapping[str, Result]) -> list[Match]:
+    """Plans the next round where the last one is over, and writes the schedule. Returns its matches: none where there is no further round,
+    or the last one is not over."""
+    if not (found := next_plan(plan, results)):
+        return []
     write_whole(plan.folder.schedule, schedule_text(found.matches))
-    new = found.matches[len(plan.matches) :]
-    plan.matches, plan.rounds = found.matches, found.rounds.found
-    return new
+    plan.matches, plan.rounds = found.matches, found.rounds
+    return found.new_matches()
 
 
-def round_words(plan: Plan, matches: list[Match]) -> str:
-    """Returns what there is to say of the last round that was planned, with these matches."""
+def round_words(plan: Plan) -> str:
+    """Returns what there is to say of the last round of a plan."""
     found = plan.rounds[-1]
+    matches = [match for match in plan.matches if match.round == found.number]
     span = f"{matches[0].id} to {matches[-1].id}" if matches else "no match"
     return f"round {found.number} of {rounds_of(plan.competition)}: {span}{found.byes_words()}"

@@ -192,15 +192,18 @@ class Playing:
                 shutil.rmtree(folder.open / match, ignore_errors=True)
 
     async def play_rounds(self) -> None:
-        """Plays the matches that wait, and round after round those that follow from them, unless something has hindered those before."""
+        """Plays the matches that wait, and round after round those that follow from them, unless something has hindered those before. In a
+        competition that pauses it is one round."""
         for number, count in INTERRUPTS.items():
             # A hang-up that is ignored, as under nohup, stays so.
             if number != signal.SIGHUP or signal.getsignal(number) != signal.SIG_IGN:
                 asyncio.get_running_loop().add_signal_handler(number, self.interrupt, count)
+        may_pair = not self.plan.competition.pause or not self.waiting
         try:
             await self.go()
-            while self.may_begin() and not self.reporter.fault and (matches := plan_next_round(self.plan, self.results)):
-                self.reporter.line(round_words(self.plan, matches))
+            while may_pair and self.may_begin() and not self.reporter.fault and (matches := plan_next_round(self.plan, self.results)):
+                may_pair = not self.plan.competition.pause
+                self.reporter.line(round_words(self.plan))
                 self.waiting.extend(matches)
                 self.seats.idle_until = 0.0
                 await self.go()

@@ -3,13 +3,14 @@
 The strengths are those under which the results are likeliest, where a draw counts as half a win for each. They are unique, up to a factor,
 exactly for players of whom each group has won something against the others (Ford, "Solution of a ranking problem from binary
 comparisons", The American Mathematical Monthly 64, 1957). So each such set of players is rated separately, and a player outside of all sets
-has no rating. A rating is 400 times the decimal logarithm of the strength, with the mean 0 in its group. The intervals of 95% come from the
+has no rating. A rating is 400 times the decimal logarithm of the strength, with the mean 0 in its group unless it has anchors. The intervals of 95% come from the
 observed information: the negative second derivatives of the logarithm of the likelihood, inverted where the sum of the ratings is 0. In
 tests with eight players of known strengths 763 of 800 intervals contain the strength."""
 
 import math
 from collections.abc import Iterator, Mapping, Sequence
 from dataclasses import dataclass
+from types import MappingProxyType
 
 import numpy
 
@@ -75,14 +76,17 @@ def likeliest(points: numpy.ndarray) -> list[tuple[float, float]] | None:
     return None
 
 
-def rated(players: Sequence[str], points: Mapping[tuple[str, str], float]) -> dict[str, Rating]:
+def rated(players: Sequence[str], points: Mapping[tuple[str, str], float], anchors: Mapping[str, int] = MappingProxyType({})) -> dict[str, Rating]:
     """Returns the rating of each player, where `points` has what each pair's first player got against the second: 1 for a match that
-    it won, a half for one that was drawn."""
+    it won, a half for one that was drawn. The ratings of a group with anchors are shifted, so that the mean of the anchors is the given one."""
     place, got = {player: at for at, player in enumerate(players)}, numpy.zeros((len(players), len(players)))
     for (player, opponent), count in points.items():
         got[place[player], place[opponent]] = count
     found, several = dict.fromkeys(players, Rating(None, None, None)), (group for group in groups(got) if len(group) > 1)
     for number, group in enumerate(several, 1):
-        for member, (rating, half) in zip(group, likeliest(got[numpy.ix_(group, group)]) or [(None, None)] * len(group)):
-            found[players[member]] = Rating(rating, half, number)
+        ratings = likeliest(got[numpy.ix_(group, group)])
+        shifts = [anchors[players[member]] - rating for member, (rating, _) in zip(group, ratings or ()) if players[member] in anchors]
+        shift = sum(shifts) / (len(shifts) or 1)
+        for member, (rating, half) in zip(group, ratings or [(None, None)] * len(group)):
+            found[players[member]] = Rating(rating if rating is None else rating + shift, half, number)
     return found

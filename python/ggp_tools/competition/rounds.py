@@ -5,7 +5,8 @@ points, then of Buchholz's number (the points of all opponents together), then o
 down each one meets the next that it has met least often. Then, from the bottom up, two that met before exchange with the nearest pair above
 so that nobody meets again, if that can be. If the number of players is odd, the last one of those with the fewest byes has a bye, which
 counts as if it had won all matches of a meeting. In a knockout the winners of the meetings go on: who has more points, then more goals,
-then the better seed. The seeds stand in the usual bracket, in which the first two can meet only at the end, and byes go to the best.
+then the better seed. The seeds stand in the usual bracket, in which the first two can meet only at the end, and byes go to the best. A
+knockout may follow the rounds of a Swiss competition: then the seeds are its standings.
 
 A player that has withdrawn meets nobody any more. A match against it that does not count, or is not played, gives its opponent a point, as
 those of a bye do. In a knockout its opponent goes on unless the meeting was played to its end."""
@@ -80,18 +81,25 @@ class Scores:
 
 def rounds_of(competition: Competition) -> int:
     """Returns how many rounds a competition has; none where it is not played by rounds."""
-    if competition.form.kind == KNOCKOUT:
+    form = competition.form
+    if form.kind == KNOCKOUT:
         return (len(competition.players) - 1).bit_length()
+    return form.rounds + (form.final and (form.final - 1).bit_length()) if form.kind == SWISS else 0
+
+
+def swiss_rounds(competition: Competition) -> int:
+    """Returns how many rounds are not of a knockout."""
     return competition.form.rounds if competition.form.kind == SWISS else 0
 
 
 def matches_to_come(competition: Competition, rounds: Sequence[Round]) -> int:
     """Returns how many matches the rounds have that are not planned yet, with the players that there are now."""
-    if competition.form.kind == KNOCKOUT:
+    swiss = swiss_rounds(competition) - len(rounds)
+    if swiss < 0 or competition.form.kind == KNOCKOUT:
         # Each meeting has one player leave.
         left = len(rounds[-1].pairs) + len(rounds[-1].byes) - 1
     else:
-        left = (rounds_of(competition) - len(rounds)) * ((len(competition.players) - len(withdrawn_by(competition, rounds))) // 2)
+        left = swiss * ((len(competition.players) - len(withdrawn_by(competition, rounds))) // 2) + max(0, competition.form.final - 1)
     return max(0, left) * 2 * len(competition.games)
 
 
@@ -153,9 +161,9 @@ def bracket(count: int) -> list[int]:
     return seeds
 
 
-def winner(pair: tuple[str, str], results: Collection[Result], competition: Competition, withdrawn: Mapping[str, str]) -> str | None:
-    """Returns who goes on from a meeting that is over; none if it was not played to its end and both have withdrawn."""
-    scores, seeds = Scores(competition), [player.name for player in competition.players]
+def winner(pair: tuple[str, str], results: Collection[Result], scores: Scores, withdrawn: Mapping[str, str], seeds: Sequence[str]) -> str | None:
+    """Returns who goes on from a meeting that is over, in scores that have nothing yet; none if it was not played to its end and both have
+    withdrawn."""
     left = [name for name in pair if name not in withdrawn]
     for result in results:
         scores.count_result(result)
@@ -164,10 +172,9 @@ def winner(pair: tuple[str, str], results: Collection[Result], competition: Comp
     return min(pair, key=lambda player: (-scores.points[player], -scores.goals[player], seeds.index(player)))
 
 
-def knockout_round(competition: Competition, before: Sequence[Round], winners: Collection[str | None], withdrawn: Mapping[str, str]) -> Round:
-    """Returns the next round of a knockout, where those before it are over, by the winners of the last one."""
-    names = [player.name for player in competition.players]
-    places: list[str | None] = [names[seed] if seed < len(names) else None for seed in bracket(len(names))]
+def knockout_round(size: int, names: Sequence[str], before: Sequence[Round], winners: Collection[str | None], withdrawn: Mapping[str, str]) -> Round:
+    """Returns the next round of a knockout of this size and these seeds, where those before it are over, by the winners of the last one."""
+    places: list[str | None] = [names[seed] if seed < len(names) else None for seed in bracket(size)]
     for going_on in [*(found.players() for found in before[1:]), {*winners, *before[-1].byes}] if before else ():
         places = [next((name for name in pair if name and name in going_on), None) for pair in zip(places[::2], places[1::2])]
     places = [None if name in withdrawn else name for name in places]
@@ -187,6 +194,8 @@ class Rounds:
         self.absences: Counter[str] = Counter()
         self.counted = 0
         self.withdrawn: dict[str, str] = {}
+        # The players of the knockout, in the order of their seeds.
+        self.seeds: list[str] = []
 
     def next(self, competition: Competition, results: Sequence[Result]) -> Round:
         """Returns the next round, by the results of the last one that count."""
@@ -199,13 +208,21 @@ class Rounds:
         if withdrawn.keys() != self.withdrawn.keys():
             self.scores = scores_of(competition, self.found, self.results, withdrawn)
         self.withdrawn = withdrawn
-        if competition.form.kind == SWISS:
+        if len(self.found) < swiss_rounds(competition):
             found = swiss_round(competition, len(self.found) + 1, self.scores, withdrawn)
         else:
-            of_meeting, pairs = by_meeting(results), self.found[-1].pairs if self.found else ()
-            winners = [winner(pair, of_meeting[len(self.found), frozenset(pair)], competition, withdrawn) for pair in pairs]
-            found = knockout_round(competition, self.found, winners, withdrawn)
-        return replace(found, absent=tuple(new.items()))
+            found = self.next_of_knockout(competition, by_meeting(results))
+        return replace(found, number=len(self.found) + 1, absent=tuple(new.items()))
+
+    def next_of_knockout(self, competition: Competition, of_meeting: Mapping[Meeting, list[Result]]) -> Round:
+        """Returns the next round of a knockout of all players, or of the best ones of the rounds before it."""
+        before, final = self.found[swiss_rounds(competition) :], competition.form.final
+        if not before:
+            names = [player.name for player in competition.players if not final or player.name not in self.withdrawn]
+            self.seeds = sorted(names, key=self.scores.swiss_order)[: final or None]
+        of_pairs = [(pair, of_meeting[len(self.found), frozenset(pair)]) for pair in before[-1].pairs] if before else []
+        winners = [winner(pair, results, Scores(competition), self.withdrawn, self.seeds) for pair, results in of_pairs]
+        return knockout_round(final or len(competition.players), self.seeds, before, winners, self.withdrawn)
 
     def count(self, results: Sequence[Result]) -> None:
         """Counts the results of the last round."""
@@ -231,16 +248,17 @@ def by_meeting(results: Iterable[Result]) -> dict[Meeting, list[Result]]:
     return found
 
 
-def rounds_won(competition: Competition, rounds: Sequence[Round], results: Iterable[Result]) -> Counter[str]:
-    """Returns how many rounds of a knockout each player has come through, by meetings that are over and byes."""
-    won, of_meeting, withdrawn = Counter(), by_meeting(results), withdrawn_by(competition, rounds)
-    for found, following in itertools.zip_longest(rounds, rounds[1:]):
+def rounds_won(competition: Competition, rounds: Sequence[Round], results: Iterable[Result], seeds: Sequence[str]) -> Counter[str]:
+    """Returns how many rounds of the knockout each player has come through that is in it, by meetings that are over and byes."""
+    of_meeting, withdrawn, rounds_of_it = by_meeting(results), withdrawn_by(competition, rounds), rounds[swiss_rounds(competition) :]
+    won = Counter(dict.fromkeys(rounds_of_it[0].players(), 0) if rounds_of_it else {})
+    for found, following in itertools.zip_longest(rounds_of_it, rounds_of_it[1:]):
         won.update(found.byes)
         for pair in found.pairs:
             of_pair = of_meeting[found.number, frozenset(pair)]
             going_on = following.players().intersection(pair) if following else ()
             if going_on or len(of_pair) == 2 * len(competition.games) or withdrawn.keys() & pair:
-                won.update([*going_on] or filter(None, [winner(pair, of_pair, competition, withdrawn)]))
+                won.update([*going_on] or filter(None, [winner(pair, of_pair, Scores(competition), withdrawn, seeds)]))
     return won
 
 

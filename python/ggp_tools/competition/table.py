@@ -11,7 +11,7 @@ from dataclasses import dataclass, field
 
 from ggp_tools.competition.competition_file import BY_POINTS, KNOCKOUT, SWISS, VOID, Competition
 from ggp_tools.competition.results import DRAWN, LOST, WON, Result
-from ggp_tools.competition.rounds import Round, is_by_rounds, rounds_won, scores_of, withdrawn_by, withdrawn_words
+from ggp_tools.competition.rounds import Round, is_by_rounds, rounds_won, scores_of, swiss_rounds, withdrawn_by, withdrawn_words
 from ggp_tools.competition.schedule import Match
 from ggp_tools.templating import end_without
 
@@ -19,6 +19,8 @@ if typing.TYPE_CHECKING:
     from ggp_tools.competition.ratings import Rating
 
 ALL = "all games"
+# The order of a Swiss competition with a knockout at its end.
+FINAL = "final"
 
 
 @dataclass
@@ -54,9 +56,11 @@ class Line:
 
     def order(self, by: str) -> tuple[float, ...]:
         """Returns what orders the line: the mean goals as they are printed, 0 where there are none, then wins, then losses; or all of it
-        after the points; in a Swiss competition the points and Buchholz's number, and in a knockout the rounds."""
-        if by == SWISS:
-            return -self.points(), -(self.buchholz or 0)
+        after the points; in a Swiss competition the points and Buchholz's number, in a knockout the rounds, and in a Swiss competition with a
+        knockout at its end first the rounds of that."""
+        if by in (SWISS, FINAL):
+            final = -1 if self.rounds_won is None else self.rounds_won
+            return *((-final,) if by == FINAL else ()), -self.points(), -(self.buchholz or 0)
         if by == KNOCKOUT:
             return (-(self.rounds_won or 0),)
         goals = -(self.mean() or 0), -self.won, self.lost
@@ -131,14 +135,15 @@ def count_pairs(table: Table, result: Result) -> None:
 
 def count_rounds(table: Table, competition: Competition, results: Iterable[Result]) -> None:
     """Counts in the table of all games what follows from the rounds."""
-    counted = [result for result in results if result.match.counts()]
-    scores, won = scores_of(competition, table.rounds, counted), rounds_won(competition, table.rounds, counted)
+    counted, swiss = [result for result in results if result.match.counts()], swiss_rounds(competition)
+    of_swiss = [result for result in counted if result.match.round <= swiss]
+    scores = scores_of(competition, table.rounds[:swiss], of_swiss, withdrawn_by(competition, table.rounds))
+    won = rounds_won(competition, table.rounds, counted, sorted(table.lines, key=scores.swiss_order))
     for player, line in table.lines.items():
-        line.byes = scores.byes[player]
-        if competition.form.kind == SWISS:
+        line.byes = sum(player in found.byes for found in table.rounds) if not swiss else scores.byes[player]
+        if swiss:
             line.round_points, line.buchholz = scores.points[player], scores.buchholz(player)
-        else:
-            line.rounds_won = won[player]
+        line.rounds_won = won.get(player, None if swiss else 0)
 
 
 def loaded_ratings() -> "Callable[..., dict[str, Rating]]":
@@ -155,7 +160,7 @@ def tables_of(competition: Competition, results: Sequence[Result], rounds: Seque
     rated = loaded_ratings()
     names = [entrant.name for entrant in competition.players]
     kind = competition.form.kind if is_by_rounds(competition) else ""
-    by = [(ALL, kind or competition.order), *((game.name, BY_POINTS if kind else competition.order) for game in competition.games)]
+    by = [(ALL, FINAL if competition.form.final else kind or competition.order), *((game.name, BY_POINTS if kind else competition.order) for game in competition.games)]
     found = [Table(game, {name: Line(name) for name in names}, by=order) for game, order in by]
     found[0].rounds, counts = rounds, "do not count" if competition.withdrawn_results == VOID else "count"
     withdrawn = withdrawn_by(competition, rounds).items()
@@ -167,7 +172,7 @@ def tables_of(competition: Competition, results: Sequence[Result], rounds: Seque
     if kind:
         count_rounds(found[0], competition, results)
     for table in found if is_rated else ():
-        for player, rating in rated([name for name in names if table.lines[name].matches], table.points).items():
+        for player, rating in rated([name for name in names if table.lines[name].matches], table.points, competition.anchor).items():
             table.lines[player].rating = rating
     return found
 

@@ -11,7 +11,7 @@ from ggp_tools.competition.plan import Plan
 from ggp_tools.competition.results import FULL_GOAL, Result, again_words
 from ggp_tools.competition.rounds import rounds_of
 from ggp_tools.competition.schedule import Match
-from ggp_tools.competition.table import Line, Table
+from ggp_tools.competition.table import FINAL, Line, Table
 
 HEADS = (
     *("player", "matches", "goals", "won", "drawn", "lost", "moves", "replaced", "absent", "retired", "rating", "half", "group"),
@@ -30,6 +30,12 @@ def forfeit_rule(competition: Competition) -> str:
     whys = ["was retired"] * competition.forfeit + [f"had {most:,} or more moves replaced in turns in which it had a choice"] * bool(most)
     counts = f"its goal counts as 0; a single opponent gets {FULL_GOAL}, several keep their goals, or share {FULL_GOAL} if the match was aborted"
     return f"A player that {' or '.join(whys)} has lost that match: {counts}." if whys else ""
+
+
+def method_of(competition: Competition) -> str:
+    """Returns how the ratings are found."""
+    anchors = " and ".join(f"{name} has {rating}" for name, rating in competition.anchor.items())
+    return f"{METHOD}; shifted so that {anchors}{' on average' * (len(competition.anchor) > 1)}" if anchors else METHOD
 
 
 def in_order(plan: Plan, results: Mapping[str, Result]) -> list[Result]:
@@ -90,9 +96,9 @@ def cells_of(table: Table, line: Line) -> dict[str, str]:
     cells = {
         "player": f"{line.player} (no move of its own)" if 0 < line.absent == line.matches else line.player,
         "matches": str(line.matches),
-        "rounds won": str(line.rounds_won) if table.by == KNOCKOUT else "",
-        "points": points_text(line.points()) if table.by in (BY_POINTS, SWISS) else "",
-        "Buchholz": points_text(line.buchholz or 0.0) if table.by == SWISS else "",
+        "rounds won": ("-" if line.rounds_won is None else str(line.rounds_won)) if table.by in (KNOCKOUT, FINAL) else "",
+        "points": points_text(line.points()) if table.by in (BY_POINTS, SWISS, FINAL) else "",
+        "Buchholz": points_text(line.buchholz or 0.0) if table.by in (SWISS, FINAL) else "",
         "goals": "none" if line.mean() is None else f"{line.mean():.2f}",
         "won": str(line.won),
         "drawn": str(line.drawn),
@@ -156,7 +162,7 @@ def table_text(plan: Plan, tables: list[Table]) -> str:
         if table.is_of_pairs():
             lines += ["", "points / meetings", *columns(list(crosstable_rows(table)))]
         lines += [f"* {note}" for note in notes(table)]
-    return "\n".join([*lines, "", f"Ratings: {METHOD}.", ""])
+    return "\n".join([*lines, "", f"Ratings: {method_of(plan.competition)}.", ""])
 
 
 def csv_text(heads: Sequence[str], rows: Iterable[dict[str, object]]) -> str:
@@ -176,7 +182,7 @@ def json_text(plan: Plan, tables: list[Table]) -> str:
         "replaced": plan.competition.faults.replaced,
         "order": plan.competition.order,
         "rounds": [{"round": found.number, "pairs": found.pairs, "byes": found.byes} for found in plan.rounds],
-        "ratings": METHOD,
+        "ratings": method_of(plan.competition),
         "tables": [
             {
                 "game": table.game,
