@@ -438,9 +438,9 @@ class Before(WithMatches):
             return found
 
         Standing.laid_down = {"cup-004": [over(why="ann is silent")]}
-        with mock.patch.object(playing, "plan_next_round", next_round), mock.patch.object(playing, "round_words", lambda plan, found: f"round of {found[0].id}"):
+        with mock.patch.object(playing, "plan_next_round", next_round), mock.patch.object(playing, "round_words", lambda plan: f"round of {plan.matches[-1].id}"):
             self.assertEqual(playing.play(self.playing), {"cup-004": "ann is silent"})
-        self.assertEqual(([line for line in self.reporter.lines if line.startswith("round")], rest), (["round of cup-003", "round of cup-005"], []))
+        self.assertEqual(([line for line in self.reporter.lines if line.startswith("round")], rest), (["round of cup-004", "round of cup-005"], []))
         self.assertEqual(sorted(self.begun()), [f"cup-00{at}" for at in range(1, 6)])
 
     def test_what_was_not_begun_is_missing(self):

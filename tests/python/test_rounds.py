@@ -121,7 +121,8 @@ class ByRounds(unittest.TestCase):
         for form, wanted in (('kind = "knockout"', ["0 of 6 ", "Round 1 of 2; 2 matches"]), (SWISS.format(3), ["0 of 12 ", "Round 1 of 3; 8 matches"])):
             with self.subTest(form):
                 self.write(4, form)
-                head = Site(plan := self.make()).head([]).text
+                plan = self.make()
+                head = Site(plan).head(tables_of(plan.competition, [], plan.rounds)[0], []).text
                 self.assertIn(f"{wanted[0]}matches are over. {wanted[1]} of later rounds are to come, which are not planned yet.", head)
         self.write(6, 'kind = "knockout"')
         plan = self.make()

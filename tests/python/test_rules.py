@@ -1,7 +1,11 @@
 """The rules of a competition, each from the first command to an archive that `check` accepts and, spoilt with sums that fit, refuses."""
 
 import json
+import re
+from unittest import mock
 
+from ggp_tools.competition.command import arguments
+from ggp_tools.competition.init_file import write_first_file
 from players import TestPlayer
 from support import GAMES, toml
 from test_archive import changed, without
@@ -143,3 +147,26 @@ class Rules(InArchive):
         self.assert_spoilt({"the seeds are others": (changed("last/seeds.csv", lambda text: text.replace(order[0].encode(), b"x")), "schedule.tsv is not what")})
         self.assertEqual(self.ran("table", first, ".")[0], "cup + last: 12 of 12 matches")
         self.assertIn("two of the folders have a competition of the name cup", self.refused("table", first, first))
+
+    def test_a_first_file_by_options_and_by_questions(self):
+        self.new_folder()
+        ann, bob = (f"{player.name}={player.place()}" for player in (TestPlayer("ann"), TestPlayer("bob")))
+        words = "init", "cup", "--games", "countdown", "--swiss", "1", "--final", "2", "--players", f"{ann},{bob}"
+        self.assertEqual(self.ran(*words), ["cup/competition.toml: `ggp_competition plan cup` is next"])
+        first = (self.folder / "cup/competition.toml").read_text()
+        self.assertIn("cup/competition.toml is there already", self.refused(*words))
+        for more, refused in (
+            (["--games", "nogame"], "'nogame' is neither a file nor a game"), (["--knockout"], "not allowed with argument --swiss"), (["--swiss", "x"], "rounds: this is no TOML"),
+            (["--final", "3"], "form.final: there are 2 players"), (["--name", "a cup"], "name: 'a cup' is no name"), (["--players", "ann=9147"], "players.address: '9147' is no HOST:PORT"),
+        ):
+            self.assertIn(refused, self.refused("init", "other", *words[2:], *more))
+        self.assertFalse((self.folder / "other").exists())
+        self.folder /= "cup"
+        for command in (["plan"], ["play"], ["publish"], ["check", "cup.tar.gz"]):
+            self.ran(*command)
+        self.assert_spoilt({"there is no final": (changed("cup/competition.toml", lambda text: text.replace(b"final = 2", b"")), "schedule.tsv is not what")})
+        asked = arguments(["init", str(self.folder / "asked/cup")])
+        with mock.patch("builtins.input", side_effect=["countdown", "swiss 1", f"{ann},{bob}"]), mock.patch("sys.stdin.isatty", return_value=True):
+            write_first_file(asked)
+        texts = (self.folder / "asked/cup/competition.toml").read_text(), first.replace("final = 2\n", "")
+        self.assertEqual(*(re.sub(r"(\.\./)+", "", text) for text in texts))

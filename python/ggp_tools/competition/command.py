@@ -13,6 +13,7 @@ from ggp_tools.competition.archive import check_archive, matches_text, own_files
 from ggp_tools.competition.files import Refused, held, write_whole
 from ggp_tools.competition.game import add_game, run_game
 from ggp_tools.competition.kept import look_at_records
+from ggp_tools.competition.init_file import add_init, write_first_file
 from ggp_tools.competition.joined import joined
 from ggp_tools.competition.known import Known
 from ggp_tools.competition.log_faults import faults_of_logs
@@ -51,6 +52,9 @@ def add_options(command: argparse.ArgumentParser, name: str) -> None:
     """Adds what a command takes."""
     if name == "check":
         command.add_argument("archive", metavar="ARCHIVE", help="the file of the archive")
+        return
+    if name == "init":
+        add_init(command)
         return
     if name == "try":
         command.add_argument("file", metavar="FILE", help="competition.toml")
@@ -178,6 +182,11 @@ def said_of_growth(plan: Plan) -> str:
         return ""
     new = plan.new_matches()
     return f"; added: {len(new)}, {new[0].id} to {new[-1].id}" if new else "; nothing is added"
+
+
+def run_init(asked: argparse.Namespace, referee: Referee) -> int:
+    say(f"{write_first_file(asked)}: `ggp_competition plan {asked.folder}` is next")
+    return 0
 
 
 def run_again(asked: argparse.Namespace, referee: Referee) -> int:
@@ -353,6 +362,7 @@ def run_check(asked: argparse.Namespace, referee: Referee) -> int:
 
 
 COMMANDS = {
+    "init": ("writes a first competition.toml with comments, by options or by questions", run_init),
     "plan": ("writes the rules and schedule.tsv, as competition.toml says", run_plan),
     "again": ("orders a match to be played again: the one in its place counts, and both are kept", run_again),
     "play": ("plays the matches that have no lawful record yet", run_play),

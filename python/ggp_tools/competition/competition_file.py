@@ -44,8 +44,8 @@ ORDERS = BY_GOALS, BY_POINTS = "goals", "points"
 PLAYER_RULES = ("ground", "variables")
 # How pages draw the boards of a game: by the shape of the places, or with hexagons.
 BOARDS = "shape", "hex"
-# Keys that had another name before version 0.2.0, by that name.
-RENAMED = {"told": "player_rules", "hosts": "launcher"}
+# Keys that had another name before, by that name.
+RENAMED = {"told": "player_rules", "hosts": "launcher", "seconds": "instantiate"}
 
 
 @dataclass(frozen=True)
@@ -258,7 +258,7 @@ class Game:
     name: str = read_by(Section.name, NAME, 40, FIRST)
     file: str = read_by(Section.path_of_file)
     described: str = read_by(Section.path_of_file, "")
-    seconds: int = read_by(Section.number, 1, MOST_INSTANTIATING, INSTANTIATING)
+    instantiate: int = read_by(Section.number, 1, MOST_INSTANTIATING, INSTANTIATING)
     start: int = read_by(Section.number, 1, MOST_SECONDS)
     play: int = read_by(Section.number, 1, MOST_SECONDS)
     player_rules: str = read_by(Section.word, PLAYER_RULES, PLAYER_RULES[0])

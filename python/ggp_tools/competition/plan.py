@@ -131,10 +131,10 @@ def loaded_games(folder: Folder, competition: Competition, referee: Referee) -> 
             if game.described:
                 rules = load_described(path, folder.description(game), program, game.tells_variables())
             else:
-                rules = load_description(path, program, game.tells_variables(), game.seconds)
+                rules = load_description(path, program, game.tells_variables(), game.instantiate)
             found[game.name] = rules
         except Stopped as why:
-            raise Unchecked(f"{path}: {why}; `seconds` of the game gives it more time") from None
+            raise Unchecked(f"{path}: {why}; `instantiate` of the game gives it more time") from None
         except NoDescription as why:
             mistakes += [Mistake(game.line, "games.file", f"{path}: {line}") for line in str(why).splitlines()]
             continue

@@ -6,7 +6,7 @@ from ggp_tools.competition.competition_file import KNOCKOUT, Competition
 from ggp_tools.competition.page_parts import Part, part
 from ggp_tools.competition.plan import Plan
 from ggp_tools.competition.results import Result
-from ggp_tools.competition.rounds import Meeting, Round, bracket, by_meeting, matches_to_come, rounds_of, scores_of, winner, withdrawn_by
+from ggp_tools.competition.rounds import Meeting, Round, Scores, bracket, by_meeting, matches_to_come, rounds_of, scores_of, winner, withdrawn_by
 from ggp_tools.competition.schedule import Match
 from ggp_tools.competition.table_text import count_of_planned, points_text
 
@@ -77,7 +77,7 @@ def bracket_rounds(plan: Plan, of_meeting: Mapping[Meeting, list[Result]]) -> It
             if number == len(plan.rounds) and BYE in pair:
                 through |= {*pair} - {BYE}
             elif number == len(plan.rounds) and (len(over) == scores.meeting or withdrawn.keys() & pair):
-                through.add(winner(pair, over, competition, withdrawn))
+                through.add(winner(pair, over, Scores(competition), withdrawn, names))
             pairs.append([(name, points_text(scores.points[name]) if over else "", name in through) for name in pair])
         yield pairs
         nobody = BYE if number < len(plan.rounds) else ""

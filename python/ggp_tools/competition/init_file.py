@@ -1,0 +1,126 @@
+"""Writes a first competition.toml, with comments, by options or by questions."""
+
+import argparse
+import os
+import pathlib
+import sys
+
+from ggp_tools.competition.competition_file import Mistaken, mistake_lines, read_competition
+from ggp_tools.competition.files import Folder, Refused, write_whole
+
+# In the repository, and in an archive of the program.
+PARENTS = pathlib.Path(__file__).resolve().parents
+EXAMPLES = next((place for parent in PARENTS if (place := parent / "examples/games").is_dir()), pathlib.Path("examples/games"))
+# The forms, with what follows the word of each option.
+FORMS = {"round-robin": "ROUNDS", "swiss": "ROUNDS", "gauntlet": "PLAYER", "knockout": None}
+TEMPLATE = """# docs/COMPETITION.md explains all keys.
+name = "{name}"
+start = {start}        # seconds for START, in which a player reads the rules
+play = {play}         # seconds for every other message
+strikes = 3       # a player is retired in a match after so many replaced moves in a row
+forfeit = true    # a player that was retired in a match has lost it
+absent = "leave"  # "play": matches with silent players are played, too
+{more}
+[faults]
+replaced = 3      # a player with so many replaced moves in a match has lost it; turns with one legal move do not count
+
+[form]
+kind = "{kind}"
+{form}"""
+BY_ROUNDS = """pause = false     # true: `play` ends after each round
+absent_rounds = 0 # so many rounds without a move withdraw a player; 0: never
+"""
+GAME = """
+[[games]]
+name = "{}"
+file = "{}"
+"""
+PLAYER = """
+[[players]]
+name = "{}"
+address = "{}"
+# withdrawn = "the reason"   # it plays no further match
+"""
+NO_PLAYER = """
+# Each player has an entry like this one:
+# [[players]]
+# name = "ann"
+# address = "192.0.2.7:9147"
+"""
+
+
+def add_init(command: argparse.ArgumentParser) -> None:
+    """Adds what the command takes."""
+    command.add_argument("folder", metavar="FOLDER", help="the folder of the competition, which is made if it is not there")
+    command.add_argument("--name", metavar="NAME", help="the name of the competition (that of the folder)")
+    command.add_argument("--games", metavar="A,B,..", help="names of games in examples/games, or paths of descriptions")
+    forms = command.add_mutually_exclusive_group()
+    for form, word in FORMS.items():
+        forms.add_argument(f"--{form}", **({"metavar": word} if word else {"action": "store_true"}), help=f"the form is a {form.replace('-', ' ')}")
+    command.add_argument("--final", metavar="N", help="after a Swiss competition the best N players play a knockout")
+    command.add_argument("--players", metavar="NAME=HOST:PORT,..", help="the players (none: add them to the file)")
+    command.add_argument("--start", metavar="S", default="10", help="seconds for START (10)")
+    command.add_argument("--play", metavar="S", default="5", help="seconds for each other message (5)")
+
+
+def ask_for_the_rest(asked: argparse.Namespace) -> None:
+    """Asks a person for what the options leave open."""
+    if not asked.games:
+        asked.games = input("Games, such as tictactoe,connectfour: ")
+    if not chosen(asked):
+        form, _, more = input("Form: round-robin ROUNDS, swiss ROUNDS, gauntlet PLAYER or knockout: ").strip().partition(" ")
+        if form not in FORMS:
+            raise Refused(f"{form!r} is none of {', '.join(FORMS)}")
+        setattr(asked, form.replace("-", "_"), more or True)
+    if asked.players is None:
+        asked.players = input("Players, such as ann=192.0.2.7:9147,bob=192.0.2.8:9147 (none: add them to the file): ")
+
+
+def chosen(asked: argparse.Namespace) -> str | None:
+    return next((form for form in FORMS if getattr(asked, form.replace("-", "_"))), None)
+
+
+def game_entry(word: str, folder: pathlib.Path) -> str:
+    """Returns the entry of a game, whose file is found from the folder of the competition."""
+    places = [pathlib.Path(word), EXAMPLES / f"{word}.kif", EXAMPLES / f"general/{word}.kif"]
+    path = next((place for place in places if place.is_file()), None)
+    if path is None:
+        raise Refused(f"--games: {word!r} is neither a file nor a game in {EXAMPLES}")
+    return GAME.format(path.stem, os.path.relpath(path, folder))
+
+
+def text_of(asked: argparse.Namespace, folder: pathlib.Path) -> str:
+    """Returns the text of competition.toml."""
+    form = chosen(asked)
+    more = getattr(asked, form.replace("-", "_"))
+    keys = {"gauntlet": f'one = "{more}"\n', "knockout": ""}.get(form, f"rounds = {more}\n")
+    keys += f"final = {asked.final}\n" if asked.final else ""
+    names = {"name": asked.name or folder.resolve().name, "start": asked.start, "play": asked.play, "kind": form.replace("-", "_")}
+    players = [PLAYER.format(*player.partition("=")[::2]) for player in words(asked.players)]
+    games = [game_entry(word, folder) for word in words(asked.games)]
+    head = TEMPLATE.format(**names, form=keys, more=BY_ROUNDS if form in ("swiss", "knockout") else "")
+    return "".join([head, *games, *(players or [NO_PLAYER])])
+
+
+def words(text: str | None) -> list[str]:
+    return [word.strip() for word in (text or "").split(",") if word.strip()]
+
+
+def write_first_file(asked: argparse.Namespace) -> pathlib.Path:
+    """Writes the file, and returns its path. Refuses what `plan` would refuse in it, but not that it has no players yet."""
+    folder = Folder(asked.folder)
+    if folder.competition.exists():
+        raise Refused(f"{folder.competition} is there already")
+    if sys.stdin.isatty():
+        ask_for_the_rest(asked)
+    if not asked.games or not chosen(asked):
+        raise Refused(f"--games, and one of {', '.join(f'--{form}' for form in FORMS)}, are needed")
+    text = text_of(asked, folder.path)
+    try:
+        read_competition(text.encode())
+    except Mistaken as why:
+        if wrong := [mistake for mistake in why.mistakes if asked.players or mistake.key not in ("players", "form.one", "form.final")]:
+            raise Refused("what the options ask for is refused:\n" + mistake_lines(folder.competition, wrong)) from None
+    folder.make()
+    write_whole(folder.competition, text.encode())
+    return folder.competition
