@@ -133,7 +133,7 @@ class Demonstration(InFolder):
         """Looks at what stands on the first page while one player of a match thinks."""
         self.await_turn(page, 3)
         self.assertIn("ann (xplayer), bob (oplayer)", page.value(f"{BOARD}.innerText"))
-        self.assertRegex(page.value(f"document.getElementById('open-{FIRST}').innerText"), rf"ann, bob\s+3\s+the answers to turn 3\s+{WHILE}")
+        self.assertRegex(page.value(f"document.getElementById('open-{FIRST}').innerText"), rf"ann, bob\s+3\s+xplayer to move: ann\s+{WHILE}")
         # The page shows the state in which the player thinks.
         terms = [example.show(term).strip("()").split() for term in self.players["ann"].matches[FIRST][2]]
         self.assertEqual(page.value(CELLS), {term[1] + term[2]: SIGNS[term[3]] for term in terms if term[0] == "cell"})
@@ -143,8 +143,8 @@ class Demonstration(InFolder):
         page.screen(*WIDE)
 
     def await_turn(self, page: Page, turn: int) -> None:
-        """Waits until the first page says that the moves of a turn are awaited, without being loaded again. It names no player that early."""
-        page.until(f"({BOARD} || document.head).textContent.includes('after turn {turn - 1}; awaited: the answers to turn {turn} (')")
+        """Waits until the first page says who is to move in a turn, without being loaded again."""
+        page.until(f"({BOARD} || document.head).textContent.includes('after turn {turn - 1}; xplayer to move: ann (')")
         self.assertTrue(page.value("window.isFirst"))
 
     def go_by_keyboard(self, page: Page, hold: Hold) -> None:
@@ -161,7 +161,7 @@ class Demonstration(InFolder):
         page.press("Enter")
         text = page.until(f"location.pathname === '/matches/{FIRST}.html' && document.readyState === 'complete' && document.body.innerText")
         self.assertIn(f"Match {FIRST}: ann (xplayer), bob (oplayer)", text)
-        self.assertRegex(text, rf"It is open; awaited: the answers to turn 5 \({WHILE}\)\.\s+State 4, after turn 4")
+        self.assertRegex(text, rf"It is open; xplayer to move: ann \({WHILE}\)\.\s+After turn 4: xplayer to move")
         self.assertEqual(page.unreadable(), [])
         # What a place of the board shows by a sign is told in words to who reaches it.
         while not re.match(r"\d \d: [xo]$", page.reached()[1]):
