@@ -16,8 +16,8 @@ class Vendor(unittest.TestCase):
         self.folder = self.target / "crates" / CRATE
         self.folder.parent.mkdir()
 
-    def vendor(self):
-        return subprocess.run([f"{TOP}/tools/vendor", CRATE, self.target], capture_output=True, text=True)
+    def vendor(self, *words):
+        return subprocess.run([f"{TOP}/tools/vendor", *(words or [CRATE]), self.target], capture_output=True, text=True)
 
     def test_a_crate_is_copied_and_replaced(self):
         rows = self.target / "crates.txt"
@@ -27,6 +27,20 @@ class Vendor(unittest.TestCase):
         lines = rows.read_bytes().splitlines()
         self.assertEqual((lines[1:], lines[0].startswith(CRATE.encode())), ([b"# caf\xe9", b"own: other"], True))
         self.assertTrue((self.folder / "src").is_dir())
+
+    def test_handles_have_the_words_that_the_crates_need_or_those_under_which_proofs_are_cached(self):
+        handles = self.target / "HANDLES"
+        for words, wanted in (((CRATE,), "none"), (("call_history",), "Wait"), (("match_workers",), "Threads, Wait"), (("--cached", CRATE), "Threads, Wait, Net")):
+            said = self.vendor(*words).stdout.splitlines()
+            self.assertEqual(handles.read_text(encoding="utf-8"), f"Handles allowed: {wanted}.\n")
+            self.assertEqual(said[-1].startswith("cached proofs: none are taken"), "--cached" not in words)
+            handles.unlink()
+
+    def test_handles_that_are_there_are_left_alone(self):
+        handles = self.target / "HANDLES"
+        handles.write_text("Handles allowed: Wait.\n", encoding="utf-8")
+        self.assertEqual(self.vendor().returncode, 0)
+        self.assertEqual(handles.read_text(encoding="utf-8"), "Handles allowed: Wait.\n")
 
     def test_what_has_the_name_of_a_crate_and_is_none_of_these_is_left_alone(self):
         elsewhere = self.target / "elsewhere"
