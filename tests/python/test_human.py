@@ -41,6 +41,19 @@ class Boards(unittest.TestCase):
         self.assertEqual(places_of("(move w a 1 c 3)", board), [(1, 1), (3, 3)])
         self.assertEqual(places_of("noop", board), [])
 
+    def test_a_board_has_the_places_of_the_rules_and_only_some_moves_name_places(self):
+        moves = ("(put 1 1)", "(put 3 2)", "(push 1 1)", "(push 0 1)", "(drop 1)", "(drop 2)", "(drop 3)", "pass")
+        shown = Shown(Game(f"(role a) (init begin) (<= (next (cell 1 1 stone)) (does a pass)) (<= (next (cell 3 2 stone)) (does a pass)) {''.join(f'(legal a {move})' for move in moves)}"))
+        for cells in ({}, {"1,1": ["stone"], "3,2": ["stone"]}):
+            picture = shown.picture(shown.legal("a"))
+            (board,), found = picture["boards"], {move["text"]: move["places"][0] for move in picture["legal"]}
+            self.assertEqual((board["across"], board["up"], board["cells"]), (["1", "2", "3"], ["1", "2"], cells))
+            # (push 0 1) names no place, so (push 1 1) is none either; (drop 1) to (drop 3) name columns.
+            wanted = {"(put 3 2)": [(3, 2)], "(push 1 1)": [], "(push 0 1)": [], "(drop 2)": [(2, 0)], "pass": []}
+            self.assertEqual({move: found[move] for move in wanted}, wanted)
+            shown.advance(("pass",))
+        self.assertEqual((picture["boards"][0]["changed"], picture["players"]), ([(1, 1), (3, 2)], [{"role": "a", "made": "pass", "can": True}]))
+
     def test_terms_that_no_board_shows_stand_beside_it(self):
         picture = Shown(Game(RULES)).picture(["(mark 1 3)"])
         self.assertEqual(picture["terms"], ["(control xplayer)"])
