@@ -83,11 +83,14 @@ class SideBySide(unittest.TestCase):
 
 
 class Knockout(unittest.TestCase):
-    def test_the_bracket_and_who_has_won(self):
+    def seen(self, form, *goals_by_round):
+        """Returns what the first page shows of a competition of three players before each round and at the end: the pairs of the bracket, who has
+        come through, and who is first. And the last page, and the last match."""
         folder = Folder(pathlib.Path(self.enterContext(tempfile.TemporaryDirectory())))
-        competition = read_competition(toml([(name, f"h:{at}") for at, name in enumerate(("ann", "bob", "cid"), 1)], [("one", "f", 'board = "hex"')], 'kind = "knockout"').encode())
+        players = [(name, f"h:{at}") for at, name in enumerate(("ann", "bob", "cid"), 1)]
+        competition = read_competition(toml(players, [("one", "f", 'board = "hex"')], form).encode())
         plan, results, found = Plan(folder, competition, {"one": Rules(b"(role a)", "0" * 64, ("a", "b"))}, []), {}, []
-        for goals in ({}, {"bob": 0, "cid": 100}, {"ann": 50, "cid": 50}):
+        for goals in ({}, *goals_by_round):
             results |= {match.id: result_of(record_of(match, 0) | {"goalValues": [goals[name] for name in match.players]}, match) for match in plan.matches[-2:]}
             growing = grown(History(), competition, {"one": 2}, lambda match: results.get(match.id))
             plan.matches, plan.rounds = growing.matches, growing.rounds.found
@@ -96,13 +99,22 @@ class Knockout(unittest.TestCase):
             pairs = [rows_of(pair) for pair in page.select("#bracket li")]
             through = [text_of(row.td) for row in page.select("#bracket .through")]
             found.append((pairs, through, [text_of(said) for said in page.select(".result span")]))
+        return found, page, plan.matches[-1]
+
+    def test_the_bracket_and_who_has_won(self):
+        found, page, last = self.seen('kind = "knockout"', {"bob": 0, "cid": 100}, {"ann": 50, "cid": 50})
         first = [["ann", ""], ["(bye)", ""]]
         self.assertEqual(found[0], ([first, [["bob", ""], ["cid", ""]], [["ann", ""], ["?", ""]]], ["ann"], []))
         self.assertEqual(found[1], ([first, [["bob", "0"], ["cid", "2"]], [["ann", ""], ["cid", ""]]], ["ann", "cid"], []))
         # With the same points and goals the better seed goes on.
         self.assertEqual(found[2][1:], (["ann", "cid", "ann"], ["Winner: ann", "Second: cid", "Third: bob"]))
-        row = next(row for row in rows_of(page.find(id="matches")) if row[0] == plan.matches[-1].id)
-        self.assertEqual((row[2], row[3]), (" and ".join(plan.matches[-1].players) + " drew", ", ".join(f"{name} 50" for name in plan.matches[-1].players)))
+        row = next(row for row in rows_of(page.find(id="matches")) if row[0] == last.id)
+        self.assertEqual((row[2], row[3]), (" and ".join(last.players) + " drew", ", ".join(f"{name} 50" for name in last.players)))
+
+    def test_a_final_after_a_swiss_competition(self):
+        found, page, _ = self.seen('kind = "swiss"\nrounds = 1\nfinal = 2', {"ann": 0, "bob": 100}, {"bob": 0, "cid": 100})
+        self.assertEqual([pairs for pairs, _, _ in found], [[], [[["bob", ""], ["cid", ""]]], [[["bob", "0"], ["cid", "2"]]]])
+        self.assertEqual((found[2][1:], text_of(page.select_one("#bracket h3"))), ((["cid"], ["Winner: cid", "Second: bob", "Third: ann"]), "Final"))
 
 
 class PagesOfMany(unittest.TestCase):

@@ -1,12 +1,14 @@
 """What the pages say of the rounds of a Swiss competition or a knockout: how many there are, who meets whom, and what came of it."""
 
-from collections.abc import Iterator, Mapping
+from collections.abc import Iterator
 
-from ggp_tools.competition.competition_file import KNOCKOUT, Competition
+from ggp_tools.competition.competition_file import Competition
 from ggp_tools.competition.page_parts import Part, part
 from ggp_tools.competition.plan import Plan
 from ggp_tools.competition.results import Result
-from ggp_tools.competition.rounds import Meeting, Round, Scores, bracket, by_meeting, matches_to_come, rounds_of, scores_of, winner, withdrawn_by
+from ggp_tools.competition.rounds import (
+    Meeting, Round, Scores, bracket, by_meeting, matches_to_come, rounds_of, scores_of, swiss_rounds, winner, withdrawn_by,
+)
 from ggp_tools.competition.schedule import Match
 from ggp_tools.competition.table_text import count_of_planned, points_text
 
@@ -56,28 +58,29 @@ def rows_of(competition: Competition, found: Round, of_meeting: dict[Meeting, li
 
 
 def bracket_part(plan: Plan, results: list[Result]) -> Part:
-    """Returns the bracket of a knockout."""
-    if plan.competition.form.kind != KNOCKOUT or not plan.rounds:
+    """Returns the bracket of a knockout, also of one at the end of a Swiss competition."""
+    if not plan.rounds[swiss_rounds(plan.competition) :]:
         return Part("bracket", "")
-    of_meeting = by_meeting(result for result in results if result.match.counts())
-    rounds = [pairs for pairs in bracket_rounds(plan, of_meeting) if len(pairs) <= MOST_PAIRS]
+    rounds = [pairs for pairs in bracket_rounds(plan, [result for result in results if result.match.counts()]) if len(pairs) <= MOST_PAIRS]
     return part("bracket", rounds=rounds, first=rounds_of(plan.competition) - len(rounds) + 1, bye=BYE)
 
 
-def bracket_rounds(plan: Plan, of_meeting: Mapping[Meeting, list[Result]]) -> Iterator[list[tuple[Place, Place]]]:
+def bracket_rounds(plan: Plan, results: list[Result]) -> Iterator[list[tuple[Place, Place]]]:
     """Gives the pairs of each round in the order of the bracket, also of rounds that are not planned."""
-    competition, withdrawn = plan.competition, withdrawn_by(plan.competition, plan.rounds)
-    names = [player.name for player in competition.players]
-    places = [names[seed] if seed < len(names) else BYE for seed in bracket(len(names))]
-    for number in range(1, rounds_of(competition) + 1):
+    competition, swiss, of_meeting = plan.competition, swiss_rounds(plan.competition), by_meeting(results)
+    before = scores_of(competition, plan.rounds[:swiss], [result for result in results if result.match.round <= swiss])
+    names = [player.name for player in competition.players if not swiss or player.name in plan.rounds[swiss].players()]
+    seeds, withdrawn = sorted(names, key=before.swiss_order), withdrawn_by(competition, plan.rounds)
+    places = [seeds[seed] if seed < len(seeds) else BYE for seed in bracket(competition.form.final or len(competition.players))]
+    for number in range(swiss + 1, rounds_of(competition) + 1):
         through, pairs = plan.rounds[number].players() if number < len(plan.rounds) else set(), []
         for pair in zip(places[::2], places[1::2]):
-            over = of_meeting.get((number, frozenset(pair)), [])
+            over = of_meeting[number, frozenset(pair)]
             scores = scores_of(competition, (), over)
             if number == len(plan.rounds) and BYE in pair:
                 through |= {*pair} - {BYE}
             elif number == len(plan.rounds) and (len(over) == scores.meeting or withdrawn.keys() & pair):
-                through.add(winner(pair, over, Scores(competition), withdrawn, names))
+                through.add(winner(pair, over, Scores(competition), withdrawn, seeds))
             pairs.append([(name, points_text(scores.points[name]) if over else "", name in through) for name in pair])
         yield pairs
         nobody = BYE if number < len(plan.rounds) else ""
