@@ -132,6 +132,7 @@ class Rules(InArchive):
         self.assertTrue(lines["ann"]["rating"] in (1500, None))
         self.ran("publish")
         self.assertIn("6 records and accounts", self.ran("check", "cup.tar.gz")[0])
+        self.assertIn("<h2>Bracket</h2>", (first / "pages/index.html").read_text())
         self.assert_spoilt({
             "there is no final": (changed("cup/competition.toml", lambda text: text.replace(b"final = 2", b"")), "schedule.tsv is not what"),
             "an anchor is another": (changed("cup/competition.toml", lambda text: text.replace(b"1500", b"1600")), "table.txt does not follow"),

@@ -98,6 +98,14 @@ class Section:
         """Returns an object of this class: a field is given, or read from its key."""
         return kind(**{of.name: of.metadata["read"](self, of.name) for of in fields(kind) if of.name not in given and "read" in of.metadata}, **given)
 
+    def part(self, key: str, kind: type, default: object = None) -> Any:
+        """Returns what a table within this one says, as an object of this class, or the default where it is not there."""
+        if key not in self.table:
+            return default
+        section = self.section(key)
+        section.refuse_others(keys_of(kind))
+        return section.read(kind)
+
     def refuse_others(self, keys: Iterable[str]) -> None:
         for key in self.table:
             if key not in keys:
@@ -352,8 +360,8 @@ class Competition:
     anchor: dict[str, int] = read_by(Section.anchors)
     withdrawn_results: str = read_by(Section.word, WITHDRAWN_RESULTS, KEEP)
     absent_rounds: int = read_by(Section.number, 0, MOST_ROUNDS, 0)
-    launcher: Launcher | None
-    faults: Faults
+    launcher: Launcher | None = read_by(Section.part, Launcher)
+    faults: Faults = read_by(Section.part, Faults, Faults(0))
     form: Form
     games: tuple[Game, ...]
     players: tuple[Player, ...]
@@ -475,15 +483,6 @@ def refuse_line(section: Section, line: Text, games: set[str], players: set[str]
             section.mistake("lines", f"the player {name!r} stands there twice", line.line)
 
 
-def table_of(root: Section, key: str, kind: type) -> Any:
-    """Returns what a table of the file says, or none where it is not there."""
-    if key not in root.table:
-        return None
-    section = root.section(key)
-    section.refuse_others(keys_of(kind))
-    return section.read(kind)
-
-
 def root_of(data: bytes, mistakes: list[Mistake]) -> Section:
     """Returns what the bytes of a file say, or raises why they say nothing."""
     if data.startswith(MARK):
@@ -503,8 +502,7 @@ def read_competition(data: bytes) -> Competition:
     root = root_of(data, mistakes)
     root.refuse_others(keys_of(Competition))
     clocks = {key: root.number(key, 1, MOST_SECONDS, 10) for key in ("start", "play")}
-    more = {"launcher": table_of(root, "launcher", Launcher), "faults": table_of(root, "faults", Faults) or Faults(0)}
-    found = root.read(Competition, **clocks, **more, form=form_of(root), games=games_of(root, clocks), players=players_of(root))
+    found = root.read(Competition, **clocks, form=form_of(root), games=games_of(root, clocks), players=players_of(root))
     kind = found.form.kind
     if "order" in root.table and kind in ROUND_KINDS:
         root.mistake("order", f"the kind {kind} has an order of its own")

@@ -64,16 +64,13 @@ def add_init(command: argparse.ArgumentParser) -> None:
 
 
 def ask_for_the_rest(asked: argparse.Namespace) -> None:
-    """Asks a person for what the options leave open."""
-    if not asked.games:
-        asked.games = input("Games, such as tictactoe,connectfour: ")
-    if not chosen(asked):
-        form, _, more = input("Form: round-robin ROUNDS, swiss ROUNDS, gauntlet PLAYER or knockout: ").strip().partition(" ")
-        if form not in FORMS:
-            raise Refused(f"{form!r} is none of {', '.join(FORMS)}")
-        setattr(asked, form.replace("-", "_"), more or True)
-    if asked.players is None:
-        asked.players = input("Players, such as ann=192.0.2.7:9147,bob=192.0.2.8:9147 (none: add them to the file): ")
+    """Asks a person for the games, the form and the players."""
+    asked.games = input("Games, such as tictactoe,connectfour: ")
+    form, _, more = input("Form: round-robin ROUNDS, swiss ROUNDS, gauntlet PLAYER or knockout: ").strip().partition(" ")
+    if form not in FORMS:
+        raise Refused(f"{form!r} is none of {', '.join(FORMS)}")
+    setattr(asked, form.replace("-", "_"), more or True)
+    asked.players = asked.players or input("Players, such as ann=192.0.2.7:9147,bob=192.0.2.8:9147 (none: add them to the file): ")
 
 
 def chosen(asked: argparse.Namespace) -> str | None:
@@ -111,7 +108,7 @@ def write_first_file(asked: argparse.Namespace) -> pathlib.Path:
     folder = Folder(asked.folder)
     if folder.competition.exists():
         raise Refused(f"{folder.competition} is there already")
-    if sys.stdin.isatty():
+    if not asked.games and not chosen(asked) and sys.stdin.isatty():
         ask_for_the_rest(asked)
     if not asked.games or not chosen(asked):
         raise Refused(f"--games, and one of {', '.join(f'--{form}' for form in FORMS)}, are needed")

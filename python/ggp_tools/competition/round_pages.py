@@ -7,7 +7,7 @@ from ggp_tools.competition.page_parts import Part, part
 from ggp_tools.competition.plan import Plan
 from ggp_tools.competition.results import Result
 from ggp_tools.competition.rounds import (
-    Meeting, Round, Scores, bracket, by_meeting, matches_to_come, rounds_of, scores_of, swiss_rounds, winner, withdrawn_by,
+    Meeting, Round, Scores, bracket, by_meeting, matches_to_come, rounds_of, scores_and_seeds, scores_of, swiss_rounds, winner, withdrawn_by,
 )
 from ggp_tools.competition.schedule import Match
 from ggp_tools.competition.table_text import count_of_planned, points_text
@@ -68,9 +68,8 @@ def bracket_part(plan: Plan, results: list[Result]) -> Part:
 def bracket_rounds(plan: Plan, results: list[Result]) -> Iterator[list[tuple[Place, Place]]]:
     """Gives the pairs of each round in the order of the bracket, also of rounds that are not planned."""
     competition, swiss, of_meeting = plan.competition, swiss_rounds(plan.competition), by_meeting(results)
-    before = scores_of(competition, plan.rounds[:swiss], [result for result in results if result.match.round <= swiss])
-    names = [player.name for player in competition.players if not swiss or player.name in plan.rounds[swiss].players()]
-    seeds, withdrawn = sorted(names, key=before.swiss_order), withdrawn_by(competition, plan.rounds)
+    _, names = scores_and_seeds(competition, plan.rounds, results)
+    seeds, withdrawn = [name for name in names if not swiss or name in plan.rounds[swiss].players()], withdrawn_by(competition, plan.rounds)
     places = [seeds[seed] if seed < len(seeds) else BYE for seed in bracket(competition.form.final or len(competition.players))]
     for number in range(swiss + 1, rounds_of(competition) + 1):
         through, pairs = plan.rounds[number].players() if number < len(plan.rounds) else set(), []

@@ -240,6 +240,14 @@ class Rounds:
         self.scores.count_round(found, {}, {})
 
 
+def scores_and_seeds(competition: Competition, rounds: Sequence[Round], results: Iterable[Result]) -> tuple[Scores, list[str]]:
+    """Returns what the rounds before a knockout came to, and the players in the order of its seeds, with the results that count."""
+    swiss = swiss_rounds(competition)
+    of_swiss = [result for result in results if result.match.round <= swiss]
+    scores = scores_of(competition, rounds[:swiss], of_swiss, withdrawn_by(competition, rounds))
+    return scores, sorted((player.name for player in competition.players), key=scores.swiss_order)
+
+
 def by_meeting(results: Iterable[Result]) -> dict[Meeting, list[Result]]:
     """Returns the results of each meeting."""
     found: dict[Meeting, list[Result]] = defaultdict(list)

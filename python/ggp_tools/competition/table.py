@@ -11,7 +11,7 @@ from dataclasses import dataclass, field
 
 from ggp_tools.competition.competition_file import BY_POINTS, KNOCKOUT, SWISS, VOID, Competition
 from ggp_tools.competition.results import DRAWN, LOST, WON, Result
-from ggp_tools.competition.rounds import Round, is_by_rounds, rounds_won, scores_of, swiss_rounds, withdrawn_by, withdrawn_words
+from ggp_tools.competition.rounds import Round, is_by_rounds, rounds_won, scores_and_seeds, swiss_rounds, withdrawn_by, withdrawn_words
 from ggp_tools.competition.schedule import Match
 from ggp_tools.templating import end_without
 
@@ -136,9 +136,8 @@ def count_pairs(table: Table, result: Result) -> None:
 def count_rounds(table: Table, competition: Competition, results: Iterable[Result]) -> None:
     """Counts in the table of all games what follows from the rounds."""
     counted, swiss = [result for result in results if result.match.counts()], swiss_rounds(competition)
-    of_swiss = [result for result in counted if result.match.round <= swiss]
-    scores = scores_of(competition, table.rounds[:swiss], of_swiss, withdrawn_by(competition, table.rounds))
-    won = rounds_won(competition, table.rounds, counted, sorted(table.lines, key=scores.swiss_order))
+    scores, seeds = scores_and_seeds(competition, table.rounds, counted)
+    won = rounds_won(competition, table.rounds, counted, seeds)
     for player, line in table.lines.items():
         line.byes = sum(player in found.byes for found in table.rounds) if not swiss else scores.byes[player]
         if swiss:
