@@ -2,7 +2,7 @@
 
 import unittest
 
-from ggp_tools.answers import MOST_TOLD, Illegal, Whys, game_of, listed, no_expression
+from ggp_tools.answers import Illegal, Whys, game_of, listed, no_expression
 from ggp_tools.records.show import page_of
 from html_pages import parsed
 from support import GAMES
@@ -20,7 +20,7 @@ class Answers(unittest.TestCase):
         for answer, words in (
             ("", "it is empty"),
             ("  ; stay", "it has no expression"),
-            ("stay stay", "a second expression begins at column 6"),
+            ("stay stay..", "a second expression begins at column 6"),
             ("(take 1) noop", "a second expression begins at column 10"),
             ("(take 1", "a list that is not closed at column 1"),
             ("take 1)", "a `)` with no open list at column 7"),
@@ -38,6 +38,7 @@ class Answers(unittest.TestCase):
         self.assertEqual(listed(["a", "b"]), "2: a, b")
         self.assertEqual(listed(["x" * 500, "b"]), f"2: {'x' * 500}, and 1 more")
         self.assertEqual(listed(["x" * 198] * 5), f"5: {', '.join(['x' * 198] * 2)}, and 3 more")
+        self.assertEqual(listed(["x" * 198, "x" * 199]), f"2: {'x' * 198}, and 1 more")
 
     def test_what_is_legal_in_the_place_of_a_move(self):
         illegal = Illegal(STATES, ["red", "blue"], game)
@@ -50,8 +51,8 @@ class Answers(unittest.TestCase):
         whys = Whys(RECORD, game, {(1, 0): "a b"})
         self.assertEqual(whys.more(1, 0, "IL ?"), ": a second expression begins at column 3")
         self.assertEqual([whys.more(0, 0, error) for error in ("IL ?", "TO")], [""] * 2)
-        found = [whys.more(0, 0, "IL x") for _ in range(MOST_TOLD + 1)]
-        self.assertEqual(found, [", of which there were 2: (take 1), (take 2)"] * MOST_TOLD + [""])
+        found = [whys.more(0, 0, "IL x") for _ in range(21)]
+        self.assertEqual(found, [", of which there were 2: (take 1), (take 2)"] * 20 + [""])
         self.assertEqual(Whys(RECORD, None, {}).more(0, 0, "IL x"), "")
 
     def test_a_page_has_them_as_titles(self):

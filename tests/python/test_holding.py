@@ -88,12 +88,22 @@ class Words(unittest.TestCase):
     def test_each_record_has_its_own_order_of_roles(self):
         rules = "(player a) (player b) (<= (role ?x) (player ?x)) (legal a go) (legal b stay) (init s) (<= (next (did ?r ?m)) (does ?r ?m))"
         holding = Holding(f"{rules} (<= terminal (true (did a go))) (goal a 70) (goal b 30)")
-        one, other, none = (["a", "b"], ["go", "stay"], [70, 30]), (["b", "a"], ["stay", "go"], [30, 70]), (["a", "c"], ["go", "stay"], [70, 30])
-        for roles, moves, goals in (one, other, one, other, none, one, none, other):
+
+        def held(holding, roles, moves, goals, **more):
             record = {**played(expressions(ONE_TURN_GROUND), 1), "roles": roles, "players": roles, "startMarks": ["", ""], "endMarks": ["", ""]}
             record |= {"states": [["s"], ["(did a go)", "(did b stay)"]], "moves": [moves], "errors": [["", ""]], "goalValues": goals}
-            words = "differs: the roles are a b by the description, and a c in the record" if "c" in roles else "the same: 1 turns"
-            self.assertEqual(holding.held(json.dumps(record))[1], words)
+            return holding.held(json.dumps(record | more))[1]
+
+        one, other, none = (["a", "b"], ["go", "stay"], [70, 30]), (["b", "a"], ["stay", "go"], [30, 70]), (["a", "c"], ["go", "stay"], [70, 30])
+        for played_so in (one, other, one, other, none, one, none, other):
+            words = "differs: the roles are a b by the description, and a c in the record" if played_so is none else "the same: 1 turns"
+            self.assertEqual(held(holding, *played_so), words)
+        # After the turn b has no legal move.
+        holding = Holding(f"{rules.replace('(legal b stay)', '(<= (legal b stay) (true s))')} (<= terminal (true t)) (goal a 70)")
+        for (roles, moves, _), stuck in ((one, 1), (other, 0)):
+            words = [held(holding, roles, moves, [], phase="aborted", cause=f"nolegal {at}") for at in (stuck, 1 - stuck)]
+            said = "differs: after the last turn a has no legal move in the record, and by the description b"
+            self.assertEqual(words, ["the same: 1 turns", said])
 
     def test_of_the_moves_of_one_sentence_the_least_number_is_the_first(self):
         game = Game("(role r) (n 2) (n 10) (<= (legal r (go ?x)) (n ?x)) (init s) (<= (next s) (true s)) (<= terminal (true t))")

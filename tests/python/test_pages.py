@@ -217,6 +217,12 @@ class PagesOfMany(unittest.TestCase):
         titles = [cell["title"].partition(": ")[2] for cell in self.page(pages, f"matches/{match.id}.html").select("td.substituted")]
         self.assertEqual(titles, ["a list that is not closed at column 1", "a second expression begins at column 3"])
 
+    def test_rules_of_more_than_a_mebibyte_explain_no_moves(self):
+        site = Site(self.plan)
+        for size, explains in ((1 << 20, True), ((1 << 20) + 1, False)):
+            self.plan.rules["one"] = replace(self.plan.rules["one"], text=b";" * size)
+            self.assertEqual(bool(site.match_work(self.results[0], b"")[2]), explains)
+
     def test_the_last_errors_of_a_match_stand_on_the_page_of_a_player(self):
         match = self.plan.matches[0]
         turns = 15

@@ -134,16 +134,16 @@ class Rules(WithStandIn):
         self.assertEqual((words[:3], words[3].partition("=")[0], len(words), handed), (["verify", "--lines", "--why"], "--rules-file", 4, b""))
 
     def test_a_bad_description_has_its_place(self):
-        for ask in (lambda: self.referee.roles(b"", "nim"), lambda: self.referee.check_rules("game.kif")):
-            self.begin_anew()
-            self.answers(b"", self.BAD, 2)
-            with self.assertRaises(BadRules) as why:
-                ask()
-            self.assertEqual(str(why.exception), "line 2, column 1: no such thing: (x)")
-        self.answers(b"", b"ggp_manager: bad description\n", 2)
-        with self.assertRaises(BadRules) as why:
-            self.referee.check_rules("game.kif")
-        self.assertEqual(str(why.exception), "bad description")
+        for said, words in (
+            (self.BAD, "line 2, column 1: no such thing: (x)"), (b"ggp_manager: bad description\n", "bad description"),
+            (b"ggp_manager: bad description: the file is too long\n", "the file is too long"),
+        ):
+            for ask in (lambda: self.referee.roles(b"", "nim"), lambda: self.referee.check_rules("game.kif")):
+                self.begin_anew()
+                self.answers(b"", said, 2)
+                with self.assertRaises(BadRules) as why:
+                    ask()
+                self.assertEqual(str(why.exception), words)
 
     def test_roles_that_no_answer_tells(self):
         for said, *answer in (
