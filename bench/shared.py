@@ -1,4 +1,4 @@
-"""What the measuring scripts share."""
+"""Shared by the measuring scripts."""
 import argparse
 import contextlib
 import os
@@ -38,14 +38,14 @@ def row(*cells: object) -> None:
 
 
 def spent() -> float:
-    """Returns the processor seconds of the processes that this one has started and that have ended."""
+    """Returns the processor seconds of finished child processes."""
     used = resource.getrusage(resource.RUSAGE_CHILDREN)
     return used.ru_utime + used.ru_stime
 
 
 def cost(words: list[str], file: str) -> tuple[float, float]:
-    """Returns the milliseconds of a processor that a command takes on a file, and the most MB that it has. GNU time, which starts the
-    command, adds about a millisecond: a process that Python starts counts Python's memory as its own."""
+    """Returns the processor milliseconds and the maximum MB of a command on a file. It is started by GNU time, which adds about a millisecond,
+    because a process that Python starts counts Python's memory as its own."""
     with open(file, "rb") as given, tempfile.NamedTemporaryFile("r") as most:
         before = spent()
         subprocess.run(["/usr/bin/time", "-f", "%M", "-o", most.name, *words], stdin=given, stdout=subprocess.DEVNULL, stderr=subprocess.DEVNULL)
@@ -53,7 +53,7 @@ def cost(words: list[str], file: str) -> tuple[float, float]:
 
 
 def instructions(words: list[str], file: str) -> float:
-    """Returns how many millions of instructions valgrind counts of a command on a file."""
+    """Returns the millions of instructions that valgrind counts for a command on a file."""
     with open(file, "rb") as given:
         counting = ["valgrind", "--tool=callgrind", "--callgrind-out-file=/dev/null", *words]
         said = subprocess.run(counting, stdin=given, stdout=subprocess.DEVNULL, stderr=subprocess.PIPE, text=True).stderr
@@ -85,7 +85,7 @@ def reply(text: str) -> bytes:
 
 
 def request_from(stream: socket.socket) -> bytes:
-    """Returns the bytes of the request that comes over a connection, or what came before its end."""
+    """Returns the bytes of the request on a connection, or those before its end."""
     heard = b""
     while True:
         top, end, body = heard.partition(b"\r\n\r\n")

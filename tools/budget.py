@@ -1,5 +1,5 @@
-"""About how many megabytes a check lays out of each crate, which is what its proof costs on any machine: estimated from the functions and
-their steps in the library that `rt ci` builds."""
+"""Estimates the proof cost of each crate, in megabytes that a check generates, from the functions and their steps in the library that `rt ci`
+builds. The cost is the same on every machine."""
 import json
 import os
 from collections.abc import Iterator
@@ -14,12 +14,12 @@ HEAD = """\
 # another, each with its aim. `tools/budget --write` writes this file.
 """
 TOTALS = {"in_all": "in all", "longest_chain": "longest chain"}
-# Fitted to whole checks of 27 libraries of 24 to 393 MB: mostly off by 6%, and by a fifth at most. A step counts for more in a generic
-# function, by each of its type parameters.
+# Fitted to full checks of 27 libraries of 24 to 393 MB. The error is mostly 6%, and at most 20%. A step costs more for each type parameter of
+# its function.
 OF_A_FUNCTION, OF_A_STEP, OF_A_PARAMETER = 0.80, 0.0031, 0.00068
-# A check lays out nothing of what a trait only declares.
+# Declarations in traits cost nothing.
 DECLARED = "+decl"
-# How far a crate, and a total, may be above its figure.
+# The allowed ratio of a crate, and of a total, to its budget.
 LEEWAY, LEEWAY_OF_TOTALS = 1.1, 1.03
 
 Sizes = dict[str, int]
@@ -27,7 +27,7 @@ Sizes = dict[str, int]
 
 @dataclass
 class Budget:
-    """The figures of tools/budget.txt in megabytes: of the crates, of the totals, and the aims of the totals."""
+    """The budget of tools/budget.txt in megabytes: of crates and of totals, and the aims of the totals."""
 
     crates: Sizes
     totals: Sizes = field(default_factory=dict)
@@ -35,12 +35,12 @@ class Budget:
 
 
 def steps_in(body: object) -> int:
-    """Returns how many steps a compiled function has: the leaves of its tree, and the names of their parts."""
-    count, left = 0, [body]
-    while left:
-        part = left.pop()
+    """Returns the number of steps of a compiled function: the leaves of its tree, and the names of their parts."""
+    count, queue = 0, [body]
+    while queue:
+        part = queue.pop()
         count += len(part) if isinstance(part, dict) else not isinstance(part, list)
-        left += part.values() if isinstance(part, dict) else part if isinstance(part, list) else ()
+        queue += part.values() if isinstance(part, dict) else part if isinstance(part, list) else ()
     return count
 
 
@@ -55,7 +55,7 @@ def size_of(name: str, top: str) -> int | None:
 
 
 def read_measured(file: str = MEASURED) -> Sizes:
-    """Returns the sizes that the last proof measured."""
+    """Returns the sizes that were measured last."""
     try:
         with open(file, encoding="utf-8") as stream:
             return json.load(stream)
@@ -83,7 +83,7 @@ def write_budget(budget: Budget, file: str = BUDGET) -> None:
 
 
 def totals_of(sizes: Sizes, known: dict[str, list[str]]) -> Sizes:
-    """Returns the megabytes of all crates, and of the longest chain of crates that stand on one another."""
+    """Returns the megabytes of all crates, and of the longest chain of crates that use one another."""
     chains: Sizes = {}
     for name in with_below([*known], known):
         chains[name] = sizes.get(name, 0) + max((chains[dep] for dep in known[name]), default=0)
@@ -91,14 +91,14 @@ def totals_of(sizes: Sizes, known: dict[str, list[str]]) -> Sizes:
 
 
 def above(sizes: Sizes, budget: Budget, known: dict[str, list[str]]) -> list[str]:
-    """Returns the crates and totals that are above their figure or have none."""
+    """Returns the crates and totals that exceed their budget, or have none."""
     totals = totals_of(sizes, known)
     crates = [name for name, size in sizes.items() if size > LEEWAY * budget.crates.get(name, 0)]
     return crates + [name for name, size in totals.items() if size > LEEWAY_OF_TOTALS * budget.totals.get(name, 0)]
 
 
 def table(sizes: Sizes, budget: Budget, known: dict[str, list[str]]) -> Iterator[str]:
-    """Yields a row for each crate and each total, with its size and its figure."""
+    """Yields a row for each crate and each total, with its size and its budget."""
     figures, wrong = {**budget.crates, **budget.totals}, above(sizes, budget, known)
     for name, size in {**sizes, **totals_of(sizes, known)}.items():
         figure = figures.get(name)

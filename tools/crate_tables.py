@@ -1,4 +1,4 @@
-"""The layers and tables of crates in a document, made of crates.txt, tests/unit/tests.txt and what each crate says of itself first."""
+"""Generates the layers and tables of crates in a document from crates.txt, tests/unit/tests.txt, and the first sentence about each crate."""
 import functools
 import re
 
@@ -7,12 +7,12 @@ from unit_crates import UNIT, is_program, unit_crates
 
 CRATES = "| Crate | Uses | Purpose |"
 TESTS = "| Crate of tests | What it tests |"
-# The layers stand in a block of code behind this line.
+# The layers are in the code block after this line.
 LAYERS = "The crates of the program. Each uses only crates in the rows below its own:\n"
 LAYER_ROWS = r"\n(?:    .*\n)*"
 # Crates that no crate of the program uses.
 ANNEXES = ("worked",)
-# A table is its head and the lines below it that are rows.
+# A table is its head and the rows below it.
 ROWS = r"\n(?:\|.*\n)*"
 COMMENT = re.compile(r"((?:^//! .*\n)+)", re.MULTILINE)
 
@@ -20,23 +20,23 @@ Row = tuple[str, ...]
 
 
 def first_sentence(text: str) -> str:
-    """Returns the first sentence of a text, on one line and without its full stop."""
+    """Returns the first sentence of a text on one line, without its full stop."""
     return re.split(r"(?<=\.)\s", " ".join(text.split()), maxsplit=1)[0].rstrip(".")
 
 
 def purpose(readme: str) -> str:
-    """Returns what a crate is for: the first sentence below the heading of its README.md."""
+    """Returns the purpose of a crate: the first sentence of its README.md."""
     return first_sentence(next(part for part in readme.split("\n\n") if not part.startswith("#")))
 
 
 def comment_of(source: str) -> str:
-    """Returns the first sentence of the comment that a file of Rattle begins with."""
+    """Returns the first sentence of the comment at the top of a Rattle file."""
     found = COMMENT.match(source)
     return first_sentence(found[1].replace("//! ", "")) if found else ""
 
 
 def nearest(deps: list[str], known: dict[str, list[str]]) -> list[str]:
-    """Returns the crates of a list that none of the others uses."""
+    """Returns the crates of a list that no other crate of the list uses."""
     return [dep for dep in deps if not any(dep in below(other, known) for other in deps)]
 
 
@@ -50,23 +50,22 @@ def read(file: str) -> str:
 
 
 def crate_table(known: dict[str, list[str]]) -> list[Row]:
-    """Returns a row for each crate: its name, the crates and those of the toolchain that it stands on, without what it reaches through another
-    one, and what it is for."""
-    found = []
+    """Returns a row for each crate: its name, the crates that it uses directly, also those of the toolchain, and its purpose."""
+    rows = []
     for name, (_, deps) in crate_rows().items():
         stands_on = [*nearest(known[name], known), *(dep for dep in deps if dep not in known)]
-        found.append((f"`{name}`", spelled(stands_on), purpose(read(f"{TOP}/crates/{name}/README.md"))))
-    return found
+        rows.append((f"`{name}`", spelled(stands_on), purpose(read(f"{TOP}/crates/{name}/README.md"))))
+    return rows
 
 
 def test_table() -> list[Row]:
-    """Returns a row for each crate of tests: its name and what it tries."""
+    """Returns a row for each test crate: its name and its purpose."""
     roots = {name: "main" if is_program(name) else "lib" for name in unit_crates()}
     return [(f"`{name}`", comment_of(read(f"{UNIT}/{name}/src/{root}.rt.test"))) for name, root in roots.items()]
 
 
 def layers(known: dict[str, list[str]]) -> list[list[str]]:
-    """Returns the crates of the program by layers, the highest first: a crate stands one above the highest that it stands on."""
+    """Returns the crates of the program by layer, the highest first. Each crate is one layer above the highest crate that it uses."""
     @functools.cache
     def height(name: str) -> int:
         return max((height(dep) + 1 for dep in known[name] if dep in known), default=0)
@@ -76,19 +75,19 @@ def layers(known: dict[str, list[str]]) -> list[list[str]]:
 
 
 def with_layers(text: str, found: list[list[str]]) -> str:
-    """Returns a text in which the block of layers has these."""
+    """Replaces the layers in a text."""
     body = "".join(f"    {' '.join(names)}\n" for names in found)
     return re.sub(re.escape(LAYERS) + LAYER_ROWS, lambda _: f"{LAYERS}\n{body}", text)
 
 
 def with_table(text: str, head: str, rows: list[Row]) -> str:
-    """Returns a text in which the table with this head has these rows."""
+    """Replaces the rows of the table with this head in a text."""
     lines = ["|".join(["", *["---"] * (head.count("|") - 1), ""]), *(f"| {' | '.join(row)} |".replace("|  |", "| |") for row in rows)]
     body = "".join(f"{line}\n" for line in lines)
     return re.sub(re.escape(head) + ROWS, lambda _: f"{head}\n{body}", text)
 
 
 def with_tables(text: str) -> str:
-    """Returns a document with its layers and tables of crates as they have to be."""
+    """Returns a document with up-to-date layers and tables."""
     known = crates()
     return with_table(with_table(with_layers(text, layers(known)), CRATES, crate_table(known)), TESTS, test_table())

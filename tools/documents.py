@@ -1,4 +1,4 @@
-"""What the documents say of the code: the contracts that they name, the samples that they take from files, and sentences that are too long."""
+"""Parses what documents say about the code: the contracts that they name, code samples from files, and sentences that are too long."""
 import functools
 import glob
 import re
@@ -19,37 +19,37 @@ def read(file):
 
 
 def plain(head):
-    """Returns the head of a block without its type parameters: `impl<G: Game> Object for Manager<G>` is of `Object for Manager`."""
+    """Removes the type parameters from the head of a block: `impl<G: Game> Object for Manager<G>` becomes `Object for Manager`."""
     while GENERICS.search(head):
         head = GENERICS.sub("", head)
     return " ".join(head.split()).partition(" where ")[0].partition(":")[0].strip()
 
 
 def block_from(text, at):
-    """Returns a block at the outermost level: up to the brace that closes it, or one line."""
+    """Returns a top-level block: up to its closing brace, or one line."""
     first = text[at : text.index("\n", at)]
     return first if first.endswith((";", "{}")) else text[at : text.find("\n}", at)]
 
 
 def contract_from(text, at, indent):
-    """Returns a function's signature with its contract: what stands before its body."""
-    found = []
+    """Returns a function's signature with its contract, without its body."""
+    lines = []
     for line in text[at:].split("\n"):
         if line.startswith(f"{indent}{{"):
             break
-        found.append(line)
+        lines.append(line)
         if line.endswith((" {", ";")):
             break
-    return "\n".join(found)
+    return "\n".join(lines)
 
 
 @functools.cache
 def items(crate):
-    """Returns the text of each item of a crate by each of its names: `load`, `Journal::call`, `Wire for RingWire`, `laws::one_fit`."""
-    found = {}
+    """Returns the text of each item of a crate by each of its names, such as `load`, `Journal::call`, `Wire for RingWire`, `laws::one_fit`."""
+    texts = {}
 
     def add(name, text):
-        found[name] = found.get(name, "") + text
+        texts[name] = texts.get(name, "") + text
 
     for file in sorted(glob.glob(f"{TOP}/crates/{crate}/src/*.rt")):
         module = file.rpartition("/")[2].removesuffix(".rt")
@@ -68,7 +68,7 @@ def items(crate):
                 add(f"{owner.rpartition(' for ')[2]}::{function[2]}", contract)
             if not owners:
                 add(function[2], contract)
-    return found
+    return texts
 
 
 @functools.cache
@@ -79,20 +79,20 @@ def definitions(crate):
 
 
 def spread(name):
-    """Returns the names that a short form stands for: `Journal::{call, entries}` is two."""
+    """Expands a short form: `Journal::{call, entries}` stands for two names."""
     short = re.fullmatch(r"(.*::)\{(.*)\}", name)
     return [short[1] + part.strip() for part in short[2].split(",")] if short else [name]
 
 
 def contract_of(crate, name):
-    """Returns the contract that a name stands for, or none where the crate has no such item."""
+    """Returns the contract of a name, or None if the crate has no such item."""
     name = name.removeprefix(f"{crate}::").removeprefix("impl ")
     return items(crate).get(name)
 
 
 def says(crate, contracts, name):
-    """Returns whether one of the contracts has the clause of this name; with a capital it is a definition, which they cite themselves
-    or by the definitions of their crate."""
+    """Returns whether one of the contracts has a clause of this name. A capital letter means a definition, which the contracts or the definitions of
+    the crate cite."""
     if name[0].isupper():
         return any(re.search(rf"\b{name}\b", text) for text in [*contracts, definitions(crate)])
     return any(f"ensures {name} {{" in contract for contract in contracts)
@@ -100,10 +100,10 @@ def says(crate, contracts, name):
 
 # ---- samples
 
-# What stands above a sample of code.
+# The text above a code sample.
 SOURCE = re.compile(r"\b[Ff]rom `([^`]+)`.*:$")
 LINK_TARGET = re.compile(r"\]\([^)]*\)")
-# A contract in the index of promises, without the target of its link.
+# A contract in the index of guarantees, without the target of its link.
 INDEXED = re.compile(r"\[`([^`]+)` of `(\w+)`\](.*)")
 
 
@@ -113,13 +113,13 @@ def without_targets(cell):
 
 
 def indexed(part):
-    """Returns the crate that a part of a cell of the index names, and the part as a crate's own table has it; none where it names none."""
+    """Returns the crate in a part of a cell of the index, and the part as the crate's own table has it, or None."""
     found = INDEXED.fullmatch(part)
     return (found[2], f"`{found[1]}`{found[3]}") if found else None
 
 
 def sources(lines):
-    """Gives each line of a sample with its number and the file that it is taken from. A line is a number, a text and whether it is code."""
+    """Yields each line of a code sample with its number and its source file. Lines are given as a number, a text and whether it is code."""
     source = None
     for number, line, is_code in lines:
         if is_code and source and line.strip():
@@ -134,9 +134,9 @@ def sources(lines):
 MOST_WORDS = 40
 TEXT_LINK = re.compile(r"\[([^\]]*)\]\([^)\s]*\)")
 SPAN = re.compile(r"`[^`]*`")
-# What begins a paragraph of its own: a list's item, a heading.
+# A list item or a heading, which begins a paragraph.
 OPENER = re.compile(r"\s*(?:[-*] |\d+\. |#+ )")
-# Where one sentence ends and the next begins; a letter, a digit or a span of code begins it.
+# The end of a sentence. The next one begins with a letter, a digit or a code span.
 END = re.compile(r"(?<=[.!?])[\"')*]*\s+")
 WORD = re.compile(r"\w")
 
@@ -144,40 +144,40 @@ Line = tuple[int, str, bool]
 
 
 def paragraphs(lines: typing.Iterable[Line]) -> typing.Iterator[tuple[int, str]]:
-    """Gives each paragraph, item of a list and cell of a table with its first line's number. A line is a number, a text and whether it is
-    code, which belongs to none."""
-    first, held = 0, ""
+    """Yields each paragraph, list item and table cell with the number of its first line. Lines are given as a number, a text and whether it is
+    code."""
+    first, paragraph = 0, ""
     for number, line, is_code in lines:
         ends = is_code or not line.strip() or line.startswith("|") or OPENER.match(line)
-        if ends and held:
-            yield first, held
-            held = ""
+        if ends and paragraph:
+            yield first, paragraph
+            paragraph = ""
         if is_code or not line.strip():
             continue
         if line.startswith("|"):
             yield from ((number, cell) for cell in line.strip("|").split(" | "))
             continue
-        first, held = (first, f"{held} {line.strip()}") if held else (number, line.strip())
-    if held:
-        yield first, held
+        first, paragraph = (first, f"{paragraph} {line.strip()}") if paragraph else (number, line.strip())
+    if paragraph:
+        yield first, paragraph
 
 
 def sentences(paragraph: str) -> list[str]:
-    """Returns the sentences of a paragraph. A span of code counts as one word, and no full stop in it ends anything."""
+    """Splits a paragraph into sentences. A code span counts as one word, and its full stops do not end sentences."""
     spans = SPAN.findall(paragraph)
     marked = TEXT_LINK.sub(r"\1", SPAN.sub("\0", paragraph))
     return [re.sub("\0", lambda _: spans.pop(0), sentence) for sentence in END.split(marked)]
 
 
 def words(sentence: str) -> int:
-    """Returns how many words a sentence has."""
+    """Returns the number of words of a sentence."""
     return sum(bool(WORD.search(word)) for word in SPAN.sub("code", sentence).split())
 
 
 def too_long(lines: typing.Iterable[Line]) -> typing.Iterator[tuple[int, str]]:
-    """Gives each sentence of a document that is too long, as a fault, with the number of the line in which its paragraph begins."""
+    """Yields an error for each sentence that is too long, with the number of the first line of its paragraph."""
     for number, paragraph in paragraphs(lines):
         for sentence in sentences(paragraph):
             count = words(sentence)
             if count > MOST_WORDS:
-                yield number, f"a sentence of {count} words, and {MOST_WORDS} are the most: {sentence[:60]}.."
+                yield number, f"a sentence of {count} words, but at most {MOST_WORDS} are allowed: {sentence[:60]}.."

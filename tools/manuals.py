@@ -1,5 +1,4 @@
-"""Pages of the manual, and completions of words for bash and zsh, made from what commands print by --help: those that read their words by
-clap, and those that do so by argparse."""
+"""Makes manual pages and completions for bash and zsh from the --help of commands, which use clap or argparse."""
 import re
 from dataclasses import dataclass, field
 
@@ -7,14 +6,13 @@ ENTRY = re.compile(r" {2,}(\S(?:.*?\S)?)(?: {2,}(\S.*))?")
 HEAD = re.compile(r"[A-Za-z][a-z ]*:")
 OPTION = re.compile(r"--[a-z][a-z-]*")
 STATUS = re.compile(r"\bstatus 0: ")
-# The heads of what is no word of its own: the help of a command, and the word that stands for any command.
+# Entries of the list of subcommands that are not subcommands.
 NO_COMMANDS = ("help", "COMMAND")
 
 
 @dataclass
 class Help:
-    """What a command prints by --help: its usage, what it does, its words with what each is for, and what it says at the end. The commands
-    within it have a help each."""
+    """The --help of a command: its usage, its description, its arguments and options, and the text at the end. Each subcommand has its own help."""
 
     name: str
     usage: str
@@ -24,23 +22,23 @@ class Help:
     commands: list["Help"] = field(default_factory=list)
 
     def options(self) -> dict[str, str]:
-        """Returns each option of several letters, with what it is for."""
+        """Returns each long option with its description."""
         return {option: text for word, text in self.words for option in OPTION.findall(word)}
 
 
 def paragraphs(text: str) -> list[list[str]]:
-    """Returns the paragraphs of a text, each as its lines."""
+    """Splits a text into paragraphs, each a list of lines."""
     return [block.splitlines() for block in re.split(r"\n\s*\n", text.strip("\n")) if block.strip()]
 
 
 def entries(lines: list[str]) -> list[tuple[str, str]]:
-    """Returns the words of a list, with what each is for."""
+    """Returns the arguments of a list with their descriptions."""
     found = [ENTRY.fullmatch(line) for line in lines]
     return [(entry[1], entry[2] or "") for entry in found if entry]
 
 
 def read_help(name: str, text: str) -> tuple[Help, list[str]]:
-    """Returns the help that a command prints, and the names of the commands within it."""
+    """Parses the help of a command. Returns it with the names of the subcommands."""
     found, within = Help(name, "", [], [], []), []
     for lines in paragraphs(text):
         if lines[0].lower().startswith("usage:"):
@@ -58,7 +56,7 @@ def read_help(name: str, text: str) -> tuple[Help, list[str]]:
 
 
 def roff(text: str) -> str:
-    """Returns a text as roff shows it, without marks of code."""
+    """Escapes a text for roff, without backquotes."""
     shown = text.replace("\\", "\\e").replace("-", "\\-").replace("`", "")
     return f"\\&{shown}" if shown.startswith((".", "'")) else shown
 
@@ -68,7 +66,7 @@ def word_lines(words: list[tuple[str, str]]) -> list[str]:
 
 
 def more_lines(help_of: Help) -> list[str]:
-    """Returns what a command says at the end, and its statuses under a head of their own."""
+    """Returns the text at the end of the help, with the exit statuses under their own heading."""
     lines = []
     for text in help_of.more:
         before, mark, after = text.partition("status 0: ")
@@ -78,7 +76,7 @@ def more_lines(help_of: Help) -> list[str]:
 
 
 def command_lines(command: Help) -> list[str]:
-    """Returns what the page of a command says of one within it."""
+    """Returns the section of a subcommand."""
     about = [line for text in command.about for line in (".PP", roff(text))]
     return [f'.SS "{roff(command.name)}"', f".B {roff(command.usage)}", *about, *word_lines(command.words), *more_lines(command)]
 
@@ -88,7 +86,7 @@ def first_sentence(help_of: Help) -> str:
 
 
 def page(help_of: Help, version: str, others: list[str]) -> str:
-    """Returns the page of a command, and of those within it, as `man` reads it."""
+    """Returns the manual page of a command and its subcommands."""
     title = f'.TH {help_of.name.upper()} 1 "" "ggp_manager {version}" "User Commands"'
     lines = [title, ".SH NAME", f"{roff(help_of.name)} \\- {roff(first_sentence(help_of))}", ".SH SYNOPSIS", f".B {roff(help_of.usage)}"]
     lines += [".SH DESCRIPTION", *(line for text in help_of.about for line in (".PP", roff(text)))]
@@ -108,7 +106,7 @@ def first_words(help_of: Help) -> str:
 
 
 def bash(help_of: Help) -> str:
-    """Returns what bash needs to complete the words of a command: options and commands, and files elsewhere."""
+    """Returns the completions of a command for bash: options and subcommands, else files."""
     name, function = help_of.name, f"_{help_of.name.replace('-', '_')}"
     arms = [f"        {command.name.split()[-1]}) words='{' '.join(command.options())}' ;;" for command in help_of.commands]
     chosen = ["    case ${COMP_WORDS[1]} in", *arms, "    esac", "    ((COMP_CWORD == 1)) && words=$first"] if arms else []
@@ -131,7 +129,7 @@ def bash(help_of: Help) -> str:
 
 
 def quoted(word: str, text: str) -> str:
-    """Returns a word with what it is for, as zsh describes it."""
+    """Returns an argument with its description, quoted for zsh."""
     described = text.replace("`", "").replace("'", "'\\''").replace(":", "\\:")
     return f"'{word}:{described}'" if text else f"'{word}'"
 
@@ -141,7 +139,7 @@ def described(words: dict[str, str]) -> str:
 
 
 def zsh(help_of: Help) -> str:
-    """Returns what zsh needs to complete the words of a command."""
+    """Returns the completions of a command for zsh."""
     lines = [f"#compdef {help_of.name}", "# Completes the words of a command in zsh. Written by tools/manual.", "local -a commands options"]
     lines += [f"options=({described(help_of.options())})"]
     if help_of.commands:

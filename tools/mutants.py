@@ -1,5 +1,5 @@
-"""Small wrong changes of Python code, one at a time, as a slip or a refactoring makes them: a comparison turned, a bound moved by one, a
-condition negated or left out, a constant or a compared word changed, a call, a raise or a change of state dropped, two arguments swapped."""
+"""Generates mutants of Python code, each with one small error that a programmer could make: a comparison turned, a bound moved by one, a condition
+negated or left out, a constant or a compared word changed, a call, a raise or an assignment dropped, two arguments swapped."""
 import ast
 import copy
 import difflib
@@ -15,18 +15,18 @@ EXCHANGED = {
     ast.BitAnd: ast.BitOr, ast.BitOr: ast.BitAnd,
 }
 OTHER_CALLS = {"min": "max", "max": "min", "any": "all", "all": "any", "set": "list", "reversed": "iter"}
-# A call of such a method gives a value of the same kind as it has.
+# Methods that return a value of the same type.
 SAME_KIND = ("strip", "lstrip", "rstrip", "lower", "upper", "copy", "removeprefix", "removesuffix")
-# Swapped arguments of these change nothing, or fail wherever they run.
+# Swapping arguments of these functions changes nothing, or fails in every run.
 SHOWN_AT_ONCE = ("min", "max", "range", "print", "isinstance", "map", "filter", "decode", "encode", "sub", "get", "getattr", "open")
-# What these fields hold is no code that runs, or only names types.
+# The fields of types and decorators, which are not mutated.
 IGNORED = ("annotation", "returns", "decorator_list")
 FUNCTIONS = (ast.FunctionDef, ast.AsyncFunctionDef)
 
 
 @dataclass(frozen=True)
 class Mutant:
-    """A changed module: in which function or class the change is, how the text differs, and the module's text."""
+    """A mutated module: the function or class of the change, the difference, and the text of the module."""
 
     where: str
     change: str
@@ -38,7 +38,7 @@ class Mutant:
 
 @dataclass(frozen=True)
 class Slot:
-    """A place in a tree: the field of a node, or an element of the list in that field. With the names of the definitions around it."""
+    """A place in a tree: the field of a node, or an element of the list in that field, with the names of the enclosing definitions."""
 
     parent: ast.AST
     field: str
@@ -46,8 +46,8 @@ class Slot:
     where: tuple[str, ...]
 
     def read(self) -> ast.AST:
-        held = getattr(self.parent, self.field)
-        return held if self.index is None else held[self.index]
+        value = getattr(self.parent, self.field)
+        return value if self.index is None else value[self.index]
 
     def write(self, node: ast.AST) -> None:
         if self.index is None:
@@ -60,11 +60,11 @@ class Slot:
 
 
 def slots(node: ast.AST, where: tuple[str, ...] = ()) -> Iterator[Slot]:
-    """Gives every place of a tree whose code runs, in the order of the text."""
+    """Yields every place of a tree that has executable code, in the order of the text."""
     if isinstance(node, (*FUNCTIONS, ast.ClassDef)):
         where = (*where, node.name)
-    for field, held in ast.iter_fields(node):
-        for index, child in enumerate(held) if isinstance(held, list) else [(None, held)]:
+    for field, value in ast.iter_fields(node):
+        for index, child in enumerate(value) if isinstance(value, list) else [(None, value)]:
             if isinstance(child, ast.AST) and field not in IGNORED and not is_prose(node, child):
                 yield Slot(node, field, index, where)
                 yield from slots(child, where)
@@ -81,14 +81,14 @@ def is_word(node: ast.AST) -> bool:
 
 
 def with_item(node: ast.AST, field: str, index: int, item: ast.AST) -> ast.AST:
-    """Returns a copy of a node with another element in one of its lists."""
+    """Returns a copy of a node with one element of a list replaced."""
     new = copy.deepcopy(node)
     getattr(new, field)[index] = item
     return new
 
 
 def other_comparisons(node: ast.Compare) -> Iterator[ast.AST]:
-    """Gives a comparison with each of its operators turned, and with the last character of each compared word cut off."""
+    """Yields a comparison with each of its operators turned, and with the last character of each compared word removed."""
     for index, operator in enumerate(node.ops):
         yield from (with_item(node, "ops", index, other()) for other in TURNED[type(operator)])
     for index, compared in enumerate(node.comparators):
@@ -105,7 +105,7 @@ def other_constants(value: object) -> list[object]:
 
 
 def other_calls(node: ast.Call) -> Iterator[ast.AST]:
-    """Gives a call with two neighbouring arguments swapped, with a bound of a range moved, of the opposite function, and what it is called of."""
+    """Yields a call with two neighbouring arguments swapped, with a bound of a range moved, with the opposite function, or without the call."""
     name = node.func.id if isinstance(node.func, ast.Name) else getattr(node.func, "attr", "")
     for index in range(1, len(node.args)):
         if name not in SHOWN_AT_ONCE and not any(isinstance(argument, ast.Starred) for argument in node.args[index - 1 : index + 1]):
@@ -123,7 +123,7 @@ def more_by_one(node: ast.expr) -> ast.expr:
 
 
 def other_slices(node: ast.Slice) -> Iterator[ast.AST]:
-    """Gives a slice with each of its bounds moved by one. Constants are changed elsewhere."""
+    """Yields a slice with each of its bounds moved by one. Constants are mutated elsewhere."""
     for name in ("lower", "upper"):
         bound = getattr(node, name)
         if bound is not None and not isinstance(bound, (ast.Constant, ast.UnaryOp)):
@@ -131,7 +131,7 @@ def other_slices(node: ast.Slice) -> Iterator[ast.AST]:
 
 
 def is_dropped(slot: Slot, node: ast.stmt) -> bool:
-    """Returns whether a mutant drops a statement. Without its last return, or an assignment of `__init__`, a function fails wherever it runs."""
+    """Returns whether a mutant drops a statement. Dropping the last return of a function, or an assignment in `__init__`, would fail in every run."""
     match node:
         case ast.Expr(value=ast.Call() | ast.Await() | ast.Yield() | ast.YieldFrom()) | ast.Raise() | ast.Continue() | ast.Break() | ast.Delete():
             return True
@@ -147,7 +147,7 @@ def joins_text(node: ast.BinOp) -> bool:
 
 
 def variants(slot: Slot) -> Iterator[ast.AST]:
-    """Gives what a mutant may have in a place."""
+    """Yields the mutated versions of a place."""
     node = slot.read()
     match node:
         case ast.stmt() if is_dropped(slot, node):
@@ -176,13 +176,13 @@ def variants(slot: Slot) -> Iterator[ast.AST]:
 
 
 def difference(plain: str, text: str) -> str:
-    """Returns how two texts differ, in one line."""
+    """Returns the difference between two texts, in one line."""
     lines = difflib.unified_diff(plain.splitlines(), text.splitlines(), lineterm="", n=0)
     return " | ".join(line[0] + line[1:].strip() for line in lines if not line.startswith(("---", "+++", "@@")))
 
 
 def mutants(source: str) -> Iterator[Mutant]:
-    """Gives each mutant of a module."""
+    """Yields all mutants of a module."""
     tree = ast.parse(source)
     plain = ast.unparse(tree)
     texts = {plain}

@@ -1,5 +1,5 @@
-"""The mutations of the crates: wrong changes of the code that the contracts must refuse. The gate tries those of crates/NAME/must-fail, whose
-form is the toolchain's. The others are in tests/mutations/NAME.txt, each with a name, the file that it changes, and two texts of one line:
+"""The mutations of the crates: wrong changes of the code that the contracts must refuse. The gate tries those of crates/NAME/must-fail, in the
+toolchain's format. The others are in tests/mutations/NAME.txt, each with a name, the file that it changes, and two texts of one line:
 
     bell_rings_twice: src/bell.rt
       - count += 1;
@@ -17,7 +17,7 @@ from crates import TOP
 
 PLACE = re.compile(r"^(note: )?(?:\./)?((?:src|specs|proofs)/\S+?):(\d+)(?::\d+)?: (.*)")
 FUNCTION = re.compile(r"fn (\S+): (?:no proof|not proved)(.*)")
-# What the prover says of a name in a proof file that the mutated goals no longer have.
+# The prover's messages about a name in a proof file that the mutated goals do not have any more.
 LOST = re.compile(r"has no field|has no `|has no constructor|is not in scope|is no name|was not admitted|can be named from here")
 FALSE = re.compile(r"allow values at which this goal is false")
 HEAD = re.compile(r"(\w+): (src/\S+)")
@@ -40,7 +40,7 @@ class Mutation:
         return f"{self.crate}/{self.name}"
 
     def applied(self, top: str = TOP) -> dict[str, str]:
-        """Returns the texts of the files that the mutation changes, by their paths in the crate."""
+        """Returns the changed files' texts, by their paths in the crate."""
         texts: dict[str, str] = {}
         for file, old, new in self.pairs:
             path = Path(top, "crates", self.crate, file)
@@ -54,7 +54,7 @@ class Mutation:
 
 
 def gated(crate: str, path: Path, top: str) -> Mutation:
-    """Returns the mutation that a file of crates/NAME/must-fail has: rows 'file: FILE', 'old: TEXT' and 'new: TEXT'."""
+    """Reads a mutation from a file of crates/NAME/must-fail: rows 'file: FILE', 'old: TEXT' and 'new: TEXT'."""
     mutation, file, old = Mutation(crate, path.stem, str(path.relative_to(top))), "", ""
     for row in path.read_text(encoding="utf-8").splitlines():
         word, _, text = row.partition(":")
@@ -74,27 +74,27 @@ def gated(crate: str, path: Path, top: str) -> Mutation:
 
 
 def listed(crate: str, path: Path, top: str) -> list[Mutation]:
-    """Returns the mutations of a file of tests/mutations."""
-    found: dict[str, Mutation] = {}
+    """Reads the mutations of a file of tests/mutations."""
+    mutations: dict[str, Mutation] = {}
     file = old = ""
     for number, row in enumerate(path.read_text(encoding="utf-8").splitlines(), 1):
         place = f"{path.relative_to(top)}:{number}"
         head = HEAD.fullmatch(row)
-        if head and not old and head[1] not in found:
-            found[head[1]], file = Mutation(crate, head[1], place), head[2]
-        elif found and row.startswith("  @ ") and not old:
+        if head and not old and head[1] not in mutations:
+            mutations[head[1]], file = Mutation(crate, head[1], place), head[2]
+        elif mutations and row.startswith("  @ ") and not old:
             file = row[4:]
-        elif found and row.startswith("  - ") and not old:
+        elif mutations and row.startswith("  - ") and not old:
             old = row[4:]
         elif old and (row.startswith("  + ") or row == "  +"):
-            found[[*found][-1]].pairs.append((file, old, row[4:]))
+            mutations[[*mutations][-1]].pairs.append((file, old, row[4:]))
             old = ""
         elif row and not row.startswith("#"):
             raise MutationError(f"{place}: expected 'NAME: src/FILE' with a new name, then '  - OLD' and '  + NEW', found {row!r}")
-    for mutation in found.values():
+    for mutation in mutations.values():
         if not mutation.pairs:
             raise MutationError(f"{mutation.place}: {mutation.name}: expected '  - OLD' and '  + NEW'")
-    return [*found.values()]
+    return [*mutations.values()]
 
 
 def mutations_of(crate: str, top: str = TOP) -> list[Mutation]:
@@ -105,7 +105,7 @@ def mutations_of(crate: str, top: str = TOP) -> list[Mutation]:
 
 
 def errors_in(crates: list[str], top: str = TOP) -> Iterator[str]:
-    """Gives why mutations cannot be read or applied."""
+    """Yields why mutations cannot be read or applied."""
     for crate in crates:
         try:
             found = mutations_of(crate, top)
@@ -120,7 +120,7 @@ def errors_in(crates: list[str], top: str = TOP) -> Iterator[str]:
 
 
 def reason(lines: list[str]) -> tuple[str, str]:
-    """Returns why the prover refused, in a word, and the line that decides."""
+    """Returns the prover's reason to refuse, in a word, and the line that decides."""
     lost, unfit, opened, last = {}, [], [], ""
     for line in lines:
         place = PLACE.match(line)
@@ -138,7 +138,7 @@ def reason(lines: list[str]) -> tuple[str, str]:
                 unfit.append((directory, line))
         elif place[2].startswith("src/"):
             opened.append(line)
-    # If a function's answers name what is gone, its goals are open only because they have new names.
+    # If a function's answers name removed things, its goals are open only because they have new names.
     lost_names = {os.path.basename(name) for name in lost}
     failed = [matched for matched in map(FUNCTION.match, lines) if matched and "it calls" not in matched[2]]
     own = [matched[1] for matched in failed if matched[1].split("::")[-1] not in lost_names]

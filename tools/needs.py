@@ -1,5 +1,5 @@
-"""What the tools need beside the repository: a Python that is new enough, and the Rattle toolchain in a version with which the gate passes.
-What is missing is reported in one line before anything else is done. Any Python 3 can read this file, so that an old one can report itself."""
+"""Checks that Python is new enough, and that a version of the Rattle toolchain is installed with which the gate passes. If not, it reports this in
+one line before anything else is done. Any Python 3 can run this file, so that an old one can report itself."""
 import importlib.machinery
 import importlib.util
 import os
@@ -22,14 +22,14 @@ def spell_toolchains():
 
 
 def python_error(version):
-    """Returns what is wrong with this version of Python, or None."""
+    """Returns the error of this version of Python, or None."""
     if version[:2] >= PYTHON:
         return None
     return PYTHON_ERROR % (*version[:2], *PYTHON)
 
 
 def toolchain_error(version):
-    """Returns what is wrong if `rt version` prints this (None: there is no `rt`), or None."""
+    """Returns the error of a toolchain whose `rt version` prints this (None: there is no `rt`), or None."""
     if version is None:
         return "the command rt is missing, which is part of the Rattle toolchain, " + spell_toolchains() + ": " + WHAT_TO_DO
     words = version.split()
@@ -47,7 +47,7 @@ def toolchain_version():
 
 
 def require_toolchain():
-    """Ends the tool with one line if the toolchain is missing, or is another version. Returns what it prints of itself."""
+    """Ends the tool with one line if the toolchain is missing or has another version. Returns the output of `rt version`."""
     version = toolchain_version()
     error = toolchain_error(version)
     if error:
@@ -56,7 +56,7 @@ def require_toolchain():
 
 
 def load_rt():
-    """Returns the command `rt` as a module, for what it has no call for."""
+    """Loads the command `rt` as a module, for functions that it has no option for."""
     loader = importlib.machinery.SourceFileLoader("rt_command", os.path.realpath(shutil.which("rt")))
     rt = importlib.util.module_from_spec(importlib.util.spec_from_loader("rt_command", loader))
     loader.exec_module(rt)

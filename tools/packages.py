@@ -1,4 +1,4 @@
-"""The Debian packages that the tests need beside Python and the Rattle toolchain, and how missing ones are installed."""
+"""The Debian packages that the tests need in addition to Python and the Rattle toolchain, and their installation."""
 import contextlib
 import os
 import shutil
@@ -6,7 +6,7 @@ import subprocess
 from collections.abc import Iterator, Sequence
 from dataclasses import dataclass
 
-# Installing a package with a service starts the service, unless this file says no.
+# Installing a package with a service starts the service, unless this file forbids it.
 POLICY = "/usr/sbin/policy-rc.d"
 NO_SERVICES = "#!/bin/sh\nexit 101\n"
 SYSTEM = ("/usr/sbin", "/sbin")
@@ -15,14 +15,14 @@ LIBRARIES = "/usr/lib/x86_64-linux-gnu"
 
 
 def searched() -> str:
-    """Returns PATH with the directories of the system's commands, which it may lack."""
+    """Returns PATH with the directories of system commands, which it may lack."""
     directories = os.environ.get("PATH", os.defpath).split(os.pathsep)
     return os.pathsep.join([*directories, *(directory for directory in SYSTEM if directory not in directories)])
 
 
 @dataclass(frozen=True)
 class Need:
-    """A package of Debian, the commands and the Python modules that are used of it, and what for."""
+    """A Debian package, the commands and Python modules that the tests use, and their purpose."""
 
     package: str
     commands: tuple[str, ...]
@@ -30,7 +30,7 @@ class Need:
     is_optional: bool = False
 
     def lacks(self) -> list[str]:
-        """Returns the commands and modules that are not there."""
+        """Returns the commands and modules that do not exist."""
         return [command for command in self.commands if not (os.path.exists(command) or shutil.which(command, path=searched()))]
 
 
@@ -67,7 +67,7 @@ NEEDS = (
 
 
 def missing(needs: Sequence[Need]) -> list[Need]:
-    """Returns what is needed and not there."""
+    """Returns the required packages that are missing."""
     return [need for need in needs if not need.is_optional and need.lacks()]
 
 
@@ -86,7 +86,7 @@ def can_install() -> bool:
 
 @contextlib.contextmanager
 def no_services(policy: str = POLICY) -> Iterator[None]:
-    """Keeps the services of packages from being started while these are installed. A policy that is there stays."""
+    """Keeps the services of packages from starting while these are installed. An existing policy stays."""
     if os.path.exists(policy):
         yield
         return
@@ -100,14 +100,15 @@ def no_services(policy: str = POLICY) -> Iterator[None]:
 
 
 def error_of(command: Sequence[str]) -> str:
-    """Runs a command of apt-get. Returns what it printed if it failed, else nothing."""
+    """Runs a command of apt-get. Returns its output if it failed, else an empty text."""
     how = {"stdin": subprocess.DEVNULL, "stdout": subprocess.PIPE, "stderr": subprocess.STDOUT, "text": True, "errors": "replace"}
     done = subprocess.run(command, env={**os.environ, "DEBIAN_FRONTEND": "noninteractive"}, **how)
     return f"{done.stdout}needs: {' '.join(command)}: status {done.returncode}\n" if done.returncode else ""
 
 
 def install(packages: Sequence[str]) -> bool:
-    """Installs packages, after a failure once more with new lists of packages. Returns whether it went well; else prints what apt-get printed."""
+    """Installs packages. After a failure it updates the lists of packages and tries again. Returns whether it succeeded, else prints the output of
+    apt-get."""
     with no_services():
         error = error_of(installing(packages)) and (error_of(["apt-get", "update"]) or error_of(installing(packages)))
     print(error, end="")
@@ -115,7 +116,7 @@ def install(packages: Sequence[str]) -> bool:
 
 
 def lack_of_rights() -> str | None:
-    """Returns why this process may not do what the gate's tests do, or None: they make networks, mount a disk and run as another user."""
+    """Returns why this process may not do what the gate's tests do (make networks, mount a disk, run as another user), or None."""
     if os.geteuid():
         return 'the gate needs root, since its tests make networks and mount disks: type: sudo env "PATH=$PATH" make gate'
     made = subprocess.run(["unshare", "--net", "--mount", "true"], stdin=subprocess.DEVNULL, stderr=subprocess.PIPE, text=True)
@@ -123,7 +124,7 @@ def lack_of_rights() -> str | None:
 
 
 def install_missing(needs: Sequence[Need] = NEEDS) -> str | None:
-    """Installs what is missing. Returns why something is still missing, and what to type, or None."""
+    """Installs missing packages. Returns why something is still missing, and what to type, or None."""
     lacking = missing(needs)
     if not lacking:
         return None

@@ -1,4 +1,4 @@
-"""Work in pieces: how many this computer has room for side by side, and a line as each begins and ends, with about how long the rest takes."""
+"""Runs work in parallel, as much as this computer can do at once, and prints a line as each piece begins and ends, with the estimated time left."""
 import os
 import re
 import threading
@@ -6,9 +6,9 @@ import time
 
 from crates import spell
 
-# The proof of a crate takes so many seconds, and more for each megabyte that a check lays out of it: fitted to the times of a whole gate.
+# The seconds of a proof, for each crate and for each megabyte of its proof cost, fitted to the times of a whole gate.
 SECONDS_A_CRATE, SECONDS_A_MEGABYTE = 18.0, 1.28
-# Compiling a crate of tests takes most of its time, by its lines.
+# The seconds of a test crate for each line. Most of it is compilation.
 SECONDS_A_LINE = 0.06
 
 
@@ -17,20 +17,20 @@ def by_lines(lines: dict[str, int]) -> dict[str, float]:
 
 
 def by_megabytes(names: list[str], megabytes: dict[str, int]) -> dict[str, float]:
-    """Returns the seconds that the proof of each crate takes by its budget; a crate without one counts as the mean."""
+    """Returns the estimated seconds of each crate's proof by its budget. A crate without a budget counts as the mean."""
     mean = sum(megabytes.values()) / max(len(megabytes), 1)
     return {name: SECONDS_A_CRATE + SECONDS_A_MEGABYTE * megabytes.get(name, mean) for name in names}
 
 
 class Progress:
-    """Pieces of work, `lanes` of them side by side. `seconds` has what each is expected to take; only the proportions matter once one is done."""
+    """Pieces of work, `lanes` of them in parallel. `seconds` has the expected time of each. Once one is done only the proportions matter."""
 
     def __init__(self, seconds: dict[str, float], lanes: int) -> None:
         self.seconds, self.lanes, self.lock = seconds, lanes, threading.Lock()
         self.began, self.begun, self.ended, self.done = time.monotonic(), {}, set(), 0.0
 
     def left(self) -> float:
-        """Returns about how many seconds the rest takes, at the pace so far."""
+        """Returns the estimated seconds of the rest, at the pace so far."""
         rest = sum(seconds for name, seconds in self.seconds.items() if name not in self.ended)
         return rest * ((time.monotonic() - self.began) / self.done if self.done else 1 / self.lanes)
 
@@ -44,7 +44,7 @@ class Progress:
             self.print(name, "begins")
 
     def end(self, name: str, text: str, is_fresh: bool = True) -> None:
-        """Prints that a piece has ended. The pace counts only pieces that were done from nothing."""
+        """Prints that a piece has ended. Cached pieces do not count for the pace."""
         with self.lock:
             if name not in self.seconds or name in self.ended:
                 return
@@ -54,13 +54,13 @@ class Progress:
             self.print(name, f"{text}{took}")
 
 
-# ---- what this computer has room for: processors and free memory, those of the container if it limits them
+# ---- the processors and the free memory of this computer, or of the container if it limits them
 
 GROUP = "/sys/fs/cgroup"
 
 
 def numbers_in(file, form=r"(\d+)"):
-    """Returns the numbers of a form with which a file begins, none where it is not there or says that there is no limit."""
+    """Returns the numbers at the beginning of a file, or None if the file does not exist or sets no limit."""
     try:
         with open(file, encoding="ascii") as stream:
             found = re.match(form, stream.read())
@@ -70,19 +70,19 @@ def numbers_in(file, form=r"(\d+)"):
 
 
 def free_memory(file="/proc/meminfo", group=GROUP):
-    """Returns the free memory in bytes. What is kept of files for a container is given back where it is needed."""
+    """Returns the free memory in bytes. The file cache of a container counts as free."""
     free = 1024 * numbers_in(file, r"(?s).*?MemAvailable:\s+(\d+)")[0]
     limit, used = numbers_in(f"{group}/memory.max"), numbers_in(f"{group}/memory.stat", r"(?s).*?\banon (\d+)")
     return min(free, max(limit[0] - used[0], 0)) if limit and used else free
 
 
 def processors(group=GROUP):
-    """Returns how many processors there are to use."""
+    """Returns the number of usable processors."""
     count, quota = len(os.sched_getaffinity(0)), numbers_in(f"{group}/cpu.max", r"(\d+) (\d+)")
     return min(count, max(quota[0] // quota[1], 1)) if quota else count
 
 
 def at_once(needs, free=None, lanes=None):
-    """Returns how many processes run well side by side if each needs `needs` bytes: one a processor, as many as memory holds."""
+    """Returns how many processes can run in parallel if each needs this many bytes: at most one for each processor."""
     free = free_memory() if free is None else free
     return max(1, min(lanes or processors(), free // needs))

@@ -1,5 +1,5 @@
-"""Runs `rt ci`, and follows what it prints: which crates are proved, about how long the rest takes, and whether as many functions may wait
-as crates.txt says."""
+"""Runs `rt ci` and parses its output: which crates are proved, the estimated time left, and whether the number of functions that may wait is the one
+in crates.txt."""
 import collections
 import os
 import re
@@ -11,15 +11,15 @@ from budget import keep_measured, read_budget, read_measured, size_of
 from crates import crate_rows, said_words
 from progress import Progress, by_megabytes, processors
 
-# What `rt ci` prints once a crate has ended: it is proved now or was before, or it is not proved.
+# The output of `rt ci` for a finished crate: it was proved now or before, or it is not proved.
 ENDS = re.compile(r"rt: (\w+) (proved|is kept|NOT PROVED)\b")
-# What it prints of each must-fail edit, and of each crate that has some.
+# The output for each must-fail edit, and for each crate that has some.
 OF_EDITS = re.compile(r"rt: must-fail .*refused, as it must be|rt: \w+: trying its must-fail edits")
 LAST_LINES = 30
 
 
 class Waits:
-    """Compares how many functions of each crate may wait, as its proof counts them, with its row of crates.txt. `rt ci` does not count the
+    """Compares the number of functions that may wait, as a proof counts them, with the crate's row of crates.txt. `rt ci` does not count the
     functions of a cached crate again, so each tool that proves one compares."""
 
     def __init__(self, rows: dict[str, tuple[str, list[str]]]) -> None:
@@ -37,7 +37,7 @@ class Waits:
 
 @dataclass
 class Proofs:
-    """What `rt ci` in the directory `top` has printed so far."""
+    """The output so far of `rt ci` in the directory `top`."""
 
     top: str
     progress: Progress
@@ -49,7 +49,7 @@ class Proofs:
     block: collections.deque[str] = field(default_factory=lambda: collections.deque(maxlen=LAST_LINES))
 
     def read(self, line: str) -> None:
-        """Reads a line, and prints what a person needs of it."""
+        """Parses a line, and prints what people need of it."""
         self.last_line = line
         self.waits.read(line)
         if line.startswith("== "):
@@ -76,7 +76,7 @@ class Proofs:
 
 
 def run_ci(top: str, names: list[str]) -> tuple[bool, str]:
-    """Runs `rt ci` in a directory that has these crates. Returns whether all is proved, and its last line."""
+    """Runs `rt ci` in a directory with these crates. Returns whether all is proved, and its last line."""
     progress = Progress(by_megabytes(names, read_budget().crates), processors())
     proofs = Proofs(top, progress, Waits(crate_rows()))
     how = {"cwd": top, "stdin": subprocess.DEVNULL, "stdout": subprocess.PIPE, "stderr": subprocess.STDOUT, "text": True, "errors": "replace"}

@@ -1,4 +1,4 @@
-"""Programs that are compiled and not proved yet, as `rt try` does. It keeps none, so each is copied while it runs."""
+"""Compiles programs without proofs by `rt try`. This deletes the program at its end, so it is copied while it runs."""
 import glob
 import os
 import shutil
@@ -9,13 +9,13 @@ import time
 
 from crates import TOP, spell
 
-# A compilation takes some minutes, and ten times as long on a busy computer. What hangs is ended then.
+# A compilation takes some minutes, and ten times as long on a busy computer. After this time it counts as hanging.
 PATIENCE = 3_600
 LAST_LINES = 20
 
 
 def running_below(folder):
-    """Returns the compiled program below the folder, if it runs."""
+    """Returns the compiled program below the directory, if it is running."""
     for file in glob.glob("/proc/[0-9]*/cmdline"):
         try:
             with open(file, encoding="utf-8", errors="replace") as stream:
@@ -29,7 +29,7 @@ def running_below(folder):
 
 
 def wait_for_program(folder, compiling, who):
-    """Waits until the compiled program runs, and shows the seconds on a terminal. Returns its file, or None."""
+    """Waits until the compiled program runs, and shows the time on a terminal. Returns its path, or None."""
     began, found = time.monotonic(), None
     while compiling.poll() is None and time.monotonic() - began < PATIENCE and not found:
         if sys.stderr.isatty():
@@ -42,8 +42,8 @@ def wait_for_program(folder, compiling, who):
 
 
 def compile_unproved(crate, kept, flags=(), arguments=(), given=b"", top=TOP):
-    """Compiles a program crate with these flags of `rt try`, and copies it to `kept` while it runs with these arguments, on what it
-    is given: it has to run for a second or more. Returns whether it was compiled; if not, it prints the last lines of `rt try`."""
+    """Compiles a program crate with these flags of `rt try`, and copies it to `kept` while it runs with these arguments and this input. It must run
+    for at least a second. Returns whether it was compiled, else prints the last lines of `rt try`."""
     room_of = os.path.dirname(kept)
     os.makedirs(room_of, exist_ok=True)
     with tempfile.TemporaryDirectory(prefix="unproved-", dir=room_of) as room:

@@ -2,7 +2,7 @@
 """Writes tic-tac-toe as a ground description: each rule once for each cell, mark and line.
 
 tictactoe.py           prints it
-tictactoe.py --check   ends with status 1 where tictactoe.kif is another one
+tictactoe.py --check   exits with status 1 if tictactoe.kif differs from it
 """
 
 import argparse

@@ -1,11 +1,10 @@
 #!/usr/bin/env python3
-"""A player to play against: it plays descriptions with variables over HTTP, and ground ones too, with legal moves at random.
+"""An example player that plays random legal moves over HTTP, also for descriptions with variables.
 
     interpreting.py PORT [SEED | first]
 
-It interprets the rules that START carries, by the interpreter of `tests/oracle`, and is else as player.py. On standard error it
-says how many sentences they are, and how many have variables. With `first` in the place of a seed it plays the first of its legal moves
-in the order of their texts.
+It is like player.py, but uses the interpreter of `tests/oracle` for the rules in START. It prints the number of sentences, and of those with
+variables, on standard error. With `first` instead of a seed it plays the first of its legal moves in alphabetical order.
 """
 
 import pathlib
@@ -19,20 +18,20 @@ from player import Player, arguments, say, seed, serve, show
 
 
 class Game(interpreter.Game):
-    """The game of a description with variables, as a player asks for it."""
+    """The interpreter's game with the methods that a player needs."""
 
     def legal(self, state, role):
-        found = self.asked(state, (), lambda look: look.answers(("legal", role, "?move")))
-        return sorted((move for _, _, move in found), key=show)
+        answers = self.asked(state, (), lambda look: look.answers(("legal", role, "?move")))
+        return sorted((move for _, _, move in answers), key=show)
 
 
 def count_text(sentences):
-    """Returns how many sentences there are, and how many of them have variables, as text."""
+    """Returns a line with the number of sentences, and of those with variables."""
     return f"rules of {len(sentences):,} sentences, {sum(not interpreter.is_ground(sentence) for sentence in sentences):,} with variables"
 
 
 def make_game(sentences):
-    """Returns the game that START tells, and says how many sentences that are."""
+    """Returns the game of a START, and prints the number of sentences."""
     say(count_text(sentences))
     return Game(sentences)
 

@@ -1,10 +1,10 @@
 #!/usr/bin/env python3
-"""A player to play against: it plays ground descriptions over HTTP, with legal moves at random.
+"""An example player that plays random legal moves over HTTP, for ground descriptions.
 
     player.py PORT [SEED]
 
-It listens on 127.0.0.1, answers INFO, START, PLAY, STOP and ABORT, and plays one match at a time: that of the last START. The same SEED, a
-whole number, chooses the same moves. It needs Python's standard library alone.
+It listens on 127.0.0.1, answers INFO, START, PLAY, STOP and ABORT, and plays one match at a time: that of the last START. The same SEED, a whole
+number, chooses the same moves. The player needs only Python's standard library.
 """
 
 import argparse
@@ -20,15 +20,15 @@ from concurrent.futures import Future
 from dataclasses import dataclass
 from http.server import BaseHTTPRequestHandler, ThreadingHTTPServer
 
-# No message of the referee is longer, or has more lists in one another. START is the longest: its rules have at most 4,194,304 bytes (those
-# of a large game) before they are printed, and that may add a space for each atom and each list.
+# The maximum length and nesting of messages. START is the longest: the rules of a large game have at most 4,194,304 bytes, and printing them may
+# add a space for each atom and each list.
 MOST_BYTES, MOST_LISTS = 16_777_216, 66
-# No longer answer counts.
+# The longest answer that is a move.
 MOST_ANSWER = 4_096
-# A pipe that has room at all takes so many bytes at once.
+# A pipe that is ready for writing takes this many bytes at once.
 MOST_SAID = 4_000
-# Rules are looked up by recursion. Each of 65,536 sentences may ask for the next one, from within some lists: that is deeper than Python goes
-# by itself. Older Pythons need a larger stack for it too.
+# Rules are evaluated by recursion. Each of 65,536 sentences may use the next one, inside some lists. This is deeper than Python's default limit,
+# and older Pythons also need a larger stack.
 DEEPEST, STACK = 1_000_000, 1 << 29
 
 
@@ -37,12 +37,12 @@ def tokens(text):
 
 
 def read(text):
-    """The expressions of a KIF text: an atom is a string, a list a tuple. Capitals are folded."""
+    """Parses KIF: an atom is a string, a list a tuple. Capitals become lower case."""
     stack = [[]]
     for token in tokens(text.lower()):
         if token == "(":
             if len(stack) > MOST_LISTS:
-                raise ValueError("too many lists in one another")
+                raise ValueError("lists are nested too deeply")
             stack.append([])
         elif token == ")":
             done = tuple(stack.pop())
@@ -53,13 +53,13 @@ def read(text):
 
 
 def read_message(text):
-    """The message that a text is. Capitals count in the id of its match alone, which stands behind the parenthesis and the keyword."""
+    """Parses a message. Capitals count only in the id of its match, which comes after the parenthesis and the keyword."""
     message = read(text)[0]
     return (message[0], tokens(text)[2], *message[2:]) if isinstance(message, tuple) and len(message) > 1 else message
 
 
 def show(expression):
-    """The canonical text of an expression."""
+    """Returns the canonical text of an expression."""
     if isinstance(expression, str):
         return expression
     return "(" + " ".join(map(show, expression)) + ")"
@@ -84,7 +84,7 @@ class Game:
         return [head for head in self.heads(relation) if self.holds(head, state, joint, known)]
 
     def holds(self, literal, state, joint, known):
-        """Whether a literal is true in a state, where these are the `does` sentences of a joint move."""
+        """Returns whether a literal is true in a state with these `does` sentences."""
         match literal:
             case ("not", inner):
                 return not self.holds(inner, state, joint, known)
@@ -104,8 +104,8 @@ class Game:
         return known[literal]
 
     def is_derived(self, head, state, joint, known):
-        """Whether all literals of some rule for this head are true."""
-        # (loops, since `any` and `all` would take a part of the stack for each rule)
+        """Returns whether all literals of some rule for this head are true."""
+        # Loops, because `any` and `all` would use stack for each rule.
         for body in self.bodies.get(head, []):
             for literal in body:
                 if not self.holds(literal, state, joint, known):
@@ -135,8 +135,8 @@ class Seat:
 
 
 class Player:
-    """What the player knows of its match, and how it answers a message. The field `Receiver` of a message names the role's player: another
-    role of the match may be at the same address."""
+    """The state of the player's match, and its answers. The field `Receiver` of a message names the role's player, because several roles of a match
+    may be at the same address."""
 
     def __init__(self, choose, game=Game):
         self.choose, self.make_game = choose, game
@@ -149,7 +149,7 @@ class Player:
             case ("start", match_id, role, rules, _, _):
                 game = self.make_game(rules)
                 seat = Seat(role, game, game.initial())
-                # Another match ends by this. Rules that cannot be read or played have ended nothing.
+                # This ends any other match, but only after the rules were read successfully.
                 self.seats = {key: other for key, other in self.seats.items() if key[0] == match_id} | {(match_id, receiver): seat}
                 return "ready"
             case ("play", match_id, moves) if seat := self.seats.get((match_id, receiver)):
@@ -158,14 +158,14 @@ class Player:
                 moves = [show(move) for move in seat.game.legal(seat.state, seat.role)]
                 return self.choose([move for move in moves if len(move) <= MOST_ANSWER] or moves)
             case ("stop", match_id, _) | ("abort", match_id):
-                # It may name a match that this player has not begun.
+                # The player may not know this match.
                 self.seats.pop((match_id, receiver), None)
                 return "done"
         return "busy"
 
 
 def is_waiting(stream):
-    """Whether a stream has no room now, as a pipe has that nobody reads."""
+    """Returns whether a stream is not ready for writing, for example a pipe that nobody reads."""
     try:
         return not select.select([], [stream], [], 0)[1]
     except (OSError, ValueError):
@@ -173,8 +173,8 @@ def is_waiting(stream):
 
 
 def say(text):
-    """Prints a line on standard error, at once, since other players may print there. It has visible characters alone, since anybody may send
-    a message. That nobody reads it is no reason to stop playing: what finds no room is left out."""
+    """Prints a line on standard error, at once, since other players may print there too. Only visible characters are printed, because anybody may
+    send a message. If nobody reads the output, it is dropped, and the player goes on."""
     seen = "".join(character if " " <= character <= "~" or character == "\n" else "?" for character in text[-MOST_SAID:])
     try:
         if sys.stderr and not is_waiting(sys.stderr):
@@ -184,7 +184,7 @@ def say(text):
 
 
 class Handler(BaseHTTPRequestHandler):
-    # A connection that sends nothing for so many seconds is closed.
+    # A connection that sends nothing for this many seconds is closed.
     timeout = 10
 
     def do_POST(self):
@@ -206,10 +206,10 @@ class Handler(BaseHTTPRequestHandler):
 
 
 class Server(ThreadingHTTPServer):
-    """Reads each message in a thread of its own, so a connection that is slow or silent holds up no other one. One thread answers, in the
-    order in which the messages came: the next one may come before a late answer is there."""
+    """Reads each message in its own thread, so a slow connection does not block others. One thread answers all messages in the order in which they
+    came. The next message may come before a late answer is ready."""
 
-    # So many connections may wait to be taken.
+    # The maximum number of waiting connections.
     request_queue_size = 128
 
     def __init__(self, address, player):
@@ -233,7 +233,7 @@ class Server(ThreadingHTTPServer):
         return answered.result()
 
     def handle_error(self, request, client_address):
-        """Tells what went wrong with a message; the next one is served all the same."""
+        """Prints an error. The next message is served all the same."""
         say(traceback.format_exc())
 
 
@@ -250,18 +250,18 @@ def serve(port, player):
 
 def port(word: str) -> int:
     if not re.fullmatch("[0-9]{1,5}", word) or not 1 <= int(word) <= 65535:
-        raise argparse.ArgumentTypeError(f"{word!r} is no port, 1 to 65535")
+        raise argparse.ArgumentTypeError(f"expected a port from 1 to 65535, found {word!r}")
     return int(word)
 
 
 def seed(word: str) -> int:
     if not re.fullmatch("-?[0-9]{1,18}", word):
-        raise argparse.ArgumentTypeError(f"{word!r} is no seed, a whole number of at most 18 digits")
+        raise argparse.ArgumentTypeError(f"expected a whole number of at most 18 digits, found {word!r}")
     return int(word)
 
 
 def arguments(about: str, seed_of: Callable[[str], int | str] = seed) -> argparse.Namespace:
-    """Reads the port of a player, and the seed by which it chooses its moves, if there is one."""
+    """Parses the port of a player and its optional seed."""
     words = argparse.ArgumentParser(description=about, formatter_class=argparse.RawDescriptionHelpFormatter)
     words.add_argument("port", metavar="PORT", type=port)
     words.add_argument("seed", metavar="SEED", nargs="?", type=seed_of)

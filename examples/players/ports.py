@@ -1,9 +1,9 @@
 #!/usr/bin/env python3
-"""Ports of this computer for players that a script is about to start.
+"""Finds free ports for players that a script will start.
 
     ports.py RULES-FILE
 
-prints a port that is free now for each role of a ground description.
+prints a free port for each role of a ground description.
 """
 
 import argparse
@@ -15,8 +15,7 @@ from itertools import islice
 sys.dont_write_bytecode = True
 from player import Game, read
 
-# Linux picks the ports of its connections from 32,768 on, unless it is told otherwise. A port below is not taken by one of them
-# before the player that is to listen there has started.
+# By default Linux uses ports from 32,768 up for outgoing connections. These cannot take a lower port before the player listens on it.
 PORTS = range(20000, 32768)
 
 
@@ -30,12 +29,12 @@ def is_free(port):
 
 
 def free_ports(count):
-    """Returns ports of 127.0.0.1 that are free now."""
+    """Returns free ports of 127.0.0.1."""
     return list(islice(filter(is_free, random.sample(PORTS, len(PORTS))), count))
 
 
 def roles_of(file: str) -> list:
-    """Returns the roles of the game that a file describes: none where it is no ground description."""
+    """Returns the roles of a game. They are empty if the file is not a ground description."""
     try:
         with open(file, encoding="ascii") as rules:
             return Game(read(rules.read())).roles
@@ -51,7 +50,7 @@ def main() -> None:
     file = words.parse_args().rules
     roles = roles_of(file)
     if not roles:
-        sys.exit(f"play-a-match: {file} is no ground description")
+        sys.exit(f"play-a-match: {file} is not a ground description")
     print(*free_ports(len(roles)))
 
 

@@ -74,7 +74,7 @@ def expressions(text: str, most_levels: float = MOST_LEVELS, takes_bytes: bool =
     for token, index, around in tokens(text, takes_bytes):
         if token == "(":
             if around == most_levels:
-                raise KifFault(f"more than {most_levels} lists in one another", index)
+                raise KifFault(f"lists are nested more than {most_levels} deep", index)
             levels.append([])
         elif token == ")":
             closed = tuple(levels.pop())

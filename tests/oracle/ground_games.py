@@ -27,7 +27,7 @@ def text_of(expression):
 
 
 class Game:
-    """The game that a description is: a state is the set of its terms, a joint move a dict by role."""
+    """The game of a description. A state is the set of its terms, a joint move a dict by role."""
 
     def __init__(self, sentences):
         self.rules = {}
@@ -38,7 +38,7 @@ class Game:
         self.roles = [head[1] for head in self.rules if head[0] == "role"]
 
     def question(self, state, joint):
-        """Tells of each literal whether it is true in the state, where the roles make these moves."""
+        """Returns a function that evaluates literals in the state, with these moves of the roles."""
 
         def holds(literal):
             match literal:
@@ -86,7 +86,7 @@ class Game:
 
 
 class Match:
-    """A match at the desk, from its `open` line on."""
+    """A match on the desk, from its `open` line on."""
 
     def __init__(self, game, words):
         name, start, play, *players = words
@@ -98,7 +98,7 @@ class Match:
         self.open = {}
 
     def phase(self):
-        """The phase, and the cause where the game aborts the match."""
+        """Returns the phase, and the cause if the game aborts the match."""
         count, state = len(self.game.roles), self.states[-1]
         ended = len(self.marks["end"]) == count
         if len(self.marks["start"]) < count:
@@ -187,7 +187,7 @@ class Match:
 
 
 def run(game, script):
-    """The reply lines, and the match."""
+    """Returns the reply lines, and the match."""
     match, replies = None, []
     for line in script.splitlines():
         word, _, rest = line.partition(" ")
@@ -214,14 +214,14 @@ def run(game, script):
 
 
 def output(rules, script):
-    """What a desk must print for a description and a script."""
+    """Returns the expected output of a desk for a description and a script."""
     replies, match = run(Game(expressions(rules)), script)
     record = json.dumps(match.record(), separators=(",", ":"), sort_keys=True)
     return "".join(f"{line}\n" for line in (*replies, record))
 
 
 def check():
-    """Ends with status 1 where an output of this folder is another one, and where there is none."""
+    """Exits with status 1 if an output of this directory differs, or if there is none."""
     files = sorted(GAMES.glob("*.kif"))
     for rules in files:
         if rules.with_suffix(".out").read_text() != output(rules.read_text(), rules.with_suffix(".script").read_text()):

@@ -15,7 +15,7 @@ GIVEN = {("true", 2), ("does", 3)}
 
 
 def read(text):
-    """The expressions of a KIF text, in lower case: an atom is a text, a list a tuple."""
+    """Parses the expressions of a KIF text, in lower case: an atom is a string, a list a tuple."""
     levels = [[]]
     for word in re.sub(r";.*", "", text.lower()).replace("(", " ( ").replace(")", " ) ").split():
         if word == "(":
@@ -44,7 +44,7 @@ def with_values(term, values):
 
 
 def fitted(pattern, term, values):
-    """The values with which the pattern is the term, which has no variables: None where there are none."""
+    """Returns the values with which the pattern equals the term, which has no variables, or None."""
     if isinstance(pattern, str):
         if pattern[0] != "?":
             return values if pattern == term else None
@@ -61,7 +61,7 @@ def fitted(pattern, term, values):
 
 
 def narrowed(head, question, values):
-    """What the question says of the variables of a rule's head: None where the head is no answer whatever they are."""
+    """Returns what the question implies for the variables of a rule's head, or None if the head cannot be an answer."""
     if is_variable(question):
         return values
     if isinstance(head, str):
@@ -76,19 +76,19 @@ def narrowed(head, question, values):
 
 
 def key_of(question, names):
-    """The question with its variables numbered, so that two that ask the same are equal."""
+    """Returns the question with its variables numbered, so that equivalent questions are equal."""
     if isinstance(question, str):
         return names.setdefault(question, f"?{len(names)}") if question[0] == "?" else question
     return tuple([key_of(part, names) for part in question])
 
 
 def name_of(sentence):
-    """The relation of a sentence, which is a name with a number of places: none for an atom."""
+    """Returns the relation of a sentence: a name with a number of arguments, which is None for an atom."""
     return (sentence, 0) if isinstance(sentence, str) else (sentence[0], len(sentence))
 
 
 def asked_in(literal):
-    """The sentences that a literal asks for."""
+    """Yields the sentences in a literal."""
     match literal:
         case ("not", inner):
             yield from asked_in(inner)
@@ -102,12 +102,12 @@ def asked_in(literal):
 
 
 def names_in(literal):
-    """The relations that a literal asks for."""
+    """Yields the relations in a literal."""
     return map(name_of, asked_in(literal))
 
 
 def leaves(term, path=()):
-    """The atoms of a term that are no variables, each with its place."""
+    """Yields the atoms of a term that are not variables, each with its path."""
     if isinstance(term, str):
         if term[0] != "?":
             yield path, term
@@ -125,7 +125,7 @@ def leaf_at(term, path):
 
 
 class Facts:
-    """Sentences without variables, found by the atoms at their places."""
+    """Sentences without variables, indexed by the atoms at their paths."""
 
     def __init__(self, facts):
         self.all, self.by_name, self.by_place = set(), {}, {}
@@ -135,7 +135,7 @@ class Facts:
                 self.by_name.setdefault(name_of(fact), []).append(fact)
 
     def fitting(self, question):
-        """The facts that a question fits."""
+        """Returns the facts that match a question."""
         if is_ground(question):
             return [question] if question in self.all else []
         some = self.by_name.get(name_of(question), ())
@@ -157,13 +157,13 @@ class GoesRound(Exception):
 
 
 class Look:
-    """What is true in one state, with the moves of one turn."""
+    """The true sentences of one state, with the moves of one turn."""
 
     def __init__(self, game, facts):
         self.game, self.known, self.facts, self.open = game, {}, Facts(facts), set()
 
     def answers(self, question):
-        """The answers to a question, each once."""
+        """Returns the answers to a question, without duplicates."""
         name = name_of(question)
         if name in GIVEN:
             return self.facts.fitting(question)
@@ -183,7 +183,7 @@ class Look:
         return known[key]
 
     def whole(self, circle, known):
-        """All that is true of relations that go round, derived again and again until there is no more."""
+        """Returns all true sentences of recursive relations, derived repeatedly until there are no more."""
         if circle not in known:
             known[circle], count = Facts(fact for name in sorted(circle) for fact in self.game.facts.by_name.get(name, ())), -1
             try:
@@ -209,7 +209,7 @@ class Look:
                         yield answer
 
     def all_values(self, body, values):
-        """The values of the variables with which each literal of a body is true. What is denied waits for its variables."""
+        """Yields the values of the variables for which each literal of a body is true. Negations wait for their variables."""
         if not body:
             yield values
             return
@@ -237,7 +237,7 @@ class Look:
 
 
 def grouped(asks):
-    """The relations that have rules, as sets of those that depend on one another. Each set stands behind those on which it depends."""
+    """Returns the relations that have rules, grouped by mutual dependence. Each group comes after those that it depends on."""
     # (Tarjan's way, by a list of what is open in the place of calls: a chain may be long)
     groups, places, lowest, path, done = [], {}, {}, [], set()
     for first in asks:
@@ -266,7 +266,7 @@ def grouped(asks):
 
 
 class Game:
-    """The game of a description: a state is the set of its terms, a joint move has a move for each role."""
+    """The game of a description. A state is the set of its terms, a joint move has a move for each role."""
 
     def __init__(self, text):
         self.rules, self.fixed, self.legals, facts = {}, {}, [], []
@@ -291,7 +291,7 @@ class Game:
         self.roles = [head[1] for head in self.asked((), (), lambda look: look.answers(("role", "?role")))]
 
     def timely(self, groups):
-        """The relations that depend on the state or the moves."""
+        """Returns the relations that depend on the state or the moves."""
         found = set(GIVEN)
         for group in groups:
             if any(not found.isdisjoint(self.asks[name]) for name in group):
@@ -299,7 +299,7 @@ class Game:
         return found
 
     def found_circles(self, groups):
-        """Of each relation that goes round the set of those that it goes round with. One that denies itself is looked up instead."""
+        """Returns for each recursive relation the set of relations in its cycle. A relation that negates itself is not included."""
         found = {}
         for group in groups:
             circle = frozenset(name for name in group if len(group) > 1 or name in self.asks[name])
@@ -309,12 +309,12 @@ class Game:
         return found
 
     def can_grow(self, circle):
-        """Whether a question could come up again with more in the place of a variable, and so without an end."""
+        """Returns whether a question could come up again with a larger term for a variable, and so without an end."""
         asked = [sentence for name in circle for _, body in self.rules[name] for literal in body for sentence in asked_in(literal)]
         return any(not (is_variable(argument) or is_ground(argument)) for sentence in asked if name_of(sentence) in circle for argument in sentence[1:])
 
     def asked(self, state, joint, work):
-        """What a question comes to in a state, asked anew where a relation is seen to go round."""
+        """Answers a question in a state. It is asked again if a relation turns out to be recursive."""
         does = [("does", role, move) for role, move in zip(self.roles, joint)] if joint else []
         while True:
             try:
@@ -332,7 +332,7 @@ class Game:
         return self.asked(state, joint, lambda look: frozenset(term for _, term in look.answers(("next", "?term"))))
 
     def view(self, state, more=None):
-        """The legal moves and the goals of each role, as sets, and whether the game has ended; and what `more` says, where it is there."""
+        """Returns the legal moves and the goals of each role, as sets, whether the game has ended, and the result of `more` if it is given."""
 
         def seen(look):
             legal = [{move for _, _, move in look.answers(("legal", role, "?move"))} for role in self.roles]
@@ -344,14 +344,14 @@ class Game:
 
 
 def as_atom(literal):
-    """`(terminal)` is another way to write `terminal`."""
+    """Replaces `(terminal)`, which is another way to write `terminal`."""
     if literal == ("terminal",):
         return "terminal"
     return (literal[0], *map(as_atom, literal[1:])) if literal[0] in ("not", "or", "and") else literal
 
 
 def denied_in(literal, is_denied=False):
-    """The relations that stand in a denial, and not in a denial of it."""
+    """Yields the relations that are negated."""
     match literal:
         case ("not", inner):
             yield from denied_in(inner, not is_denied)

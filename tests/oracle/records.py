@@ -31,7 +31,7 @@ MOST_LISTS = 64
 
 
 class Countdown:
-    """In turn one or two are taken from a heap; the player on turn at an empty heap has lost."""
+    """In each turn one or two are taken from a heap. The player whose turn it is at an empty heap has lost."""
 
     def __init__(self, heap, turn=0):
         self.heap, self.turn = heap, turn
@@ -56,7 +56,7 @@ class Countdown:
 
 
 def is_retired(strikes, turns, role):
-    """Whether in some `strikes` turns in a row the role's errors are all non-empty."""
+    """Returns whether the role's errors are non-empty in `strikes` consecutive turns."""
     struck = "".join("x" if errors[role] else "." for errors in turns)
     return strikes > 0 and "x" * strikes in struck
 
@@ -73,7 +73,7 @@ def is_name(value):
 
 
 def is_expression(text):
-    """Whether the text is the canonical text of one expression without capitals, of at most 64 lists in one another."""
+    """Returns whether the text is the canonical text of one expression without capitals, nested at most 64 lists deep."""
     level = 0
     for place, token in enumerate(re.findall(r"[()]|[^() ]+|.", text)):
         if place > 0 and level == 0:
@@ -131,7 +131,7 @@ SHAPES = {
 
 
 def misshapen(record):
-    """The first key that is missing or of another shape. A record without a version is of the first."""
+    """Returns the first key that is missing or has the wrong shape. A record without a version has version 1."""
     record = record if isinstance(record, dict) else {}
     for key in KEYS:
         if key == "strikes" and record.get("version", 1) != 2:
@@ -151,7 +151,7 @@ def misshapen(record):
 
 
 def fault_of_turn(state, strikes, turns, turn, moves, errors):
-    """What is wrong with the turn's moves and errors, if anything is."""
+    """Returns the error in the turn's moves and errors, or None."""
     retired = [is_retired(strikes, turns, role) for role in range(2)]
     if state.terminal() or all(retired):
         return "end"
@@ -167,7 +167,7 @@ def fault_of_turn(state, strikes, turns, turn, moves, errors):
 
 
 def is_end(record, state, strikes):
-    """Whether phase, cause, marks and the last state agree with a line of the profile's table."""
+    """Returns whether phase, cause, marks and the last state agree with a row of the profile's table."""
     started = None not in record["startMarks"]
     ended = None not in record["endMarks"]
     unended = record["endMarks"] == [None, None]
@@ -193,7 +193,7 @@ def is_end(record, state, strikes):
 
 
 def word(heap, text):
-    """What `verify` says of the text, for Countdown from this heap."""
+    """Returns the expected output of `verify` for the text, for Countdown from this heap."""
     try:
         record = json.loads(text)
     except ValueError:
@@ -223,7 +223,7 @@ def word(heap, text):
 
 
 def random_record(chance):
-    """The record of a match with strikes, somewhere in its course, and its heap."""
+    """Returns the record of a match with strikes, possibly unfinished, and its heap."""
     heap, strikes, rounds = chance.randint(1, 12), chance.randint(0, 3), chance.choice([3, 20, 20, 20])
     state, moves, errors = Countdown(heap), [], []
     states = [state.texts()]
@@ -264,7 +264,7 @@ def random_record(chance):
 
 
 def part(chance, legal, retired):
-    """What a role gives to a turn."""
+    """Returns the move of a role in a turn, and its error."""
     if retired:
         return legal[0], "RT"
     if chance.random() < 0.5:
@@ -273,7 +273,7 @@ def part(chance, legal, retired):
 
 
 def changed(chance, record):
-    """The record, changed in one place."""
+    """Returns the record with one change."""
     record = copy.deepcopy(record)
     key = chance.choice("errors errors errors moves states strikes strikes version cause phase marks goalValues".split())
     if key in ("errors", "moves") and record[key]:
@@ -316,7 +316,7 @@ def random_records(seed, matches, changes):
 
 
 def example_records():
-    """Each record of examples/records: its path, the heap, and its text."""
+    """Yields each record of examples/records: its path, the heap, and its text."""
     for path in sorted(RECORDS.glob("*.record")):
         yield path, int(path.stem.split("-")[1]), path.read_text().removesuffix("\n")
 

@@ -1,4 +1,4 @@
-"""A real browser for the tests: Chromium without a window, told what to do through a pipe, in the words of its DevTools protocol."""
+"""A real browser for tests: headless Chromium, controlled through a pipe by its DevTools protocol."""
 
 import base64
 import json
@@ -49,7 +49,7 @@ REACHED = """
 
 
 class Browser:
-    """A browser, until it is closed. `said` has what its pages wrote into their consoles, what they threw, and what they asked for."""
+    """A browser, until it is closed. `said` has what its pages logged, threw and requested."""
 
     def __init__(self) -> None:
         self.room = tempfile.TemporaryDirectory(ignore_cleanup_errors=True)
@@ -74,7 +74,7 @@ class Browser:
         self.room.cleanup()
 
     def tell(self, method: str, session: str = "", **values: object) -> dict[str, typing.Any]:
-        """Has the browser do something, and returns its answer."""
+        """Sends a command to the browser, and returns its answer."""
         self.number += 1
         words = {"id": self.number, "method": method, "params": values} | ({"sessionId": session} if session else {})
         text = json.dumps(words).encode() + b"\0"
@@ -96,7 +96,7 @@ class Browser:
         return json.loads(text)
 
     def take(self, message: dict[str, typing.Any]) -> None:
-        """Keeps what a page did by itself."""
+        """Records an event of a page."""
         kind, values = message.get("method"), message.get("params", {})
         if kind == "Network.requestWillBeSent":
             self.asked.append(values["request"]["url"])
@@ -116,7 +116,7 @@ class Browser:
 
 
 class Page:
-    """A page of a browser, as somebody sees it."""
+    """A page of a browser, as people see it."""
 
     def __init__(self, browser: Browser, session: str, target: str) -> None:
         self.browser, self.session, self.target = browser, session, target
@@ -139,7 +139,7 @@ class Page:
         return answer["result"].get("value")
 
     def until(self, expression: str) -> typing.Any:
-        """Waits until an expression holds, and returns its value."""
+        """Waits until an expression is true, and returns its value."""
         ends = time.monotonic() + HANGS
         while time.monotonic() < ends:
             try:
@@ -167,12 +167,12 @@ class Page:
             self.tell("Input.dispatchKeyEvent", type=kind, key=key, code=key, windowsVirtualKeyCode=KEYS[key], **text)
 
     def reached(self) -> tuple[int, str, bool]:
-        """Returns the place of what the keyboard has reached among all that can be, its address or title, and whether that is seen."""
+        """Returns the index of the focused element among all focusable ones, its address or title, and whether it is visible."""
         at, name, is_seen = self.value(REACHED)
         return at, name, is_seen
 
     def unreadable(self) -> list[str]:
-        """Returns what is hard to read: words that are faint by day or by night, and the width of a page that a screen has not."""
+        """Returns readability problems: text with low contrast in light or dark mode, and a page that is wider than the screen."""
         found = []
         for size in (PHONE, WIDE):
             self.screen(*size)
@@ -184,14 +184,14 @@ class Page:
         return [f"{self.value('location.href')}: {fault}" for fault in found]
 
     def click(self, element: str) -> None:
-        """Clicks on the middle of an element, which an expression of JavaScript names."""
+        """Clicks on the middle of an element, which a JavaScript expression returns."""
         middle = f"(({element}).scrollIntoView(), (box => [box.x + box.width / 2, box.y + box.height / 2])(({element}).getBoundingClientRect()))"
         x, y = self.value(middle)
         for kind in ("mousePressed", "mouseReleased"):
             self.tell("Input.dispatchMouseEvent", type=kind, x=x, y=y, button="left", clickCount=1)
 
     def picture(self, file: pathlib.Path, is_whole: bool = False) -> None:
-        """Writes a picture of what is seen, or of the whole page."""
+        """Writes a picture of the visible part, or of the whole page."""
         answer = self.tell("Page.captureScreenshot", format="png", captureBeyondViewport=is_whole)
         file.write_bytes(base64.b64decode(answer["data"]))
 

@@ -1,4 +1,4 @@
-"""Prepares a run of pytest: the program that the tests run, and the order of the modules."""
+"""Prepares a run of pytest: the program under test, and the order of the modules."""
 
 import os
 import pathlib
@@ -24,7 +24,7 @@ def pytest_addoption(parser: pytest.Parser) -> None:
 
 
 def pytest_configure(config: pytest.Config) -> None:
-    """Finds the program before xdist starts its workers, which inherit the environment: otherwise each of them would compile it."""
+    """Finds the program before xdist starts its workers, which inherit the environment. Otherwise each worker would compile it."""
     if config.option.program:
         os.environ["GGP_MANAGER"] = config.option.program
     elif config.getoption("numprocesses", None) and not config.option.collectonly:
@@ -49,7 +49,7 @@ def pytest_runtest_makereport(item: pytest.Item) -> Iterator[None]:
 
 @pytest.fixture(autouse=True)
 def keep_recursion_limit() -> Iterator[None]:
-    """Commands raise the limit for their process. Here the next test shares that."""
+    """Restores the recursion limit, which commands raise for their process."""
     before = sys.getrecursionlimit()
     yield
     sys.setrecursionlimit(before)

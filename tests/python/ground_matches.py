@@ -1,4 +1,4 @@
-"""Matches by ground rules, as the tests need them: some answers are late, and some illegal. Each is held against a description."""
+"""Makes matches by ground rules, with some late and some illegal answers, and checks them with a description."""
 
 import contextlib
 import io
@@ -38,13 +38,13 @@ def begun(sentences: Sentences) -> ground_games.Match:
 
 
 def ended(match: ground_games.Match) -> Record:
-    """Returns the record of a match, as it is once each role has its last message."""
+    """Returns the record of a match after all roles got their last message."""
     match.marks["end"] = dict(match.marks["start"])
     return match.record()
 
 
 def played(sentences: Sentences, seed: int, most: int = MOST_TURNS) -> Record:
-    """Returns the record of a random match of so many turns at most."""
+    """Returns the record of a random match of at most this many turns."""
     match = begun(sentences)
     game = match.game
     every = {role: sorted((head[2] for head in game.rules if relation(head) == ("legal", 2) and head[1] == role), key=repr) for role in game.roles}
@@ -72,7 +72,7 @@ def played_again(sentences: Sentences, record: Record) -> Record:
 
 
 def judged(dice: random.Random, legal: Sequence[Expression], every: Sequence[Expression]) -> tuple[Expression, str]:
-    """Returns a move, and the error that it stands for."""
+    """Returns a move, and the error that it replaces."""
     kind = dice.random()
     if kind < 0.2:
         return legal[0], "TO"
@@ -81,7 +81,7 @@ def judged(dice: random.Random, legal: Sequence[Expression], every: Sequence[Exp
 
 
 def differs(game: Game, record: Record) -> str | None:
-    """Returns words for where a record differs from the description; none where it does not."""
+    """Returns how a record differs from the description, or None."""
     try:
         Following(game).follow(json.loads(json.dumps(record)))
     except Differs as why:

@@ -1,4 +1,4 @@
-"""Pages of HTML for tests: they are parsed, so that a test does not depend on how their text is laid out."""
+"""Parses HTML pages, so that tests do not depend on their layout."""
 
 import warnings
 
@@ -14,12 +14,12 @@ def parsed(page: Page) -> bs4.BeautifulSoup:
 
 
 def text_of(element: bs4.Tag) -> str:
-    """Returns the text of an element, with one space wherever a reader sees space."""
+    """Returns the text of an element, with single spaces where readers see space."""
     return " ".join(element.get_text().split())
 
 
 def rows_of(part: bs4.Tag) -> list[list[str]]:
-    """Returns the texts of the cells of each row, heads and all."""
+    """Returns the texts of the cells of each row, including headings."""
     return [[text_of(cell) for cell in row(["th", "td"])] for row in part("tr")]
 
 

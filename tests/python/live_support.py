@@ -1,4 +1,4 @@
-"""What the tests of live pages share: a competition in a folder, with the files that a `play` would write there as its matches go."""
+"""Shared by the tests of live pages: a competition in a directory, with the files that `play` writes during matches."""
 
 import json
 import pathlib
@@ -30,14 +30,14 @@ BEGAN, ENDED = 1_767_323_045_000, 1_767_323_047_500
 
 
 class Missed(str):
-    """What a log has in the place of an answer, as text: the error, and the reason in parentheses."""
+    """The text that a log has instead of an answer: the error, and the reason in parentheses."""
 
 
 SILENT = Missed("TO (no answer in time: nothing received)")
 
 
 def plan_in(room: str, names: list[str], rounds: int = 1, head: str = "", rules: bytes = RULES, roles: tuple[str, ...] = ("red", "blue")) -> Plan:
-    """Returns the plan of a round robin of these players in a folder, without its files."""
+    """Plans a round robin of these players in a directory, without its files."""
     folder = Folder(pathlib.Path(room))
     folder.make(folder.records, folder.logs, folder.open, folder.rules)
     folder.rules_of("heap").write_bytes(rules)
@@ -49,7 +49,7 @@ def plan_in(room: str, names: list[str], rounds: int = 1, head: str = "", rules:
 
 
 def line(match: object, role: int, number: int, message: str, answer: str | Missed, milliseconds: int = 5, time: int | None = None) -> str:
-    """Returns the line of a message, which says its kind."""
+    """Returns the line of a message. The message determines its kind."""
     error, _, reason = answer.removesuffix(")").partition(" (") if isinstance(answer, Missed) else (None, "", None)
     kind = message.partition(" ")[0].strip("()")
     turns = number - 2 if kind == "PLAY" else None
@@ -59,12 +59,12 @@ def line(match: object, role: int, number: int, message: str, answer: str | Miss
 
 
 def opened(match: object, time: int | None = None) -> str:
-    """Returns the line with which a match begins."""
+    """Returns the line for the beginning of a match."""
     return line_of(Open(match.id, time)).decode("ascii")
 
 
 def begin(plan: Plan, match: object, log: str = "") -> pathlib.Path:
-    """Has a match begin, and returns the file of its log."""
+    """Begins a match, and returns the file of its log."""
     room = plan.folder.open / match.id
     room.mkdir(parents=True, exist_ok=True)
     for name in ("asking", "players", "playing"):
@@ -74,7 +74,7 @@ def begin(plan: Plan, match: object, log: str = "") -> pathlib.Path:
 
 
 def started(match: object, time: int | None = None) -> str:
-    """Returns the log of a match of which both players have answered START."""
+    """Returns the log of a match after both players answered START."""
     texts = [f"(START {match.id} {name} ... {match.start} {match.play})" for name in ("red", "blue")]
     return opened(match, time) + "".join(line(match, role, 1, text, "ready", 20, time) for role, text in enumerate(texts))
 
@@ -89,7 +89,7 @@ def record_of(match: object, moves: list, errors: list, goals: list[int]) -> dic
 
 
 def end(plan: Plan, match: object, record: dict, log: str = "") -> None:
-    """Has a match be over, with this record and this log."""
+    """Ends a match with this record and this log."""
     ended = line_of(End(match.id, ENDED, "STOP")).decode("ascii")
     plan.folder.log(match.id).write_text((log or opened(match, BEGAN)) + ended)
     plan.folder.record(match.id).write_text(json.dumps(record) + "\n")

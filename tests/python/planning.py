@@ -1,10 +1,10 @@
-"""What the tests plan: all matches of a competition at once, by the way on which `ggp_competition plan` finds them."""
+"""Plans all matches of a competition at once, as `ggp_competition plan` does."""
 
 from ggp_tools.competition.growth import History, grown
 
 
 def nothing_known(_):
-    """The result of a match where no match has been played."""
+    """The result of a match if no match has been played."""
 
 
 def planned(competition, roles):

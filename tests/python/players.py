@@ -1,4 +1,4 @@
-"""Players for the tests, good ones and such as are no good, in threads of the test: they stay as they are when a run is killed."""
+"""Good and bad players for tests. They run in threads of the test, so they stay when a run is killed."""
 
 import random
 import socket
@@ -18,7 +18,7 @@ HELD = []
 
 
 def held_port(at):
-    """Returns a port of an address at which nobody but a player listens as long as the tests run."""
+    """Returns a port of an address on which only a player listens as long as the tests run."""
     HELD.append(socket.socket())
     HELD[-1].setsockopt(socket.SOL_SOCKET, socket.SO_REUSEADDR, 1)
     HELD[-1].bind((at, 0))
@@ -26,8 +26,8 @@ def held_port(at):
 
 
 class TestPlayer(threading.Thread):
-    """A player that is strict: while it sits in as many matches as it takes it says so to INFO, and takes no START. What it took is
-    kept, and so is what it was told of the rules of each match. It plays ground rules, and such with variables."""
+    """A strict player: if it plays as many matches as it can, it answers INFO accordingly, and refuses START. It keeps the matches that it took, and
+    the rules of each. It can play ground rules and rules with variables."""
 
     __test__ = False
 
@@ -54,16 +54,16 @@ class TestPlayer(threading.Thread):
         return f"{self.at}:{self.port}"
 
     def go_away(self):
-        """The player is away, and keeps what it knows."""
+        """Stops listening, and keeps the player's state."""
         self.socket.shutdown(socket.SHUT_RDWR)
         self.socket.close()
 
     def come_back(self):
-        """The player is there again."""
+        """Listens again."""
         self.socket = socket.create_server((self.at, self.port), backlog=64)
 
     def leave(self):
-        """The player is there no more."""
+        """Stops listening for good."""
         self.is_gone = True
         self.socket.shutdown(socket.SHUT_RDWR)
         self.join()
@@ -104,7 +104,7 @@ class TestPlayer(threading.Thread):
             connection.sendall(reply)
 
     def die(self, connection):
-        """It is gone for a while, and knows nothing any more when it is there again."""
+        """Stops listening for a while, and loses the player's state."""
         connection.close()
         self.socket.close()
         time.sleep(AWAY)
@@ -112,7 +112,7 @@ class TestPlayer(threading.Thread):
         self.come_back()
 
     def last_heard(self):
-        """Returns the kind of the last message of each match of which it has heard."""
+        """Returns the kind of the last message of each match."""
         return {match: kind for kind, match in self.heard}
 
     def answer(self, message):

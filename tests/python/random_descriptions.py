@@ -26,7 +26,7 @@ Kinds = tuple[int, ...]
 
 
 class Body:
-    """The literals of a rule so far, and the variables of each kind that these bind."""
+    """The literals of a rule so far, and the variables of each kind that they bind."""
 
     def __init__(self, dice: random.Random) -> None:
         self.dice, self.literals, self.bound = dice, [], {kind: [] for kind in (PLAIN, AROUND, ROLE, MOVE)}
@@ -61,7 +61,7 @@ class Body:
 
 
 class Source:
-    """What a body may ask for: a relation, a term of the state, or a move of a role."""
+    """A possible condition of a body: a relation, a term of the state, or a move of a role."""
 
     def __init__(self, name: str, kinds: Kinds, around: str = "") -> None:
         self.name, self.kinds, self.around = name, kinds, around
@@ -101,7 +101,7 @@ class Describing:
         return "".join(f"{spelled(sentence)}\n" for sentence in self.sentences)
 
     def add_facts(self) -> list[Source]:
-        """Adds facts and what depends on them alone."""
+        """Adds facts, and relations that depend only on them."""
         for name, kinds in FACTS.items():
             for _ in range(self.dice.randint(2, 6)):
                 fact = (name, *(Body(self.dice).constant(kind, self.roles) for kind in kinds))
@@ -110,7 +110,7 @@ class Describing:
         return [*found, *self.add_relations("f", found, 2)]
 
     def add_relations(self, word: str, known: list[Source], count: int = 4) -> list[Source]:
-        """Adds relations that ask for known ones, for those before them, and some for themselves or the next one."""
+        """Adds relations that use known ones, earlier ones, and sometimes themselves or the next one."""
         found: list[Source] = []
         made = [Source(f"{word}{at}", tuple(self.dice.choice((PLAIN, PLAIN, AROUND, ROLE)) for _ in range(self.dice.choice((0, 1, 1, 2, 2))))) for at in range(count)]
         at = 0
@@ -125,7 +125,7 @@ class Describing:
         return found
 
     def add_rule(self, head: Source, known: list[Source], circle: list[Source] = ()) -> None:
-        """Adds a rule: conditions that bind, then denials and `or`s of what is bound."""
+        """Adds a rule: first conditions that bind variables, then negations and `or`s of bound variables."""
         body = Body(self.dice)
         for _ in range(1 if circle else self.dice.randint(1, 3)):
             body.literals.append(body.asked(self.dice.choice(known), self.roles))
@@ -140,7 +140,7 @@ class Describing:
         self.sentences.append(("<=", head.sentence(arguments), *body.literals))
 
     def condition(self, body: Body, known: list[Source], depth: int = 0) -> Expression:
-        """Returns a condition over what a body binds."""
+        """Returns a condition on bound variables."""
         kind = self.dice.random()
         if kind < 0.25 and depth < 2:
             inner = [self.condition(body, known, depth + 1) for _ in range(self.dice.randint(1, 3))]
@@ -201,14 +201,14 @@ def described(seed: int) -> str:
 
 
 class Tried:
-    """One description, tried: its forms, the turns that were played, and what is wrong."""
+    """One description under test: its forms, the number of turns played, and the errors."""
 
     def __init__(self, seed: int) -> None:
         self.text, self.turns = described(seed), 0
         self.fault = self.look(seed)
 
     def look(self, seed: int) -> str | None:
-        """Returns what is wrong with what comes of the description, or none."""
+        """Tests a description. Returns the error, or None."""
         try:
             first, *others = [instantiated(self.text, *form) for form in FORMS]
         except Refused as why:

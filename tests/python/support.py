@@ -1,4 +1,4 @@
-"""What the tests share: the program, a competition's folder, and runs of `ggp_competition`."""
+"""Shared by the tests: the program, a competition's directory, and runs of `ggp_competition`."""
 
 import functools
 import importlib
@@ -38,31 +38,31 @@ ODD = """
 
 
 def outside(name):
-    """Returns a module that stands outside of the package."""
+    """Loads a module from outside the package."""
     sys.path += [folder for folder in OUTSIDE if folder not in sys.path]
     return importlib.import_module(name)
 
 
 @functools.cache
 def program():
-    """Returns the path of the referee: GGP_MANAGER, or what tools/program prints."""
+    """Returns the path of the referee: GGP_MANAGER, or the output of tools/program."""
     return os.environ.get("GGP_MANAGER") or subprocess.run([TOP / "tools/program"], stdout=subprocess.PIPE, text=True, check=True).stdout.strip()
 
 
 def slowness():
-    """Returns by how much longer things take than where the processors are free: others may work on this computer too."""
+    """Returns how many times slower this computer is than an idle one, because other processes may be using it."""
     return min(5, max(1, round(os.getloadavg()[0] / os.cpu_count())))
 
 
 def stand_in(**answers):
-    """Returns a referee for tests that answers so, of large games and others."""
+    """Returns a fake referee with these answers, for large games and others."""
     referee = types.SimpleNamespace(is_large=False, **answers)
     referee.taking = lambda _: referee
     return referee
 
 
 def toml(players, games, form='kind = "round_robin"', head=""):
-    """Returns the text of a competition.toml: players as (name, address) and what else, games as (name, file) and what else."""
+    """Returns the text of a competition.toml. Players are (name, address) and more, games are (name, file) and more."""
     lines = ['name = "cup"', *head.splitlines(), "[form]", *form.splitlines()]
     for name, file, *more in games:
         lines += ["[[games]]", f'name = "{name}"', f'file = "{file}"', *more]
@@ -80,28 +80,28 @@ def start(folder, *words, **more):
 
 
 def run(folder, *words, **more):
-    """Returns the status of a run, what it printed and what it said."""
+    """Runs `ggp_competition`. Returns the exit status, the output and the errors."""
     started = start(folder, *words, **more)
     out, said = started.communicate(timeout=900)
     return started.returncode, out, said
 
 
 def run_into_full(folder, *words):
-    """Returns the status of a run whose standard output is a full disk, and what it said."""
+    """Runs it with a full disk as standard output. Returns the exit status and the errors."""
     with open("/dev/full", "w") as full:
         status, _, said = run(folder, *words, stdout=full)
     return status, said
 
 
 def program_but(path, asked, done):
-    """Writes a program at the path that is the referee, but where it is asked for this it does that; both are words of a shell."""
+    """Writes a program that behaves like the referee, except that it does this if it is called like that. Both are given in shell."""
     path.write_text(f'#!/bin/bash\nif [[ {asked} ]]; then {done}; fi\nexec {program()} "$@"\n')
     path.chmod(0o755)
     return path
 
 
 def command_of(process):
-    """Returns the command of a process, of no bytes where it has ended; it may end while it is looked at."""
+    """Returns the command of a process, or no bytes if it has ended, even meanwhile."""
     try:
         return pathlib.Path(f"/proc/{process}/cmdline").read_bytes()
     except OSError:
@@ -109,12 +109,12 @@ def command_of(process):
 
 
 def call(*words, data=b""):
-    """Returns what the referee prints."""
+    """Returns the output of the referee."""
     return subprocess.run([program(), *map(str, words)], input=data, capture_output=True).stdout
 
 
 class InFolder(unittest.TestCase):
-    """A test in a folder of its own."""
+    """A test with its own directory."""
 
     def setUp(self):
         self.folder = pathlib.Path(self.enterContext(tempfile.TemporaryDirectory()))
@@ -130,7 +130,7 @@ class InFolder(unittest.TestCase):
         return {file.stem: json.loads(file.read_bytes()) for file in sorted((self.folder / "records").glob("*.json"))}
 
     def assert_sound(self, schedule):
-        """Looks, by the referee alone, that each match of the schedule has a lawful record, and an account that gives it again."""
+        """Checks, using only the referee, that each match of the schedule has a lawful record, and an account that reproduces it."""
         self.assertEqual(sorted(file.stem for file in (self.folder / "records").glob("*.json")), sorted(planned[0] for planned in schedule))
         for match, game, start_clock, play_clock, players in schedule:
             record = (self.folder / f"records/{match}.json").read_bytes()

@@ -1,4 +1,4 @@
-"""ABORT, which the referee's command sends to players of any kind: each answers, or did not."""
+"""The referee's command for ABORT, with players that answer and players that do not."""
 
 import asyncio
 import pathlib
@@ -21,7 +21,7 @@ def sent(*words):
 
 class Aborts(unittest.TestCase):
     def player(self, reply):
-        """Starts a player that answers each message so, and returns its place."""
+        """Starts a player that gives this answer to each message, and returns its address."""
         listening = socket.create_server(("127.0.0.1", 0))
         self.addCleanup(listening.close)
 
@@ -74,7 +74,7 @@ class Aborts(unittest.TestCase):
 
 
 class Words:
-    """A referee whose command for an address is this address, as a script."""
+    """A referee whose command for an address is that address, run as a script."""
 
     def __init__(self):
         self.begun = []
@@ -85,7 +85,7 @@ class Words:
 
 
 class Processes(unittest.TestCase):
-    """What becomes of the processes, whatever they do."""
+    """The processes end, whatever they do."""
 
     def setUp(self):
         self.room = pathlib.Path(self.enterContext(tempfile.TemporaryDirectory()))

@@ -1,4 +1,4 @@
-"""An account has the calls that the referee of one match makes, and no others."""
+"""An account has exactly the calls that the referee of one match makes."""
 
 import unittest
 

@@ -1,4 +1,4 @@
-"""The addresses of players: which the system refuses, and which are one."""
+"""The addresses of players: which ones the system refuses, and which ones are the same."""
 
 import json
 import socket
@@ -22,7 +22,7 @@ NO_HOSTS = [
 
 
 def mistakes(*given):
-    """Returns the lines and the words of the mistakes of players with these addresses."""
+    """Returns the lines and messages of the errors of players with these addresses."""
     players = [(f"p{at}", address) for at, address in enumerate(given)]
     competition = read_competition(toml(players, [("nim", "f")]).encode())
     return [(mistake.line, mistake.words) for mistake in mistakes_of_addresses(competition, places_now(competition))]

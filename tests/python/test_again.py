@@ -23,7 +23,7 @@ RECORD = (
 
 
 class Lawful:
-    """A referee to whom each record is lawful, and each account gives its record again."""
+    """A referee that accepts each record, and reproduces it from its account."""
 
     path = "none"
 

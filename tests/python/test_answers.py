@@ -1,4 +1,4 @@
-"""What is said of answers that are no legal moves."""
+"""The explanations of answers that are not legal moves."""
 
 import unittest
 
@@ -24,7 +24,7 @@ class Answers(unittest.TestCase):
             ("(take 1) noop", "a second expression begins at column 10"),
             ("(take 1", "a list that is not closed at column 1"),
             ("take 1)", "a `)` with no open list at column 7"),
-            ("(" * 65 + ")" * 65, "more than 64 lists in one another at column 65"),
+            ("(" * 65 + ")" * 65, "lists are nested more than 64 deep at column 65"),
             ("st?y", "the log shows `?` for the byte at column 3"),
             ("x" * 200 + "..", "the log has only the beginning of such a long answer"),
             ("stay", ""),

@@ -1,4 +1,4 @@
-"""One archive: checked in another folder, and refused after each of many spoilings, most of them with sums that fit."""
+"""An archive is checked in another directory, and refused after each of many corruptions, most of them with matching checksums."""
 
 import errno
 import gzip
@@ -26,7 +26,7 @@ HEAD = "start = 5\nplay = 5\nstrikes = 1\nforfeit = true\n"
 
 
 def packed(files, fits=True):
-    """Returns an archive of these files, whose sums are made to fit unless they are to stay."""
+    """Returns an archive of these files, with matching checksums if `fits` is set."""
     files, sums = dict(files), f"{next(iter(files)).partition('/')[0]}/SHA256SUMS"
     lines = sorted((name.partition("/")[2], hashlib.sha256(data).hexdigest()) for name, data in files.items() if name != sums)
     if fits and sums in files:
@@ -37,7 +37,7 @@ def packed(files, fits=True):
 
 
 def changed(name, change):
-    """Returns a spoiling that changes one file, with sums that fit."""
+    """Returns a corruption that changes one file, with matching checksums."""
 
     def spoil(files):
         before = files[name]
@@ -61,7 +61,7 @@ def without(*names):
 
 
 def nonsense(files):
-    """Puts another description in the place of one, with a sum that fits also in the rules."""
+    """Replaces a description, with matching checksums, also in the rules."""
     text, sums = b"(role nonsense)\n", "cup/rules/DESCRIPTIONS.sha256"
     old = hashlib.sha256(files["cup/games/odd.kif"]).hexdigest()
     files["cup/games/odd.kif"] = text
@@ -70,7 +70,7 @@ def nonsense(files):
 
 
 def moved_calls(files):
-    """Moves the last calls of a match to the head of the account of the match before it, where both are replayed together."""
+    """Moves the last calls of a match to the top of the account of the match before it. Both are replayed together."""
     first, second = "cup/accounts/cup-001.txt", "cup/accounts/cup-002.txt"
     head, *rest = files[second].splitlines(keepends=True)
     files[first], files[second] = files[first] + head, b"".join(rest)
@@ -89,7 +89,7 @@ def renamed(data):
 
 
 def files_of(path):
-    """Returns what is in an archive."""
+    """Returns the files of an archive."""
     with tarfile.open(path) as archive:
         return {member.name: archive.extractfile(member).read() for member in archive}
 
@@ -166,7 +166,7 @@ class Archive(unittest.TestCase):
         return files_of(self.archive)
 
     def plain_spoilings(self, files):
-        """Returns the spoilings that are not of one file with sums that fit."""
+        """Returns the corruptions other than those of one file with matching checksums."""
         data = self.archive.read_bytes()
         record = files["cup/records/cup-001.json"]
         raw = gzip.decompress(data)
@@ -249,7 +249,7 @@ class Archive(unittest.TestCase):
         self.assertEqual((self.folder / "again.tar.gz").read_bytes(), data)
 
     def copied(self):
-        """Returns a copy of the folder of the competition."""
+        """Returns a copy of the directory of the competition."""
         cup = self.other / "cup"
         shutil.copytree(self.folder, cup)
         return cup

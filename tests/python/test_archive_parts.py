@@ -1,4 +1,4 @@
-"""What an archive is made of, and how each part of it is checked. The referee is a stand-in here, and the matches are made up."""
+"""The parts of an archive, and how each is checked. The referee is fake, and the matches are made up."""
 
 import dataclasses
 import errno
@@ -31,7 +31,7 @@ HEAD = "start = 5\nplay = 5\n"
 
 
 class Right:
-    """A referee that takes everything for right, unless an answer is laid down."""
+    """A referee that accepts everything, unless another answer is set."""
 
     def __init__(self, path):
         self.path, self.is_large, self.wrong, self.unchecked = path, False, {}, None
@@ -55,7 +55,7 @@ class Right:
 
 
 class Made(unittest.TestCase):
-    """A competition of three matches that are all over, in a folder."""
+    """A competition of three finished matches, in a directory."""
 
     LINES = '"heap ann bob", "heap bob ann", "heap ann bob"'
 
@@ -75,7 +75,7 @@ class Made(unittest.TestCase):
         self.path = self.room / "cup.tar.gz"
 
     def end(self, match, goals):
-        """Writes the files of a match: its account has the calls that its log tells of."""
+        """Writes the files of a match. Its account has the calls that its log implies."""
         folder = self.plan.folder
         folder.record(match.id).write_text(json.dumps(record_of(match, [["(take 2)", "noop"], ["noop", "(take 1)"]], [["", ""], ["", ""]], goals)) + "\n")
         calls = "".join(f"{at + 1}\tnext {match.id} {at}\towe 0 start\n{at + 1}\tsubmit {match.id} {at} 0 ready\ttaken\n" for at in (0, 1))
@@ -298,7 +298,7 @@ class Rounds(Made):
 
 
 class Held(Made):
-    """Matches of games that have variables are held against the descriptions."""
+    """Matches of games with variables are checked with the descriptions."""
 
     def held(self, *words):
         games = [types.SimpleNamespace(name=name) for name in ("heap", "other", "third")]

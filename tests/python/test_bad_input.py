@@ -1,4 +1,4 @@
-"""Bad input, through the program: it is reported with its place, and nothing is written."""
+"""Bad input for the commands: it is reported with its place, and nothing is written."""
 
 import contextlib
 import os
@@ -128,7 +128,7 @@ class BadInput(InFolder):
             self.assertIn(words, note)
 
     def played(self):
-        """Plans a competition, and leaves what stands for the record of a match. Returns the files of the plan, with what they hold."""
+        """Plans a competition, and writes a fake record of a match. Returns the files of the plan with their contents."""
         (self.folder / "game.kif").write_bytes((GAMES / "countdown.kif").read_bytes())
         self.plan(PLAYERS, [("game", "game.kif")], head="start = 2\n")
         (self.folder / "records").mkdir()
@@ -188,8 +188,8 @@ class BadInput(InFolder):
         self.write(PLAYERS, [("game", "game.kif")])
         place = "competition.toml:4: games.file: game.kif:"
         self.assert_refused([
-            f"{place} dear: sentence 68, line 3: {rule}: 4,225 ground sentences\n{place} dear: sentence 0, line 1: ",
-            f"\n{place} ggp-instantiate: nothing is written, since this is past the limit: moves of a (4,225 of 4,096)\n",
+            f"{place} largest: sentence 68, line 3: {rule}: 4,225 ground sentences\n{place} largest: sentence 0, line 1: ",
+            f"\n{place} ggp-instantiate: nothing is written, because this exceeds the limit: moves of a (4,225 of 4,096)\n",
         ])
 
     @unittest.skipUnless(shutil.which("gringo"), "gringo is not installed")
@@ -201,8 +201,8 @@ class BadInput(InFolder):
         status, out, said = run(self.folder, "plan")
         self.assertEqual((status, said, [line.split(":")[0] for line in out.splitlines()]), (0, "", ["coins", "coins", "one", "schedule.tsv"]))
         self.assertEqual(out.splitlines()[1], (
-            "coins: goals past 100 are left out (1, the first by sentence 2, line 1: (<= (goal a ?x) (true (s ?x)))): where one would hold at the end, its role keeps the other goal that holds there, "
-            "and if none does the match has no goals"
+            "coins: goals past 100 are left out (1, the first by sentence 2, line 1: (<= (goal a ?x) (true (s ?x)))): if one would hold at the end, the role gets the other goal that holds there, "
+            "and if there is none the match has no goals"
         ))
 
     def test_an_instantiation_that_is_ended(self):

@@ -1,4 +1,4 @@
-"""Processes that play and check matches, and jobs: how they are ended, and what is taken of what they say."""
+"""Processes that play and check matches, and jobs: how they are ended, and how their output is read."""
 
 import asyncio
 import gc
@@ -15,7 +15,7 @@ CLEAR = "bad \x1b]0;title\x07 words \x9b31m"
 
 
 class Kept(Job):
-    """A job that keeps what it prints and says."""
+    """A job that records its output and its reports."""
 
     def __init__(self):
         super().__init__(self.keep, lambda line: self.lines.append(line))

@@ -1,4 +1,4 @@
-"""Piles of records: sorted by game, checked, and made tables and pages of."""
+"""Files of records are sorted by game, checked, and written as tables and pages."""
 
 import contextlib
 import csv
@@ -27,7 +27,7 @@ LAWFUL = ("countdown-3-first_version", "countdown-3-second_version")
 FAULTY = "countdown-3-another_state"
 
 
-NO_PLACE = "a value is nested more than 127 deep, a number is not one or past the range of binary64, or a surrogate pair is not whole"
+NO_PLACE = "a value is nested more than 127 deep, a number is invalid or outside the range of binary64, or a surrogate pair is incomplete"
 
 
 def record(name: str) -> str:
@@ -58,7 +58,7 @@ class Sorting(unittest.TestCase):
 
 
 class Says:
-    """A referee to whom a record is lawful by the rules that its key `by` names. It refuses descriptions by their names."""
+    """A referee that accepts a record only with the rules in its key `by`. It refuses descriptions by name."""
 
     def __init__(self, *refused):
         self.refused, self.asked = refused, []
@@ -79,7 +79,7 @@ class Piles(InFolder):
         return str(self.folder / name)
 
     def games(self, *firsts, refused=()):
-        """Returns the known games of a folder: each has the role a, and these terms in its first state."""
+        """Returns the known games of a directory. Each has the role a, and these terms in its first state."""
         (self.folder / "rules").mkdir(exist_ok=True)
         for at, first in enumerate(firsts):
             self.write(f"rules/g{at}.kif", b"(role a)" + "".join(f"(init {term})" for term in first).encode())
@@ -223,7 +223,7 @@ class Commands(unittest.TestCase):
         self.assertEqual(rows[0], "no record: it is not JSON: line 1, column 2: a key is missing")
         self.assertEqual(rows[-1], "no record: it is not JSON: it is empty")
         said = self.run_records("check", self.pile, "--explain").stdout.splitlines()
-        self.assertEqual(said[1], "\tThe text ends within the record: its end was cut off, or it is on several lines where each line must be a record.")
+        self.assertEqual(said[1], "\tThe text ends within the record: its end was cut off, or it is on several lines although each line must be a record.")
 
     def test_a_database_has_matches_players_and_moves(self):
         output, text = self.folder / "o.db", self.pile.read_text()

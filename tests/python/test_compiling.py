@@ -18,7 +18,7 @@ NAMES = ["?x", "?y", "?z"]
 
 
 class Dice:
-    """Makes a description. Relations stand in layers: each asks for those below it, and now and then for itself."""
+    """Makes a random description. Relations are in layers: each uses lower ones, and sometimes itself."""
 
     def __init__(self, seed):
         self.dice, self.layers = random.Random(seed), []
@@ -37,7 +37,7 @@ class Dice:
         return f"({name} {' '.join(self.argument() for _ in range(count))})" if count else name
 
     def asked(self, is_moving):
-        """Returns an atom that a body may ask for."""
+        """Returns an atom for a condition."""
         match self.dice.randrange(7):
             case 0 | 1:
                 return self.atom("e", 2)
@@ -63,7 +63,7 @@ class Dice:
         return self.asked(is_moving)
 
     def rule(self, head, is_moving=False, more=()):
-        """Returns a rule. A sure condition binds each variable."""
+        """Returns a rule. A positive condition binds each variable."""
         body = [*more, *(self.literal(is_moving) for _ in range(self.dice.randrange(1, 4)))]
         bound = [f"(d {name})" for name in variables(expressions(f"{head} {' '.join(body)}"))]
         self.dice.shuffle(body := [*body, *bound])
@@ -78,7 +78,7 @@ class Dice:
         return " ".join(found)
 
     def own(self):
-        """Gives the rules of the game's own relations."""
+        """Yields the rules of the game's own relations."""
         for role in ROLES:
             for move in ("noop", self.atom("m", 2), "?x"):
                 yield self.rule(f"(legal {role} {move})")
@@ -90,7 +90,7 @@ class Dice:
 
 
 class Tried:
-    """What is true by a description, found by trying all values of the variables of each rule, layer by layer."""
+    """The true sentences of a description, found by trying all values of the variables of each rule, layer by layer."""
 
     def __init__(self, text):
         self.sentences = expressions(text)
@@ -110,7 +110,7 @@ class Tried:
         return literal in true
 
     def derived(self, rule, true):
-        """Returns what a rule gives."""
+        """Returns what a rule derives."""
         _, head, body = rule
         names = variables((head, *body))
         found = set()
@@ -121,7 +121,7 @@ class Tried:
         return found
 
     def true(self, state, joint):
-        """Returns what is true in a state with these moves, and for each sentence what it gives."""
+        """Returns the true sentences in a state with these moves, and what each sentence of the description derives."""
         true = self.facts | {("true", term) for term in state} | {("does", role, move) for role, move in joint.items()}
         by_layer = itertools.groupby(self.rules, key=lambda rule: rule[1] if isinstance(rule[1], str) else rule[1][0])
         for _, rules in by_layer:
@@ -153,7 +153,7 @@ class ByDice(unittest.TestCase):
         return made
 
     def look_at_sources(self, game, tried, state, joint, true, dice):
-        """Compares which sentences give something."""
+        """Checks which sentences derive something."""
         for atom in dice.sample(sorted((given for given in true if given[0] in ("next", "legal")), key=repr), min(3, len([given for given in true if given[0] in ("next", "legal")]))):
             giving = [rule[0] for rule in tried.rules if atom in tried.derived(rule, true)]
             self.assertEqual(game.sources((atom[0], len(atom) - 1), atom[1:], state, tuple(joint.values())), giving)

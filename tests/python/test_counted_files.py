@@ -1,4 +1,4 @@
-"""Which files of a match count, at the limits of what is read of them, and by what the referee says of them."""
+"""Which files of a match count, at the limits of their lengths, and depending on the referee's verdicts."""
 
 import pathlib
 import tempfile
@@ -25,7 +25,7 @@ MATCH = Match("cup-1", "nim", 10, 5, ("ann", "bob"))
 
 
 class Says:
-    """A referee to whom each record is lawful or not, and each account gives its record again or not, as it is told."""
+    """A referee that accepts or refuses each record, and reproduces each account or not, as the test sets it."""
 
     path = "none"
 
@@ -53,7 +53,7 @@ class Counted(unittest.TestCase):
         self.folder.account("cup-1").write_bytes(account)
 
     def found(self, *said):
-        """Returns the goals of the match if it counts, why its files are wrong, and why they are of another match."""
+        """Returns the goals of the match if it counts, why its files are wrong, and why they belong to another match."""
         results, faults, misfits = look_at_records(self.plan, Says(*said))
         return [result.goals for result in results.values()], list(faults.values()), list(misfits.values())
 

@@ -36,14 +36,14 @@ SIGNS = {"x": "\u2715", "o": "\u25ef", "b": "\u00b7"}
 
 
 class Hold:
-    """A turn of a match before which a player waits until it is let go."""
+    """A turn of a match in which a player waits until it is released."""
 
     def __init__(self) -> None:
         self.reached, self.let_go = threading.Event(), threading.Event()
 
 
 class Shown(TestPlayer):
-    """A player of the competition. `holds` are known by the player, the match and the turn."""
+    """A player of the competition. `holds` are keyed by player, match and turn."""
 
     def __init__(self, name: str, holds: dict[tuple[str, str, int], Hold]) -> None:
         self.holds, self.turns = holds, {}
@@ -87,7 +87,7 @@ class Demonstration(InFolder):
         return found
 
     def play_until(self, hold: Hold) -> subprocess.Popen:
-        """Starts the matches, and returns their run once a player is held."""
+        """Starts the matches, and returns their run once a player waits."""
         playing = start(self.folder, "play", "--at-once", "4")
         self.addCleanup(playing.communicate)
         self.addCleanup(playing.kill)
@@ -104,7 +104,7 @@ class Demonstration(InFolder):
     # ---- what is seen
 
     def serve(self, browser: Browser) -> Page:
-        """Serves the live pages, and returns the first one as the browser shows it."""
+        """Serves the live pages, and returns the first one in the browser."""
         self.serving = start(self.folder, "serve", "--port", "0")
         self.addCleanup(self.serving.communicate)
         self.addCleanup(self.serving.kill)
@@ -114,7 +114,7 @@ class Demonstration(InFolder):
         return page
 
     def assert_harmless(self, page: Page) -> None:
-        """Looks that what players say did nothing to a page: no script of theirs ran or was stopped, and no element is theirs."""
+        """Checks that texts of players did nothing to a page: none of their scripts ran or was blocked, and no element is theirs."""
         title = page.value("document.title")
         self.assertIn("cup", title)
         self.assertLessEqual(page.value("document.scripts.length"), 1)
@@ -123,14 +123,14 @@ class Demonstration(InFolder):
         self.assertEqual([address for address in self.browser.asked if not address.startswith((self.address, "file://"))], [])
 
     def see_without_scripts(self, browser: Browser) -> Page:
-        """Returns the first page as a browser shows it that runs no script."""
+        """Returns the first page in a browser that runs no scripts."""
         page = browser.page("about:blank")
         page.tell("Emulation.setScriptExecutionDisabled", value=True)
         page.go(self.address)
         return page
 
     def look_at_an_open_match(self, page: Page) -> None:
-        """Looks at what stands on the first page while one player of a match thinks."""
+        """Checks the first page while one player of a match is thinking."""
         self.await_turn(page, 3)
         self.assertIn("ann (xplayer), bob (oplayer)", page.value(f"{BOARD}.innerText"))
         self.assertRegex(page.value(f"document.getElementById('open-{FIRST}').innerText"), rf"ann, bob\s+3\s+xplayer to move: ann\s+{WHILE}")
@@ -143,12 +143,12 @@ class Demonstration(InFolder):
         page.screen(*WIDE)
 
     def await_turn(self, page: Page, turn: int) -> None:
-        """Waits until the first page says who is to move in a turn, without being loaded again."""
+        """Waits until the first page says who is to move in a turn, without reloading."""
         page.until(f"({BOARD} || document.head).textContent.includes('after turn {turn - 1}; xplayer to move: ann (')")
         self.assertTrue(page.value("window.isFirst"))
 
     def go_by_keyboard(self, page: Page, hold: Hold) -> None:
-        """Goes from link to link to the match. What is reached stays so when the board changes, and the keyboard opens the match's page."""
+        """Moves the focus from link to link to the match. The focus stays when the board changes, and the keyboard opens the match's page."""
         found = []
         while not found or found[-1][1] != f"matches/{FIRST}.html":
             page.press("Tab")
@@ -169,7 +169,7 @@ class Demonstration(InFolder):
         self.assertEqual(json.loads(page.value("getComputedStyle(document.activeElement, '::after').content")), page.reached()[1])
 
     def look_at_pages(self, page: Page, address: str) -> None:
-        """Looks at each kind of page, where players' texts stand."""
+        """Checks each kind of page that shows texts of players."""
         for path in ("index", "matches", "games/connectfour", "players/player-eve", "players/player-ann", f"matches/{OF_EVE}"):
             page.go(f"{address}{path}.html")
             self.assert_harmless(page)
@@ -224,7 +224,7 @@ class Demonstration(InFolder):
         self.assertEqual(again, [f"cup-019 tictactoe ann bob takes the place of {FIRST}"])
 
     def grow(self, page: Page) -> None:
-        """Adds a player and a round, and plays to the end, as the page tells."""
+        """Adds a player and a round, and plays to the end, as the page says."""
         page.value("window.isFirst = true")
         self.write((*NAMES, LATE), 2)
         self.assertIn("8 players", self.ran("plan")[-1])
@@ -236,7 +236,7 @@ class Demonstration(InFolder):
         self.assertRegex(page.value("document.getElementById('standings').innerText"), rf"\d\s+{LATE}\s+6\s")
 
     def publish(self, page: Page) -> None:
-        """Publishes and checks, and looks at the pages of the archive, which say what the live ones do."""
+        """Publishes and checks, and compares the pages of the archive with the live ones."""
         self.ran("publish", "--to", "published.tar.gz")
         self.assertIn("43 records and accounts, the table and the pages are right", self.ran("check", "published.tar.gz")[0])
         standings = page.value("document.getElementById('standings').innerText")

@@ -1,4 +1,4 @@
-"""The scripts of examples that a competition needs, with words and outputs that are wrong: each says so in a line, without a traceback."""
+"""The example scripts, with wrong arguments and outputs. Each reports an error in one line, without a traceback."""
 
 import json
 import os
@@ -22,7 +22,7 @@ FULL = "standard output: No space left on device"
 
 
 def run(*words, **more):
-    """Returns the status of a script, what it printed and what it said."""
+    """Runs a script. Returns the exit status, the output and the errors."""
     done = subprocess.run([sys.executable, *map(str, words)], stdin=subprocess.DEVNULL, stderr=subprocess.PIPE, text=True, **{"stdout": subprocess.PIPE, **more})
     return done.returncode, done.stdout, done.stderr
 
@@ -37,7 +37,7 @@ class Examples(unittest.TestCase):
     def test_help_of_instantiate(self):
         status, out, said = run(INSTANTIATE, "--help", env={**os.environ, "COLUMNS": "200"})
         self.assertEqual((status, said), (0, ""))
-        self.assertIn("\nReads the description of a game with variables, and writes the ground description", out)
+        self.assertIn("\nReads the description of a game with variables, and writes a ground description", out)
         for option in ("FILE", "--seconds N", "--folded", "--unfolded", "--player-rules FILE"):
             self.assertRegex(out, rf"\n  {option} +[a-z]")
 
@@ -80,14 +80,14 @@ class Examples(unittest.TestCase):
     def test_a_record_with_its_account(self):
         record, page = RECORD.read_bytes(), run(SHOW_RECORD, RECORD)[1]
         account = b"0\topen m1 0 1 1 ann bob\topened\r\n1\tnext m1 0\tover\n"
-        refused = "A page is of one record: `ggp-records pages` makes a page of each"
+        refused = "Pass one record, or make a page of each with `ggp-records pages`"
         with tempfile.TemporaryDirectory() as room:
             file = pathlib.Path(room) / "played"
             pretty = json.dumps(json.loads(record), indent=1).encode()
             for text in (record + account, record + account.rstrip(b"\n"), record, record.rstrip(b"\n"), pretty):
                 file.write_bytes(text)
                 self.assertEqual(run(SHOW_RECORD, file), (0, page, ""), text)
-            for text, line in ((record + account + record + account, "4 is no line of its account"), (record + record, "2 has another one")):
+            for text, line in ((record + account + record + account, "4 is not a line of its account"), (record + record, "2 is another record")):
                 file.write_bytes(text)
                 self.assertEqual(run(SHOW_RECORD, file), (1, "", f"ggp-show-record: no record: line {line}. {refused}\n"))
 
@@ -124,7 +124,7 @@ class Examples(unittest.TestCase):
     def test_a_match_of_no_game(self):
         with tempfile.TemporaryDirectory() as room:
             file = pathlib.Path(room) / "game.kif"
-            faults = [(None, "can't be read: No such file or directory"), *((text, "is no ground description") for text in (b"", b"\xff", b"(role a))", b"()", b"(role)", b"(init x)"))]
+            faults = [(None, "can't be read: No such file or directory"), *((text, "is not a ground description") for text in (b"", b"\xff", b"(role a))", b"()", b"(role)", b"(init x)"))]
             for text, words in faults:
                 if text is not None:
                     file.write_bytes(text)
@@ -143,17 +143,17 @@ class Examples(unittest.TestCase):
                 environment = {**os.environ, "PATIENCE": "0"}
                 done = subprocess.run([PLAY_A_MATCH, referee, GROUND], stdin=subprocess.DEVNULL, capture_output=True, text=True, env=environment)
                 said = [line for line in done.stderr.splitlines() if line.startswith("play-a-match: ")]
-                wanted = [f"play-a-match: no answer to START from {named}: for who does not answer the first legal moves are played"] if named else []
+                wanted = [f"play-a-match: no answer to START from {named}: the first legal move is played for players that do not answer"] if named else []
                 self.assertEqual((done.returncode, done.stdout, said), (3, f"{record}\n", wanted), marks)
 
     def test_words_of_players(self):
         for player in PLAYERS:
             for word in ("x", "0", "65536", "-1", "9147.5", ""):
                 status, out, said = run(player, word)
-                self.assertEqual((status, out, said.splitlines()[-1]), (2, "", f"{player.name}: error: argument PORT: {word!r} is no port, 1 to 65535"))
+                self.assertEqual((status, out, said.splitlines()[-1]), (2, "", f"{player.name}: error: argument PORT: expected a port from 1 to 65535, found {word!r}"))
             for seed in ("x", "1.5", "9" * 19, ""):
                 status, out, said = run(player, "9147", seed)
-                told = f"{player.name}: error: argument SEED: {seed!r} is no seed, a whole number of at most 18 digits"
+                told = f"{player.name}: error: argument SEED: expected a whole number of at most 18 digits, found {seed!r}"
                 self.assertEqual((status, out, said.splitlines()[-1]), (2, "", told))
 
     def test_a_port_that_is_taken(self):

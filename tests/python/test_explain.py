@@ -1,4 +1,4 @@
-"""Why a record is not lawful, in words: by the interpreter alone, and with a stand-in for the program."""
+"""The explanations of unlawful records: with the interpreter only, and with a fake referee."""
 
 import argparse
 import contextlib
@@ -25,16 +25,16 @@ from test_referee import WithStandIn
 EXPLAIN = TOP / "python/ggp-explain-record"
 RECORD = TOP / "examples/records/countdown-3-second_version.record"
 REPORT = "One of the two is wrong: please report this, with the record and the rules."
-ERRORS = 'for each turn of moves a list with one text for each role: "", "TO", "CE", "RT", "IL ?", or "IL " and an expression in folded canonical text of at most 8,192 bytes'
+ERRORS = 'for each turn of moves a list with one text for each role: "", "TO", "CE", "RT", "IL ?", or "IL " and an expression in canonical text and lower case, of at most 8,192 bytes'
 # Changes of a lawful record of Countdown from 3, each with the words that explain its fault. A place is the keys and numbers that lead there.
 FAULTS = [
     ({("moves", 0, 0): "(take 3)"}, "illegal 0 0", "Turn 1, role red: the move is not legal.", "expected one of 2: (take 1), (take 2)", "found: (take 3)"),
     ({("moves", 0, 1): "(Take\n1)"}, "illegal 0 1", "Turn 1, role blue: the move is not legal.", "expected: noop", "found: (Take\\u{a}1)"),
-    ({("moves", 0, 0): "(take 2)", ("errors", 0, 0): "TO"}, "notfirst 0 0", "Turn 1, role red: beside the error TO the first legal move must stand.", "expected: (take 1)", "found: (take 2)"),
+    ({("moves", 0, 0): "(take 2)", ("errors", 0, 0): "TO"}, "notfirst 0 0", "Turn 1, role red: with the error TO the move must be the first legal one.", "expected: (take 1)", "found: (take 2)"),
     ({("errors", 0, 1): "IL noop"}, "notfirst 0 1", "Turn 1, role blue: the error says that noop is not legal, but it is.", "expected: no error", "found: the error IL noop"),
-    ({("states", 0): []}, "state 0", "The state before turn 1 is not what the rules make it.", "missing: (heap 3), (turn red)"),
-    ({("states", 1): ["(heap 1)", "(turn blue)", "x"]}, "state 1", "The state after turn 1 is not what the rules and the moves make it.", "missing: (heap 2)", "too many: (heap 1), x"),
-    ({("states", 1): ["(turn blue)", "(heap 2)"]}, "state 1", "The state after turn 1 is not what the rules and the moves make it.", "Its terms are right, but do not stand in byte order, each once."),
+    ({("states", 0): []}, "state 0", "The state before turn 1 is not the first state of the rules.", "missing: (heap 3), (turn red)"),
+    ({("states", 1): ["(heap 1)", "(turn blue)", "x"]}, "state 1", "The state after turn 1 is not the one that follows from the rules and the moves.", "missing: (heap 2)", "too many: (heap 1), x"),
+    ({("states", 1): ["(turn blue)", "(heap 2)"]}, "state 1", "The state after turn 1 is not the one that follows from the rules and the moves.", "Its terms are right, but not in byte order, or not each once."),
     ({("errors", 0, 1): "RT"}, "retired 0 1", "Turn 1, role blue: the role is not retired: it had errors in up to 0 turns in a row, and the strikes are 0.", "expected: another error, or none", "found: RT"),
     ({("errors", 0, 1): "CE", ("strikes",): 1}, "retired 1 1", "Turn 2, role blue: the role is retired: it had errors in up to 1 turn in a row, and the strikes are 1.", "expected: the error RT", "found: no error"),
     ({("goalValues",): [100, 0]}, "goals", "A record of the phase finished has the goals of the last state.", "expected: red 0, blue 100", "found: red 100, blue 0"),
@@ -43,10 +43,10 @@ FAULTS = [
     ({("cause",): "nolegal 1"}, "end", "At the end the state is terminal, and 2 of 2 roles have an end mark.", "expected: phase finished, cause null", "found: phase finished, cause nolegal 1 (the role blue)"),
     ({("endMarks", 1): None}, "end", "At the end the state is terminal, and 1 of 2 roles has an end mark.", "expected: phase stopping, cause null", "found: phase finished, cause null"),
     ({("startMarks", 1): None}, "end", "At the end a START mark is missing after 2 turns, and 2 of 2 roles have an end mark.", "expected: other marks or turns: no phase has these", "found: phase finished, cause null"),
-    ({("strikes",): 256}, "shape strikes", "expected in strikes: a whole number of 0 to 255, since the record is of version 2", "found: 256"),
+    ({("strikes",): 256}, "shape strikes", "expected in strikes: a whole number of 0 to 255, because the record has version 2", "found: 256"),
     ({("playClock",): "x" * 99}, "shape playClock", "expected in playClock: a whole number of seconds, 1 to 86,400", f'found: "{"x" * 79}..'),
     ({("endMarks",): "gone"}, "shape endMarks", 'expected in endMarks: for each role a mark: null, "", "TO" or "CE"', "the roles are: red, blue", "found: no such key"),
-    ({("moves", 1): ["noop"]}, "shape moves", "expected in moves: for each turn, of which there are at most 10,000, a list with one text for each role", "the roles are: red, blue", 'found as member 2 of 2: ["noop"]'),
+    ({("moves", 1): ["noop"]}, "shape moves", "expected in moves: for each turn, at most 10,000 of them, a list with one text for each role", "the roles are: red, blue", 'found as member 2 of 2: ["noop"]'),
     ({("errors", 1): ["", 0], ("moves",): "gone"}, "shape errors", f"expected in errors: {ERRORS}", "the roles are: red, blue", 'found as member 2 of 2: ["", 0]'),
     ({("errors", 0): [""], ("moves",): 0}, "shape errors", f"expected in errors: {ERRORS}", "the roles are: red, blue", 'found as member 1 of 2: [""]'),
     ({("errors", 0, 1): f"IL {'(' * 65}{')' * 65}"}, "shape errors", f"expected in errors: {ERRORS}", "the roles are: red, blue", f'found as member 1 of 2: ["", "IL {"(" * 65}{")" * 6}..'),
@@ -65,7 +65,7 @@ def changed(record, places):
 
 
 def said_of(word: str, places: dict, rules: Game | None = None) -> list[str]:
-    """Returns what explains the fault of a record that is changed in these places."""
+    """Returns the explanation of the fault of a record with these changes."""
     return list(explanation(word, rules or Game(countdown(3)), json.dumps(changed(json.loads(RECORD.read_text()), places)).encode()))
 
 
@@ -77,13 +77,13 @@ class Faults(unittest.TestCase):
     def test_each_state_is_looked_at_up_to_the_last(self):
         count = len(json.loads(RECORD.read_text())["states"])
         said = [said_of(f"state {at}", {("states", at): []})[0] for at in range(count)]
-        self.assertEqual(said, ["The state before turn 1 is not what the rules make it.", *(
-            f"The state after turn {at} is not what the rules and the moves make it." for at in range(1, count)
+        self.assertEqual(said, ["The state before turn 1 is not the first state of the rules.", *(
+            f"The state after turn {at} is not the one that follows from the rules and the moves." for at in range(1, count)
         )])
 
     def test_another_fault_than_the_interpreter_finds(self):
         self.assertEqual(said_of("goals", {}), ["The interpreter finds no fault", REPORT])
-        self.assertEqual(said_of("goals", {("states", 0): []}), ["The interpreter finds state 0: The state before turn 1 is not what the rules make it.", REPORT])
+        self.assertEqual(said_of("goals", {("states", 0): []}), ["The interpreter finds state 0: The state before turn 1 is not the first state of the rules.", REPORT])
         for places in ({("moves",): "gone"}, {("startMarks",): 1}, {("states",): [1, 2, 3]}, {("matchId",): "gone"}):
             self.assertEqual(said_of("goals", places), ["The interpreter finds that the record is of another shape", REPORT], places)
 
@@ -123,14 +123,14 @@ class Faults(unittest.TestCase):
 
     def test_rules_that_ask_for_one_another_too_deeply(self):
         with mock.patch("ggp_tools.records.explain.Replay", side_effect=RecursionError):
-            self.assertEqual(said_of("goals", {}), ["There is no explanation: the rules ask for one another too deeply for the interpreter."])
+            self.assertEqual(said_of("goals", {}), ["There is no explanation: the rules are nested too deeply for the interpreter."])
 
     def test_one_legal_move_of_several(self):
         moves = [f"m{number:02}" for number in range(23)]
         rules = Game(f"(role red) (role blue) (init s) (next s) (legal blue n) {' '.join(f'(legal red {move})' for move in moves)}")
         places = {("moves",): [["x", "n"]], ("errors",): [["", ""]], ("states",): [["s"], ["s"]]}
         self.assertEqual(said_of("illegal 0 0", places, rules), ["Turn 1, role red: the move is not legal.", f"expected one of 23: {', '.join(moves[:20])}, and 3 more", "found: x"])
-        for error, said in (("", None), ("TO", "beside the error TO the first legal move must stand"), ("IL m07", "beside the error IL m07 the first legal move must stand")):
+        for error, said in (("", None), ("TO", "with the error TO the move must be the first legal one"), ("IL m07", "with the error IL m07 the move must be the first legal one")):
             found = said_of("notfirst 0 0", {**places, ("moves", 0, 0): "m05", ("errors", 0, 0): error, ("phase",): "playing", ("goalValues",): [], ("endMarks",): [None, None]}, rules)
             self.assertEqual(found[0], f"Turn 1, role red: {said}." if said else "The interpreter finds no fault")
 
@@ -150,7 +150,7 @@ class Faults(unittest.TestCase):
                 self.assertEqual(said_of("goals", goals, rules)[1:], ["expected: red 1, blue without exactly one goal", "found: red 1, blue 0"])
 
     def test_no_object_and_a_list_of_texts(self):
-        self.assertEqual(list(explanation("shape cause", Game(countdown(3)), b"[7]"))[-1], "found: no JSON object, but [7]")
+        self.assertEqual(list(explanation("shape cause", Game(countdown(3)), b"[7]"))[-1], "found: not a JSON object, but [7]")
         self.assertEqual(said_of("shape roles", {("roles",): ["red"]})[-1], 'found: ["red"]')
         self.assertEqual(said_of("shape states", {("states",): [[]], ("moves",): 0})[-1], "found 1 member: [[]]")
 
@@ -158,14 +158,14 @@ class Faults(unittest.TestCase):
         self.assertEqual(said_of("x", {("version",): 1, ("strikes",): "gone", ("errors", 0, 1): "CE"})[0], "The interpreter finds no fault")
 
     def test_places_where_a_text_is_no_json(self):
-        none = "The text is not JSON: a value is nested more than 127 deep, a number is not one or past the range of binary64, or a surrogate pair is not whole."
-        more = "More follows the first record: give one record at a time, without its account. With --lines each line is one."
+        none = "The text is not JSON: a value is nested more than 127 deep, a number is invalid or outside the range of binary64, or a surrogate pair is incomplete."
+        more = "More text follows the first record. Pass one record, without its account, or use --lines if each line is a record."
         for text, *lines in (
             (b'{\n"\xff"', "The text is not JSON: line 2, byte 2 of it: it is not UTF-8."), (b'\xff', "The text is not JSON: line 1, byte 1 of it: it is not UTF-8."),
             (b"\n\xff", "The text is not JSON: line 2, byte 1 of it: it is not UTF-8."), (b"{} x", "The text is not JSON: line 1, column 4: more follows the value."),
             (b"{}\n{}", "The text is not JSON: line 2, column 1: more follows the value.", more), (b"{}\n0\topen m 0\topened\n", "The text is not JSON: line 2, column 1: more follows the value.", more),
             (b"[" * 99_999, none), (b"[]", none), (b'x{"cause":1', "The text is not JSON: line 1, column 1: a value is missing."),
-            (b'{"cause":{"cause":1}', "The text is not JSON: line 1, column 21: `,` is missing.", "Another record begins at byte 10: what is before it was cut off, for example since a file was written to the end of a half line."),
+            (b'{"cause":{"cause":1}', "The text is not JSON: line 1, column 21: `,` is missing.", "Another record begins at byte 10: the one before it was cut off, for example because a record was appended to an unfinished line."),
             (b"1} ", "The text is not JSON: line 1, column 2: more follows the value."),
         ):
             self.assertEqual(list(explanation("json", Game(countdown(3)), text)), lines, text)
@@ -196,7 +196,7 @@ class Words(unittest.TestCase):
 
 
 class Verdicts(WithStandIn):
-    """What is made of what the program says."""
+    """How the referee's output is read."""
 
     def no_verdict(self, ask, *answer) -> tuple[str, int]:
         self.begin_anew()
@@ -225,10 +225,10 @@ class Verdicts(WithStandIn):
         self.assertEqual(self.no_verdict(ask, b"", b"ggp_manager: wrong use\nggp_manager: want of memory\n", 3), ("ggp_manager: wrong use\nggp_manager: want of memory", 3))
 
     def test_a_program_that_can_not_be_run(self):
-        for path, words in (("/none", "No such file or directory"), ("a\0b", "its name has a byte 0")):
+        for path, words in (("/none", "No such file or directory"), ("a\0b", "its name has a NUL byte")):
             with self.assertRaises(Ended) as why:
                 judged(path, [], b"")
-            self.assertEqual((str(why.exception), why.exception.status), (f"{path} can't be run: {words}", 3))
+            self.assertEqual((str(why.exception), why.exception.status), (f"cannot run {path}: {words}", 3))
 
     def test_of_lines(self):
         path = self.referee.path
@@ -243,7 +243,7 @@ class Verdicts(WithStandIn):
             self.assertEqual(said, (f"{path} {wrong} {status}", 3), answer)
 
     def lines_of(self, data: bytes) -> tuple[str, list[str]]:
-        """Returns how many records of some lines are lawful, and what is said of the others."""
+        """Returns how many records are lawful, and the explanations of the others."""
         file, out, said = self.folder / "records", io.StringIO(), io.StringIO()
         file.write_bytes(data)
         with contextlib.redirect_stdout(out), contextlib.redirect_stderr(said):
@@ -322,7 +322,7 @@ class Commands(WithStandIn):
         self.assertEqual(subprocess.run(words, capture_output=True).stdout, b"lawful\n")
 
     def run_main(self, *words: str, answer=(b"lawful\n",)) -> tuple[int, str, str]:
-        """Returns the status, what was printed and what was said of a run in this process."""
+        """Runs the command in this process. Returns the exit status, the output and the errors."""
         self.begin_anew()
         self.answers(*answer)
         output, said = io.StringIO(), io.StringIO()
@@ -355,7 +355,7 @@ class Commands(WithStandIn):
 
 
 class Whole(unittest.TestCase):
-    """The command with the program itself."""
+    """The command with the real referee."""
 
     def explained(self, text, *words, referee=None):
         done = subprocess.run([sys.executable, EXPLAIN, referee or program(), *(words or ("--countdown", "3"))], input=text, capture_output=True)
@@ -379,7 +379,7 @@ class Whole(unittest.TestCase):
 
     def test_a_record_that_was_cut(self):
         whole = RECORD.read_text().strip()
-        end, begin = "The text ends within the record: its end was cut off, or it is on several lines where each line must be a record.", "The text begins within a record: its beginning was cut off."
+        end, begin = "The text ends within the record: its end was cut off, or it is on several lines although each line must be a record.", "The text begins within a record: its beginning was cut off."
         for length in range(1, len(whole)):
             with self.subTest(length):
                 self.assertEqual(json_lines(whole[:length].encode())[1:], [end])
@@ -388,7 +388,7 @@ class Whole(unittest.TestCase):
             with self.subTest(at):
                 self.assertTrue(said[1:] == [begin] or whole[at:].startswith("[") or '"' not in whole[at:] or "more follows" in said[0], said)
         again = json_lines(f"{whole[:50]}{whole}".encode())
-        self.assertIn("Another record begins at byte 51: what is before it was cut off", again[1])
+        self.assertIn("Another record begins at byte 51: the one before it was cut off", again[1])
         for text in (b'{"a":\n x}', b"", b"no record", b'{"a" 1, "b": {'):
             self.assertEqual(json_lines(text)[1:], [], text)
 

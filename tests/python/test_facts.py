@@ -1,4 +1,4 @@
-"""What records do not say: sums, and what logs have of their matches."""
+"""Facts that records do not have: checksums, and what logs have of their matches."""
 
 import hashlib
 import io
@@ -32,7 +32,7 @@ SIX = 1_795_845_600_000
 
 
 def message(role: int, number: int, text: str, answer: str, ms: int, time: int) -> str:
-    """Returns the line of a message that was answered so many milliseconds after six."""
+    """Returns the line of a message that was answered this many milliseconds after six o'clock."""
     return line(M1, role, number, text, answer, ms, SIX + time - ms)
 
 
@@ -62,7 +62,7 @@ def read(log: str) -> list[tuple[str, Beginning]]:
 
 
 def logs_of(*logs: str) -> MatchLogs:
-    """Returns what these logs say, each a file."""
+    """Returns the matches of these logs, each in a file."""
     with tempfile.TemporaryDirectory() as folder:
         for at, log in enumerate(logs):
             pathlib.Path(folder, f"{at}").write_text(log)
@@ -70,7 +70,7 @@ def logs_of(*logs: str) -> MatchLogs:
 
 
 def said(text: dict) -> bytes:
-    """Returns a record as the line of a pile."""
+    """Returns a record as a line of a file of records."""
     return json.dumps(text, separators=(",", ":")).encode("ascii") + b"\n"
 
 
@@ -150,7 +150,7 @@ class Logs(unittest.TestCase):
 
 
 class Lines(unittest.TestCase):
-    """The lines of records that are taken as lawful."""
+    """The facts of records that count as lawful."""
 
     def facts(self, *logs: str, descriptions: dict[str, str] | None = None) -> Facts:
         return Facts("ggp_manager 1.2.3", "ggp_manager 1.0.0", descriptions or {}, logs_of(*logs))
@@ -160,7 +160,7 @@ class Lines(unittest.TestCase):
         return Judged(Line("pile", 1, said(record)[:-1], record), game, "lawful")
 
     def of(self, record: dict, *logs: str) -> dict:
-        """Returns the line of a record, which has what several matches of an id lack too."""
+        """Returns the facts of the record, also without those that are missing for ids with several matches."""
         self.made = self.facts(*logs)
         found = self.made.of(self.judged(record))
         self.assertEqual(json.loads(json.dumps(found)), found)
@@ -317,7 +317,7 @@ class Files(unittest.TestCase):
         os.mkfifo(self.folder / "with/pipe.kif")
         self.assertEqual(description_sums(rules, str(self.folder / "with")), {"countdown": hashlib.sha256(b"x").hexdigest()})
         sums.write_text("no sum\n", encoding="ascii")
-        with self.assertRaisesRegex(OSError, "no sum"):
+        with self.assertRaisesRegex(OSError, "not a checksum"):
             description_sums(rules, None)
 
 

@@ -1,4 +1,4 @@
-"""What competition.toml says, and each mistake in it with its line and key."""
+"""The contents of competition.toml, and each error in it with its line and key."""
 
 import random
 import unittest

@@ -1,5 +1,5 @@
-"""Formulas over ground sentences: whatever is made of them says the same in each state and with each move of each role, and their sizes are
-those of their text."""
+"""Formulas over ground sentences are equivalent to the expressions that they are made of, in each state and for all moves, and their sizes are those
+of their texts."""
 
 import itertools
 import unittest
@@ -41,7 +41,7 @@ class OfFormulas(unittest.TestCase):
         self.atoms = [self.formulas.atom(atom) for atom in (*STATE, *itertools.chain(*MOVES.values()))]
 
     def worlds(self, number):
-        """Returns the worlds in which a formula holds, as their places."""
+        """Returns the numbers of the worlds in which a formula is true."""
         if number in (TRUE, FALSE):
             return frozenset(range(len(WORLDS))) if number == TRUE else frozenset()
         expression = self.formulas.expression(number)

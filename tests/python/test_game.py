@@ -1,4 +1,4 @@
-"""The command `game`: what is suspicious in a description, and how random matches of it end."""
+"""The command `game`: suspicious sentences, and random matches."""
 
 import os
 import shutil
@@ -26,38 +26,38 @@ SOUND = """(role ann) (role bob)
 # What is put in the place of what, or behind all, and what is then suspicious.
 CHANGES = [
     ("(init", "(initial", [
-        "line 2, column 1: `initial` is no word of GDL, and nothing of the game asks for it; is `init` meant?: (initial (step 1))",
+        "line 2, column 1: `initial` is not a GDL keyword, and the game does not use it; is `init` meant?: (initial (step 1))",
         "line 3, column 20: no `init` and no `next` gives the term (step 1): (true (step 1)) (and 2 more like this)",
     ]),
     ("(<= terminal", "(=> terminal", [
-        "line 9, column 1: `=>` is no word of GDL, and nothing of the game asks for it; is `<=` meant?: (=> terminal over)",
+        "line 9, column 1: `=>` is not a GDL keyword, and the game does not use it; is `<=` meant?: (=> terminal over)",
         "nothing gives `terminal`, so no match is finished",
     ]),
     ("(true (step 3)", "(treu (step 3)", [
-        "line 7, column 5: no condition asks for the term (step 3): (next (step 3))",
+        "line 7, column 5: no condition uses the term (step 3): (next (step 3))",
         "line 8, column 10: `(treu _)` has no rule and no fact; is `true` meant?: (treu (step 3))",
     ]),
     ("terminal over", "terminal ovre", ["line 9, column 14: `ovre` has no rule and no fact; is `over` meant?: ovre"]),
     ("terminal over", "terminal (over)", ["line 9, column 14: `(over)` has no rule and no fact, only `over`: (over)"]),
     ("legal bob", "legal bbo", [
         "line 1, column 12: nothing gives the role bob a `legal`: (role bob)",
-        "line 5, column 1: bbo is no role: (legal bbo wait)",
+        "line 5, column 1: bbo is not a role: (legal bbo wait)",
     ]),
     ("goal ann", "goal anne", [
         "line 1, column 1: nothing gives the role ann a `goal`: (role ann)",
-        "line 10, column 5: anne is no role: (goal anne 100)",
+        "line 10, column 5: anne is not a role: (goal anne 100)",
     ]),
-    ("does ann", "does eve", ["line 6, column 37: eve is no role: (does eve go)"]),
+    ("does ann", "does eve", ["line 6, column 37: eve is not a role: (does eve go)"]),
     ("does ann go", "does ann gone", ["line 6, column 37: no `legal` gives this move: (does ann gone)"]),
     ("(not (true (step 1)))", "(or (true x) (not (true (y 1))))", [
         "line 4, column 26: no `init` and no `next` gives the term x: (true x)",
         "line 4, column 40: no `init` and no `next` gives the term (y 1): (true (y 1))",
     ]),
     (None, "(init (mark 1)) (init (mark 2))", [
-        "line 11, column 1: no condition asks for the term (mark 1): (init (mark 1)) (and 1 more like this)",
+        "line 11, column 1: no condition uses the term (mark 1): (init (mark 1)) (and 1 more like this)",
     ]),
-    (None, "(line 1) (<= (base (step 1)) (n 1)) (n 1)", ["line 11, column 1: nothing of the game asks for `(line _)`: (line 1)"]),
-    (None, "(over 1)", ["line 11, column 1: nothing of the game asks for `(over _)`, only for `over`: (over 1)"]),
+    (None, "(line 1) (<= (base (step 1)) (n 1)) (n 1)", ["line 11, column 1: the game does not use `(line _)`: (line 1)"]),
+    (None, "(over 1)", ["line 11, column 1: the game does not use `(over _)`, only for `over`: (over 1)"]),
     (None, "(n 1) (<= terminal (n 2))", ["line 11, column 20: no rule and no fact gives this: (n 2)"]),
     (None, "(sees ann bob)", [
         "line 11, column 1: `sees` is of GDL-II, games with chance or with what some can't see; here each role sees every move:"
@@ -102,7 +102,7 @@ class Suspicious(unittest.TestCase):
     def test_an_instance_of_what_is_no_role(self):
         ground = b"(role ann) (role bob) (legal ann x) (legal bob x) (goal ann 1) (goal bob 1) terminal "
         text, eve = OPEN.replace("(go ?n)) (player", "?m) (player", 1), b"(legal eve x) (legal eve y)"
-        said = "eve is no role, and a fact of the ground rules has it"
+        said = "eve is not a role, but a fact of the ground rules has it"
         self.assertEqual(lines_of(text.encode(), ground + eve), [f"line 3, column 5: {said}: (legal eve x) (and 1 more like this)"])
         self.assertEqual(lines_of(text.encode() + b"(<= (legal ?any x) (role ?any))", ground + eve[:14]), [f"{said}: (legal eve x)"])
         # What holds in some states alone may hold in none.
@@ -123,15 +123,15 @@ class Suspicious(unittest.TestCase):
             self.assertEqual(lines_of(text), [])
 
     def test_of_what_has_not_its_form_only_misspelt_heads_are_told(self):
-        said = "line 1, column 1: `=>` is no word of GDL, and nothing of the game asks for it; is `<=` meant?: (=> (legal ?r x) y)"
+        said = "line 1, column 1: `=>` is not a GDL keyword, and the game does not use it; is `<=` meant?: (=> (legal ?r x) y)"
         self.assertEqual(lines_of(b"(=> (legal ?r x) y) (<= (next) p) (<=) (<= q) (line 1)"), [said])
         self.assertEqual(lines_of(b"(" * 70 + b"a" + b")" * 70), [])
 
     def test_what_is_not_looked_at(self):
         for text in (b"(role a", b"", b"(role a) ()", b"(<= (next) p)", b"(" * 70 + b"a" + b")" * 70, b"(role \xff)"):
-            self.assertEqual(suspicions(text).cut, "the rest was not looked at")
+            self.assertEqual(suspicions(text).cut, "the rest was not checked")
         self.assertEqual(suspicions(SOUND.encode()), ([], ""))
-        said = "the search for what is suspicious was cut after -1 s: the rest was not looked at"
+        said = "the search for suspicious sentences was stopped after -1 s: the rest was not checked"
         self.assertEqual(suspicions(SOUND.encode(), None, -1), ([], said))
 
     def test_many_sentences_take_no_long_time(self):
@@ -169,12 +169,12 @@ class Suspicious(unittest.TestCase):
             found = lines_of(file.read_bytes())
             self.assertEqual(len(found), file.stem in KNOWN, found)
             for line in found:
-                self.assertIn(f"nothing of the game asks for {KNOWN[file.stem]}", line)
+                self.assertIn(f"the game does not use {KNOWN[file.stem]}", line)
 
 
 class Game(InFolder):
     def look(self, text, *words):
-        """Returns the status of a run over this description, and the lines that it printed."""
+        """Runs the command with this description. Returns the exit status and the output lines."""
         (self.folder / "game.kif").write_text(text)
         status, out, said = run(self.folder, "game", "game.kif", *words)
         self.assertEqual(said, "")
@@ -193,7 +193,7 @@ class Game(InFolder):
 
     def test_suspicions_alone_are_no_fault(self):
         status, lines = self.look(SOUND + "(line 1)", "--matches", "0")
-        self.assertEqual((status, lines[1:]), (0, ["suspicious: line 11, column 1: nothing of the game asks for `(line _)`: (line 1)"]))
+        self.assertEqual((status, lines[1:]), (0, ["suspicious: line 11, column 1: the game does not use `(line _)`: (line 1)"]))
 
     def test_one_of_each(self):
         status, lines = self.look("(role a)", "--matches", "1", "--seconds", "1")
@@ -205,19 +205,19 @@ class Game(InFolder):
         self.assertEqual((status, lines), (1, [
             "game.kif is not accepted: line 3, column 1: true or does as a head, init or next as a condition, or a role with conditions: (<= (next x) (init x))",
             "line 3, column 1: (init x) is in a body: (<= (next x) (init x)); ask for what is true in the state by `true`",
-            "suspicious: line 2, column 1: `=>` is no word of GDL, and nothing of the game asks for it; is `<=` meant?: (=> (legal a x) p)",
-            "the rest was not looked at",
+            "suspicious: line 2, column 1: `=>` is not a GDL keyword, and the game does not use it; is `<=` meant?: (=> (legal a x) p)",
+            "the rest was not checked",
         ]))
         for text, words in [("", "line 1, column 1: there is no sentence"), ("(role a", "line 1, column 1: a list that is not closed; add a `)`")]:
-            self.assertEqual(self.look(text), (1, [f"game.kif is not accepted: {words}", "the rest was not looked at"]))
-        self.assertEqual(self.look("(" * 70 + "a" + ")" * 70)[1][-1], "the rest was not looked at")
-        said = ["game.kif is not accepted: it has 4,194,305 bytes; at most 1,048,576 are accepted, or 4,194,304 with --large", "the rest was not looked at"]
+            self.assertEqual(self.look(text), (1, [f"game.kif is not accepted: {words}", "the rest was not checked"]))
+        self.assertEqual(self.look("(" * 70 + "a" + ")" * 70)[1][-1], "the rest was not checked")
+        said = ["game.kif is not accepted: it has 4,194,305 bytes; at most 1,048,576 are accepted, or 4,194,304 with --large", "the rest was not checked"]
         self.assertEqual(self.look(" x" * (1 << 21) + "x"), (1, said))
         # Past the usual limit of bytes the limits for large games are taken.
         status, lines = self.look(SOUND + ";" * (1 << 20), "--matches", "0")
         self.assertEqual((status, lines[0].startswith("game.kif is accepted: ")), (0, True), lines)
         status, lines = self.look(SOUND + "(goal ann 200)")
-        words = "line 11, column 1: (goal ann 200) can be derived, and its goal is no number from 0 to 100: (goal ann 200)"
+        words = "line 11, column 1: (goal ann 200) can be derived, and its goal is not a number from 0 to 100: (goal ann 200)"
         self.assertEqual((status, lines[1:]), (1, [words, "nothing else is suspicious"]), lines)
 
     def test_what_is_wrong_with_sentences_together(self):
@@ -228,7 +228,7 @@ class Game(InFolder):
             ]),
             ("(role a)\n(role b)\n(role A)", ["these name the same role: line 1, column 1: (role a); line 3, column 1: (role a)"]),
             ("(role a)\n(<= terminal p)\n(<= p (does a b))", ["line 3, column 1: terminal depends on does, by p: (<= p (does a b)); let `next` keep what the moves did, and ask for that by `true`"]),
-            ("(role a)\n(goal a 101)", ["line 2, column 1: (goal a 101) can be derived, and its goal is no number from 0 to 100: (goal a 101)"]),
+            ("(role a)\n(goal a 101)", ["line 2, column 1: (goal a 101) can be derived, and its goal is not a number from 0 to 100: (goal a 101)"]),
             ("(role a)\n(role a b)", ["line 2, column 1: (role a b) is no sentence: (role a b); write (role _)"]),
             ("(role a)\n" + "".join(f"(<= p{number} p{(number + 1) % 10})\n" for number in range(10)), [
                 "these depend on each other: " + "; ".join(f"line {at + 2}, column 1: (<= p{at} p{at + 1})" for at in range(8)) + "; and 2 more"
@@ -259,8 +259,8 @@ class Game(InFolder):
         rule, fact = "sentence 0, line 1: (<= (goal ann ?x) (true (won ?x)))", "sentence 1, line 2: (goal bob 5)"
         for role, state, words in (
             ("ann", [], f"nothing gives ann a goal there; its goals are those of {rule} and {fact} and sentence 2, line 2: (goal (o 1) 5)"),
-            ("ann", ["(won 150)"], f"ann has the goal 150 (no number from 0 to 100), by {rule}"), ("bob", ["(won 1)"], f"bob has the goal 5, by {fact}"),
-            ("ann", ["(won 9)", "(won (a))", "(won 7)", "(won 8)"], f"ann has 4 goals there: (a) (no number from 0 to 100), by {rule}; 7, by {rule}; 8, by {rule}"),
+            ("ann", ["(won 150)"], f"ann has the goal 150 (not a number from 0 to 100), by {rule}"), ("bob", ["(won 1)"], f"bob has the goal 5, by {fact}"),
+            ("ann", ["(won 9)", "(won (a))", "(won 7)", "(won 8)"], f"ann has 4 goals there: (a) (not a number from 0 to 100), by {rule}; 7, by {rule}; 8, by {rule}"),
             ("(o 1)", [], "(o 1) has the goal 5, by sentence 2, line 2: (goal (o 1) 5)"),
         ):
             self.assertEqual(goals_said(goals, role, state), words)
@@ -272,7 +272,7 @@ class Game(InFolder):
         self.assertEqual((status, lines[3]), (1, "aborted with `toolong`: 1, seed 1; after turn 10,000 of seed 1 the state is (step 1)"))
         status, lines = self.look(ENDLESS, "--matches", "10000", "--seconds", "1")
         self.assertEqual(status, 1)
-        self.assertRegex(lines[2], r"^the time was over: in 1 s there were \d+ of 10,000 matches and [\d,]+ turns of the next one$")
+        self.assertRegex(lines[2], r"^out of time: in 1 s there were \d+ of 10,000 matches and [\d,]+ turns of the next one$")
 
     def test_a_move_that_no_player_can_make(self):
         status, lines = self.look(SOUND.replace("bob wait", f"bob (wait {'x' * 5_000})"), "--matches", "2")
@@ -284,7 +284,7 @@ class Game(InFolder):
         # One call for each, of which there may be 20,000: past the usual limits of the program too.
         chain = "".join(f"(<= p{number} (or (or (or p{number + 1}))))\n" for number in range(21_000))
         status, lines = self.look(SOUND + chain + "p21000 (<= terminal (not p0))")
-        self.assertEqual((status, lines[-1]), (0, "the interpreter can't play it: its rules ask for one another too deeply"))
+        self.assertEqual((status, lines[-1]), (0, "the interpreter cannot play it: its rules are nested too deeply"))
 
     def test_rules_that_are_deep(self):
         chain = "".join(f"(<= p{number} (or q p{number + 1}))\n" for number in range(2_000))

@@ -1,4 +1,4 @@
-"""Records as ggp-base has its matches, read as ggp-base's own reader (`Match` of `org.ggp.base.util.match`) reads them."""
+"""Records in the format of ggp-base, parsed like ggp-base's own `Match` (`org.ggp.base.util.match`) does."""
 
 import io
 import json
@@ -25,7 +25,7 @@ BEGAN = 1_795_845_601_000
 
 
 def message(role: int, number: int, text: str, answer: str, ms: int, came: int) -> str:
-    """Returns the line of a message whose answer came so many milliseconds after the first START was sent."""
+    """Returns the line of a message whose answer came this many milliseconds after the first START was sent."""
     return line(M1, role, number, text, answer, ms, BEGAN + came - ms)
 
 
@@ -47,13 +47,13 @@ def record(name: str) -> str:
 
 
 def terms_of(state: str) -> list:
-    """Returns the terms of a state: it is one list of them."""
+    """Returns the terms of a state, which is one list of them."""
     (terms,) = expressions(state)
     return list(terms)
 
 
 def read_match(text: str) -> dict[str, object]:
-    """Reads a match as ggp-base does for a game that the caller names: these keys have to be there, and the others are asked for first."""
+    """Parses a match as ggp-base does for a known game: some keys are required, the others are optional."""
     found = json.loads(text)
     match = {key: found[key] for key in ("matchId", "randomToken", "startClock", "playClock", "startTime", "isCompleted", "moves", "states", "stateTimes")}
     assert all(isinstance(match[key], int) for key in ("startTime", "startClock", "playClock")) and isinstance(match["isCompleted"], bool)

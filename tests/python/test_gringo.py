@@ -1,5 +1,4 @@
-"""The program that the grounder gets, and what is read of what it finds. Where it is run it is a stand-in, or the grounder itself where that is
-installed, beside a plain way to find all instances."""
+"""The grounder's input and output. The grounder is fake, or the real one if it is installed, compared with a simple search for all instances."""
 
 import itertools
 import math
@@ -108,7 +107,7 @@ class Read(unittest.TestCase):
         for name in ("p0", "i0"):
             with self.assertRaises(Refused) as why:
                 list(self.grounder.read([line(65, name)]))
-            self.assertEqual(str(why.exception), "a term has more than 64 lists in one another")
+            self.assertEqual(str(why.exception), "a term is nested more than 64 lists deep")
 
     def test_the_sentence_that_makes_the_most(self):
         self.assertIsNone(self.grounder.largest())
@@ -120,7 +119,7 @@ class Read(unittest.TestCase):
 
 class Runs(InFolder):
     def instances(self, script):
-        """Returns what is read of a grounder that does so, with the path of a shell behind it."""
+        """Returns the instances of a grounder that is this shell script."""
         file = self.folder / "gringo"
         file.write_text(f"#!/bin/sh\n{script}\n")
         file.chmod(0o755)

@@ -1,4 +1,4 @@
-"""What is made of the instances of rules, what depends on what, what players are told, and the parts into which rules are split."""
+"""Ground rules from instances, dependences, texts for players, and the splitting of rules."""
 
 import itertools
 import random
@@ -83,7 +83,7 @@ class Dependence(unittest.TestCase):
 
 
 class Circles(unittest.TestCase):
-    """Circles of sentences, and in how many rounds all is derived that can be."""
+    """Cycles of sentences, and the number of rounds until everything is derived."""
 
     def rules_for(self, text):
         found = {}
@@ -112,7 +112,7 @@ class Circles(unittest.TestCase):
     def test_a_denial_of_itself_is_refused(self):
         with self.assertRaises(Refused) as why:
             rounds.unrolled(rules("(<= (p a) q) (<= q (p a) (not (p a)))"))
-        self.assertEqual(str(why.exception), "a cycle: q depends on itself, through the denial of (p a)")
+        self.assertEqual(str(why.exception), "a cycle: q depends on itself through the negation of (p a)")
         self.assertEqual(rounds.unrolled(rules("(<= p q (not r)) (<= q p)"))[1], [("p", 2, 1)])
 
     def last(self, text):
@@ -121,14 +121,14 @@ class Circles(unittest.TestCase):
         return rounds.is_halved(circle, rules_for), rounds.last_round(circle, rules_for)
 
     def closure(self, names, more=()):
-        """Returns the ways between all of these, each with its own first step, and made of any two that go on from each other."""
+        """Returns the paths between all of these, each starting with its own first step, and made of any two that connect."""
         found = [f"(<= (w {start} {end}) (true (e {start} {end})))" for start, end in itertools.product(names, repeat=2)]
         for start, middle, end in itertools.product(names, repeat=3):
             found.append(f"(<= (w {start} {end}) {' '.join(dict.fromkeys([f'(w {start} {middle})', f'(w {middle} {end})']))})")
         return " ".join([*found, *more])
 
     def both(self, names):
-        """Returns the ways of a relation that begin with one of its own and go on by one of another."""
+        """Returns the paths of a relation that begin with one of its own and continue with one of another."""
         first, then = names
         return " ".join(f"(<= ({first} {start} {end}) ({first} {start} {middle}) ({then} {middle} {end}))" for start, middle, end in itertools.product("ab", repeat=3))
 
@@ -188,7 +188,7 @@ class Circles(unittest.TestCase):
                     continue
                 with self.assertRaises(Refused) as why:
                     rounds.unrolled(rules(text))
-                self.assertEqual(str(why.exception), "a cycle of 3 sentences, as a: its 3 rounds have over 8 rules")
+                self.assertEqual(str(why.exception), "a cycle of 3 sentences, such as a: its 3 rounds have more than 8 rules")
         self.assertEqual(rounds.MOST_RULES, 2_000_000)
 
 
@@ -220,12 +220,12 @@ class Told(unittest.TestCase):
 
 
 class Splitting(unittest.TestCase):
-    """What a rule gives stays as it is, and no rule has more variables than before."""
+    """Rules derive the same after splitting, and no rule has more variables than before."""
 
     FACTS = {("e", start, end) for start, end in zip("abcdeabc", "bcdeabda")}
 
     def heads(self, found):
-        """Returns what follows by rules, by trying all values of their variables, from below."""
+        """Returns what rules derive, bottom-up, by trying all values of their variables."""
         true = set(self.FACTS)
         while True:
             new = set()

@@ -33,7 +33,7 @@ def seated(matches):
 
 class Growth(unittest.TestCase):
     def grown(self, *versions, again=()):
-        """Returns the schedule after one file was replaced by the next, each with all that was planned by then."""
+        """Returns the schedule after replacing one file by the next, each with everything that was planned before."""
         history = History((), tuple(again))
         for before, after in zip(versions, versions[1:]):
             refuse_changes(before, after)
@@ -194,8 +194,8 @@ class ByRounds(unittest.TestCase):
         return competition(4, games=(game,), form=f'kind = "swiss"\nrounds = {rounds}')
 
     def result(self, match):
-        """Returns the result of a match: the first match of each two players is won by the lower number, and so is the other one. One that
-        was ordered again is lost by it."""
+        """Returns the result of a match. The lower number wins the first and the second match of each pair, and loses a match that was ordered
+        again."""
         is_won = (match.players[0] < match.players[1]) != bool(match.instead_of)
         return Result(match, (100, 0) if is_won else (0, 100), 1, (Counter(), Counter()), (None, None), "finished", None)
 

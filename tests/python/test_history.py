@@ -1,4 +1,4 @@
-"""The files that say how a competition grew."""
+"""The files that record how a competition grew."""
 
 import pathlib
 import tempfile

@@ -1,4 +1,4 @@
-"""The command `ggp-hold-against` in this process: its words, its seconds, its memory, and what it makes of each record."""
+"""The command `ggp-hold-against` in this process: its arguments, its limits of time and memory, and its result for each record."""
 
 import argparse
 import contextlib
@@ -24,7 +24,7 @@ RECORD = json.dumps(played(expressions(ONE_TURN), 1))
 OTHER, WRONG = json.dumps({**json.loads(RECORD), "goalValues": [7]}), "{}"
 
 
-NO_KEY = """not followed: it is no record: expected in cause: null, "asked", "toolong", "allretired", "nolegal R" or "nogoal R", where R is the number of a role, from 0 on; found: no such key"""
+NO_KEY = """not followed: it is not a record: expected in cause: null, "asked", "toolong", "allretired", "nolegal R" or "nogoal R", where R is the number of a role, counted from 0; found: no such key"""
 
 
 class Words(unittest.TestCase):
@@ -62,9 +62,9 @@ class Held(unittest.TestCase):
         with mock.patch.object(command, "read_record", fail):
             status, words = Holding(ONE_TURN).held(RECORD)
         self.assertEqual(status, NOT_FOLLOWED)
-        self.assertRegex(words, r"^not followed: a fault of ggp-hold-against, please report it: KeyError in fail, line \d+: 'x'$")
+        self.assertRegex(words, r"^not followed: a bug of ggp-hold-against, please report it: KeyError in fail, line \d+: 'x'$")
         with mock.patch.object(command, "read_record", side_effect=MemoryError):
-            self.assertEqual(Holding(ONE_TURN).held(RECORD), (NOT_FOLLOWED, "not followed: it wants more memory than there is"))
+            self.assertEqual(Holding(ONE_TURN).held(RECORD), (NOT_FOLLOWED, "not followed: out of memory"))
 
     def test_the_description_is_read_once_unless_a_look_was_broken_off(self):
         read = []
@@ -106,7 +106,7 @@ class Seconds(unittest.TestCase):
 
     def test_where_they_are_over_it_is_told(self):
         with mock.patch.object(command.Following, "follow", lambda *_: signal.raise_signal(signal.SIGPROF)):
-            self.assertEqual(list(hold(Holding(ONE_TURN), [RECORD], 90.0)), [(NOT_FOLLOWED, "not followed: its time was over, after 90 s")])
+            self.assertEqual(list(hold(Holding(ONE_TURN), [RECORD], 90.0)), [(NOT_FOLLOWED, "not followed: out of time after 90 s")])
         self.assertEqual(list(hold(Holding(ONE_TURN), [RECORD], 90.0)), [(SAME, "the same: 1 turns")])
 
     def test_they_may_be_over_when_all_is_said(self):
@@ -136,7 +136,7 @@ class Streams(unittest.TestCase):
             self.assertEqual(list(records_in(map(str, files))), [b"a\n", b" b\n", b"c"])
 
     def main(self, *lines, text=ONE_TURN):
-        """Returns the status of a run, its lines, and what it says of errors."""
+        """Runs the command. Returns the exit status, the output lines and the errors."""
         with tempfile.TemporaryDirectory() as room:
             (description := pathlib.Path(room) / "d").write_text(text)
             (records := pathlib.Path(room) / "r").write_text("".join(f"{line}\n" for line in lines))

@@ -1,4 +1,4 @@
-"""Records are held against the published description: what is not by it is found, and said by the sentence that shows it."""
+"""Records are checked with the published description. Differences are found, and reported with the sentence that shows them."""
 
 import contextlib
 import json
@@ -69,13 +69,13 @@ class Words(unittest.TestCase):
         self.assertEqual(self.words(moves=moves), said)
         at = next(at for at, turn in enumerate(self.record["errors"]) if self.record["moves"][at][0] != "stay")
         errors = [[f"IL stay" if place == at else "", turn[1]] for place, turn in enumerate(self.record["errors"])]
-        said = f"turn {at + 1}, ann: the answer stay was taken for illegal, and sentence 7, line 3: (legal ann stay) gives it"
+        said = f"turn {at + 1}, ann: the answer stay was counted as illegal, but sentence 7, line 3: (legal ann stay) gives it"
         self.assertEqual(self.words(errors=errors), said)
 
     def test_the_first_legal_move(self):
         turns = [["stay", "wait"]]
         record = dict(self.record, moves=turns, errors=[["TO", ""]], states=[["(at 1)"], ["(at 1)"]], phase="playing", goalValues=[], cause=None)
-        said = "turn 1, ann: the record plays stay in the place of an answer, and (go 2) stands before it, by sentence 6, line 2: "
+        said = "turn 1, ann: the record plays stay instead of an answer, but (go 2) comes before it, by sentence 6, line 2: "
         self.assertTrue(differs(self.game, record).startswith(said))
         self.assertIsNone(differs(self.game, {**record, "errors": [["", ""]]}))
 
@@ -109,16 +109,16 @@ class Words(unittest.TestCase):
         game = Game("(role r) (n 2) (n 10) (<= (legal r (go ?x)) (n ?x)) (init s) (<= (next s) (true s)) (<= terminal (true t))")
         record = {"roles": ["r"], "states": [["s"], ["s"]], "moves": [["(go 2)"]], "errors": [["TO"]], "goalValues": [], "phase": "playing", "cause": None}
         self.assertIsNone(differs(game, record))
-        self.assertIn("(go 2) stands before it", differs(game, {**record, "moves": [["(go 10)"]]}))
+        self.assertIn("(go 2) comes before it", differs(game, {**record, "moves": [["(go 10)"]]}))
 
     def test_the_end(self):
         said = "ann has the goal 99 in the record, and by the description sentence 12, line 7: (<= (goal ann 100) (true (at 4))) gives 100"
         self.assertEqual(self.words(goalValues=[99, 50]), said)
         short = {key: self.record[key][:-1] for key in ("moves", "errors", "states")}
-        self.assertIn("has no end there", self.words(**short))
-        said = "the record goes on, and the match has ended by the description: sentence 11, line 6: (<= terminal (true (at 4))) gives `terminal`"
+        self.assertIn("but not in the description", self.words(**short))
+        said = "the match goes on in the record, but has ended in the description: sentence 11, line 6: (<= terminal (true (at 4))) gives `terminal`"
         self.assertEqual(self.words(phase="playing", goalValues=[]), said)
-        said = "the record is given up since bob has no single goal, and by the description no role lacks its goal"
+        said = "the match was given up because bob has no single goal, and by the description no role lacks its goal"
         self.assertEqual(self.words(phase="aborted", cause="nogoal 1", goalValues=[]), said)
         said = "after the last turn bob has no legal move in the record, and by the description no role"
         self.assertEqual(self.words(**short, phase="aborted", cause="nolegal 1", goalValues=[]), said)
@@ -131,7 +131,7 @@ class Words(unittest.TestCase):
 
 
 class Followed(unittest.TestCase):
-    """Small games of one role or two, and a record that is laid down for each."""
+    """Small games of one or two roles, with a made-up record for each."""
 
     RULES = "(role ann) (role bob) (init s) (legal ann go) (legal bob wait)"
 
@@ -167,11 +167,11 @@ class Followed(unittest.TestCase):
     def test_a_text_that_is_not_canonical_is_told_in_part(self):
         with self.assertRaises(NotFollowed) as why:
             self.words(self.RULES, moves=[("X" * 101, "wait")])
-        self.assertEqual(str(why.exception), f"it is no record: {'X' * 100!r} is no canonical text")
+        self.assertEqual(str(why.exception), f"it is not a record: {'X' * 100!r} is not canonical text")
 
     def test_a_turn_behind_the_end(self):
         text = f"{self.RULES}\n(<= terminal (true s))"
-        said = "turn 1 is played, and the match has ended before it: sentence 5, line 2: (<= terminal (true s)) gives `terminal`"
+        said = "turn 1 was played, but the match had ended before it: sentence 5, line 2: (<= terminal (true s)) gives `terminal`"
         self.assertEqual(self.words(text, moves=[("go", "wait")]), said)
 
     def test_what_follows_is_cited_by_the_moves(self):
@@ -182,11 +182,11 @@ class Followed(unittest.TestCase):
 
     def test_answers_that_were_not_taken(self):
         text = f"{self.RULES} (legal ann stay) (<= (next s) (true s))"
-        said = "turn 1, ann: the answer stay was taken for illegal, and sentence 5, line 1: (legal ann stay) gives it"
+        said = "turn 1, ann: the answer stay was counted as illegal, but sentence 5, line 1: (legal ann stay) gives it"
         self.assertEqual(self.words(text, [("go", "wait")], [["IL stay", ""]]), said)
         for error in ("IL wait", "IL ?", "TO", "CE", "RT"):
             self.assertIsNone(self.words(text, [("go", "wait")], [[error, ""]]), error)
-            said = "turn 1, ann: the record plays stay in the place of an answer, and go stands before it, by sentence 3, line 1: (legal ann go)"
+            said = "turn 1, ann: the record plays stay instead of an answer, but go comes before it, by sentence 3, line 1: (legal ann go)"
             self.assertEqual(self.words(text, [("stay", "wait")], [[error, ""]]), said)
 
     def test_a_move_of_another_role_has_a_place_of_its_own(self):
@@ -201,7 +201,7 @@ class Followed(unittest.TestCase):
         turns["moves"] = [("stay",), ("go",), ("stay",)]
         self.assertIsNone(self.words(rules, **turns, errors=[["TO"], [""], [""]]))
         turns = {"moves": [("go",), ("stay",)], "states": [["s"], ["t"], ["s"]], "roles": ("ann",)}
-        said = "turn 2, ann: the record plays stay in the place of an answer, and go stands before it, by sentence 2, line 1: (<= (legal ann go) (true t))"
+        said = "turn 2, ann: the record plays stay instead of an answer, but go comes before it, by sentence 2, line 1: (<= (legal ann go) (true t))"
         self.assertEqual(self.words(rules, **turns, errors=[[""], ["TO"]]), said)
         # What a sentence was seen to give in one state has its place by it in the others.
         turns = {"moves": [("stay",), ("stay",), ("stay",)], "states": [["s"], ["t"], ["s"], ["t"]], "roles": ("ann",)}
@@ -224,19 +224,19 @@ class Followed(unittest.TestCase):
         over = f"{self.RULES} (<= terminal (true s)) (goal ann 5)"
         given_up = {"phase": "aborted", "states": [["s"]]}
         self.assertIsNone(self.words(over, **given_up, cause="nogoal 1"))
-        said = "the record is given up since ann has no single goal, and by the description bob does"
+        said = "the match was given up because ann has no single goal, and by the description bob does"
         self.assertEqual(self.words(over, **given_up, cause="nogoal 0"), said)
         self.assertIsNone(self.words(f"{over} (goal ann 6)", **given_up, cause="nogoal 0"))
-        said = "the record is given up since bob has no single goal, and by the description ann does"
+        said = "the match was given up because bob has no single goal, and by the description ann does"
         self.assertEqual(self.words(f"{over} (goal ann 6)", **given_up, cause="nogoal 1"), said)
-        self.assertIn("the description has no end there", self.words(f"{self.RULES} (goal ann 5)", **given_up, cause="nogoal 1"))
+        self.assertIn("but not in the description", self.words(f"{self.RULES} (goal ann 5)", **given_up, cause="nogoal 1"))
         for cause in ("asked", "toolong", "allretired", "nolegal 0"):
-            self.assertIn("the record goes on, and the match has ended", self.words(over, **given_up, cause=cause))
+            self.assertIn("the match goes on in the record, but has ended", self.words(over, **given_up, cause=cause))
 
     def test_a_match_that_has_not_begun_may_be_given_up_anywhere(self):
         over = f"{self.RULES} (<= terminal (true s))"
         self.assertIsNone(self.words(over, phase="aborted", cause="asked", startMarks=["", None]))
-        self.assertIn("the record goes on", self.words(over, phase="aborted", cause="asked", startMarks=["", "TO"]))
+        self.assertIn("the match goes on in the record", self.words(over, phase="aborted", cause="asked", startMarks=["", "TO"]))
 
     def test_ends_without_legal_moves(self):
         given_up = {"phase": "aborted", "states": [["s"]]}
@@ -256,7 +256,7 @@ class Followed(unittest.TestCase):
 
 
 class Records(unittest.TestCase):
-    """A text that is no record, and a record that lacks something, is neither the same game nor a fault of the program."""
+    """A text that is not a record, or a record that lacks something, is neither accepted nor a bug of the command."""
 
     def setUp(self):
         self.record, self.holding = played(expressions(ONE_TURN_GROUND), 1), Holding(ONE_TURN)
@@ -269,20 +269,20 @@ class Records(unittest.TestCase):
         one = {"moves": [["go"]], "errors": [[""]]}
         for changes, words in [
             ({"moves": [[5]]}, "expected in moves: "), ({"states": ["s"]}, "expected in states: "), ({"roles": [None]}, "expected in roles: "),
-            ({"errors": [["no"]]}, "errors has a text that is none of an error"), ({"errors": [["", "no"]]}, "expected in errors: "), ({"moves": [["go"], "go"]}, "expected in moves: "),
+            ({"errors": [["no"]]}, "errors has a text that is not an error"), ({"errors": [["", "no"]]}, "expected in errors: "), ({"moves": [["go"], "go"]}, "expected in moves: "),
             ({"errors": []}, "expected in errors: "), ({"moves": [], "errors": []}, "expected in states: "), ({"moves": [["go", "go"]]}, "expected in moves: "), ({"phase": "over"}, "expected in phase: "),
             ({"cause": "asked"}, "its cause does not fit its phase"), ({**one, "phase": "aborted"}, "its cause does not fit its phase"),
             *(({**one, "phase": "aborted", "cause": cause}, "expected in cause: ") for cause in (5, "nogoal", "nogoal 1", "nolegal x", "nogoal 00")),
             ({"startMarks": 5}, "expected in startMarks: "), ({"startMarks": [None]}, "startMarks do not fit its phase"), ({"phase": "starting", "goalValues": []}, "startMarks do not fit its phase"),
             ({"goalValues": []}, "goalValues do not fit its phase"), ({"phase": "playing"}, "goalValues do not fit its phase"),
             *(({"goalValues": goals}, "expected in goalValues: ") for goals in ([50, 50], ["50"], [50.0], [True])),
-            *(({"moves": [[move]]}, "a text of it is not one term") for move in ("", "go go", ";")), ({"moves": [["GO"]]}, "'GO' is no canonical text"),
+            *(({"moves": [[move]]}, "a text of it is not one term") for move in ("", "go go", ";")), ({"moves": [["GO"]]}, "'GO' is not canonical text"),
         ]:
             with self.subTest(changes):
-                self.assertTrue(self.words(**changes).startswith(f"not followed: it is no record: {words}"), self.words(**changes))
+                self.assertTrue(self.words(**changes).startswith(f"not followed: it is not a record: {words}"), self.words(**changes))
         self.assertEqual(self.words(moves=[["(go"]]), "not followed: a list that is not closed")
         for line, words in (("[" * 200_000, "it is not JSON: "), ('{"roles":' * 90_000, "it is not JSON: "), ("", "it is not JSON: it is empty"), ("[1", "it is not JSON: line 1, column 3: `,` is missing"), ("5", "it is JSON, and not an object")):
-            self.assertTrue(self.holding.held(line)[1].startswith(f"not followed: it is no record: {words}"))
+            self.assertTrue(self.holding.held(line)[1].startswith(f"not followed: it is not a record: {words}"))
         self.assertEqual(self.words(), "the same: 1 turns")
 
     def test_marks_causes_and_goals_that_fit_the_phase(self):
@@ -315,23 +315,23 @@ class Records(unittest.TestCase):
         for fault in (Late, MemoryError):
             holding = Holding(ONE_TURN)
             with mock.patch.object(Whole, "close", side_effect=fault), contextlib.suppress(Late):
-                self.assertEqual(holding.held(json.dumps(self.record))[1], "not followed: it wants more memory than there is")
+                self.assertEqual(holding.held(json.dumps(self.record))[1], "not followed: out of memory")
             self.assertEqual(holding.held(json.dumps(self.record))[1], "the same: 1 turns")
 
     def test_terms_that_grow(self):
         rules = "(p a) (<= (p (g ?x)) (p ?x)) (<= terminal (true s) (p s))"
-        self.assertEqual(Holding(f"{ONE_TURN} {rules}").held(json.dumps(self.record))[1], "not followed: a term has more than 64 lists in one another")
+        self.assertEqual(Holding(f"{ONE_TURN} {rules}").held(json.dumps(self.record))[1], "not followed: a term is nested more than 64 lists deep")
 
 
 class Described(unittest.TestCase):
-    """Forms of descriptions, and what is none."""
+    """Forms of descriptions, and invalid ones."""
 
     def test_what_is_no_description(self):
         for text, words in [
             ("(role a) (<= (p ?x) (not (q ?x)))", "line 1, column 10: ?x is unsafe: no sentence of the body that is not negated has it: (<= (p ?x) (not (q ?x))); add a condition with ?x that is not negated"),
             ("(role a)\n(<= (legal a ?m) (does a ?m))", "line 2, column 1: legal depends on does: (<= (legal a ?m) (does a ?m)); let `next` keep what the moves did, and ask for that by `true`"),
-            ("(role a)\n" + "(" * 70_000, "line 2, column 65: more than 64 lists in one another"),
-            ("(role a)\n(<= p " + "(not " * 70_000 + "q" + ")" * 70_001, "line 2, column 322: more than 64 lists in one another"),
+            ("(role a)\n" + "(" * 70_000, "line 2, column 65: lists are nested more than 64 deep"),
+            ("(role a)\n(<= p " + "(not " * 70_000 + "q" + ")" * 70_001, "line 2, column 322: lists are nested more than 64 deep"),
             ("(role a) (p", "line 1, column 10: a list that is not closed; add a `)`"),
             ("(role a) ()", "line 1, column 10: () is no term: ()"), ("(role a) (init ((s)))", "line 1, column 10: ((s)) is no term: (init ((s)))"),
             ("(role a) (<=)", "line 1, column 10: a rule without a head: (<=); write (<= _ ..) as a whole sentence"),

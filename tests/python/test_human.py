@@ -1,4 +1,4 @@
-"""A player whose moves a person makes: what it answers the referee, and what the page is told."""
+"""A player whose moves a person makes: its answers to the referee, and the data of the page."""
 
 import contextlib
 import http.client
@@ -65,7 +65,7 @@ class Seats(unittest.TestCase):
         self.seat, self.answers = Seat(waits_for_page=False), []
 
     def ask(self, text):
-        """Has the seat answer a message beside the test, as the referee's thread does."""
+        """Lets the seat answer a message in another thread, like the referee's."""
         thread = threading.Thread(target=lambda: self.answers.append(self.seat.answer(text)))
         thread.start()
         return thread

@@ -1,4 +1,4 @@
-"""A person plays in a browser: by a click on the board, and by the keyboard; and what a stranger's rules can't do to the page."""
+"""A person plays in a browser, by clicks on the board and by the keyboard. Hostile rules cannot harm the page."""
 
 import threading
 import unittest
@@ -28,7 +28,7 @@ class InBrowser(unittest.TestCase):
         self.page = self.browser.page(f"http://127.0.0.1:{server.server_address[1]}{server.page}")
 
     def ask(self, text: str) -> threading.Thread:
-        """Has the seat answer a message beside the test, as the referee's thread does."""
+        """Lets the seat answer a message in another thread, like the referee's."""
         thread = threading.Thread(target=lambda: self.answers.append(self.seat.answer(text)), daemon=True)
         thread.start()
         return thread
@@ -42,7 +42,7 @@ class InBrowser(unittest.TestCase):
         return self.page
 
     def cells(self) -> dict[str, str]:
-        """Returns what the board shows of each of its places."""
+        """Returns what the board shows at each of its places."""
         return dict(self.page.value(f"{CELLS}.map((cell) => [cell.title, cell.innerText.trim()])"))
 
     def test_a_person_plays_by_mouse_and_by_keyboard(self) -> None:

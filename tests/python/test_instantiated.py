@@ -1,4 +1,4 @@
-"""What is instantiated for a competition: within which seconds, what is kept of it, and ground rules with their description beside them."""
+"""Grounding for a competition: its time limit, its cache, and ground rules with their description next to them."""
 
 import os
 import pathlib
@@ -82,7 +82,7 @@ class Seconds(InFolder):
 
 @unittest.skipUnless(shutil.which("gringo"), "gringo is not installed")
 class Described(InFolder):
-    """Ground rules that have their description with variables beside them."""
+    """Ground rules with their description with variables next to them."""
 
     def setUp(self):
         super().setUp()
@@ -110,7 +110,7 @@ class Described(InFolder):
         for name, text, words in (
             ("ground.kif", (self.folder / "ground.kif").read_bytes(), "its description ground.kif has no variables"), ("other.kif", None, "its description other.kif: it can't be read: No such file or directory"),
             ("other.kif", b"(role ?x)\n(", "its description other.kif: line 2, column 1: a list that is not closed"), ("other.kif", b"(<= p (q ?x)) ()", "its description other.kif: line 1, column 15: "),
-            ("nim.kif", None, "it has variables, and so needs no description beside it"),
+            ("nim.kif", None, "it has variables, so it needs no other description"),
         ):
             if text:
                 (self.folder / name).write_bytes(text)

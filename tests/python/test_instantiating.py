@@ -1,5 +1,4 @@
-"""Tests of what `ggp-instantiate` does beside gringo. The games in them are small and made by dice, and each answer is compared with one
-that is found by trying all of it."""
+"""The steps of `ggp-instantiate` other than gringo. The games are small and random, and each result is compared with an exhaustive computation."""
 
 import contextlib
 import hashlib
@@ -24,7 +23,7 @@ MOVES = {"r": ["m1", "m2", "m3", "m4"], "s": ["n1", "n2"]}
 
 
 def holds(sentences, state, joint):
-    """What is true by ground sentences, found by going on until there is no more. Denials have to be of sentences that come before."""
+    """Returns the true ground sentences, by deriving until nothing is new. Negations must be of earlier sentences."""
     true = {("true", term) for term in state} | set(joint)
     bodies = {}
     for sentence in sentences:
@@ -48,7 +47,7 @@ def holds(sentences, state, joint):
 
 
 def dice_game(dice):
-    """A game without variables: facts of roles and moves, some relations, and the next state. Bodies ask for what comes before."""
+    """Returns a random game without variables: roles and moves, some relations, and the next state. Bodies use earlier sentences."""
     rules = [Rule(0, ("role", role), ()) for role in MOVES]
     rules += [Rule(1 + dice.randrange(3), ("legal", role, move), ()) for role, moves in MOVES.items() for move in moves]
     states = [("true", term) for term in STATE]
@@ -66,14 +65,14 @@ def dice_game(dice):
 
 
 def folded(rules, most_sentences, most_bytes):
-    """Returns a game folded as if it had to be within these."""
+    """Returns a game that was factored as if these were its limits."""
     game = folding.begun(rules)
     game.fold(folding.Target(most_sentences, most_bytes))
     return game
 
 
 def refused(rules, most_sentences, most_bytes):
-    """Why a game is not folded at all."""
+    """Returns why a game is not factored at all."""
     try:
         folding.begun(rules).must_have_room(folding.Target(most_sentences, most_bytes))
     except folding.Hopeless as why:
@@ -101,7 +100,7 @@ class Folding(unittest.TestCase):
         self.assertRegex(refused(rules, 3, 1 << 20), r"^sentences \(at least \d+ of 3\)$")
         text = "(<= (next s) (does r a)) " + " ".join(f"(<= (next {t}) p{k} p{k + 1})" for k, t in enumerate("abcdefgh"))
         text += " ".join(f"(<= p{k} (true a) (true b{k})) (<= p{k} (not (true c)) (true d{k}) (true e{k}))" for k in range(9))
-        self.assertRegex(refused(all_rules(expressions(text)), 12, 500), r"^bytes \(at least \d+ of 500, since \d+ of 18 sentences have to stand in others\)$")
+        self.assertRegex(refused(all_rules(expressions(text)), 12, 500), r"^bytes \(at least \d+ of 500, because \d+ of 18 sentences must be inlined\)$")
 
     def test_it_is_folded_to_the_first_target_that_it_can_be_within(self):
         rules = dice_game(random.Random(0))
@@ -113,7 +112,7 @@ class Folding(unittest.TestCase):
             self.assertEqual(folding.folded(rules, [target, large]).sentences(), 42, target)
         with self.assertRaises(folding.Hopeless) as why:
             folding.folded(rules, [folding.Target(3, 10), small._replace(work=1)])
-        self.assertEqual(str(why.exception), "to fold it takes more than 1 steps")
+        self.assertEqual(str(why.exception), "factoring takes more than 1 steps")
         # What only the last could take is given, past the limit as it is.
         self.assertEqual(folding.folded(rules, [folding.Target(20, 100)]).sentences(), 20)
 
@@ -122,9 +121,9 @@ class Folding(unittest.TestCase):
         text += " ".join(f"(<= p{k} (true a) (true b{k})) (<= p{k} (not (true c)) (true d{k}) (true e{k}))" for k in range(9))
         rules = all_rules(expressions(text))
         for most, most_bytes, words in (
-            (8, 500, "sentences (at least 9 of 8)"), (9, 1_121, "bytes (at least 1,122 of 1,121, since 9 of 18 sentences have to stand in others)"),
-            (12, 500, "bytes (at least 828 of 500, since 6 of 18 sentences have to stand in others)"),
-            (17, 0, "bytes (at least 434 of 0, since 1 of 18 sentences have to stand in others)"), (9, 1_122, None), (18, 0, None),
+            (8, 500, "sentences (at least 9 of 8)"), (9, 1_121, "bytes (at least 1,122 of 1,121, because 9 of 18 sentences must be inlined)"),
+            (12, 500, "bytes (at least 828 of 500, because 6 of 18 sentences must be inlined)"),
+            (17, 0, "bytes (at least 434 of 0, because 1 of 18 sentences must be inlined)"), (9, 1_122, None), (18, 0, None),
         ):
             self.assertEqual(refused(rules, most, most_bytes), words)
         with unittest.mock.patch.object(folding, "MOST_DEEP", 6):
@@ -147,7 +146,7 @@ class Folding(unittest.TestCase):
                 self.assertEqual((game.sentences(), game.bytes()), figures, deep)
 
     def written(self, text, most=10_000, most_bytes=1 << 20):
-        """Returns what is written of a game behind the sentences of its role and its moves."""
+        """Returns the output for a game after the sentences of its role and its moves."""
         moves = [f"(legal r m{k})" for k in range(8)]
         game = folded(all_rules(expressions(f"(role r) {' '.join(moves)} {text}")), most, most_bytes)
         return [f"{number} {spelled(sentence)}" for number, sentence in game.written()][9:]
@@ -268,7 +267,7 @@ def legal_heads(sentences):
 
 class Rounds(unittest.TestCase):
     def ways(self, dice, is_closure):
-        """Ways over edges that the state has, from a start or between any two places."""
+        """Returns paths over edges that are in the state, from a start or between any two places."""
         places = [str(k) for k in range(5)]
         rules = []
         for start, end in itertools.product(places, repeat=2):
@@ -361,7 +360,7 @@ class Rounds(unittest.TestCase):
 
 
 def least(rules, state):
-    """All that rules without denials derive."""
+    """Returns everything that rules without negations derive."""
     true, count = {("true", term) for term in state}, -1
     while len(true) > count:
         count = len(true)
@@ -402,9 +401,9 @@ class Texts(unittest.TestCase):
         text = (GAMES / "general/hex.kif").read_text()
         with unittest.mock.patch.dict(limits.MOST, {"sentences": 100}), unittest.mock.patch.dict(limits.LARGE, {"sentences": 100}), self.assertRaises(Refused) as why, contextlib.redirect_stderr(io.StringIO()):
             making.Making(text, 60, making.WHERE_NEEDED).run()
-        said = "nothing is written, since this is past the limit, however it is folded: sentences (at least "
+        said = "nothing is written, because this exceeds the limit however it is factored: sentences (at least "
         self.assertEqual(str(why.exception)[: len(said)], said)
-        self.assertIn(" ground sentences, since 2 cycles of sentences are unrolled, the largest, of 25 sentences with (joined ", str(why.exception))
+        self.assertIn(" ground sentences, because 2 cycles of sentences are unrolled, the largest, of 25 sentences with (joined ", str(why.exception))
         # What is unrolled is more than any sentence's instances.
         self.assertNotIn("the most instances", str(why.exception))
 
@@ -433,7 +432,7 @@ class Texts(unittest.TestCase):
 
 
 def joined(rules, domain):
-    """All that rules with variables derive, found by trying all values of their variables again and again."""
+    """Returns everything that rules with variables derive, by trying all values of their variables repeatedly."""
     found, count = set(), -1
     while len(found) > count:
         count = len(found)
@@ -452,7 +451,7 @@ def is_so(literal, values, found):
 
 
 def dice_join(dice):
-    """A rule that joins facts at some of its variables, with some that have to differ."""
+    """Returns a rule that joins facts at some variables, some of which must differ."""
     names = [f"?{letter}" for letter in "abcdef"]
     body = [Literal(True, (dice.choice("pq"), *dice.sample(names, 2))) for _ in range(dice.randrange(2, 5))]
     bound = variables(tuple(literal.atom for literal in body))

@@ -1,4 +1,4 @@
-"""Many matches as a job array of Slurm, on three nodes of which one dies."""
+"""Many matches as a job array of Slurm on three nodes, one of which dies."""
 
 import json
 import pathlib

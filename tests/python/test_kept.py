@@ -1,4 +1,4 @@
-"""Which matches are checked together, and what is not even read."""
+"""Which matches are checked together, and which files are not even read."""
 
 import errno
 import json
@@ -29,7 +29,7 @@ RULES = Rules(b"(role a) (role b)", "", ("a", "b"))
 
 
 class Counting:
-    """A referee to whom no record is lawful. It keeps how many it was given at a time."""
+    """A referee that accepts no record. It records how many it got at a time."""
 
     def __init__(self):
         self.counts = []
@@ -48,7 +48,7 @@ class Short(Counting):
 
 
 def broken_off(function, count, fault):
-    """Returns the function as it is where it goes well so often, and then there is this fault."""
+    """Returns a function that works this many times, and then raises this error."""
     left = iter([None] * count)
 
     def called(*words):
@@ -67,7 +67,7 @@ class Kept(unittest.TestCase):
         self.plan = types.SimpleNamespace(folder=self.folder, competition=competition, rules={"one": RULES}, matches=[], judge=lambda referee, _: referee)
 
     def matches(self, *sizes):
-        """Writes the files of matches of one game, each record and each account of such a size."""
+        """Writes the files of matches of one game, with records and accounts of these sizes."""
         for size in sizes:
             match = types.SimpleNamespace(id=f"cup-{len(self.plan.matches)}", game="one")
             self.plan.matches.append(match)
@@ -105,7 +105,7 @@ class Kept(unittest.TestCase):
         self.assertEqual(referee.counts, [])
 
     def names(self):
-        """Returns the files of the matches and what is in them."""
+        """Returns the files of the matches with their contents."""
         return {str(file.relative_to(self.folder.path)): file.read_bytes() for file in sorted(self.folder.path.glob("*/*"))}
 
     def test_files_without_a_record_are_set_aside_too(self):
@@ -175,8 +175,8 @@ class Kept(unittest.TestCase):
 
 
 class Said(Counting):
-    """A referee that says of each record the verdict that stands in it, and of each account whether `right` does. It keeps the accounts and
-    records that it was asked to replay."""
+    """A referee whose verdict on each record is in the record, and that reproduces an account if `right` is in it. It keeps the accounts and records
+    that it got."""
 
     def __init__(self, path):
         super().__init__()
@@ -192,7 +192,7 @@ class Said(Counting):
 
 
 class Looked(unittest.TestCase):
-    """Records of one match each, with what the referee says of them."""
+    """Records of one match each, with the referee's verdicts."""
 
     def setUp(self):
         room = pathlib.Path(self.enterContext(tempfile.TemporaryDirectory()))
@@ -247,7 +247,7 @@ class Looked(unittest.TestCase):
         self.assertEqual(judged(self.plan, self.referee, "one", [], []), [])
 
     def known(self):
-        """Looks at all with what is known, keeps it, and returns the results and how many records the referee was asked for."""
+        """Checks everything with what is known, and stores it. Returns the results, and how many records the referee checked."""
         known = Known(self.folder.path)
         results, faults, misfits = self.look(known)
         known.write()
@@ -356,7 +356,7 @@ class Looked(unittest.TestCase):
 
 
 class Files(InFolder):
-    """What is said of files by their bytes alone."""
+    """Errors in files, by their bytes only."""
 
     def test_what_is_not_handed_to_the_referee(self):
         account = b"0\topen cup-1 0 1 1 a\topened\n"

@@ -1,4 +1,4 @@
-"""KIF: what a text spells, where it is none, and the order of what is written."""
+"""KIF: parsing, errors, and the order of the output."""
 
 import unittest
 
@@ -61,7 +61,7 @@ class Texts(unittest.TestCase):
         self.assertEqual(levels(expressions(f"{deep} {deep}")[1]), 64)
         with self.assertRaises(KifFault) as why:
             expressions(f"a ({deep})")
-        self.assertEqual((str(why.exception), why.exception.index), ("more than 64 lists in one another", 2 + 64))
+        self.assertEqual((str(why.exception), why.exception.index), ("lists are nested more than 64 deep", 2 + 64))
 
     def test_a_place_is_told_by_line_and_column(self):
         text = "ab\n\ncd"

@@ -1,4 +1,4 @@
-"""What is known of files by their sums: it spares the work, and each byte that is another one is seen."""
+"""Facts about files, cached by their checksums: they save work, and every changed byte is noticed."""
 
 import os
 import pathlib
@@ -23,7 +23,7 @@ from support import InFolder, program, run
 
 
 class Counting(Referee):
-    """The referee, with the number of records that it was asked for."""
+    """The referee, with the number of records that it checked."""
 
     def __init__(self, path):
         super().__init__(path)
@@ -142,7 +142,7 @@ class Files(InCache):
         self.plan = read_plan(str(self.folder), self.referee)
 
     def looked_at(self):
-        """Returns how many records the referee was asked for, the results, and the faults."""
+        """Returns how many records the referee checked, the results, and the errors."""
         self.referee.count, knowledge = 0, Known(self.folder)
         results, faults, _ = look_at_records(self.plan, self.referee, knowledge)
         knowledge.write()

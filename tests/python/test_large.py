@@ -1,4 +1,4 @@
-"""A game that is past the usual limits: looked at, planned, played, published and checked by those for large games."""
+"""A game beyond the usual limits is checked, planned, played, published and checked with the large limits."""
 
 
 from ggp_tools.instantiating.limits import LARGE_NOTE

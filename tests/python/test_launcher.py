@@ -1,4 +1,4 @@
-"""Matches that a launcher has played elsewhere. Here the launchers are scripts that run the jobs on this computer."""
+"""Matches that a launcher plays elsewhere. In these tests launchers are scripts that run the jobs on this computer."""
 
 import collections
 import json

@@ -1,4 +1,4 @@
-"""Records of more than 16 MiB: how long they can be, and what is read of them."""
+"""Records of more than 16 MiB: their maximum length, and which parts are read."""
 
 import json
 import subprocess

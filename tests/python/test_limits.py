@@ -1,4 +1,4 @@
-"""What the program refuses in ground rules, what it sets limits to, and descriptions whose instances have no end."""
+"""What is refused in ground rules, the limits, and descriptions with infinitely many instances."""
 
 import itertools
 import shutil
@@ -34,7 +34,7 @@ class Goals(unittest.TestCase):
         for body in ("(goal r 101)", "(not (goal r 101))", "p (goal r 101)"):
             with self.assertRaises(Refused) as why:
                 without_high_goals(rules(f"(goal r 1) (<= terminal {body})"))
-            self.assertEqual(str(why.exception), "terminal asks for (goal r 101), and a goal is a number from 0 to 100")
+            self.assertEqual(str(why.exception), "terminal uses (goal r 101), and a goal is a number from 0 to 100")
 
 
 class Faults(unittest.TestCase):
@@ -51,14 +51,14 @@ class Faults(unittest.TestCase):
 
     def test_goals_that_are_none(self):
         for goal in ("101", "00", "01", "1a", "x", "(f 1)", "1000"):
-            said = f"line 1, column 10: (goal r {goal}) can be derived, and its goal is no number from 0 to 100: "
+            said = f"line 1, column 10: (goal r {goal}) can be derived, and its goal is not a number from 0 to 100: "
             self.assertEqual(self.refused(f"(role r) (goal r {goal})"), f"{said}(goal r {goal})")
             self.assertEqual(self.refused(f"(role r) (<= p (not (goal r {goal})))"), f"{said}(<= p (not (goal r {goal})))")
 
     def test_roles_that_are_none(self):
         self.assertEqual(self.refused("(goal r 1) (roles r)"), "there is no role; write (role NAME) for each role")
         self.assertEqual(self.refused(""), "there is no role; write (role NAME) for each role")
-        self.assertEqual(self.refused("(role r) (<= (role s) p)"), "line 1, column 10: (role s) is not settled before the game: (<= (role s) p); make it a fact")
+        self.assertEqual(self.refused("(role r) (<= (role s) p)"), "line 1, column 10: (role s) is not known before the game: (<= (role s) p); make it a fact")
         secret = "the role `random` is of GDL-II, games with chance or with what some can't see; here each role sees every move"
         with self.assertRaises(Refused) as why:
             refuse_faults([Rule(0, ("role", "random"), (Literal(True, "p"),))])
@@ -83,9 +83,9 @@ class Figures(unittest.TestCase):
         found = list(limits.figures(list(enumerate(sentences)), 7))
         self.assertEqual(found, [
             ("sentences", 9, 8_192), ("atomic sentences", 10, 16_384), ("roles", 2, 16), ("moves of r", 2, 4_096), ("moves of (s t)", 1, 4_096), ("bytes", 7, 1_048_576),
-            ("lists in one another", 3, 64),
+            ("nested lists", 3, 64),
         ])
-        self.assertEqual(list(limits.figures([], 0)), [("sentences", 0, 8_192), ("atomic sentences", 0, 16_384), ("roles", 0, 16), ("bytes", 0, 1_048_576), ("lists in one another", 0, 64)])
+        self.assertEqual(list(limits.figures([], 0)), [("sentences", 0, 8_192), ("atomic sentences", 0, 16_384), ("roles", 0, 16), ("bytes", 0, 1_048_576), ("nested lists", 0, 64)])
 
     def test_what_sentences_cost(self):
         written = [(3, ("p", "a")), (1, "q"), (3, ("p", "bc"))]
@@ -152,4 +152,4 @@ class Endless(unittest.TestCase):
         for rule, is_endless in (("(<= (n (g (s ?x))) (n (f ?x)))", False), ("(<= (n (f (s ?x))) (n (f ?x)))", True)):
             with mock.patch.object(forms, "MOST_INSTANCES", 12), self.assertRaises(Refused) as why:
                 Making(text.format(rule), 60, NEVER, False).run()
-            self.assertEqual(str(why.exception).startswith("the instances do not end: "), is_endless, why.exception)
+            self.assertEqual(str(why.exception).startswith("there are infinitely many instances: "), is_endless, why.exception)

@@ -1,4 +1,4 @@
-"""What is read of matches that are open: their logs, read on from where they were, and what the referee says of the answers."""
+"""How open matches are read: logs from the last position on, and the referee's replies to the answers."""
 
 import html
 import json
@@ -33,7 +33,7 @@ def shown(seen):
 
 
 def setUpModule():
-    """On a busy computer a look at the records, and the referee, may take long. Here nothing waits for that."""
+    """On a busy computer the referee, and reading the records, may take long. These tests do not wait for that."""
     unittest.enterModuleContext(patch.object(live, "READING", 1e9))
     for share in ("SHARE", "JUDGING_SHARE"):
         unittest.enterModuleContext(patch.object(live, share, 0))
@@ -57,12 +57,12 @@ class InRoom(unittest.TestCase):
         return Reader(plan or self.plan, Referee(program()))
 
     def look(self, reader):
-        """Has a reader look at the folder, and ask the referee."""
+        """Lets a reader read the directory, and ask the referee."""
         reader.look()
         reader.judge(NEVER)
 
     def play(self, number, moves, answers, roles=(0, 1)):
-        """Returns the lines of a turn, whose messages carry the moves of the one before."""
+        """Returns the lines of a turn. Its messages have the moves of the turn before."""
         return "".join(line(self.match, role, number, f"(PLAY {self.match.id} {moves})", answers[role]) for role in roles)
 
 
@@ -122,7 +122,7 @@ class Lines(InRoom):
         self.assertEqual(shown(seen), f"blue to move: {self.match.players[1]}")
 
     def seen_after(self, *texts, strikes=0, start=None):
-        """Returns what is seen of the first match after these lines."""
+        """Returns what is shown of the first match after these lines."""
         plan = plan_in(self.plan.folder.path, ["ann", "bob"], head=f"strikes = {strikes}\n" if strikes else "")
         begin(plan, self.match, (started(self.match) if start is None else start) + "".join(texts))
         reader = self.reader(plan)
@@ -360,7 +360,7 @@ class Lines(InRoom):
 
 class States(InRoom):
     def board(self, log="", strikes=0, rules=RULES, match=None):
-        """Returns the board of a match after these messages, as the referee has it."""
+        """Returns the board of a match after these messages, as computed by the referee."""
         file = self.plan.folder.path / "own-rules"
         file.write_bytes(rules)
         board = LiveBoard(match or self.match, strikes, file)

@@ -1,5 +1,4 @@
-"""What the live pages know of a match while it is open, compared with its record: matches of players that answer in whatever way, line by
-line of the log."""
+"""What the live pages know of a match while it is open, compared with its record, for players that answer anything, line by line of the log."""
 
 import json
 import math
@@ -33,7 +32,7 @@ MISLEADING = b"to\xc2\xa0", b"noop\0", b"to\f", b"?to", b"; to", b"; a?to", b"to
 
 
 class Saying(threading.Thread):
-    """A player that says what it was given."""
+    """A player with given answers."""
 
     def __init__(self, answers: list[bytes | None]) -> None:
         super().__init__(daemon=True)
@@ -118,7 +117,7 @@ class Matches(InFolder):
         self.assertEqual(referee.asked, 2 + len(record["moves"]))
 
     def assert_shown(self, seen: Seen, before: list[Message], after: list[Message], record: dict) -> None:
-        """Checks what is shown, once so many messages are answered, by those that follow."""
+        """Checks what is shown after this many messages were answered, using the later messages."""
         position, left = seen.board.position, set(map(round_of, after))
         turns = [turn for turn in range(1, len(record["moves"]) + 1) if turn not in left and 0 not in left]
         self.assertEqual(seen.board.trouble, "")

@@ -1,4 +1,4 @@
-"""How descriptions are read, and what is said of those that are none."""
+"""How descriptions are loaded, and the errors for invalid ones."""
 
 import hashlib
 import os
@@ -19,7 +19,7 @@ OPEN = b"(role x) (init a) (legal x m) (<= (next ?t) (true ?t)) (goal x 1)\n"
 
 
 class Takes:
-    """A referee that takes each text, or refuses it: also by the limits for large games, or by the usual ones only."""
+    """A referee that accepts each text, or refuses it: always, or only with the usual limits."""
 
     def __init__(self, why=None, is_large=False, also_large=True):
         self.why, self.asked, self.is_large, self.also_large = why, [], is_large, also_large
@@ -53,7 +53,7 @@ class Loading(unittest.TestCase):
         return load_described(self.path, self.beside, Takes(), told)
 
     def instead(self):
-        """Has `ggp-instantiate` make what is laid down."""
+        """Replaces the result of `ggp-instantiate`."""
         def run(words, **more):
             self.runs.append(words)
             out, said, status = self.made
@@ -93,8 +93,8 @@ class Loading(unittest.TestCase):
     def test_why_nothing_was_made(self):
         for said, status, words, kind in (
             (b"ggp-instantiate: too large\n", 1, "ggp-instantiate: too large", NoDescription), (b"", 3, "ggp-instantiate ended with status 3", NoDescription),
-            (b"a line\n  dear: sentence 1\n  dear: sentence 2\nggp-instantiate: past a limit\n", 1, "dear: sentence 1\ndear: sentence 2\nggp-instantiate: past a limit", NoDescription),
-            (b"so far:\n  dear: x\nggp-instantiate: stopped after 60 s\n", 1, "dear: x\nggp-instantiate: stopped after 60 s", Stopped),
+            (b"a line\n  largest: sentence 1\n  largest: sentence 2\nggp-instantiate: past a limit\n", 1, "largest: sentence 1\nlargest: sentence 2\nggp-instantiate: past a limit", NoDescription),
+            (b"so far:\n  largest: x\nggp-instantiate: stopped after 60 s\n", 1, "largest: x\nggp-instantiate: stopped after 60 s", Stopped),
         ):
             self.made = (b"", said, status)
             with self.instead():
@@ -102,7 +102,7 @@ class Loading(unittest.TestCase):
 
     def test_what_the_referee_refuses_of_rules_that_were_made(self):
         with self.instead():
-            self.assert_refused("its ground rules, by ggp-instantiate: line 2, column 1: bad", self.load, OPEN, False, Takes("line 2, column 1: bad"))
+            self.assert_refused("its ground rules, made by ggp-instantiate: line 2, column 1: bad", self.load, OPEN, False, Takes("line 2, column 1: bad"))
 
     def test_texts_that_are_no_descriptions(self):
         for text, words in (
@@ -143,11 +143,11 @@ class Loading(unittest.TestCase):
         self.assertEqual(told.splitlines(), [b"(role x)", b"(init a)", b"(legal x m)", b"(<= (next ?t) (true ?t))", b"(goal x 1)", b"(base a)", b"(input x m)"])
 
     def test_which_two_files_do_not_fit(self):
-        self.assert_refused("it has variables, and so needs no description beside it", self.described, OPEN, OPEN)
-        self.assert_refused(f"{self.beside} has no variables", self.described, GROUND, GROUND)
+        self.assert_refused("it has variables, so it needs no other description", self.described, OPEN, OPEN)
+        self.assert_refused(f"its description {self.beside} has no variables", self.described, GROUND, GROUND)
         self.assert_refused("line 1, column 1: there is no sentence", self.described, b"", OPEN)
-        self.assert_refused("line 1, column 1: there is no sentence", self.described, GROUND, b"")
-        self.assert_refused(f"line 1, column 1: {DEPENDS}", self.described, GROUND, b"(<= (legal x ?m) (does x ?m))")
+        self.assert_refused(f"its description {self.beside}: line 1, column 1: there is no sentence", self.described, GROUND, b"")
+        self.assert_refused(f"its description {self.beside}: line 1, column 1: {DEPENDS}", self.described, GROUND, b"(<= (legal x ?m) (does x ?m))")
 
     def test_the_text_for_players_has_a_limit_too(self):
         size = len(self.described(GROUND, OPEN, True).player_rules)

@@ -1,4 +1,4 @@
-"""The log of a match is compared with its account: all that it says of messages and answers, and not the times."""
+"""The log of a match is compared with its account: all messages and answers, but not the times."""
 
 import dataclasses
 import io

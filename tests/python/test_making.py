@@ -1,4 +1,4 @@
-"""What is written of a game, what is said of it, and what is past a limit."""
+"""The output and the reports for a game, and the limits."""
 
 import contextlib
 import io
@@ -17,7 +17,7 @@ GAME = """(role r) (role s) (init (c 1)) (succ 1 2) (succ 2 3)
 
 
 def made(text, wanted=WHERE_NEEDED, seconds=60, is_split=False, is_large=False):
-    """Returns what is made, or why it is refused, and what is said."""
+    """Returns the output, or why it is refused, and the reports."""
     lines = []
     with mock.patch.object(making, "report", lines.append):
         try:
@@ -44,7 +44,7 @@ class Figures(unittest.TestCase):
         for written, size, most_of_them in ((usual, 123, (8_192, 16_384, 1_048_576)), (usual.as_large(), 98, (65_536, 65_536, 4_194_304))):
             self.assertEqual({name: (count, most) for name, count, most in written.figures}, {
                 "sentences": (7, most_of_them[0]), "atomic sentences": (10, most_of_them[1]), "roles": (2, 16), "moves of r": (2, 4_096), "moves of s": (1, 4_096),
-                "bytes": (size, most_of_them[2]), "lists in one another": (4, 64),
+                "bytes": (size, most_of_them[2]), "nested lists": (4, 64),
             })
         self.assertEqual((usual.as_large().text, usual.as_large().notes), (f"; {limits.LARGE_NOTE}\n(role r)", [limits.LARGE_NOTE, "a"]))
 
@@ -53,22 +53,22 @@ class Made(unittest.TestCase):
     def test_what_is_written_and_said(self):
         found, said = made(GAME)
         self.assertEqual(found.splitlines(), [
-            "; goals past 100 are left out (2, the first by sentence 9, line 3: (<= (goal ?p 101) (role ?p) (true (c 3)))): where one would hold at the end, its role keeps the other goal that holds there, and if none does the match has no goals",
+            "; goals past 100 are left out (2, the first by sentence 9, line 3: (<= (goal ?p 101) (role ?p) (true (c 3)))): if one would hold at the end, the role gets the other goal that holds there, and if there is none the match has no goals",
             "(role r)", "(role s)", "(init (c 1))", "(legal r (m 1))", "(legal r (m 2))", "(legal s (m 1))", "(legal s (m 2))",
             "(<= (next (c 2)) (true (c 1)) (does r (m 1)))", "(<= (next (c 3)) (true (c 2)) (does r (m 2)))", "(<= terminal (true (c 3)))", "(goal r 50)", "(goal s 50)",
         ])
         self.assertRegex(said, r"^ggp-instantiate: 11 sentences gave 12 ground ones, in \d+\.\d\d s\n  goals past 100 are left out")
-        self.assertIn("\n  sentences                   12 of     8,192\n", said)
+        self.assertIn("\n  sentences               12 of     8,192\n", said)
         self.assertNotIn("PAST", said)
 
     def test_it_is_folded_where_that_is_wanted_or_needed(self):
         for wanted, limit, is_folded in ((ALWAYS, 8_192, True), (WHERE_NEEDED, 8_192, False), (WHERE_NEEDED, 12, False), (NEVER, 8_192, False)):
             with mock.patch.dict(limits.MOST, {"sentences": limit}):
                 found, _ = made(GAME, wanted)
-            self.assertEqual("; folded: 12 ground sentences" in str(found), is_folded, (wanted, limit))
+            self.assertEqual("; factored: 12 ground sentences" in str(found), is_folded, (wanted, limit))
         with mock.patch.dict(limits.MOST, {"sentences": 11}), mock.patch.dict(limits.LARGE, {"sentences": 11}):
             found, _ = made(GAME)
-        self.assertTrue(str(found).startswith("nothing is written, since this is past the limit, however it is folded: sentences (at least "), found)
+        self.assertTrue(str(found).startswith("nothing is written, because this exceeds the limit however it is factored: sentences (at least "), found)
 
     def test_what_is_past_the_usual_limits_says_that_it_is_large(self):
         # It can't be folded to within them, or that would take too much, or is not wanted.
@@ -77,13 +77,13 @@ class Made(unittest.TestCase):
                 found, said = made(GAME, **options)
             self.assertEqual(found, f"; {limits.LARGE_NOTE}\n{made(GAME)[0]}", options)
             self.assertIn(f"\n  {limits.LARGE_NOTE}\n", said)
-            self.assertIn("\n  sentences                   12 of    65,536\n", said)
+            self.assertIn("\n  sentences               12 of    65,536\n", said)
 
     def test_what_is_past_the_limits_for_large_games_as_it_stands_is_folded_to_within_them(self):
         game = "(role r) (legal r m) (goal r 1) (<= terminal (true b1))" + "".join(f"(init b{k}) (<= (next b1) (true b{k}))" for k in range(10))
         with mock.patch.dict(limits.MOST, {"sentences": 10}), mock.patch.dict(limits.LARGE, {"sentences": 20}):
             found, _ = made(game)
-        self.assertRegex(str(found), rf"^; {limits.LARGE_NOTE}\n; folded: 24 ground sentences of \d+ bytes became 15\n")
+        self.assertRegex(str(found), rf"^; {limits.LARGE_NOTE}\n; factored: 24 ground sentences of \d+ bytes became 15\n")
 
     def test_the_seconds_may_be_over_while_it_is_folded(self):
         plain = made(GAME)[0]
@@ -94,25 +94,25 @@ class Made(unittest.TestCase):
         with mock.patch.dict(limits.MOST, {"roles": 1, "moves": 2}):
             found, said = made(GAME, NEVER)
         self.assertIsInstance(found, Refused)
-        self.assertTrue(str(found).startswith("nothing is written, since this is past the limit: roles (2 of 1)"), found)
+        self.assertTrue(str(found).startswith("nothing is written, because this exceeds the limit: roles (2 of 1)"), found)
         self.assertIn("2 of         1: PAST THE LIMIT\n", said)
-        self.assertEqual(said.count("  dear: sentence "), 3)
+        self.assertEqual(said.count("  largest: sentence "), 3)
 
     def test_what_costs_most_is_named_first(self):
         with mock.patch.dict(limits.MOST, {"sentences": 3}), mock.patch.dict(limits.LARGE, {"sentences": 3}):
             found, said = made(GAME, NEVER)
-        self.assertEqual(str(found), "nothing is written, since this is past the limit: sentences (12 of 3)")
-        dear = [line for line in said.splitlines() if "dear" in line]
-        self.assertEqual(dear[0], "  dear: sentence 5, line 2: (<= (legal ?p (m ?x)) (role ?p) (succ ?x ?y)): 4 ground sentences")
+        self.assertEqual(str(found), "nothing is written, because this exceeds the limit: sentences (12 of 3)")
+        largest = [line for line in said.splitlines() if line.startswith("  largest: ")]
+        self.assertEqual(largest[0], "  largest: sentence 5, line 2: (<= (legal ?p (m ?x)) (role ?p) (succ ?x ?y)): 4 ground sentences")
         with mock.patch.dict(limits.MOST, {"bytes": 3}), mock.patch.dict(limits.LARGE, {"bytes": 3}):
             found, said = made(GAME, NEVER)
-        self.assertRegex(str(found), r"^nothing is written, since this is past the limit: bytes \(\d+ of 3\)$")
-        self.assertRegex(said, r"  dear: sentence 6, line 2: .*: 92 bytes\n")
+        self.assertRegex(str(found), r"^nothing is written, because this exceeds the limit: bytes \(\d+ of 3\)$")
+        self.assertRegex(said, r"  largest: sentence 6, line 2: .*: 92 bytes\n")
 
     def test_one_word_of_a_command_line(self):
         for most, is_said in ((10, True), (100_000, False)):
             with mock.patch.object(limits, "MOST_IN_A_WORD", most):
-                self.assertEqual(f"one word of a command line holds {most:,} bytes on Linux" in made(GAME)[1], is_said)
+                self.assertEqual(f"one argument of a command on Linux, which holds {most:,} bytes" in made(GAME)[1], is_said)
 
     def test_cycles_are_unrolled_and_told(self):
         steps = "(step a b) (step b a) (step b c) (step c b)"
@@ -124,9 +124,9 @@ class Made(unittest.TestCase):
     def test_refusals_have_the_sentence(self):
         for text, words in (
             ("(role r) (<= (legal r m) (does r m))", "line 1, column 10: legal depends on does: (<= (legal r m) (does r m))"), ("(legal r m)", "there is no role"),
-            ("(role r)\n(<= (goal r ?x) (n ?x)) (n big)", "line 2, column 1: (goal r big) can be derived, and its goal is no number from 0 to 100: (<= (goal r ?x) (n ?x))"),
+            ("(role r)\n(<= (goal r ?x) (n ?x)) (n big)", "line 2, column 1: (goal r big) can be derived, and its goal is not a number from 0 to 100: (<= (goal r ?x) (n ?x))"),
             ("(role r)\n(<= (role ?x) (not (p ?x)) (q ?x)) (q s)\n(<= (p s) (not (role s)))", None),
-            ("(role r) (init a)\n(<= p (not q) (true a))\n(<= q o) (<= o p) (<= terminal p)", "line 2, column 1: a cycle: p depends on itself, through the denial of q, with o: (<= p (not q) (true a))"),
+            ("(role r) (init a)\n(<= p (not q) (true a))\n(<= q o) (<= o p) (<= terminal p)", "line 2, column 1: a cycle: p depends on itself through the negation of q, with o: (<= p (not q) (true a))"),
         ):
             found, _ = made(text)
             self.assertIsInstance(found, Refused, text)

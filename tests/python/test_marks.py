@@ -1,4 +1,4 @@
-"""What boards show of the words that stand on them: no two words look alike, and known pieces have their glyphs."""
+"""How boards show labels: different labels never look alike, and known pieces have their glyphs."""
 
 import unittest
 
@@ -10,7 +10,7 @@ KING, PAWN, MAN, CROWNED, STONE = "\u265a", "\u265f\ufe0e", "\u26c2", "\u26c3", 
 
 
 def shown(*labels):
-    """Returns the text and the side that is shown of each label."""
+    """Returns the text and the side that are shown for each label."""
     return {label: (mark.text, mark.side) for label, mark in marks_of(labels).items()}
 
 
@@ -86,7 +86,7 @@ class Texts(unittest.TestCase):
 
 class Boards(unittest.TestCase):
     def cells(self, *terms):
-        """Returns of each cell of the board of these terms its classes, its title and its text."""
+        """Returns for each cell of the board of these terms its classes, its title and its text."""
         (board,) = boards_of([list(terms)])
         page = board_page(board, board_places(board, list(terms)), None, None, board.marks(Named()))
         found = parsed(page)("i")

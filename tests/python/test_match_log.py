@@ -1,4 +1,4 @@
-"""The events of a JSON log: how they are written and read, and what is not one."""
+"""The events of a JSON log: how they are written and read, and lines that are not events."""
 
 import io
 import json

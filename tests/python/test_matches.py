@@ -1,4 +1,4 @@
-"""Matches by ground descriptions, in a game whose every state is written down here, and the phases of its matches."""
+"""Matches by ground descriptions, in a game with all of its states written down here, and the phases of its matches."""
 
 import unittest
 

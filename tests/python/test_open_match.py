@@ -1,4 +1,4 @@
-"""A match from INFO to its files. The processes are stand-ins that a test lays down, and nothing is waited for."""
+"""A match from INFO to its files. The processes are fake, and nothing waits."""
 
 import asyncio
 import dataclasses
@@ -26,7 +26,7 @@ OPENED = '{"event":"open","match":"cup-001","time":1}\n'
 
 
 class Judge(Referee):
-    """A referee whose verdicts a test lays down: a text, whether the record was made again, or an error."""
+    """A referee with the verdicts of the test: a text, whether the record was reproduced, or an error."""
 
     verdict, is_replayed = "lawful", True
 
@@ -44,7 +44,7 @@ class Judge(Referee):
 
 
 class Said:
-    """A reporter that keeps what it is given."""
+    """A reporter that records its lines."""
 
     def __init__(self):
         self.lines, self.notes, self.begun = [], [], []
@@ -108,7 +108,7 @@ class WithMatch(unittest.TestCase):
         self.laid_down["played"] = (0, self.record + self.account, OPENED)
 
     def go(self):
-        """Has the match go on until it is over. As `play` does, it frees what is not free then."""
+        """Runs the match until it is over, and releases its resources like `play` does."""
         try:
             asyncio.run(self.open.go())
         finally:
@@ -206,7 +206,7 @@ class Whole(WithMatch):
 
 class Asking(WithMatch):
     def asked(self, *answers, head=None):
-        """Has both players answer so, and returns whether it was played, why not, and what was said."""
+        """Sets the answers of both players. Returns whether the match was played, why not, and the reports."""
         if head:
             self.begin(head)
         self.laid_down |= dict(zip(("ann@h:1", "bob@h:2"), answers))
@@ -272,7 +272,7 @@ class Asking(WithMatch):
 
 class Checking(WithMatch):
     def checked(self, played=b"", **verdicts):
-        """Returns why a match does not count by these verdicts, and the files that are kept of it."""
+        """Returns why a match does not count with these verdicts, and its files."""
         if played:
             self.laid_down["played"] = (0, played, OPENED)
         for name, verdict in verdicts.items():
@@ -283,7 +283,7 @@ class Checking(WithMatch):
         return self.open.why, self.files()
 
     def assert_whole(self):
-        """Looks that each file that is kept has what it is to have."""
+        """Checks the contents of each file."""
         for name in self.files():
             data = (self.plan.folder.path / name).read_bytes()
             self.assertEqual(data, {"r": self.record, "a": self.account, "l": OPENED.encode()}[name[0]], name)
@@ -360,7 +360,7 @@ class Checking(WithMatch):
 
 
 class Jobs(WithMatch):
-    """What a job on a node may send of a match."""
+    """Reports of a match from a job on a node."""
 
     def setUp(self):
         super().setUp()

@@ -1,4 +1,4 @@
-"""What a program that shares nothing with the referee says of records, beside what the referee says."""
+"""The verdicts of an independent program on records, compared with the referee's."""
 
 import subprocess
 

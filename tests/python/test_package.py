@@ -1,4 +1,4 @@
-"""The package as others see it: each command has its launcher and its entry point, and no module stands outside of it."""
+"""The package from outside: each command has its launcher and its entry point, and all modules are in it."""
 
 import os
 import pathlib
@@ -29,7 +29,7 @@ class Package(unittest.TestCase):
 
 
 class WithoutPackages(InFolder):
-    """Python where the packages for pages are missing."""
+    """Python without the packages for pages."""
 
     def setUp(self):
         super().setUp()

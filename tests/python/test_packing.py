@@ -1,4 +1,4 @@
-"""How an archive is packed and unpacked: what `pack` writes is unpacked by all programs alike, and everything else is refused."""
+"""How an archive is packed and unpacked: all programs unpack the output of `pack` alike, and everything else is refused."""
 
 import gzip
 import io
@@ -44,7 +44,7 @@ def unpacked(tar):
 
 
 def block(name, kind=tarfile.REGTYPE, data=b"", change=None, form=tarfile.USTAR_FORMAT):
-    """Returns a header and the bytes behind it; a change is made to the header before it is summed up."""
+    """Returns a header and the bytes after it. A change is applied to the header before its checksum is computed."""
     member = tarfile.TarInfo(name)
     member.type, member.size, member.mode = kind, len(data), 0 if kind == tarfile.XHDTYPE else 0o644
     header = bytearray(member.tobuf(form))

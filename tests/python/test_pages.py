@@ -1,4 +1,4 @@
-"""The pages of 300 matches: each link leads to a page that is there, and what names and rules say is text."""
+"""The pages of 300 matches: each link leads to an existing page, and names and rules appear as text."""
 
 import json
 import os
@@ -40,7 +40,7 @@ def log_of(match, *lines):
 
 
 def record_of(match, number):
-    """Returns a record of a match, with texts that no page may take for anything but text."""
+    """Returns a record of a match with hostile texts, which pages must show as text."""
     return {
         "cause": None, "endMarks": ["", ""], "errors": [["", "IL <script>"]], "goalValues": [number % 101, 50], "matchId": match.id,
         "moves": [["<b>", "noop"]], "phase": "finished", "playClock": 10, "players": list(match.players), "roles": ["<i>", "b"],

@@ -49,19 +49,19 @@ def head_of(sentence: Expression) -> Expression:
 
 
 def places(sentences: Sentences, names: tuple[str, ...]) -> list[int]:
-    """Returns where rules with heads of these relations stand."""
+    """Returns the indices of rules with heads of these relations."""
     return [at for at, sentence in enumerate(sentences) if sentence[0] == "<=" and relation(head_of(sentence))[0] in names]
 
 
 def dropped(name: str, dice: random.Random) -> Sentences:
-    """The rules without one of a `legal` or a `next`."""
+    """Returns the rules without one of a `legal` or a `next`."""
     sentences = right_rules(name)
     at = dice.choice(places(sentences, ("legal", "next")))
     return sentences[:at] + sentences[at + 1 :]
 
 
 def swapped(name: str, dice: random.Random) -> Sentences:
-    """The rules with two legal moves of a role in each other's place."""
+    """Returns the rules with two legal moves of a role swapped."""
     sentences = right_rules(name)
     heads = list(dict.fromkeys(head_of(sentence) for sentence in sentences if relation(head_of(sentence)) == ("legal", 2)))
     role = dice.choice(heads)[1]
@@ -79,7 +79,7 @@ def swapped(name: str, dice: random.Random) -> Sentences:
 
 
 def goal_off(name: str, dice: random.Random) -> Sentences:
-    """The rules with a goal that is off by one."""
+    """Returns the rules with a goal that is off by one."""
     sentences = right_rules(name)
     at = dice.choice(places(sentences, ("goal",)))
     _, role, value = head_of(sentences[at])
@@ -88,21 +88,21 @@ def goal_off(name: str, dice: random.Random) -> Sentences:
 
 
 def without_last_literal(name: str, dice: random.Random) -> Sentences:
-    """The rules with one that has lost its last literal."""
+    """Returns the rules with one that has lost its last literal."""
     sentences = right_rules(name)
     at = dice.choice([at for at, sentence in enumerate(sentences) if sentence[0] == "<=" and len(sentence) > 3])
     return [*sentences[:at], sentences[at][:-1], *sentences[at + 1 :]]
 
 
 def in_half_the_rounds(name: str) -> Sentences:
-    """The rules with the cycle unrolled in half the rounds that it needs."""
+    """Returns the rules with the cycle unrolled in half of the rounds that it needs."""
     last = rounds.last_round
     with mock.patch.object(rounds, "last_round", lambda circle, rules_for: last(circle, rules_for) // 2):
         return instantiated(description(name), making.ALWAYS)
 
 
 def wound(sentences: Sentences) -> Record:
-    """The record of the match in which red's stones wind from side to side."""
+    """Returns the record of the match in which red's stones wind from side to side."""
     match = begun(sentences)
     cells = [("place", x, y) for x, y in WINDING]
     others = sorted({head[2] for head in match.game.rules if relation(head) == ("legal", 2) and head[1] == "blue" and head[2] not in (*cells, "noop")})
@@ -114,7 +114,7 @@ def wound(sentences: Sentences) -> Record:
 
 
 def reached(name: str, plant: Plant) -> tuple[Sentences, Record, Record]:
-    """Rules with something planted, and the records of a match that reaches it: by these and by the right rules."""
+    """Returns wrong rules, and the records of a match that reaches the error, by these and by the right rules."""
     for number in range(TRIES):
         wrong = plant(name, random.Random(f"{name} {number}"))
         record = played(wrong, number)
@@ -125,7 +125,7 @@ def reached(name: str, plant: Plant) -> tuple[Sentences, Record, Record]:
 
 
 def script_of(record: Record) -> list[str]:
-    """The lines from which a desk makes this record."""
+    """Returns the script from which `desk` makes this record."""
     name, roles = record["matchId"], range(len(record["roles"]))
     lines = [f"open {name} 0 {record['startClock']} {record['playClock']} {' '.join(record['players'])}"]
     lines += [f"submit {name} {role} 0 READY" for role in roles]
@@ -139,13 +139,13 @@ def script_of(record: Record) -> list[str]:
 
 
 def asked(command: str, rules: str, data: str) -> list[str]:
-    """The lines that the program prints with these rules."""
+    """Returns the output of the program with these rules."""
     done = subprocess.run([program(), command, "--rules-file", rules], input=data, stdout=subprocess.PIPE, text=True, check=True)
     return done.stdout.splitlines()
 
 
 def made_by_program(sentences: Sentences, record: Record) -> str:
-    """The record that the program makes of the same answers by these rules. It has to find that lawful, and to replay it."""
+    """Returns the record that the program makes of the same answers by these rules. The program must accept and replay it."""
     with tempfile.NamedTemporaryFile("w", suffix=".kif") as file:
         file.write("".join(f"{spelled(sentence)}\n" for sentence in sentences))
         file.flush()
@@ -162,7 +162,7 @@ def made_by_program(sentences: Sentences, record: Record) -> str:
 @unittest.skipUnless(shutil.which("gringo"), "gringo is not installed")
 class Planted(unittest.TestCase):
     def assert_found(self, name: str, wrong: Sentences, record: Record, right: Record) -> None:
-        """Looks that what is wrong is found in the program's record, and nothing in the right one."""
+        """Checks that the error is found in the program's record, and nothing in the right one."""
         line = made_by_program(wrong, record)
         self.assertEqual({key: json.loads(line)[key] for key in ("moves", "errors", "states", "goalValues")}, {key: record[key] for key in ("moves", "errors", "states", "goalValues")})
         status, words = holding(name).held(line)

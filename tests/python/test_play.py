@@ -1,4 +1,4 @@
-"""How matches are played: players that are busy, silent, or sit in several matches; Ctrl-C; a full disk; two runs in one folder."""
+"""How matches are played: busy and silent players, players in several matches, Ctrl-C, a full disk, and two runs in one directory."""
 
 import contextlib
 import json
@@ -28,7 +28,7 @@ def lines(out, word):
 
 
 def read_to_close(terminal):
-    """Returns all that comes out of a terminal until its other end is closed."""
+    """Returns all output of a terminal until its other end is closed."""
     said = b""
     with contextlib.suppress(OSError):
         while piece := os.read(terminal, 4096):
@@ -181,7 +181,7 @@ class Play(InFolder):
         self.assert_sound(self.schedule)
 
     def most_at_once(self, more, most):
-        """Plays among slow players that take so many matches. Returns in how many at once one of them sat."""
+        """Plays among slow players that accept this many matches. Returns the maximum number of simultaneous matches of a player."""
         self.planned(["slow"] * 3, more=more, most=most)
         status, _, _ = run(self.folder, "play", "--at-once", "6")
         self.assertEqual((status, [player.clashes for player in self.players]), (0, [[]] * 3))
@@ -205,12 +205,12 @@ class Play(InFolder):
         self.assert_sound(self.schedule)
 
     def let_think(self, seconds):
-        """Has the players think so long before each move. A match has two moves of each at least."""
+        """Lets the players think this long before each move. Each player has at least two moves in a match."""
         for player in self.players:
             player.thinks = seconds
 
     def interrupted(self, *signals):
-        """Plays among slow players, and sends it these signals while the first matches are open."""
+        """Plays among slow players, and sends these signals while the first matches are open."""
         self.planned(["slow"] * 4, head="start = 5\nplay = 5\n")
         self.let_think(1)
         # The tests themselves may run under nohup.
@@ -264,8 +264,8 @@ class Play(InFolder):
         self.look_at_ended_ones(self.interrupted(signal.SIGHUP))
 
     def hung_up(self, *outputs):
-        """Plays with these outputs at a terminal that goes away while the first match is open, and ignores the hang-up. Returns the
-        status and what was printed elsewhere."""
+        """Plays with these outputs on a terminal that goes away while the first match is open, and ignores the hang-up. Returns the exit status and
+        the other outputs."""
         self.planned(["slow"] * 3)
         ours, theirs = pty.openpty()
         ignored = {"preexec_fn": lambda: signal.signal(signal.SIGHUP, signal.SIG_IGN)}
@@ -302,7 +302,7 @@ class Play(InFolder):
         self.assert_sound(self.schedule)
 
     def at_play(self):
-        """Returns how many processes play matches of this folder."""
+        """Returns how many processes play matches of this directory."""
         commands = []
         for file in pathlib.Path("/proc").glob("[0-9]*/cmdline"):
             try:
@@ -361,7 +361,7 @@ class Play(InFolder):
         self.assert_sound(self.schedule)
 
     def held_up(self):
-        """Plays until a match is open, which goes on once the file `go` is there."""
+        """Plays until a match is open, which continues once the file `go` exists."""
         self.planned(["slow", "slow"])
         waiting = program_but(self.folder / "waiting", '"$1" = run', f"until [ -e {self.folder}/go ]; do sleep 0.05; done")
         playing = start(self.folder, "play", "--program", waiting)
@@ -426,7 +426,7 @@ class Play(InFolder):
         self.assertTrue((self.folder / "records/cup-001.json.refused").exists())
 
     def files(self):
-        """Returns the files of the matches, by their names."""
+        """Returns the files of the matches by name."""
         return {str(file.relative_to(self.folder)): file.read_bytes() for kind in ("records", "accounts", "logs") for file in (self.folder / kind).iterdir()}
 
     def test_what_can_not_be_checked_is_not_touched(self):

@@ -1,5 +1,5 @@
-"""What `play` does with many matches: which begin, what becomes of those that end, and what is there before and after. The matches are
-stand-ins that go on as a test lays down."""
+"""How `play` handles many matches: which begin, what happens when they end, and the files before and after. The matches are fake, and follow the
+test's instructions."""
 
 import asyncio
 import collections
@@ -25,7 +25,7 @@ from live_support import plan_in
 
 
 class Said:
-    """A reporter that keeps what it is given."""
+    """A reporter that records its lines."""
 
     def __init__(self):
         self.lines, self.ended, self.shown, self.drawn = [], [], [], []
@@ -48,8 +48,8 @@ class Said:
 
 
 class Standing:
-    """A match that is open. What it does is what a test lays down for its id, step by step: a stage, or a call. One of each match is enough
-    unless a list of such lists is laid down."""
+    """An open match. It follows the test's instructions for its id, step by step: a stage, or a call. There is one list of steps, or one for each run
+    of the match."""
 
     laid_down: dict = {}
     begun: list = []
@@ -78,7 +78,7 @@ class Standing:
 
 
 def over(**more):
-    """Returns a step with which a match is over, with these of its attributes."""
+    """Returns a step that ends a match with these attributes."""
 
     def step(match):
         for name, value in more.items():
@@ -113,7 +113,7 @@ class WithMatches(unittest.TestCase):
         self.playing = Playing(self.plan, "referee", Seats(self.plan.competition), self.reporter, at_once)
 
     def go(self, **laid_down):
-        """Plays all matches, each as is laid down for its id."""
+        """Plays all matches, each by the instructions for its id."""
         Standing.laid_down |= {match.replace("_", "-"): steps for match, steps in laid_down.items()}
         self.playing.waiting.extend(self.plan.matches)
         asyncio.run(self.playing.go())
@@ -307,7 +307,7 @@ class Going(WithMatches):
 
 
 class Before(WithMatches):
-    """What is there already, when `play` begins."""
+    """Files that exist when `play` begins."""
 
     def setUp(self):
         super().setUp()

@@ -1,4 +1,4 @@
-"""The plots of pages: what they show follows from the figures, and they are the same on each computer."""
+"""The plots of pages depend only on the figures, and are the same on each computer."""
 
 import re
 import unittest

@@ -1,4 +1,4 @@
-"""Random descriptions are instantiated in four forms that are one game, that of the description; and a fault in that shows."""
+"""Random descriptions are grounded in four forms of the same game, and errors in that are detected."""
 
 import shutil
 import unittest

@@ -1,5 +1,5 @@
-"""Random matches of a game: each is that of its seed, played to its end by legal moves, and held against what the program's desk makes of it.
-The desk is a stand-in, which plays the script's lines."""
+"""Random matches of a game: each is determined by its seed, has only legal moves, and is compared with the referee's desk. The desk is fake, and
+plays the lines of the script."""
 
 import json
 import random
@@ -22,8 +22,7 @@ NO_GOAL = b"(role ann) (init (step 1)) (legal ann go) (<= (next (step 2)) (true 
 
 
 def desk_of(rules, kept, changes=(), **answer):
-    """Returns what stands for the program: it keeps what it is asked, and prints the record of each match of the script, with changes of
-    some of them by their ids."""
+    """Returns a fake program: it records the scripts, and prints the record of each match, with changes of some of them by id."""
 
     def desk(words, input, **more):
         kept.append((words, input.decode(), more))
@@ -145,7 +144,7 @@ class Matches(WithDesk):
 
         self.reporter.draw, self.now = later, 1.0
         found = self.play(RULES, 1, 9, seconds=50)
-        self.assertEqual(found.notes, [f"the time was over: in 50 s there were {len(found.ended)} of 9 matches and {random_matches.counted(found.turns, 'turn')} of the next one"])
+        self.assertEqual(found.notes, [f"out of time: in 50 s there were {len(found.ended)} of 9 matches and {random_matches.counted(found.turns, 'turn')} of the next one"])
         self.assertEqual((self.drawn[:2], len(found.ended) > 0, self.kept[0][1].count("open")), (["match 1 of 9, 0 turns", "match 1 of 9, 1 turns"], True, 1))
         self.assertEqual(self.drawn[-1], "the program's desk")
         self.assertEqual([random_matches.counted(number, "turn") for number in (0, 1, 2, 1_000)], ["0 turns", "1 turn", "2 turns", "1,000 turns"])
@@ -164,7 +163,7 @@ class Matches(WithDesk):
     def test_rules_that_are_too_deep(self):
         with mock.patch.object(RandomMatches, "play", side_effect=RecursionError):
             found = self.play(RULES)
-        self.assertEqual((found.is_too_deep, found.notes), (True, ["the interpreter can't play it: its rules ask for one another too deeply"]))
+        self.assertEqual((found.is_too_deep, found.notes), (True, ["the interpreter cannot play it: its rules are nested too deeply"]))
 
 
 class Scripts(WithDesk):

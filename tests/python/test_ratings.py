@@ -1,5 +1,4 @@
-"""Ratings: against what is known in closed form, against slow computations by other ways, against players whose strengths are known, and
-where there are none."""
+"""Ratings, compared with closed forms, with slow computations by other methods, and with players of known strengths, and cases without ratings."""
 
 import math
 import random
@@ -17,7 +16,7 @@ SCALE, SPREAD = 173.71779276, 1.959964
 
 @strategies.composite
 def drawn_points(draw):
-    """Returns players, and what some pairs of them got against each other."""
+    """Returns players, and the points of some pairs."""
     players = draw(strategies.permutations("abcdef"))[: draw(strategies.integers(2, 6))]
     got = strategies.sampled_from((0, 0, 0.5, 1, 2.5, 40))
     pairs = [(player, opponent) for player in players for opponent in players if player < opponent]
@@ -25,13 +24,13 @@ def drawn_points(draw):
 
 
 def expected(player, points, logs):
-    """Returns what the strengths let a player expect against those that it met within its group."""
+    """Returns the expected points of a player against those that it met in its group, by the strengths."""
     met = {other: points[player, other] + points[other, player] for other in logs if (player, other) in points}
     return sum(count / (1 + math.exp(logs[other] - logs[player])) for other, count in met.items())
 
 
 def reached(players, points):
-    """Returns for each player those to whom a chain of points leads."""
+    """Returns for each player those that a chain of points leads to."""
     found = {player: {player} for player in players}
     for _ in players:
         for (player, opponent), got in points.items():
@@ -56,7 +55,7 @@ def iterated(players, points):
 
 
 def solved(matrix, right):
-    """Returns the solution of linear equations, by Gauss's elimination."""
+    """Solves linear equations by Gauss's elimination."""
     rows = [[*row, value] for row, value in zip(matrix, right)]
     for at in range(len(rows)):
         pivot = max(range(at, len(rows)), key=lambda row: abs(rows[row][at]))
@@ -69,7 +68,7 @@ def solved(matrix, right):
 
 
 def halves(players, points, logs):
-    """Returns half the interval of each rating: in terms of all players but the last one, whose logarithm is minus the sum of the others."""
+    """Returns half of the interval of each rating, in terms of all players but the last, whose logarithm is minus the sum of the others."""
     count = len(players)
 
     def information(row, column):
@@ -89,7 +88,7 @@ def halves(players, points, logs):
 
 
 def played(chance, strengths, matches):
-    """Returns the points of players of these strengths, of whom each pair plays so many matches."""
+    """Returns the points of players of these strengths. Each pair plays this many matches."""
     points = {}
     for player, strength in strengths.items():
         for opponent, against in strengths.items():

@@ -1,5 +1,4 @@
-"""How records are followed: the rules that a description comes to, what is looked up first, how rules are compiled, and what is told of a
-record."""
+"""How records are followed: parsing of rules, query plans, compilation, and reports."""
 
 import random
 import re
@@ -36,14 +35,14 @@ class Terms(unittest.TestCase):
         for text in ("", "a b", "(a) b", " ; a"):
             with self.assertRaises(NotFollowed) as why:
                 term_of(text)
-            self.assertEqual(str(why.exception), "it is no record: a text of it is not one term")
+            self.assertEqual(str(why.exception), "it is not a record: a text of it is not one term")
 
     def test_a_rule_may_have_no_condition(self):
         self.assertEqual(rules("(<= (p a)) (<= q) (<= (terminal) (p))"), [Rule(0, ("p", 1), ("a",), ()), Rule(1, ("q", None), (), ()), Rule(2, ("terminal", None), (), (Asked(True, ("p", 0), ()),))])
 
 
 def nested(levels):
-    """Returns a term of so many lists in one another."""
+    """Returns a term with this many nested lists."""
     term = "a"
     for _ in range(levels):
         term = ("f", term)
@@ -51,13 +50,13 @@ def nested(levels):
 
 
 class Levels(unittest.TestCase):
-    """64 lists in one another are taken, as the referee takes them, and 65 are refused."""
+    """64 nested lists are accepted, as by the referee, and 65 are refused."""
 
     def test_lists_in_one_another_in_a_text(self):
         self.assertEqual(term_of("(f " * 64 + "a" + ")" * 64), nested(64))
         with self.assertRaises(KifFault) as why:
             term_of("(f " * 65 + "a" + ")" * 65)
-        self.assertEqual(str(why.exception), "more than 64 lists in one another")
+        self.assertEqual(str(why.exception), "lists are nested more than 64 deep")
         self.assertEqual(expressions("(f " * 65 + "a" + ")" * 65, 65), [nested(65)])
 
     def test_lists_in_one_another_in_a_term_that_rules_make(self):
@@ -66,7 +65,7 @@ class Levels(unittest.TestCase):
         for term in (nested(65), ("f", nested(64), "a"), ("f", "a", nested(64)), nested(200)):
             with self.assertRaises(NotFollowed) as why:
                 low(term)
-            self.assertEqual(str(why.exception), "a term has more than 64 lists in one another")
+            self.assertEqual(str(why.exception), "a term is nested more than 64 lists deep")
 
     def test_a_list_that_has_variables_is_built(self):
         self.assertEqual([is_built(term) for term in ("?x", "a", ("f", "a"), ("f", ("g", "?x")))], [False, False, False, True])
@@ -168,7 +167,7 @@ class Positions(unittest.TestCase):
 
 
 class Estimates(unittest.TestCase):
-    """How many answers a condition has by the estimate."""
+    """The estimated number of answers of a condition."""
 
     def setUp(self):
         text = "(e a b) (e a c) (e b c) (f a) (<= (d ?x) (e ?x ?y)) (<= (w ?x ?y) (e ?x ?y)) (<= (w ?x ?z) (w ?x ?y) (e ?y ?z)) (<= (big ?x ?y) (f ?x) (f ?y)) (big x y)"
@@ -223,7 +222,7 @@ class Estimates(unittest.TestCase):
 
 
 class Games(unittest.TestCase):
-    """What is asked of a game, and which sentences give it."""
+    """Queries about a game, and the sentences that derive the answers."""
 
     TEXT = """(role a) (role b) (init s) (n 1) (n 2) (legal a go) (<= (legal a stay) (true s)) (<= (legal a go) (true s)) (<= (legal b (m ?x)) (n ?x))
     (<= (next (did ?r ?m)) (does ?r ?m)) (<= terminal (true t)) (goal a 100) (goal a 5) (goal a 101) (goal a x) (goal a (f 1)) (goal a 05) (<= (goal b 7) (true s))"""
@@ -296,7 +295,7 @@ class Followed(unittest.TestCase):
 
     def test_the_place_of_a_term_is_that_of_its_parts(self):
         def before(first, second):
-            """Whether a term stands before another: numbers by value, and equal ones by their texts, then other atoms, then lists."""
+            """Returns whether a term comes before another: numbers by value, and equal ones by text, then other atoms, then lists."""
             if isinstance(first, tuple) and isinstance(second, tuple):
                 differ = next(((a, b) for a, b in zip(first, second) if a != b), None)
                 return before(*differ) if differ else len(first) < len(second)
@@ -333,10 +332,10 @@ class Followed(unittest.TestCase):
 
 
 class Compiled(unittest.TestCase):
-    """What is written of a rule, and what is kept from one state to the next."""
+    """The code of a rule, and which results are kept from one state to the next."""
 
     def sources(self, text):
-        """Returns the sources that are compiled where all is asked of a game in two states."""
+        """Returns the sources that are compiled for all queries in two states of a game."""
         written = []
         with mock.patch.object(compiling, "compile", lambda source, *more: written.append(source) or compile(source, *more), create=True):
             game = Game(text)
@@ -407,10 +406,10 @@ class Compiled(unittest.TestCase):
 
 
 class Steps(unittest.TestCase):
-    """How many lines of compiled rules run, whatever the machine."""
+    """How many lines of compiled rules run, on any machine."""
 
     def steps(self, game, state, *moves):
-        """Returns what is legal and what follows, and how many lines ran for it."""
+        """Returns the legal moves and the next state, and how many lines ran for it."""
         count = 0
 
         def trace(frame, event, argument):

@@ -1,5 +1,4 @@
-"""Hundreds of small competitions with random records: what the package says of them is what a plain computation says, which shares nothing
-with it (plain_competition.py)."""
+"""Hundreds of small competitions with random records: the package agrees with a simple independent computation (plain_competition.py)."""
 
 import pathlib
 import random
@@ -21,7 +20,7 @@ MANY = 120
 
 
 def tables(*words):
-    """Returns the tables without ratings, which have tests of their own."""
+    """Returns the tables without ratings, which have other tests."""
     return tables_of(*words, is_rated=False)
 
 
@@ -126,7 +125,7 @@ class Schedules(unittest.TestCase):
 
 class Rounds(unittest.TestCase):
     def played(self, chance, found, strikes, forfeit):
-        """Plays a competition by rounds. Returns its schedule, the records of each round, and all results."""
+        """Plays a competition in rounds. Returns its schedule, the records of each round, and all results."""
         records, results, by_round = {}, {}, []
         while True:
             growing = grown(History(), found, ROLES, lambda match: results.get(match.id))
@@ -140,7 +139,7 @@ class Rounds(unittest.TestCase):
             by_round.append([records[match.id] for match in new])
 
     def check_round(self, found, growing, by_round, forfeit):
-        """Compares the round that was planned last with the plain computation."""
+        """Compares the last planned round with the simple computation."""
         names, games, last = [player.name for player in found.players], [game.name for game in found.games], growing.rounds.found[-1]
         if found.form.kind == "swiss":
             before = [(round_before.pairs, (round_before.byes or (None,))[0]) for round_before in growing.rounds.found[:-1]]

@@ -1,4 +1,4 @@
-"""What is asked of the program and what is made of its answers: a stand-in says what the documents have the program say, and what it never does."""
+"""Calls of the referee, and how its answers are read. A fake referee gives answers as documented, and impossible ones."""
 
 import os
 import pathlib
@@ -43,17 +43,17 @@ class WithStandIn(unittest.TestCase):
         self.laid_down = 0
 
     def answers(self, out: bytes = b"", err: bytes = b"", status: int = 0) -> None:
-        """Lays down the answer to the next run."""
+        """Sets the answer to the next run."""
         for name, data in (("out", out), ("err", err), ("status", b"%d" % status)):
             (self.folder / f"{name}.{self.laid_down}").write_bytes(data)
         self.laid_down += 1
 
     def asked(self, run: int = 0) -> tuple[list[str], bytes]:
-        """Returns the words and the input of a run."""
+        """Returns the arguments and the input of a run."""
         return (self.folder / f"words.{run}").read_text().splitlines(), (self.folder / f"input.{run}").read_bytes()
 
     def assert_unchecked(self, words: str, ask, *more) -> None:
-        """Lays down an answer, and looks that nothing was checked by it."""
+        """Sets an answer, and expects that it is not a verdict."""
         self.begin_anew()
         self.answers(*more)
         with self.assertRaises(Unchecked) as why:

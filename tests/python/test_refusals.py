@@ -1,4 +1,4 @@
-"""A description that is refused: every command names the place, the sentence and what to do, in the same words."""
+"""A description that is refused: every command reports the place, the sentence and the advice, in the same words."""
 
 import contextlib
 import io

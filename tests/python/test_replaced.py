@@ -1,4 +1,4 @@
-"""Moves that were replaced: which are the last, and when they were; and a file that is read as it grows."""
+"""Substituted moves: the latest ones and their times; and reading a growing file."""
 
 import os
 import pathlib
@@ -35,7 +35,7 @@ class Moments(unittest.TestCase):
 
 
 class Text(NamedTuple):
-    """A line, which may begin with the seconds of its moment."""
+    """A line, which may begin with its time in seconds."""
 
     text: str
 

@@ -1,4 +1,4 @@
-"""How times are told, and the journal."""
+"""The format of times, and the journal."""
 
 import pathlib
 import re

@@ -1,4 +1,4 @@
-"""What a record says of its match: compared with plain counts, in words of this test's own."""
+"""The result of a match by its record, compared with a simple computation."""
 
 import json
 import unittest
@@ -129,7 +129,7 @@ class Outcomes(unittest.TestCase):
         return [found.outcome(role) for role in range(len(found.match.players))]
 
     def result(self, goals, lost=(), has_forfeits=True):
-        """Returns the result of a match, where these roles were retired."""
+        """Returns the result of a match in which these roles were retired."""
         roles = len(goals) or 2
         errors = [["TO" if role in lost else "" for role in range(roles)]]
         match = Match("m", "game", 1, 1, tuple(f"p{role}" for role in range(roles)))

@@ -32,13 +32,13 @@ SWISS = 'kind = "swiss"\nrounds = {}'
 
 
 def record(match, goals, **more):
-    """Returns what of a record its result is read from."""
+    """Returns the part of a record that its result depends on."""
     said = {"matchId": match.id, "players": list(match.players), "startClock": match.start, "playClock": match.play, "strikes": 0, "phase": "finished"}
     return {**said, "cause": None, "goalValues": goals, "moves": [["m", "m"]], "errors": [["", ""]], **more}
 
 
 def is_lawful(_, __, ___, matches):
-    """Stands in for what says that a match counts."""
+    """A fake check of whether a match counts."""
     return iter([(matches[0], None, None, object())])
 
 
@@ -59,7 +59,7 @@ class ByRounds(unittest.TestCase):
         return read_plan(self.folder.path, REFEREE)
 
     def play(self, plan, goals_of=lambda match: [100, 0] if match.players < match.players[::-1] else [0, 100]):
-        """Writes records of all matches that have none: the player with the lower number wins, unless it is said otherwise."""
+        """Writes records of all matches that have none. The player with the lower number wins by default."""
         for match in plan.matches:
             if not self.folder.record(match.id).exists() and match.counts():
                 self.folder.record(match.id).write_text(json.dumps(record(match, goals_of(match))) + "\n")

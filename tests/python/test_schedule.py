@@ -1,4 +1,4 @@
-"""The pairing: each pair as often as was asked, each player in each seat equally often, the same for the same competition."""
+"""Pairings: each pair meets as often as requested, each player plays each role equally often, and the result is the same for the same competition."""
 
 import itertools
 import math
@@ -28,7 +28,7 @@ def meetings(found):
 
 
 def plain_steps(count, roles, rounds):
-    """Returns the blocks of a round robin of three roles or more: who stands how often so far from whom is counted anew for each seat."""
+    """Returns the blocks of a round robin of three or more roles, with all counts computed anew for each role."""
     found = []
     for _ in range(math.ceil((count - 1) / math.comb(roles, 2)) * rounds):
         found.append([0])

@@ -1,4 +1,4 @@
-"""Which matches may begin: players that are asked in vain for several matches at once, and a long queue in which none can begin."""
+"""Which matches may begin: players that do not answer for several matches at once, and a long queue in which none can begin."""
 
 import math
 import time
@@ -33,7 +33,7 @@ class SomeSeats(unittest.TestCase):
         self.assertEqual([self.seats.was_not_there("p0", time.monotonic()) for _ in range(4)], [True, True, False, False])
 
     def begins(self, now):
-        """Returns whether a match begins, and how many were looked at for it."""
+        """Returns whether a match begins, and how many were considered."""
         looked, can_sit = [], type(self.seats).can_sit
 
         def counted(match, now):
@@ -78,7 +78,7 @@ class SomeSeats(unittest.TestCase):
 
 
 class Moments(unittest.TestCase):
-    """Each moment is given: who is asked in vain at 100 s rests for 5 s."""
+    """Times are given: a player that does not answer at 100 s rests for 5 s."""
 
     def setUp(self):
         players = [(name, f"h:{at + 1}", "concurrent = 2") for at, name in enumerate(("ann", "bob", "cid"))]

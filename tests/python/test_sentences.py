@@ -1,4 +1,4 @@
-"""Sentences as they are read: in how many ways they may hold, and what is refused, with the sentence and the reason."""
+"""Parsing of sentences: the ways in which they can hold, and refusals with the sentence and the reason."""
 
 import unittest
 

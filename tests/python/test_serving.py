@@ -1,4 +1,4 @@
-"""The live pages, over HTTP: what stands there as matches go, what is refused, and that a page is told of what changes."""
+"""The live pages over HTTP: their contents during matches, refused requests, and notifications of changes."""
 
 import asyncio
 import contextlib
@@ -36,7 +36,7 @@ HOSTILE = ["<script>alert(1)</script>", "\"'><img src=x onerror=alert(1)>", "</t
 
 
 class Served(unittest.TestCase):
-    """A server of a competition in a folder. Nobody looks at the folder but the tests."""
+    """A server of a competition in a directory. Only the tests read the directory."""
 
     MOST = 40
     STRIKES = BASE = ""
@@ -67,7 +67,7 @@ class Served(unittest.TestCase):
         self.server.end()
 
     def in_loop(self, function, *values):
-        """Calls a function in the loop of the server, and returns what it or its coroutine returns."""
+        """Calls a function in the event loop of the server, and returns its result, or that of its coroutine."""
 
         async def called():
             found = function(*values)
@@ -79,7 +79,7 @@ class Served(unittest.TestCase):
         self.in_loop(self.server.look)
 
     def ask(self, path, method="GET", **headers):
-        """Returns the status and the text of an answer."""
+        """Sends a request. Returns the status and the text of the answer."""
         asking = http.client.HTTPConnection("127.0.0.1", self.port, timeout=60)
         with contextlib.closing(asking):
             asking.request(method, path, headers=headers)
@@ -103,7 +103,7 @@ class Served(unittest.TestCase):
         return self.opened(f"""/{re.search('data-events="([^"]*)"', page)[1].replace('../', '')}""")
 
     def next_event(self, answer):
-        """Returns what the next event tells; lines that only say that the server is there are skipped."""
+        """Returns the data of the next event. Keep-alive lines are skipped."""
         while not (said := answer.readline()).startswith(b"data: "):
             self.assertNotEqual(said, b"")
         return json.loads(said.removeprefix(b"data: "))
@@ -346,7 +346,7 @@ class Pages(Served):
             self.assertIn("0 matches are open, 6 wait.", self.page("/"))
 
     def test_players_that_were_restarted_are_named_once_that_says_nothing_of_a_turn(self):
-        """A player that has died answers nothing: another one of the same turn must not learn that."""
+        """A player that has died does not answer. Others of the same turn must not learn that."""
         commands = (Mock(restart=WHEN_DEAD), Mock(restart=EACH_MATCH), None)
         players = tuple(dataclasses.replace(player, command=command) for player, command in zip(self.plan.competition.players, commands))
         self.plan.competition = dataclasses.replace(self.plan.competition, players=players)
@@ -366,7 +366,7 @@ class Pages(Served):
 
 
 class Delayed(Served):
-    """What is shown so many seconds late. The tests move the clock and the time of day."""
+    """Pages with a delay of some seconds. The tests control the clock and the time of day."""
 
     def setUp(self):
         super().setUp()
@@ -376,13 +376,13 @@ class Delayed(Served):
         self.begin_late()
 
     def begin_late(self):
-        """Serves another folder."""
+        """Serves another directory."""
         plan = self.plan = plan_in(self.enterContext(tempfile.TemporaryDirectory()), ["ann", "bob", "cid"])
         self.site = self.server.site = LiveSite(plan, Referee(program()), lambda: plan, delay=60)
         self.look()
 
     def look_at(self, seconds):
-        """Looks at the folder so many seconds later. Returns what the first page says of how many matches are open and over."""
+        """Reads the directory this many seconds later. Returns how many matches are open and over by the first page."""
         self.moment += seconds
         self.look()
         first = self.page("/")
@@ -482,7 +482,7 @@ class Limits(Served):
             time.sleep(0.01)
 
     def hold(self, count, is_idle):
-        """Opens so many connections, which have asked for something or not, as far as the server knows."""
+        """Opens this many connections, with or without a request, until the server knows them."""
         held = [self.connect() for _ in range(count)]
         self.until(lambda: len(self.visitors.connections) == count)
         for connection in self.visitors.connections if not is_idle else ():
@@ -530,7 +530,7 @@ class Limits(Served):
             self.assertLess(taken, 64 << 20)
 
     def ask_and_leave(self, path):
-        """Asks for something, and resets the connection."""
+        """Sends a request, and resets the connection."""
         asking = socket.create_connection(("127.0.0.1", self.port), timeout=60)
         asking.setsockopt(socket.SOL_SOCKET, socket.SO_LINGER, struct.pack("ii", 1, 0))
         asking.sendall(f"GET {path} HTTP/1.1\r\nHost: localhost\r\n\r\n".encode())
@@ -700,7 +700,7 @@ class Command(InFolder):
                 self.look_at_a_server_until(number)
 
     def look_at_a_server_until(self, number: int) -> None:
-        """Starts a server as a shell does in the background, where interrupts are ignored, and ends it by this signal."""
+        """Starts a server like a shell does in the background, where interrupts are ignored, and ends it by this signal."""
         ignoring = {"preexec_fn": lambda: signal.signal(signal.SIGINT, signal.SIG_IGN)}
         with start(self.folder, "serve", "--port", "0", **ignoring) as serving_it:
             address = serving_it.stdout.readline().strip()
@@ -724,7 +724,7 @@ class Changes(unittest.TestCase):
         return Items("list", "<ul id=list>", tuple((name, f"<li id={name[0]}>{name}</li>") if len(name) > 1 else (name, f"<li id={name}>") for name in names), "</ul>")
 
     def applied(self, told, names):
-        """Returns the items that a browser has after it was told of changes."""
+        """Returns the items in a browser after these changes."""
         names = [name for name in names if name not in told["drop"]]
         for _, before, text in told["add"]:
             names.insert(names.index(before) if before else len(names), re.search("id=([a-z])", text)[1])

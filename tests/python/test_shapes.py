@@ -1,4 +1,4 @@
-"""The shapes of what a record says, by the words of docs/RECORDS.md."""
+"""The shapes of the keys of a record, by docs/RECORDS.md."""
 
 import unittest
 

@@ -1,5 +1,5 @@
-"""The pages that ggp-show-record makes of records: each turn, state, move and mark of the record is there, all text as text, and nothing that
-a browser would load or run except the page's own script. What is not a record is refused with the reason."""
+"""The pages of ggp-show-record: they have each turn, state, move and mark of the record, all text as text, and nothing that a browser would load or
+run except the page's own script. Other files are refused with the reason."""
 
 import copy
 import json
@@ -53,7 +53,7 @@ ATTRIBUTES = {"lang", "charset", "name", "http-equiv", "content", "class", "id",
 
 
 def made(record):
-    """Returns the page of a record, or of these bytes; or what is wrong with them."""
+    """Returns the page of a record, or of these bytes, or the error."""
     data = record if isinstance(record, bytes) else json.dumps(record).encode()
     try:
         return show.page_of(show.read_record(data)), ""
@@ -62,20 +62,20 @@ def made(record):
 
 
 def rows_of_text(cells: list, count: int) -> list[list[str]]:
-    """Returns the texts of cells, so many in a row."""
+    """Splits the texts of cells into rows."""
     texts = [cell.text for cell in cells]
     return [texts[at : at + count] for at in range(0, len(texts), count)]
 
 
 def texts_of(record):
-    """Returns the texts that the page has to show, by where they stand."""
+    """Returns the texts that the page must show, by place."""
     moves = [visible(text) for turn in record["moves"] for text in turn]
     errors = [visible(text) for turn in record["errors"] for text in turn if text]
     return moves, errors, [visible(role) for role in record["roles"]], [visible(player) for player in record["players"]]
 
 
 def parts_of(record: dict) -> tuple[dict, dict]:
-    """Returns what the page of the record has, and what it must have."""
+    """Returns the contents of the page of the record, and the expected contents."""
     page, error = made(record)
     assert not error and page.isascii()
     shown = parsed(page)
@@ -121,7 +121,7 @@ def parts_of(record: dict) -> tuple[dict, dict]:
 
 
 def hostile(record):
-    """Returns the record with texts in the places of its own that no page may take for anything but text."""
+    """Returns the record with hostile texts, which pages must show as text."""
     other = copy.deepcopy(record)
     for at, text in enumerate(HOSTILE):
         turn, role = at % len(other["moves"]), at % len(other["roles"])
@@ -133,7 +133,7 @@ def hostile(record):
 
 
 def refusals(record):
-    """Returns what is no record, each with words that have to be said of it."""
+    """Returns texts that are not records, each with words of the error message."""
     without = {key: {other: value for other, value in record.items() if other != key} for key in record}
     return [
         (b"", "not JSON"),
@@ -160,7 +160,7 @@ def example(name: str) -> dict:
 
 
 def refereed() -> dict:
-    """Returns the record that the program writes of a match whose roles are retired."""
+    """Returns the program's record of a match whose roles are retired."""
     said = subprocess.run([program(), "desk", "--countdown", "9"], input=SCRIPT, stdout=subprocess.PIPE, text=True, check=True).stdout
     return json.loads(said.splitlines()[-1])
 

@@ -1,4 +1,4 @@
-"""What a player did in a match: its goal, its times and its errors, as a record and a log say them."""
+"""The facts about a player in a match: its goal, its times and its errors, from record and log."""
 
 import unittest
 from dataclasses import replace
@@ -14,7 +14,7 @@ MATCH = Match("cup-001", "nim", 10, 5, ("ann", "bob"))
 
 
 def record(*errors: list[str]) -> dict:
-    """Returns the record of a match with these errors, in which each turn has moves of its own."""
+    """Returns the record of a match with these errors. Each turn has different moves."""
     moves = [[f"a{turn}", f"b{turn}"] for turn in range(1, len(errors) + 1)]
     return {"roles": ["x", "o"], "goalValues": [100, 0], "moves": moves, "errors": list(errors), "strikes": 2, "phase": "finished", "cause": None}
 

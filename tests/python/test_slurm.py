@@ -1,4 +1,4 @@
-"""Matches through Slurm: a controller and three nodes on this computer, of which one is killed and one is cut off in the middle."""
+"""Matches through Slurm: a controller and three nodes on this computer. One node is killed, and one is cut off."""
 
 import json
 import os
@@ -48,7 +48,7 @@ TOOLS = ("munged", "slurmctld", "slurmd", "srun", "sbatch", "sinfo")
 
 
 def why_not():
-    """Returns why a cluster can't be started here, or none."""
+    """Returns why a cluster cannot be started here, or None."""
     if os.geteuid():
         return "only root can start the nodes of a cluster"
     missing = [tool for tool in TOOLS if not shutil.which(tool)]
@@ -90,7 +90,7 @@ class Cluster:
         return subprocess.run(words, env=self.environment, capture_output=True, text=True)
 
     def processes(self, node=None):
-        """Returns the processes of a node, or of all: its daemon, the jobs, and what hands on their output."""
+        """Returns the processes of a node, or of all: its daemon, the jobs, and those that pass on their output."""
         found, ours = [], [f"SLURM_CONF={self.room}/slurm.conf".encode(), *([f"SLURMD_NODENAME={node}".encode()] if node else [])]
         for place in pathlib.Path("/proc").glob("[0-9]*"):
             try:
@@ -102,14 +102,14 @@ class Cluster:
         return found
 
     def kill(self, node):
-        """Kills a node with all that runs there."""
+        """Kills a node with all of its processes."""
         self.started[1 + NODES.index(node)].kill()
         jobs = self.processes(node)
         for process in {parent for _, parent in jobs} | {process for process, _ in jobs}:
             self.send(process, signal.SIGKILL)
 
     def cut_off(self, node):
-        """Has nothing come from a node, and nothing reach it. What runs there goes on."""
+        """Blocks all messages to and from a node. Its processes go on."""
         self.started[1 + NODES.index(node)].send_signal(signal.SIGSTOP)
         jobs = self.processes(node)
         for process in {parent for _, parent in jobs} - {process for process, _ in jobs}:

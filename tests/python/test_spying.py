@@ -1,5 +1,5 @@
-"""A player that reads all that the live pages serve while a turn is open, which it has yet to answer: it finds nothing of what the others
-have answered, and not that they have."""
+"""A player that reads all live pages during an open turn before it answers learns nothing about the others' answers, not even that they have
+answered."""
 
 import contextlib
 import itertools
@@ -32,7 +32,7 @@ ANSWERS = (LEGAL, "; zq{0}x{1}\n(say zq{0}x{1})", *(answer for illegal in ILLEGA
 
 
 def filled(answer: str, turn: int, role: int) -> str:
-    """Returns an answer with the words of a turn and a role."""
+    """Returns an answer for a turn and a role."""
     return answer if isinstance(answer, Missed) else answer.format(turn, role)
 
 
@@ -40,7 +40,7 @@ NAMES = ["ann", "bob", "cid"]
 
 
 def rules_of(roles: tuple[str, ...]) -> bytes:
-    """Returns a game in which all roles say something at once; what was said is shown."""
+    """Returns a game in which all roles say something at once, which the state then shows."""
     legal = "".join(f"(legal {role} (say zq{turn}x{at}))" for at, role in enumerate(roles) for turn in range(1, 20))
     said = "".join(f"(role {role}) (<= (next (said {role})) (does {role} (say zq1x0))) (goal {role} 50)" for role in roles)
     return f"(init (step 1)) {said} {legal}".encode()
@@ -50,7 +50,7 @@ class Spying(Served):
     STRIKES = "strikes = 2\n"
 
     def begin_with(self, roles):
-        """Serves a competition of a game with so many roles, in the place of the other one."""
+        """Serves a competition of a game with this many roles, instead of the other one."""
         room = tempfile.TemporaryDirectory()
         self.addCleanup(room.cleanup)
         named = tuple(f"r{at}" for at in range(roles))
@@ -71,7 +71,7 @@ class Spying(Served):
         return [line(self.match, role, number, message, answer) for role, answer in enumerate(answers)]
 
     def assert_nothing_is_shown_before_the_last(self, lines):
-        """Has these answers of a round come one by one. Returns all pages after the last one."""
+        """Lets these answers of a round come one by one. Returns all pages after the last one."""
         # A board is there once somebody has looked at its page.
         self.all_pages()
         self.site.look()
@@ -123,8 +123,8 @@ class Spying(Served):
 
 @dataclass(frozen=True)
 class Step:
-    """What the log gets once a role has answered, nothing if the line is lost; the round of that and how many answer it; what happens until
-    the next step: seconds go by, and looks at the folder, in which the referee may be asked or not."""
+    """The line that the log gets when a role answers, empty if it is lost; its round and the number of answers to the round; and the events until the
+    next step: time passes, and the directory is read, with or without asking the referee."""
 
     round: int
     needed: int
@@ -140,7 +140,7 @@ TIMES = st.sampled_from((None, 0, 1_000, 1_795_000_000_000, 9_000_000_000_000))
 
 @st.composite
 def steps(draw, match, strikes):
-    """Gives the steps of a match that may be aborted within a turn, and begin again, in whatever order its roles answer."""
+    """Yields the steps of a match that may be aborted within a turn, and begin again. Its roles answer in any order."""
     found, number = [], itertools.count()
     for run in range(draw(st.integers(1, 2))):
         rounds = [(1, [line_of(Host(match.id, "h")).decode()])] if run and draw(st.booleans()) else []
@@ -154,7 +154,7 @@ def steps(draw, match, strikes):
 
 @st.composite
 def rounds_of(draw, match, strikes):
-    """Gives the rounds of a run: how many roles answer, and the lines of those that do, in their order."""
+    """Yields the rounds of a run: how many roles answer, and the lines of those that do, in order."""
     roles, missed = range(len(match.players)), Counter()
 
     def said(number, message, role, answer):
@@ -179,7 +179,7 @@ def rounds_of(draw, match, strikes):
 
 
 class Desk:
-    """In the place of the referee, whom many tests would ask too often: a desk for the game in which all roles may always say something."""
+    """A fake desk for the game in which all roles may always say something, because the real one would be too slow for many tests."""
 
     def desk(self, _, script):
         first, *calls = (row.split(" ", 4) for row in script.decode("latin-1").splitlines())
@@ -205,7 +205,7 @@ class Desk:
 
 
 class Watched:
-    """A match in a folder, and all that is served of it."""
+    """A match in a directory, and all that is served of it."""
 
     def __init__(self, room, head, roles, delay):
         self.plan = plan_in(room, NAMES, head=head, rules=rules_of(roles), roles=roles)
@@ -230,7 +230,7 @@ class Watched:
 
 
 class Whatever(InFolder):
-    """Two sites that differ in nothing but the answers of rounds that are not finished: one has none of them in its log."""
+    """Two sites that differ only in the answers of unfinished rounds: one does not have them in its log."""
 
     @settings(max_examples=25)
     @given(st.data(), st.integers(2, 3), st.sampled_from((0, 2)), st.sampled_from((0, 0, 5)), st.sampled_from((1 << 20, 1 << 20, 700)))

@@ -1,4 +1,4 @@
-"""Players that the competition starts: what they get, what becomes of them, and that nothing of them is left."""
+"""Players that the competition starts: their arguments, their ends, and that nothing of them is left."""
 
 import asyncio
 import json
@@ -33,7 +33,7 @@ def command(script, **more):
 
 
 def player(room, script, info=ANSWERS, **more):
-    """Returns a player with a script, and the referee's INFO: a command that says whether it answers."""
+    """Returns a player with a script, and a fake INFO of the referee: a command that says whether the player answers."""
     folder = Folder(room)
     folder.make(folder.players)
     referee = types.SimpleNamespace(info_words=lambda place: info)
@@ -45,12 +45,12 @@ def is_alive(process):
 
 
 def process_of(started):
-    """Returns the process of a player, none if it does not run."""
+    """Returns the process of a player, or None if it is not running."""
     return int(started.job.player.split()[0]) if started.is_running() else None
 
 
 def run_for(*players_and_matches):
-    """Has a player be ready for each of these matches, and ends it. Returns its processes."""
+    """Prepares a player for each of these matches, and ends it. Returns its processes."""
     async def play():
         started, *matches = players_and_matches
         found = []
@@ -374,7 +374,7 @@ class Started(InFolder):
             self.assertEqual(run(self.folder, *words)[::2], (0, ""))
 
     def ended(self, number):
-        """Plays until a match begins that does not end, and sends `play` a signal. Returns what it has printed, and its players."""
+        """Plays until a match begins that does not end, and sends `play` a signal. Returns its output, and its players."""
         waiting = program_but(self.folder / "waiting", '"$1" = run', "exec sleep 3600")
         playing = start(self.folder, "play", "--program", waiting)
         self.assertEqual(playing.stdout.readline(), "begin cup-001 countdown ann bob\n")

@@ -1,4 +1,4 @@
-"""The table: against a plain recount of random results, and in the cases that its words name."""
+"""The table, compared with a simple recount of random results, and in special cases."""
 
 import csv
 import json
@@ -25,7 +25,7 @@ def competition(head=""):
 
 
 def result(players, goals, wrong=None, retired=None, game="two", forfeit=True):
-    """Returns the result of a match in which so many moves of each player were replaced."""
+    """Returns the result of a match in which this many moves of each player were substituted."""
     wrong = wrong or [0] * len(players)
     errors = tuple(Counter({"TO": count} if count else {}) for count in wrong)
     retirements = tuple(Retirement(("TO",), 5) if gone else None for gone in retired or [False] * len(players))
@@ -192,7 +192,7 @@ class Tables(unittest.TestCase):
         self.assertEqual((line.order("knockout"), replace(line, rounds_won=2).order("knockout")), ((0,), (-2,)))
 
     def by_rounds(self, kind, rounds, results):
-        """Returns the tables of a competition by rounds: results are the players of a match, its goals, its round, and the match in its place."""
+        """Returns the tables of a competition in rounds. Results are the players of a match, its goals, its round, and the match that replaces it."""
         players = [(name, f"h:{at + 1}") for at, name in enumerate(NAMES[:3])]
         found = read_competition(toml(players, [("two", "f"), ("other", "f")], f'kind = "{kind}"' + "\nrounds = 2" * (kind == "swiss")).encode())
         made = [replace(played, match=replace(played.match, round=number, again=again)) for played, number, again in ((result(names, goals), number, again) for names, goals, number, again in results)]

@@ -1,4 +1,4 @@
-"""The templates of pages: whatever the names, moves and answers are, a page has them as text, and no element or attribute is theirs."""
+"""The templates of pages show any names, moves and answers as text. No element or attribute comes from them."""
 
 import json
 from types import SimpleNamespace as Value
@@ -23,7 +23,7 @@ HARMLESS = "name"
 
 
 def values_of(text: str) -> dict[str, object]:
-    """Returns what macros get for their arguments by the names of these. Each text is this one, wherever a text comes from outside."""
+    """Returns values for macros by the names of their arguments. Every text that comes from outside is this one."""
     match = Value(id=text, game=text, players=(text, text), start=1, play=2)
     seen = Value(players=((text, text), (text, text)), text=text, since=1.0, clock=text, is_of_players=True, mover=text)
     found = Value(boards=markupsafe.Markup("<p>made</p>"), terms=[text, text], before={text}, gone=[text], is_empty=True)
@@ -41,7 +41,7 @@ def values_of(text: str) -> dict[str, object]:
 
 
 def values_of_macro(text: str) -> dict[str, dict[str, object]]:
-    """Returns the arguments that a macro has in a form of its own."""
+    """Returns the arguments of macros that need special ones."""
     match, error = values_of(text)["match"], Value(match=values_of(text)["match"], player=text, turn=1, move=text)
     row = {"left": 1, "y": 1, "player": text, "low": 1, "high": 2, "x": 1, "rating": 1, "half": 1}
     errors = {"match": text, "turn": text, "reason": text, "error": text, "texts": (text, text, text)}
@@ -69,7 +69,7 @@ def values_of_macro(text: str) -> dict[str, dict[str, object]]:
 
 
 def macros_of_all() -> dict[str, jinja2.runtime.Macro]:
-    """Returns each macro of the templates by its name, but for those that get only numbers, constants and the content of another macro."""
+    """Returns each macro of the templates by name, except for those that get only numbers, constants and the output of other macros."""
     templates = sorted(path.stem for path in templating.FOLDER.glob("*.html") if "{% macro" in path.read_text())
     found = {f"{template}.{macro.name}": macro for template in templates for macro in vars(templating.macros(template)).values() if isinstance(macro, jinja2.runtime.Macro)}
     return {name: found[name] for name in sorted(found) if name not in ("plots.plot", "plots.number", "plots.line", "plots.dot")}
@@ -82,7 +82,7 @@ def made_by(name: str, text: str) -> str:
 
 
 def shape_of(html: str | bytes) -> list[tuple[str, list[str]]]:
-    """Returns the elements of a page, each with the names of its attributes, and where comments are."""
+    """Returns the elements of a page, each with the names of its attributes, and the places of comments."""
     found = parsed(html)
     return [(element.name, sorted(element.attrs)) for element in found.find_all()] + [("comment", [])] * sum(type(text).__name__ == "Comment" for text in found.strings)
 
@@ -106,7 +106,7 @@ def test_a_macro_has_all_texts_as_text(name: str, text: str) -> None:
 
 
 def whole_pages(text: str) -> list[bytes]:
-    """Returns each kind of page with this text in all its places."""
+    """Returns each kind of page with this text in all places."""
     record = json.loads((GAMES / "tictactoe.out").read_text().splitlines()[-1])
     record |= {"matchId": text, "players": [text] * 2, "roles": [text] * 2, "startMarks": [text] * 2, "endMarks": [text] * 2}
     record |= {"moves": [[text] * 2 for _ in record["moves"]], "errors": [[text] * 2 for _ in record["errors"]], "states": [[text] for _ in record["states"]]}

@@ -1,4 +1,4 @@
-"""How long the rest of the matches takes, as it is told while they are played, beside how long it takes, by a clock of the test."""
+"""The estimated time left while matches are played, compared with the actual time, by a fake clock."""
 
 import collections
 import random
@@ -24,8 +24,7 @@ SHAPES = {
 
 
 def told_and_true(players, form, concurrent, at_once, lengths):
-    """Plays a competition by a clock of its own. Gives, as each match ends, the part that is over, the time that is told to be left, and
-    the time that is."""
+    """Plays a competition by a fake clock. Yields, as each match ends, the finished part, the estimated time left, and the actual one."""
     who = [(f"p{number}", f"h:{number + 1}", f"concurrent = {concurrent}") for number in range(players)]
     competition = read_competition(toml(who, [(game, "f") for game in lengths], form).encode())
     matches, chance = planned(competition, dict.fromkeys(lengths, 2)), random.Random(1)

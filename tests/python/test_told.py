@@ -1,4 +1,4 @@
-"""Players that are told rules with variables: what is planned, what START carries, and what is published and checked."""
+"""Players that get rules with variables: the plan, the contents of START, and the published archive."""
 
 import shutil
 import tarfile
@@ -19,7 +19,7 @@ OTHER_PAGE = changed("cup/pages/games/nim.html", lambda text: text.replace(b"?",
 
 
 def another_game(files):
-    """Spoils an archive so that its descriptions are of another game than its matches, with sums that fit."""
+    """Corrupts an archive so that its descriptions belong to another game than its matches, with matching checksums."""
     before = files["cup/games/nim.kif"]
     files["cup/games/nim.kif"] = before.replace(b" 100)", b" 99)")
     sums = sum_of(before).encode(), sum_of(files["cup/games/nim.kif"]).encode()
@@ -49,11 +49,11 @@ class Told(InFolder):
         return (self.folder / f"rules/{name}").read_bytes()
 
     def read(self, name):
-        """Returns the sentences of a file of the rules."""
+        """Returns the sentences of a file of rules."""
         return tuple(example.read(self.rules(name).decode("ascii")))
 
     def tell_otherwise(self):
-        """Has competition.toml say that players are told ground rules."""
+        """Changes competition.toml so that players get ground rules."""
         file = self.folder / "competition.toml"
         file.write_text(file.read_text().replace(TOLD, 'player_rules = "ground"'))
 

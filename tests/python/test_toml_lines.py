@@ -1,4 +1,4 @@
-"""TOML with the line of each value: the lines are those where the values stand, whatever else the text has."""
+"""TOML with the line of each value, whatever else the text has."""
 
 import random
 import tomllib

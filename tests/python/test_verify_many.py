@@ -1,5 +1,5 @@
-"""Records checked by many processes: the answer is that of one. A stand-in for the program takes a line with `ok` for lawful, and one that begins with
-a digit for one of an account."""
+"""Checking records by many processes gives the same results as one process. A fake program accepts lines with `ok`, and takes lines that begin with a
+digit as lines of accounts."""
 
 import contextlib
 import io
@@ -33,13 +33,13 @@ END {
 
 
 def reading(read):
-    """Has standard input be read so, by this module alone."""
+    """Replaces reads of standard input in this module."""
     return mock.patch.object(verify_many, "os", types.SimpleNamespace(**{**vars(os), "read": read}))
 
 
 class Pieces(unittest.TestCase):
     def pieces(self, size, *parts):
-        """Returns the pieces of an input that is read in these parts; a fault is one in which reading fails."""
+        """Returns the pieces of an input that is read in these parts. An exception among the parts is raised."""
         reads = iter(parts)
 
         def read(stream, most):
@@ -103,7 +103,7 @@ class WithProgram(unittest.TestCase):
 
 class Checks(WithProgram):
     def checked(self, piece, program=None):
-        """Returns the verdicts on a piece, the counts, and the fault."""
+        """Returns the verdicts on a piece, the counts, and the error."""
         found = check([program or self.program, "verify"], piece)
         return found.verdicts, found.skipped, found.unlawful, found.fault and (found.fault.said, found.fault.status)
 
@@ -124,11 +124,11 @@ class Checks(WithProgram):
 
     def test_a_signal(self):
         killed = self.stand_in("killed", "#!/bin/sh\ncat > /dev/null\necho some >&2\nkill -9 $$\n")
-        self.assertEqual(self.checked(b"ok\n", killed)[3], (f"some\nggp-verify-records: {killed} was ended by signal 9\n".encode(), 137))
+        self.assertEqual(self.checked(b"ok\n", killed)[3], (f"some\nggp-verify-records: {killed} was killed by signal 9\n".encode(), 137))
 
     def test_a_program_that_can_not_be_run(self):
         none = str(self.folder / "none")
-        self.assertEqual(self.checked(b"ok\n", none), (b"", 0, 0, (f"ggp-verify-records: {none} can't be run: No such file or directory\n".encode(), 2)))
+        self.assertEqual(self.checked(b"ok\n", none), (b"", 0, 0, (f"ggp-verify-records: cannot run {none}: No such file or directory\n".encode(), 2)))
 
     def test_one_that_reads_no_further(self):
         deaf = self.stand_in("deaf", "#!/bin/sh\necho 'ggp_manager: bad description' >&2\nexit 1\n")
@@ -142,14 +142,14 @@ class Checks(WithProgram):
             (b"ggp_manager: read fault\n", 1, 2),
             (b"ggp_manager: want of memory\n", 3, 2),
             (b"ggp_manager: bad description\n", 2, 2),
-            (b"ggp-verify-records: x was ended by signal 9\n", 137, 137),
+            (b"ggp-verify-records: x was killed by signal 9\n", 137, 137),
         ):
             self.assertEqual(Fault(said, status).status_with_why(), wanted, said)
 
 
 class All(WithProgram):
     def all(self, text, jobs=2, size=8, program=None):
-        """Returns what is written, what is said, and the fault, where this input is checked."""
+        """Returns the output, the messages and the error for this input."""
         written, said, reads = [], [], iter([text[at : at + 3] for at in range(0, len(text), 3)])
         # A thread of an earlier call may still read: it must not take what is for this one.
         before = set(threading.enumerate())
@@ -236,7 +236,7 @@ class Commands(WithProgram):
         self.assertEqual(self.run_command(self.program, "--", text=b"short\n"), (3, b"", b"ggp_manager: want of memory\n"))
 
     def ended(self, *words, fault=None, handler=None):
-        """Returns the status of a run whose check comes to this fault, what is checked, what is said, and the signals that are set."""
+        """Returns the exit status of a run whose check raises this error, the arguments, the messages, and the signals that are set."""
         checked, said, signals = mock.Mock(side_effect=fault), [], mock.Mock()
         with contextlib.ExitStack() as stack:
             for name, other in (("check_all", checked), ("say", said.append), ("hold_closed_streams", mock.Mock())):

@@ -24,7 +24,7 @@ STARVED = "the referee was not running"
 
 
 def recount(records):
-    """Returns for each player its matches, goals, matches with goals, wins, draws, losses, moves, replaced moves and retirements."""
+    """Returns for each player its matches, goals, matches with goals, wins, draws, losses, moves, substituted moves and retirements."""
     found = {}
     for record in records:
         out = [any(turn[role] for turn in record["errors"]) for role in range(len(record["players"]))]
@@ -49,7 +49,7 @@ def recount(records):
 
 
 def told(table):
-    """Returns the same of a table as `ggp_competition table` wrote it."""
+    """Returns the same from a table of `ggp_competition table`."""
     keys = "matches", "won", "drawn", "lost", "moves", "replaced", "retired"
     return {line["player"]: (line["goals"], *(line[key] for key in keys)) for line in table["lines"]}
 
@@ -65,7 +65,7 @@ class Whole(InFolder):
         self.schedule = self.plan([(player.name, player.place()) for player in self.players], games, head=head)
 
     def until(self, count, playing):
-        """Waits until so many matches have records, and some are open."""
+        """Waits until this many matches have records, and some are open."""
         while len(list((self.folder / "records").glob("*.json"))) < count or not list((self.folder / "open").glob("*/players")):
             self.assertIsNone(playing.poll(), "it ended too early")
             time.sleep(0.1)

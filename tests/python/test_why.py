@@ -1,4 +1,4 @@
-"""What `why` tells of a match: of its record, its log and the journal of `play`; and the times in these."""
+"""What `why` reports of a match, from its record, its log and the journal of `play`, and the times in these."""
 
 import re
 import shutil
@@ -53,7 +53,7 @@ class Why(InFolder):
         self.assertNotIn("?", both.replace("IL ?", ""))
 
     def answers_after_its_lines(self, player):
-        """Has a player answer each message of the match some milliseconds after the line of the one before was written."""
+        """Lets a player answer each message of the match some milliseconds after the previous line was written."""
         answer, log, answered = player.answer, self.folder / "open/cup-001/log.jsonl", []
 
         def lines():
@@ -196,7 +196,7 @@ class Why(InFolder):
         self.assertEqual([note.words for note in of_round.noted()], [lines[at] for at in (0, 3, 5, 6, 7)])
 
     def said_of(self, notes: str, log: str) -> str:
-        """Returns what is said of a player by a journal and a log. `MATCH` in the notes is the match."""
+        """Returns the report about a player from a journal and a log. `MATCH` in the notes stands for the match."""
         plan = plan_in(str(self.folder), ["ann", "bob"])
         match = plan.matches[0]
         plan.folder.journal.write_text(notes.replace("MATCH", match.id))
@@ -204,7 +204,7 @@ class Why(InFolder):
         return "\n".join(Told(plan, match).lines(["ann"]))
 
     def message(self, number: int, answer: str, time: int | None) -> str:
-        """Returns the line of a message that was sent so many seconds after the match began."""
+        """Returns the line of a message that was sent this many seconds after the match began."""
         match = plan_in(str(self.folder), ["ann", "bob"]).matches[0]
         return line(match, 0, number, f"({'START' if number == 1 else 'PLAY'} {match.id} NIL)", answer, 0, None if time is None else BEGAN + 1_000 * time)
 

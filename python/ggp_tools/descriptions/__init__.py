@@ -1,1 +1,1 @@
-"""The description of a game: whether the referee takes it, what is suspicious in it, and how random matches of it end."""
+"""Checks game descriptions: whether the referee accepts them, what is suspicious in them, and how random matches end."""

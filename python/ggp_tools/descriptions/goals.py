@@ -1,4 +1,4 @@
-"""Which goals a role has in a state, and which sentences of the description give them."""
+"""Reports the goals of a role in a state, and the sentences that derive them."""
 
 from collections.abc import Sequence
 
@@ -10,27 +10,27 @@ MOST_NAMED = 3
 
 
 def goals_said(text: str, role: str, terms: Sequence[str]) -> str:
-    """Returns words for the goals of a role in a state, with the sentences that give each; empty if the description can't be followed."""
+    """Describes the goals of a role in a state, with the sentences that derive each. The text is empty if the description cannot be interpreted."""
     try:
         game = Game(text)
         state, name = frozenset(map(term_of, terms)), term_of(role)
         position = game.position(state)
         values = sorted(game.goal_terms(position, name), key=spelled)
-        given = [f"{spelled(value)}{past(value)}, by {named(game, game.sources(GOAL, (name, value), state))}" for value in values]
+        goals = [f"{spelled(value)}{past(value)}, by {named(game, game.sources(GOAL, (name, value), state))}" for value in values]
     except (Refused, RecursionError):
         return ""
-    if len(given) > 1:
-        return f"{role} has {len(given):,} goals there: {'; '.join(given[:MOST_NAMED])}"
-    if given:
-        return f"{role} has the goal {given[0]}"
+    if len(goals) > 1:
+        return f"{role} has {len(goals):,} goals there: {'; '.join(goals[:MOST_NAMED])}"
+    if goals:
+        return f"{role} has the goal {goals[0]}"
     return f"nothing gives {role} a goal there; its goals are those of {named(game, list(game.by_sentence(GOAL))) or 'no sentence'}"
 
 
 def past(value: object) -> str:
-    return "" if isinstance(value, str) and GOAL_NUMBER.fullmatch(value) else " (no number from 0 to 100)"
+    return "" if isinstance(value, str) and GOAL_NUMBER.fullmatch(value) else " (not a number from 0 to 100)"
 
 
 def named(game: Game, numbers: Sequence[int]) -> str:
-    """Returns some sentences with their lines."""
+    """Cites some sentences with their lines."""
     more = f" and {len(numbers) - MOST_NAMED:,} more" if len(numbers) > MOST_NAMED else ""
     return " and ".join(game.cited(number) for number in numbers[:MOST_NAMED]) + more

@@ -1,4 +1,4 @@
-"""What was instantiated is kept, by the sum of all that it comes from: the description, the program, the grounder and the options."""
+"""Caches the results of grounding, by the checksum of everything that they depend on: the description, the code, the grounder and the options."""
 
 import contextlib
 import hashlib
@@ -8,39 +8,39 @@ import shutil
 import tempfile
 
 HERE = pathlib.Path(__file__).resolve().parent
-# Results that were not asked for lately go first, once there are more than this.
+# Above this number of results, those that were not used for the longest time are deleted.
 MOST_KEPT = 200
 
 
 def cache() -> pathlib.Path:
-    """Returns the cache of whoever runs this."""
-    found = os.environ.get("XDG_CACHE_HOME") or pathlib.Path.home() / ".cache"
-    return pathlib.Path(found) / "ggp_manager"
+    """Returns the cache directory of the user."""
+    parent = os.environ.get("XDG_CACHE_HOME") or pathlib.Path.home() / ".cache"
+    return pathlib.Path(parent) / "ggp_manager"
 
 
 def folder() -> pathlib.Path:
-    """Returns where results are kept."""
+    """Returns the directory of the results."""
     return cache() / "instantiated"
 
 
 def sources() -> list[pathlib.Path]:
-    """Returns the code that a result comes from."""
+    """Returns the code that a result depends on."""
     return sorted([*(HERE.parent / "instantiating").glob("*.py"), HERE.parent / "kif.py", HERE.parent / "gdl.py"])
 
 
 def sum_of_work(text: bytes, options: list[str]) -> str:
-    """Returns the sum of all that a result comes from. The seconds are none of it."""
-    found = hashlib.sha256()
-    # To ask the grounder which one it is would be to run it.
+    """Returns the checksum of everything that a result depends on. The time limit is not part of it."""
+    checksum = hashlib.sha256()
+    # The size and the time of the file identify the grounder, because asking for its version would mean to run it.
     path = shutil.which("gringo")
     grounder = f"{path} {os.stat(path).st_size} {os.stat(path).st_mtime_ns}".encode() if path else b""
     for part in (text, grounder, *(file.read_bytes() for file in sources()), *(option.encode() for option in options)):
-        found.update(b"%d " % len(part) + part)
-    return found.hexdigest()
+        checksum.update(b"%d " % len(part) + part)
+    return checksum.hexdigest()
 
 
 def kept(key: str) -> tuple[bytes, bytes] | None:
-    """Returns the rules and the text for players that are kept under a sum, or none."""
+    """Returns the cached rules and the text for players, or None."""
     try:
         size, _, data = (folder() / key).read_bytes().partition(b"\n")
         os.utime(folder() / key)
@@ -52,7 +52,7 @@ def kept(key: str) -> tuple[bytes, bytes] | None:
 
 
 def keep(key: str, rules: bytes, player_rules: bytes) -> None:
-    """Keeps a result. Where it can't be written it is made again the next time."""
+    """Caches a result. If it cannot be written, it is computed again the next time."""
     with contextlib.suppress(OSError, RuntimeError):
         folder().mkdir(parents=True, exist_ok=True)
         with tempfile.NamedTemporaryFile(dir=folder(), delete=False) as file:

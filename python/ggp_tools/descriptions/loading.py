@@ -1,4 +1,4 @@
-"""The descriptions of games: read, looked at, instantiated where they have variables, and tried on the referee."""
+"""Loads game descriptions: reads and checks them, grounds them if they have variables, and passes them to the referee."""
 
 import hashlib
 import itertools
@@ -17,29 +17,29 @@ from ggp_tools.gdl import Relations, Rule, all_rules, as_read
 from ggp_tools.instantiating.for_players import text_for_players as text_for_players
 from ggp_tools.referee import BadRules, Referee
 
-# The folder of this package, where a process that instantiates finds it.
+# The directory of this package, for the process that grounds.
 FOLDER = pathlib.Path(__file__).resolve().parents[2]
 INSTANTIATE = [sys.executable, "-B", "-P", "-m", "ggp_tools.instantiating"]
-# The most bytes of a description, and of the text for players.
+# The maximum lengths of a description, and of the text for players.
 MOST_BYTES, MOST_BYTES_FOR_PLAYERS = LARGE["bytes"], 1 << 20
-# What stands before the place of a sentence: who reports it, and the file.
+# The command and the file before the place of a sentence.
 PLACED = re.compile(r"ggp-instantiate: .*?: (?=line [0-9]+, column [0-9]+: )")
 STOPPED = re.compile(r"ggp-instantiate: stopped after ")
 
 
 class NoDescription(Exception):
-    """Why a text is no description, with the place where that is known, in lines."""
+    """Why a text is not a description, in lines, with the place if it is known."""
 
 
 class Stopped(NoDescription):
-    """Why nothing is known of a description yet: its seconds were over before."""
+    """The time ran out before anything was known about a description."""
 
 
 @dataclass(frozen=True)
 class Rules:
-    """The ground description of a game: its bytes, their sum, and the names of its roles; the bytes of the description with variables
-    that players get, or none if they get the rules themselves; the sum of the file that all of this was made from, where known; what
-    `ggp-instantiate` has to say of the rules; and whether the limits are those for large games."""
+    """The ground description of a game: its text, its checksum and its roles; the description with variables for players, if they do not get the
+    rules themselves; the checksum of the file that all of this was made from, if known; notes of `ggp-instantiate`; and whether the large limits
+    apply."""
 
     text: bytes
     sum: str
@@ -55,19 +55,19 @@ def sum_of(data: bytes) -> str:
 
 
 def sentence_starts(text: bytes) -> list[int]:
-    """Returns the index at which each sentence begins. Refuses a text that is no KIF, or has no sentence."""
+    """Returns the index at which each sentence begins. Refuses a text that is not KIF, or has no sentence."""
     description = text.decode("latin-1")
     try:
-        found = kif.starts(description)
+        indices = kif.starts(description)
     except kif.KifFault as why:
         raise NoDescription(kif.told(description, why)) from None
-    if not found:
+    if not indices:
         raise NoDescription("line 1, column 1: there is no sentence")
-    return found
+    return indices
 
 
 def look_at_sentences(text: bytes) -> None:
-    """Refuses a description with a sentence that is none, by the tests that `ggp-instantiate` has before it grounds."""
+    """Checks sentences like `ggp-instantiate` does before it grounds."""
     description = text.decode("latin-1")
     try:
         Relations(all_rules(kif.expressions(description))).refuse_dependence()
@@ -80,33 +80,32 @@ def has_variables(text: bytes) -> bool:
 
 
 def why_not(made: subprocess.CompletedProcess) -> str:
-    """Returns why a run of `ggp-instantiate` made nothing: its last line, and before it which sentences cost most where it is past a limit."""
+    """Returns why a run of `ggp-instantiate` failed: its last line, after the sentences that cost most if a limit was exceeded."""
     lines = made.stderr.decode(errors="replace").strip().splitlines() or [f"ggp-instantiate ended with status {made.returncode}"]
-    return "\n".join([*(line.strip() for line in lines[:-1] if line.startswith("  dear: ")), PLACED.sub("", lines[-1])])
+    return "\n".join([*(line.strip() for line in lines[:-1] if line.startswith("  largest: ")), PLACED.sub("", lines[-1])])
 
 
 def instantiated(path: pathlib.Path, text: bytes, tells_variables: bool, seconds: float, is_large: bool = False) -> tuple[bytes, bytes | None]:
-    """Returns the ground description that `ggp-instantiate` makes of a file with this text, and the description for players where it is
-    asked for."""
+    """Returns the ground description that `ggp-instantiate` makes of a file, and the description for players if it is needed."""
     large = ["--large"] if is_large else []
     key = kept.sum_of_work(text, [*large, *(["--player-rules"] if tells_variables else [])])
-    if found := kept.kept(key):
-        return found[0], found[1] if tells_variables else None
-    with tempfile.TemporaryDirectory() as room:
-        player_rules = pathlib.Path(room) / "player_rules"
+    if result := kept.kept(key):
+        return result[0], result[1] if tells_variables else None
+    with tempfile.TemporaryDirectory() as directory:
+        player_rules = pathlib.Path(directory) / "player_rules"
         words = [f"--seconds={seconds}", *large, *(["--player-rules", str(player_rules)] if tells_variables else [])]
         # A name that begins with a hyphen would be an option.
         environment = {**os.environ, "PYTHONPATH": str(FOLDER)}
-        made = subprocess.run([*INSTANTIATE, *words, os.path.abspath(path)], env=environment, capture_output=True)
-        if made.returncode:
-            raise (Stopped if STOPPED.match(why_not(made).splitlines()[-1]) else NoDescription)(why_not(made))
-        found = made.stdout, player_rules.read_bytes() if tells_variables else None
-    kept.keep(key, found[0], found[1] or b"")
-    return found
+        run = subprocess.run([*INSTANTIATE, *words, os.path.abspath(path)], env=environment, capture_output=True)
+        if run.returncode:
+            raise (Stopped if STOPPED.match(why_not(run).splitlines()[-1]) else NoDescription)(why_not(run))
+        result = run.stdout, player_rules.read_bytes() if tells_variables else None
+    kept.keep(key, result[0], result[1] or b"")
+    return result
 
 
 def notes_of(ground: bytes) -> tuple[str, ...]:
-    """Returns what `ggp-instantiate` says at the head of what it made: how it was folded or unrolled, and what is left out."""
+    """Returns the notes of `ggp-instantiate` at the top of a ground description."""
     return tuple(note[2:].decode() for note in itertools.takewhile(lambda line: line.startswith(b"; "), ground.splitlines()))
 
 
@@ -114,8 +113,8 @@ def rules_of(
     text: bytes, name: pathlib.Path | str, referee: Referee, player_rules: bytes | None = None, description_sum: str | None = None,
     notes: tuple[str, ...] = (),
 ) -> Rules:
-    """Returns the rules that a ground description says, as the referee reads it, with the text that players get. If the usual limits do
-    not suffice, those for large games are taken. Refuses what the referee refuses, in its words."""
+    """Returns the rules of a ground description, as the referee reads it. If it exceeds the usual limits, the large ones apply. Refuses what the
+    referee refuses, in its words."""
     large = referee.taking(True)
     programs = [large] if referee.is_large or LARGE_NOTE in notes_of(text) else [referee, large]
     for program in programs:
@@ -130,7 +129,7 @@ def rules_of(
 
 
 def read_text(path: pathlib.Path) -> bytes:
-    """Returns the bytes of a description."""
+    """Reads a description."""
     try:
         with open(path, "rb") as file:
             text, size = file.read(MOST_BYTES + 1), os.fstat(file.fileno()).st_size
@@ -142,8 +141,7 @@ def read_text(path: pathlib.Path) -> bytes:
 
 
 def load_description(path: pathlib.Path, referee: Referee, tells_variables: bool, seconds: float) -> Rules:
-    """Returns the rules of the game that a file describes, with the text that its players get. If the file has no variables that is
-    nothing beside the rules, whatever is asked for."""
+    """Returns the rules of a game that a file describes. If the file has no variables, players get the rules themselves."""
     text = read_text(path)
     sentence_starts(text)
     description_sum = sum_of(text)
@@ -154,14 +152,14 @@ def load_description(path: pathlib.Path, referee: Referee, tells_variables: bool
     try:
         return rules_of(ground, path, referee, player_rules, description_sum, notes_of(ground))
     except NoDescription as why:
-        raise NoDescription(f"its ground rules, by ggp-instantiate: {why}") from None
+        raise NoDescription(f"its ground rules, made by ggp-instantiate: {why}") from None
 
 
 def load_described(path: pathlib.Path, described: pathlib.Path, referee: Referee, tells_variables: bool) -> Rules:
-    """Returns the rules that a file has, with the text that its players get, by the description with variables that stands beside it."""
+    """Returns the rules of a ground file, with the text for players from the description with variables next to it."""
     ground = read_text(path)
     if has_variables(ground):
-        raise NoDescription("it has variables, and so needs no description beside it")
+        raise NoDescription("it has variables, so it needs no other description")
     sentence_starts(ground)
     try:
         text = read_text(described)

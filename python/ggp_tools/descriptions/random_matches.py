@@ -1,4 +1,4 @@
-"""Random matches of a game: an interpreter says what is legal and what follows, and the program's desk has to make the same records."""
+"""Plays random matches of a game with an interpreter, and checks that the referee's `desk` makes the same records."""
 
 import hashlib
 import random
@@ -16,27 +16,27 @@ from ggp_tools.printable import counted
 from ggp_tools.referee import Referee, is_text_list, read_records, rules_file, unchecked
 from ggp_tools.reporting import REDRAWN, Reporter
 
-# The bytes of a script and the matches of a desk that one run of the program gets, below what it takes.
+# The bytes of a script and the number of matches for one run of `desk`, below its limits.
 MOST_BYTES, MOST_MATCHES = 1_000_000, 1_000
-# So many bytes of a script are left for what is not of a turn.
+# The bytes of a script that are reserved for lines that do not belong to a turn.
 BESIDE_TURNS = 10_000
 
 
 class TimeIsOver(Exception):
-    """The seconds are over."""
+    """The time is up."""
 
 
 def sum_of(texts: list[str]) -> bytes:
-    """Returns a sum of a state's terms, which is all that is kept of most states."""
+    """Returns a checksum of the terms of a state. Of most states only this is kept."""
     return hashlib.sha256("\n".join(texts).encode()).digest()
 
 
 class Played(Match):
-    """A match that keeps the last of its states, and of the others only sums."""
+    """A match that keeps its last state, and only checksums of the others."""
 
     def __init__(self, game: Game, name: str, players: list[str]) -> None:
         super().__init__(game, name, 1, 1, players)
-        # The turns that one script can hold, and the state after these.
+        # The bytes left in a script, and the number of turns that fit, with the state after them.
         self.room, self.held = MOST_BYTES - BESIDE_TURNS, (0, self.states[0])
 
     def turn(self, judged: list[tuple]) -> None:
@@ -47,13 +47,13 @@ class Played(Match):
             self.held = len(self.moves), self.states[-1]
 
     def shorten(self) -> None:
-        """Cuts the match to the turns that one script can hold."""
+        """Cuts the match to the turns that fit into one script."""
         turns, state = self.held
         self.moves, self.errors, self.states = self.moves[:turns], self.errors[:turns], [*self.states[:turns], state]
         self.marks["end"] = {}
 
     def record(self) -> dict:
-        """Returns the record with sums in the place of states."""
+        """Returns the record with checksums instead of states."""
         sums, self.states = self.states[:-1], self.states[-1:]
         record = super().record()
         record["states"] = [*sums, sum_of(record["states"][0])]
@@ -63,8 +63,8 @@ class Played(Match):
 
 @dataclass
 class Ended:
-    """What is kept of a match that is over: its seed, its number of turns, the roles' goals, the cause if it was aborted, by the role's
-    name, its last state if it is the first one with that cause, and the most moves that each role could choose from."""
+    """A finished match: its seed, its number of turns, the goals, the cause if it was aborted, with the role's name, the last state if it is the
+    first one with that cause, and the maximum number of legal moves of each role."""
 
     seed: int
     turns: int
@@ -75,13 +75,13 @@ class Ended:
 
 
 def named(cause: str | None, roles: list[Expression]) -> str | None:
-    """Returns the cause with the role's name in the place of its number."""
+    """Replaces the number of the role in a cause by its name."""
     word, _, number = (cause or "").partition(" ")
     return f"{word} {spelled(roles[int(number)])}" if number else cause
 
 
 class RandomMatches:
-    """Matches of one game, each with a seed of its own."""
+    """Random matches of one game, each with its own seed."""
 
     def __init__(self, rules: bytes, referee: Referee, name: str, reporter: Reporter, seconds: float | None) -> None:
         self.game, self.rules, self.referee, self.name = Game(rules.decode("latin-1")), rules, referee, name
@@ -91,20 +91,20 @@ class RandomMatches:
         sys.setrecursionlimit(MOST_CALLS)
 
     def run(self, seed: int, count: int) -> None:
-        """Plays this many matches, with seeds from this one on. What hinders that is told in notes."""
+        """Plays this many matches, with seeds from this one on. Reports problems in notes."""
         try:
             for number in range(count):
                 self.play(seed + number, f"match {number + 1} of {count}")
         except TimeIsOver:
             ended = f"{len(self.ended):,} of {count:,} matches and {counted(self.turns, 'turn')} of the next one"
-            self.notes.append(f"the time was over: in {self.seconds:,} s there were {ended}")
+            self.notes.append(f"out of time: in {self.seconds:,} s there were {ended}")
         except RecursionError:
             self.is_too_deep = True
-            self.notes.append("the interpreter can't play it: its rules ask for one another too deeply")
+            self.notes.append("the interpreter cannot play it: its rules are nested too deeply")
         self.ask_desk()
 
     def play(self, seed: int, said: str) -> None:
-        """Plays a match to its end, with each move chosen among the legal ones, and hands it to the desk, at once or with later ones."""
+        """Plays a match to its end with random legal moves, and queues it for `desk`."""
         roles, dice = self.game.roles, random.Random(seed)
         match = Played(self.game, f"seed-{seed}", [f"p{number}" for number in range(len(roles))])
         match.marks["start"], choices = dict.fromkeys(range(len(roles)), ""), [0] * len(roles)
@@ -132,12 +132,12 @@ class RandomMatches:
 
     def hand_in(self, seed: int, match: Played, record: dict) -> None:
         if any(is_too_long(move) for moves in match.moves for move in moves):
-            # The desk takes no such answer.
+            # The desk accepts no such answer.
             self.too_long += 1
             return
         lines = list(lines_of(match))
         if sum(len(line) + 1 for line in lines) > MOST_BYTES:
-            # The desk gets the turns that it can take: they have to be the same.
+            # Only the turns that fit are compared.
             match.shorten()
             lines, record = list(lines_of(match)), match.record()
         size = sum(len(line) + 1 for line in lines)
@@ -147,7 +147,7 @@ class RandomMatches:
         self.size += size
 
     def ask_desk(self) -> None:
-        """Has the program play the waiting matches, in one run, and compares its records."""
+        """Runs `desk` on the queued matches, and compares the records."""
         waiting, self.waiting, self.size = self.waiting, [], 0
         if not waiting:
             return
@@ -155,28 +155,28 @@ class RandomMatches:
         script = "".join(f"{line}\n" for _, lines, _ in waiting for line in lines)
         with rules_file(self.rules) as path:
             try:
-                said = subprocess.run(self.referee.desk_words(path), input=script.encode(), capture_output=True, timeout=self.seconds)
+                run = subprocess.run(self.referee.desk_words(path), input=script.encode(), capture_output=True, timeout=self.seconds)
             except subprocess.TimeoutExpired:
                 self.uncompared += len(waiting)
                 return
-        records = read_records(said)
-        if said.returncode or records is None or len(records) != len(waiting):
-            raise unchecked(said, self.name)
-        for (seed, _, wanted), found in zip(waiting, records):
-            if isinstance(found.get("states"), list) and all(map(is_text_list, found["states"])):
-                found["states"] = list(map(sum_of, found["states"]))
-            keys = [key for key in wanted if wanted[key] != found.get(key)]
+        records = read_records(run)
+        if run.returncode or records is None or len(records) != len(waiting):
+            raise unchecked(run, self.name)
+        for (seed, _, expected), actual in zip(waiting, records):
+            if isinstance(actual.get("states"), list) and all(map(is_text_list, actual["states"])):
+                actual["states"] = list(map(sum_of, actual["states"]))
+            keys = [key for key in expected if expected[key] != actual.get(key)]
             self.differing += [(seed, keys)] if keys else []
 
 
 def turn_lines(match: Played, number: int) -> Iterator[str]:
-    """Gives the lines of a turn, which are numbered from 1 on."""
+    """Yields the lines of a turn. Turns are counted from 1."""
     for role, move in enumerate(match.moves[number - 1]):
         yield f"submit {match.name} {role} {number} {spelled(move)}"
 
 
 def lines_of(match: Played) -> Iterator[str]:
-    """Gives the lines of a script for the whole match, as the desk reads them."""
+    """Yields the script of a whole match for `desk`."""
     roles = range(len(match.game.roles))
     yield f"open {match.name} 0 {match.start} {match.play} {' '.join(match.players)}"
     yield from (f"submit {match.name} {role} 0 READY" for role in roles)

@@ -1,4 +1,4 @@
-"""Why the referee refuses a ground description, in more words than its own: it names the place of one sentence."""
+"""Explains why the referee refuses a ground description. The referee names the place of only one sentence."""
 
 from collections.abc import Iterator
 
@@ -17,30 +17,30 @@ class Sentences:
         self.text, self.starts, self.sentences = text, starts(text), expressions(text)
 
     def listed(self, numbers: list[int]) -> str:
-        """Returns some of these sentences, each with its place."""
+        """Cites some of these sentences, each with its place."""
         shown = [f"{place_of(self.text, self.starts[number])}: {spelled(self.sentences[number])[:MOST_SHOWN]}" for number in numbers]
         more = [f"and {len(shown) - MOST_LISTED:,} more"] if len(shown) > MOST_LISTED else []
         return "; ".join(shown[:MOST_LISTED] + more)
 
 
 def roles_named_again(sentences: list[Expression]) -> Iterator[list[int]]:
-    """Gives the sentences that name a role, for each role that has several."""
-    found = {}
+    """Yields the sentences that name a role, for each role that is named more than once."""
+    numbers_by_role = {}
     for number, sentence in enumerate(sentences):
         if sentence[:1] == ("role",):
-            found.setdefault(sentence, []).append(number)
-    yield from (numbers for numbers in found.values() if len(numbers) > 1)
+            numbers_by_role.setdefault(sentence, []).append(number)
+    yield from (numbers for numbers in numbers_by_role.values() if len(numbers) > 1)
 
 
 def cycles(rules: list[Rule]) -> Iterator[list[int]]:
-    """Gives the sentences of each cycle: those by which its atoms depend on each other."""
+    """Yields the sentences of each cycle of dependences."""
     for circle in circles(rules):
         atoms = set(circle)
         yield sorted({rule.sentence for rule in rules if rule.head in atoms and not atoms.isdisjoint(asked(rule))})
 
 
 def why_refused(text: bytes) -> list[str]:
-    """Returns what is wrong with the sentences of a ground description: which is malformed, or which are at fault together."""
+    """Returns the errors in a ground description: the sentence that is malformed, or those that conflict."""
     try:
         read = Sentences(text.decode("latin-1"))
         rules = all_rules(read.sentences)
@@ -48,11 +48,11 @@ def why_refused(text: bytes) -> list[str]:
         return [] if why.sentence is None else [told(text.decode("latin-1"), why)]
     if not rules:
         return []
-    found = [f"these name the same role: {read.listed(numbers)}" for numbers in roles_named_again(read.sentences)]
-    found += [f"these depend on each other: {read.listed(numbers)}" for numbers in cycles(rules)]
+    errors = [f"these name the same role: {read.listed(numbers)}" for numbers in roles_named_again(read.sentences)]
+    errors += [f"these depend on each other: {read.listed(numbers)}" for numbers in cycles(rules)]
     try:
         refuse_faults(rules)
         Relations(rules).refuse_dependence()
     except Refused as why:
-        found.append(told(read.text, why))
-    return found
+        errors.append(told(read.text, why))
+    return errors

@@ -1,5 +1,5 @@
-"""What in the description of a game is suspicious, though the referee accepts it, each with its place. Nothing is reported that may be
-right: where variables leave open what a sentence comes to, it counts as right."""
+"""Finds suspicious sentences in a description that the referee accepts. A sentence that may be right is not reported: if its instances are not
+known because of variables, it counts as right."""
 
 import difflib
 import itertools
@@ -13,15 +13,15 @@ from ggp_tools.descriptions.loading import NoDescription, sentence_starts
 from ggp_tools.gdl import ARITIES, GAME, SECRET, as_read, must_be_atomic, must_be_literal
 from ggp_tools.kif import TOKEN, Expression, Refused, Relation, blanked, expressions, head_of, place_of, relation, spelled, variables
 
-# The relations that need no rule to ask for them, and those whose first argument is a role.
+# The relations that no rule needs to use, and those whose first argument is a role.
 OWN = {*((name, ARITIES[name]) for name in GAME), ("base", 1), ("input", 2)}
 OF_ROLES = {("legal", 2), ("does", 2), ("goal", 2)}
-# What is looked up in the ground rules.
+# The relations that are checked in the ground rules.
 KNOWN = {("role", 1), ("legal", 2), ("goal", 2), ("terminal", None)}
-# The words of GDL with the numbers of their arguments: none for an atom alone, "any" for any number.
+# The keywords of GDL with the numbers of their arguments: None for an atom, "any" for any number.
 HEADS = {**{name: ARITIES[name] for name in GAME}, "base": 1, "input": 2, "<=": "any"}
 CONDITIONS = {"role": 1, "true": 1, "does": 2, "legal": 2, "goal": 2, "terminal": None, "not": 1, "distinct": 2, "or": "any"}
-# What is written in their places, beside what is misspelt.
+# What people write instead of them, apart from misspellings.
 OFTEN = {
     "<=": "=> <- -> :- <== ==> =< >= <=> < = if".split(),
     "init": "initial initially start".split(),
@@ -33,23 +33,23 @@ OFTEN = {
     "not": "~ ! no".split(),
     "or": "| ||".split(),
 }
-# How alike two words have to be; so many bytes of a sentence are shown, and so many lines; so many names are compared, all together.
+# The similarity of two words, the maximum lengths of a sentence and of the list, and the maximum number of names to compare.
 ALIKE, MOST_SHOWN, MOST_LINES, MOST_COMPARED = 0.75, 80, 100, 20_000
 MOST_LISTED = 3
-# The desk takes no answer that is longer.
+# The longest answer that the desk accepts.
 MOST_ANSWER = 4_096
 TOO_LONG = f"no player can make this move: its text is longer than {MOST_ANSWER:,} bytes"
-# The way to an expression inside of a sentence, by the numbers of members.
+# The path to an expression inside a sentence: the indices of members.
 Way = tuple[int, ...]
-NOT_ALL = "the rest was not looked at"
+NOT_ALL = "the rest was not checked"
 
 
 class TimeIsOver(Exception):
-    """The seconds are over."""
+    """The time is up."""
 
 
 class Part(NamedTuple):
-    """An atomic sentence of a description: the number of its sentence, and the way to it there, by the numbers of members."""
+    """An atomic sentence of a description: the number of its sentence, and its path there."""
 
     sentence: int
     way: Way
@@ -57,7 +57,7 @@ class Part(NamedTuple):
 
 
 class Finding(NamedTuple):
-    """What is suspicious at a part, and what it has in common with others that are told in one line."""
+    """A suspicious part. Findings of the same kind are reported in one line."""
 
     part: Part
     words: str
@@ -65,7 +65,7 @@ class Finding(NamedTuple):
 
 
 def conditions(literal: Expression, way: Way) -> Iterator[tuple[Way, Expression]]:
-    """Gives each atomic sentence of a literal, with the way to it."""
+    """Yields each atomic sentence of a literal with its path."""
     match literal:
         case ("not", inner):
             yield from conditions(inner, (*way, 1))
@@ -79,14 +79,14 @@ def conditions(literal: Expression, way: Way) -> Iterator[tuple[Way, Expression]
 
 
 def may_be(left: Expression, right: Expression) -> bool:
-    """Returns whether two terms may be equal, with some values for their variables."""
+    """Returns whether two terms can be equal for some values of their variables."""
     if isinstance(left, str) or isinstance(right, str):
         return left == right or any(isinstance(term, str) and term.startswith("?") for term in (left, right))
     return len(left) == len(right) and all(map(may_be, left, right))
 
 
 def places(atom: Expression, way: Way = ()) -> Iterator[tuple[Way, object]]:
-    """Gives each place in an atomic sentence with what stands there: an atom, the length of a list, or None for a variable."""
+    """Yields each path in an atomic sentence with its value: an atom, the length of a list, or None for a variable."""
     if isinstance(atom, str):
         yield way, None if atom.startswith("?") else atom
         return
@@ -96,14 +96,14 @@ def places(atom: Expression, way: Way = ()) -> Iterator[tuple[Way, object]]:
 
 
 def without_names(term: Expression) -> Expression:
-    """Returns the term with the same variable in the place of each."""
+    """Replaces all variables of a term by the same one."""
     if isinstance(term, str):
         return "?" if term.startswith("?") else term
     return tuple(map(without_names, term))
 
 
 class Index:
-    """Atomic sentences, found by what stands at one place of them."""
+    """Atomic sentences by the values at their paths."""
 
     def __init__(self, atoms: Iterable[Expression]) -> None:
         self.table = {}
@@ -112,20 +112,20 @@ class Index:
                 self.table.setdefault(place, []).append(atom)
 
     def alike(self, atom: Expression) -> Iterable[Expression]:
-        """Returns those that may have what this one has at one place: at that one where they are fewest."""
+        """Returns candidates that agree with an atom at one path, the one with the fewest candidates."""
         best, least = (), None
         for way, word in places(atom):
             if word is not None:
-                # What has a variable there, or where a list stands that has this place in it, may have all.
-                found = [self.table.get((way[:length], None), ()) for length in range(len(way) + 1)] + [self.table.get((way, word), ())]
-                count = sum(map(len, found))
+                # Atoms with a variable at this path, or at one above it, may have any value.
+                candidates = [self.table.get((way[:length], None), ()) for length in range(len(way) + 1)] + [self.table.get((way, word), ())]
+                count = sum(map(len, candidates))
                 if least is None or count < least:
-                    best, least = found, count
+                    best, least = candidates, count
         return itertools.chain(*best)
 
 
 class Atoms:
-    """Atomic sentences, found by their relations."""
+    """Atomic sentences by their relations."""
 
     def __init__(self, atoms: Iterable[Expression]) -> None:
         self.plain, self.open = {}, {}
@@ -137,7 +137,7 @@ class Atoms:
         return {*self.plain, *self.open}
 
     def like(self, atom: Expression) -> Iterator[Expression]:
-        """Gives those that may be this one: itself first."""
+        """Yields those that can be equal to this one, itself first."""
         key, is_open = relation(atom), bool(variables(atom))
         if not is_open and atom in self.plain.get(key, ()):
             yield atom
@@ -148,7 +148,7 @@ class Atoms:
                 yield from (candidate for candidate in self.indexes[name, key].alike(atom) if may_be(candidate, atom))
 
     def may_give(self, atom: Expression) -> bool:
-        """Returns whether one of them may be this one."""
+        """Returns whether one of them can be equal to this one."""
         asked = without_names(atom)
         if asked not in self.answers:
             self.answers[asked] = next(self.like(asked), None) is not None
@@ -156,7 +156,7 @@ class Atoms:
 
 
 class Description:
-    """A text with the atomic sentences that stand in it: its heads, and its conditions with the relations that ask for them."""
+    """A text with its atomic sentences: heads and conditions, and the relations that use them."""
 
     def __init__(self, text: bytes) -> None:
         self.text = blanked(text.decode("latin-1"))
@@ -177,7 +177,7 @@ class Description:
                 must_be_literal(literal)
             must_be_atomic(part.atom, True)
         except Refused as why:
-            # A ground description may have these, but they don't mean there what they mean in GDL-II.
+            # A ground description may have these, but without their meaning in GDL-II.
             if SECRET not in str(why):
                 self.is_well_formed = False
                 return
@@ -187,46 +187,45 @@ class Description:
         self.asks.setdefault(relation(part.atom), set()).update(relation(part.atom) for part in asked)
 
     def needed(self) -> set[Relation]:
-        """Returns the relations of the game, and those that they ask for."""
-        found, left = set(), list(OWN)
+        """Returns the relations of the game, and those that they depend on."""
+        needed_relations, left = set(), list(OWN)
         while left:
             key = left.pop()
-            if key not in found:
-                found.add(key)
+            if key not in needed_relations:
+                needed_relations.add(key)
                 left += self.asks.get(key, ())
-        return found
+        return needed_relations
 
     def told_places(self, parts: list[Part]) -> dict[tuple[int, Way], str]:
-        """Returns the places of parts, by their sentences and ways, in the words that tell them."""
-        wanted, found = {}, {}
+        """Returns the line and column of each part, by sentence and path."""
+        paths, places_found = {}, {}
         for part in parts:
-            wanted.setdefault(part.sentence, set()).add(part.way)
-        for number, ways in wanted.items():
+            paths.setdefault(part.sentence, set()).add(part.way)
+        for number, ways in paths.items():
             for way, at in member_starts(self.text, self.starts[number], ways).items():
-                found[number, way] = place_of(self.text, at)
-        return found
+                places_found[number, way] = place_of(self.text, at)
+        return places_found
 
 
 def member_starts(text: str, at: int, ways: set[tuple]) -> dict[tuple, int]:
-    """Returns where the members begin that these ways lead to, of the sentence that begins there."""
-    found, way = {}, []
+    """Returns where the members at these paths of a sentence begin."""
+    indices, way = {}, []
     for token in TOKEN.finditer(text, at):
         if token[0] == ")":
             way.pop()
         elif tuple(way) in ways:
-            found[tuple(way)] = token.start()
+            indices[tuple(way)] = token.start()
         if token[0] == "(":
             way.append(0)
         elif way:
             way[-1] += 1
-        if not way or len(found) == len(ways):
+        if not way or len(indices) == len(ways):
             break
-    return found
+    return indices
 
 
 def meant(atom: Expression, words: dict[str, int | str | None], names: Sequence[str] = ()) -> str | None:
-    """Returns the word that may be meant by the relation of an atomic sentence, by its look and the number of its arguments: one of GDL,
-    or one of these names. None if there is none."""
+    """Returns the GDL keyword or the name that is probably meant by a relation, judging by its spelling and its number of arguments, or None."""
     name, count = relation(atom)
     if len(name) > MOST_SHOWN:
         return None
@@ -235,8 +234,8 @@ def meant(atom: Expression, words: dict[str, int | str | None], names: Sequence[
     for word in fits:
         if name in OFTEN.get(word, ()):
             return word
-    found = difflib.get_close_matches(name, [*(word for word in fits if word.isalpha()), *names], 1, ALIKE)
-    return found[0] if found else None
+    matches = difflib.get_close_matches(name, [*(word for word in fits if word.isalpha()), *names], 1, ALIKE)
+    return matches[0] if matches else None
 
 
 def cut(text: str) -> str:
@@ -244,12 +243,12 @@ def cut(text: str) -> str:
 
 
 def form(name: str, count: int | None) -> str:
-    """Returns how an atomic sentence of a relation looks."""
+    """Returns the form of an atomic sentence of a relation."""
     return cut(name if count is None else f"({' '.join([name] + ['_'] * count)})")
 
 
 def listed(name: str, counts: Sequence[int | None]) -> str:
-    """Returns how a relation looks with these numbers of arguments: with the first of them, where there are many."""
+    """Returns the forms of a relation with these numbers of arguments, at most the first few."""
     return " and ".join([f"`{form(name, count)}`" for count in counts[:MOST_LISTED]] + ["others"] * (len(counts) > MOST_LISTED))
 
 
@@ -258,20 +257,20 @@ def shown(atom: Expression) -> str:
 
 
 def is_too_long(move: Expression) -> bool:
-    """Returns whether no player can make a move, since the desk takes no answer that is as long."""
+    """Returns whether no player can make a move because the desk accepts no answer that long."""
     return len(spelled(move)) > MOST_ANSWER
 
 
 def by_name(relations: Iterable[Relation]) -> dict[str, list[int | None]]:
-    """Returns the numbers of arguments of relations, by their names."""
-    found = {}
+    """Returns the numbers of arguments of relations by name."""
+    counts_by_name = {}
     for name, count in sorted(relations, key=str):
-        found.setdefault(name, []).append(count)
-    return found
+        counts_by_name.setdefault(name, []).append(count)
+    return counts_by_name
 
 
 class Search:
-    """The search for what is suspicious in a description; `ground` is the text of its ground rules, where it is accepted."""
+    """Searches a description for suspicious sentences. `ground` is the text of its ground rules, if it was accepted."""
 
     def __init__(self, description: Description, ground: bytes | None, until: float) -> None:
         self.description, self.until, self.said, self.parts = description, until, {}, {}
@@ -292,13 +291,13 @@ class Search:
             self.known, self.facts = Atoms(heads), {sentence for sentence in sentences if sentence[:1] != ("<=",)}
 
     def findings(self) -> Iterator[Finding]:
-        """Gives what is suspicious. Where a sentence has not its form, only misspelt heads are told: it may be what others ask for."""
+        """Yields the findings. If a sentence is malformed, only misspelt heads are reported, because others may depend on it."""
         for part, why in self.description.secrets.items():
             yield Finding(part, why, ("secret", relation(part.atom)))
         for part in self.description.heads:
-            found = self.of_head(part)
-            if found and (self.description.is_well_formed or found.kind[0] == "misspelt"):
-                yield found
+            finding = self.of_head(part)
+            if finding and (self.description.is_well_formed or finding.kind[0] == "misspelt"):
+                yield finding
         if self.description.is_well_formed:
             yield from filter(None, map(self.of_condition, self.description.conditions))
             yield from self.of_instances()
@@ -320,19 +319,19 @@ class Search:
         return self.said[key]._replace(part=part)
 
     def of_unneeded(self, part: Part) -> Finding:
-        """Returns what is to be said of a head that the game does not need."""
+        """Returns the finding for a head that the game does not need."""
         key = relation(part.atom)
         word = meant(part.atom, HEADS)
         if word:
-            words = f"`{key[0]}` is no word of GDL, and nothing of the game asks for it; is `{word}` meant?"
+            words = f"`{key[0]}` is not a GDL keyword, and the game does not use it; is `{word}` meant?"
             return Finding(part, words, ("misspelt", key[0]))
-        words, others = f"nothing of the game asks for `{form(*key)}`", self.needed_counts.get(key[0])
+        words, others = f"the game does not use `{form(*key)}`", self.needed_counts.get(key[0])
         return Finding(part, words + (f", only for {listed(key[0], others)}" if others else ""), ("unused", key))
 
     def of_role(self, part: Part) -> Finding | None:
         if relation(part.atom) not in OF_ROLES or self.known.may_give(("role", part.atom[1])):
             return None
-        return Finding(part, f"{shown(part.atom[1])} is no role", ("role", part.atom[1]))
+        return Finding(part, f"{shown(part.atom[1])} is not a role", ("role", part.atom[1]))
 
     def of_move(self, part: Part) -> Finding | None:
         if relation(part.atom) != ("legal", 2) or not is_too_long(part.atom[2]):
@@ -342,7 +341,7 @@ class Search:
     def of_term(self, part: Part) -> Finding | None:
         if relation(part.atom) not in (("init", 1), ("next", 1)) or self.asked.may_give(("true", part.atom[1])):
             return None
-        return Finding(part, f"no condition asks for the term {shown(part.atom[1])}", ("unasked", relation(part.atom[1])))
+        return Finding(part, f"no condition uses the term {shown(part.atom[1])}", ("unasked", relation(part.atom[1])))
 
     def of_condition(self, part: Part) -> Finding | None:
         self.look_at_clock()
@@ -362,7 +361,7 @@ class Search:
         return self.said["as a condition", key]._replace(part=part)
 
     def of_missing(self, part: Part) -> Finding:
-        """Returns what is to be said of a condition that no head may be."""
+        """Returns the finding for a condition that no head can satisfy."""
         name, count = key = relation(part.atom)
         counts, words = self.counts.get(name, ()), f"`{form(*key)}` has no rule and no fact"
         if count in counts:
@@ -374,32 +373,32 @@ class Search:
         return Finding(part, words, ("undefined", key))
 
     def names_like(self, count: int | None) -> list[str]:
-        """Returns the names of relations with as many arguments: none where many were compared, since this takes its time."""
+        """Returns the names of relations with this number of arguments. They are empty after too many comparisons, which are slow."""
         lists = [self.names.get(number, []) for number in ((count,) if count else (None, 0))]
         self.compared += sum(map(len, lists))
         return sum(lists, []) if self.compared <= MOST_COMPARED else []
 
     def of_instances(self) -> Iterator[Finding]:
-        """Gives the instances with a move that is too long, and those that hold always and are of what is no role. Others may never
-        hold: this is left open."""
+        """Yields the instances with a move that is too long, and the facts about names that are not roles. Other instances may never hold, so they
+        are not reported."""
         for name in ("legal", "goal"):
             for atom in self.known.plain.get((name, 2), ()):
                 self.look_at_clock()
                 if name == "legal" and is_too_long(atom[2]):
                     yield from self.of_instance(atom, TOO_LONG, ("long", relation(atom[2])))
                 if atom in self.facts and not self.known.may_give(("role", atom[1])):
-                    words = f"{shown(atom[1])} is no role, and a fact of the ground rules has it"
+                    words = f"{shown(atom[1])} is not a role, but a fact of the ground rules has it"
                     yield from self.of_instance(atom, words, ("role", atom[1]))
 
     def of_instance(self, atom: Expression, words: str, kind: tuple) -> Iterator[Finding]:
-        """Gives what there is to say of an instance, at the head that it is of: at none where it may be of several."""
+        """Yields the finding for an instance, at its head if only one is possible."""
         parts = [] if atom in self.parts else [part for head in self.heads.like(atom) for part in self.parts[head]]
         if parts:
             is_sure = len(parts) == 1
             yield Finding(parts[0]._replace(atom=atom) if is_sure else None, words if is_sure else f"{words}: {shown(atom)}", kind)
 
     def of_roles(self) -> Iterator[Finding]:
-        """Gives what a role lacks, and whether the end does."""
+        """Yields what a role lacks, and whether there is no end."""
         for atom in self.known.plain.get(("role", 1), ()):
             self.look_at_clock()
             for name in ("legal", "goal"):
@@ -411,36 +410,36 @@ class Search:
 
 
 class Suspicions(NamedTuple):
-    """What is suspicious, in lines, and why not all was looked at: nothing where all was."""
+    """The suspicious sentences, in lines, and why the check is incomplete, empty if it is complete."""
 
     lines: list
     cut: str
 
 
 def suspicions(text: bytes, ground: bytes | None = None, seconds: float | None = math.inf) -> Suspicions:
-    """Returns what is suspicious in a description, in the order of the text; `ground` is the text of its ground rules, where it is
-    accepted. After the seconds the search is cut."""
-    found, why = [], ""
+    """Returns the suspicious sentences of a description in the order of the text. `ground` is the text of its ground rules, if it was accepted. The
+    search stops after the time limit."""
+    findings, why = [], ""
     try:
         description = Description(text)
         search = Search(description, ground, time.monotonic() + seconds)
         for finding in search.findings():
-            found.append(finding)
+            findings.append(finding)
     except (Refused, NoDescription):
         return Suspicions([], NOT_ALL)
     except TimeIsOver:
-        why = f"the search for what is suspicious was cut after {seconds:,} s: {NOT_ALL}"
-    return Suspicions(lines_of(description, found), why or ("" if description.is_well_formed else NOT_ALL))
+        why = f"the search for suspicious sentences was stopped after {seconds:,} s: {NOT_ALL}"
+    return Suspicions(lines_of(description, findings), why or ("" if description.is_well_formed else NOT_ALL))
 
 
 def lines_of(description: Description, found: list[Finding]) -> list[str]:
-    """Returns the lines that tell findings, those of one kind in one line, at the place of the first."""
+    """Returns the lines for findings, one for each kind, at the place of the first."""
     counts, firsts = Counter(finding.kind for finding in found), {}
     for finding in sorted(found, key=lambda finding: finding.part[:2] if finding.part else (len(description.starts), ())):
         firsts.setdefault(finding.kind, finding)
     shown_ones = list(firsts.values())[:MOST_LINES]
-    told, lines = description.told_places([finding.part for finding in shown_ones if finding.part]), []
+    places_of_parts, lines = description.told_places([finding.part for finding in shown_ones if finding.part]), []
     for finding in shown_ones:
         more = f" (and {counts[finding.kind] - 1:,} more like this)" if counts[finding.kind] > 1 else ""
-        lines.append(f"{told[finding.part[:2]]}: {finding.words}: {shown(finding.part.atom)}{more}" if finding.part else finding.words)
-    return lines + ([f"and so many more such lines: {len(firsts) - MOST_LINES:,}"] if len(firsts) > MOST_LINES else [])
+        lines.append(f"{places_of_parts[finding.part[:2]]}: {finding.words}: {shown(finding.part.atom)}{more}" if finding.part else finding.words)
+    return lines + ([f"and {len(firsts) - MOST_LINES:,} more lines"] if len(firsts) > MOST_LINES else [])

@@ -1,1 +1,1 @@
-"""Records held against the description of the game as it was published. This shares nothing with what instantiates, nor with the referee."""
+"""Checks records against the published description of a game. It shares no code with grounding or with the referee, except for the parser."""

@@ -1,4 +1,4 @@
-"""The command `ggp-hold-against`, for a process that is started with this package alone."""
+"""Runs `ggp-hold-against` as `python -m ggp_tools.holding`."""
 
 import sys
 

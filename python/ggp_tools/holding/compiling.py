@@ -1,7 +1,7 @@
-"""Rules become Python functions, one for each relation and each set of its arguments that are known where it is asked for.
+"""Compiles rules to Python functions, one for each relation and each set of its arguments that are known when it is queried.
 
-Where all are known the function says whether the sentence is true, and else it gives the arguments that are not known, each answer
-once. What it has found of a position it keeps. Relations that depend on themselves are derived as a whole, from the facts up.
+If all arguments are known, the function returns whether the sentence is true, otherwise the unknown arguments of all answers, without duplicates.
+Results are cached for each position. Relations that depend on themselves are derived completely, bottom-up from the facts.
 """
 
 from collections.abc import Callable, Iterable, Iterator, Sequence
@@ -14,14 +14,14 @@ from .positions import Position, State, functor_of
 from .reading import DOES, TRUE, Asked, Condition, Either, NotFollowed, Rule, Same, Term, is_built, low, variables_of
 from .relations import Relations
 
-# The expressions of variables that are bound.
+# Python expressions for bound variables.
 Bound = dict[str, str]
-# Python takes twenty blocks in one another.
+# Python allows twenty nested blocks.
 MOST_DEPTH = 12
 
 
 class GoesRound(NotFollowed):
-    """A sentence depends on itself through a denial."""
+    """A sentence depends on itself through a negation."""
 
 
 def tuple_text(members: Iterable[str]) -> str:
@@ -34,14 +34,14 @@ def key_text(members: list[str]) -> str:
 
 
 def term_text(term: Term, bound: Bound) -> str:
-    """The expression that makes a term whose variables are bound."""
+    """Returns a Python expression for a term whose variables are bound."""
     if isinstance(term, str):
         return bound[term] if term.startswith("?") else repr(term)
     return tuple_text(term_text(part, bound) for part in term)
 
 
 class Program:
-    """The functions of a description, each made where it is first asked for."""
+    """The functions of a description. Each is compiled when it is first used."""
 
     def __init__(self, relations: Relations, sizes: Sizes) -> None:
         self.relations, self.sizes = relations, sizes
@@ -49,7 +49,7 @@ class Program:
         self.space = {"NONE": (), "ONE": (0,), "Whole": positions.Whole, "BUSY": object(), "GoesRound": GoesRound, "low": low}
 
     def function(self, relation: Relation, known: tuple[bool, ...]) -> Callable:
-        """The function of a relation where these of its arguments are known."""
+        """Returns the function of a relation for these known arguments."""
         name = self.name(relation, known)
         while self.waiting:
             waiting, self.waiting = self.waiting, []
@@ -63,7 +63,7 @@ class Program:
         return self.made[relation, known]
 
     def circle(self, relation: Relation) -> tuple[str, int]:
-        """The function that derives a circle of relations, and the relation's number there."""
+        """Returns the function that derives a cycle of relations, and the relation's index in the cycle."""
         circle = self.relations.circles[relation]
         if circle not in self.made:
             self.made[circle] = name = self.fresh("c")
@@ -80,14 +80,14 @@ class Program:
         return name
 
     def table(self, key: tuple, is_timely: bool) -> int:
-        """The number of a table: one that stays, whatever is planned again, or one that each position has anew."""
+        """Returns the number of a table of results. A timely table is per position, others are permanent."""
         number = self.relations.tables.setdefault(key, len(self.relations.tables))
         if not is_timely:
             self.relations.fixed.setdefault(number, {})
         return number
 
     def facts(self, relation: Relation, places: tuple[int, ...] | None) -> str:
-        """The name of the facts of a relation: all of them, or an index by these places."""
+        """Returns the name of the facts of a relation: all of them, or an index by these arguments."""
         key = "facts", relation, places
         if key not in self.made:
             rows = self.relations.facts.get(relation, {})
@@ -100,7 +100,7 @@ class Program:
 
 
 class Lines:
-    """Lines of Python that are being written. `place` is how far they stand in, `depth` in how many loops."""
+    """Lines of Python code. `place` is the indentation, `depth` the number of nested loops."""
 
     def __init__(self, program: Program, extra: str = "") -> None:
         self.program, self.lines, self.helpers, self.extra = program, [], [], extra
@@ -117,7 +117,7 @@ class Lines:
     # ---- Terms -----------------------------------------------------------------------------------
 
     def match(self, place: int, pattern: Term, value: str, bound: Bound) -> None:
-        """Goes on with the next answer where the value does not fit the pattern, and binds its variables."""
+        """Continues with the next answer if a value does not match the pattern, and binds the variables of the pattern."""
         if is_variable(pattern) and pattern not in bound:
             bound[pattern] = value
         elif is_known(pattern, bound):
@@ -125,12 +125,12 @@ class Lines:
         else:
             functor = "" if is_variable(pattern[0]) else f" or {value}[0] != {pattern[0]!r}"
             self.put(place, f"if type({value}) is not tuple or len({value}) != {len(pattern)}{functor}: continue")
-            for at, member in enumerate(pattern):
-                if at or is_variable(member):
-                    self.part(place, member, f"{value}[{at}]", bound)
+            for index, member in enumerate(pattern):
+                if index or is_variable(member):
+                    self.part(place, member, f"{value}[{index}]", bound)
 
     def part(self, place: int, pattern: Term, value: str, bound: Bound) -> None:
-        """The same for a part of a term, which gets a name where it is looked at more than once."""
+        """Matches a part of a term. It is assigned to a variable if it is used more than once."""
         if not is_known(pattern, bound):
             name = self.fresh()
             self.put(place, f"{name} = {value}")
@@ -138,7 +138,7 @@ class Lines:
         self.match(place, pattern, value, bound)
 
     def targets(self, patterns: Sequence[Term], bound: Bound) -> tuple[list[str], list[tuple[Term, str]]]:
-        """The names that the parts of an answer get, and what is still to be looked at: names and patterns."""
+        """Returns variables for the parts of an answer, and the patterns that these still have to match."""
         names, rest = [], []
         for pattern in patterns:
             names.append(self.fresh())
@@ -148,10 +148,10 @@ class Lines:
                 rest.append((pattern, names[-1]))
         return names, rest
 
-    # ---- Conditions whose variables are all bound ------------------------------------------------
+    # ---- Conditions without unbound variables ----------------------------------------------------
 
     def test(self, condition: Condition, bound: Bound) -> str:
-        """The expression that says whether a condition holds."""
+        """Returns an expression for whether a condition holds."""
         if isinstance(condition, Either):
             return "(" + " or ".join("(" + (" and ".join(self.test(inner, bound) for inner in way) or "True") + ")" for way in condition.ways) + ")"
         if isinstance(condition, Same):
@@ -161,7 +161,7 @@ class Lines:
         return found if condition.positive else f"not {found}"
 
     def cost(self, condition: Condition) -> int:
-        """What a test costs: those that look something up stand behind those that compare."""
+        """Returns the cost of a test. Comparisons come before look-ups."""
         if isinstance(condition, Asked):
             return 3 if condition.relation in self.program.relations.rules else 1
         return 2 if isinstance(condition, Either) else 0
@@ -186,7 +186,7 @@ class Lines:
         return f"({tuple_text(texts)} in {self.program.facts(relation, None)})"
 
     def whole(self, relation: Relation) -> tuple[str, int]:
-        """The expression of all that is true of a circle of relations, and the relation's number there."""
+        """Returns an expression for all derived rows of a cycle, and the relation's index in the cycle."""
         name, number = self.program.circle(relation)
         return ("W" if self.extra == f"W{name}" else f"{name}(D)"), number
 
@@ -208,7 +208,7 @@ class Lines:
             self.put(place, f"for {bound[pattern]} in D.state:")
             return
         if is_variable(pattern[0]):
-            raise NotFollowed(f"{spelled(pattern)} is no term")
+            raise NotFollowed(f"{spelled(pattern)} is not a term")
         functor = functor_of(pattern)
         places = tuple(at for at, member in enumerate(pattern) if at and is_known(member, bound))
         rows = f"D.rows.get({functor!r}, NONE)"
@@ -219,7 +219,7 @@ class Lines:
         self.loop_over_rows(place, rows, pattern, (0, *places), bound)
 
     def loop_over_rows(self, place: int, rows: str, patterns: Sequence[Term], known: tuple[int, ...], bound: Bound) -> None:
-        """Begins a loop over rows, of which the parts at some places are known to fit."""
+        """Begins a loop over rows. The parts at some indices are known to match."""
         names, rest = self.targets([pattern for at, pattern in enumerate(patterns) if at not in known], bound)
         left = iter(names)
         self.put(place, f"for {tuple_text('_' if at in known else next(left) for at in range(len(patterns)))} in {rows}:")
@@ -260,7 +260,7 @@ class Lines:
     # ---- Bodies ----------------------------------------------------------------------------------
 
     def body(self, place: int, conditions: Iterable[Condition], bound: Bound, finish: "Finish") -> None:
-        """Meets all conditions, in the order that costs least, and finishes each way of it."""
+        """Checks all conditions in the cheapest order, and finishes for each way to satisfy them."""
         left, depth = list(conditions), 0
         while True:
             for test in sorted((condition for condition in left if is_test(condition, bound)), key=self.cost):
@@ -287,12 +287,12 @@ class Lines:
             place, depth = place + 1, depth + 1
 
     def least(self, conditions: Iterable[Condition], bound: Bound) -> Asked:
-        """The condition that has the fewest answers."""
+        """Returns the condition that has the fewest answers."""
         binding = [condition for condition in conditions if isinstance(condition, Asked) and condition.positive]
         return min(binding, key=lambda condition: self.program.sizes.answers(condition, bound))
 
     def product(self, place: int, groups: list[list[Condition]], bound: Bound, finish: "Finish") -> None:
-        """Meets groups of conditions that have no variables in common: each group once, not again for each answer of another."""
+        """Checks groups of conditions without common variables, each group only once."""
         answers = []
         for group in sorted(groups, key=lambda group: self.program.sizes.answers(self.least(group, bound), bound)):
             own = {name for condition in group for name in variables_of(condition)}
@@ -311,21 +311,22 @@ class Lines:
         finish.write(self, place, bound)
 
     def helper(self, left: list[Condition], bound: Bound, finish: "Finish", answers: str = "F") -> str:
-        """The call of a new function that meets conditions: it gives whether they can be met, or adds to the answers and gives these."""
+        """Returns a call of a new function that checks conditions. It returns whether they can be satisfied, or adds to the answers and returns
+        these."""
         name, needed = self.program.fresh("h"), {variable for condition in left for variable in variables_of(condition)} | set(finish.names)
         live = {variable: text for variable, text in bound.items() if variable in needed}
         inner, names = Lines(self.program, self.extra), {variable: self.program.fresh("v") for variable in live}
-        given = ["D", *(["W"] if self.extra else []), *(["F"] if isinstance(finish, Answer) else [])]
-        inner.put(0, f"def {name}({', '.join([*given, *names.values()])}):")
+        parameters = ["D", *(["W"] if self.extra else []), *(["F"] if isinstance(finish, Answer) else [])]
+        inner.put(0, f"def {name}({', '.join([*parameters, *names.values()])}):")
         inner.put(1, "for _ in ONE:")
         inner.body(2, left, dict(names), finish)
         inner.put(1, "return F" if isinstance(finish, Answer) else "return False")
         self.helpers += [*inner.helpers, inner.lines]
-        return f"{name}({', '.join([answers if word == 'F' else word for word in given] + list(live.values()))})"
+        return f"{name}({', '.join([answers if word == 'F' else word for word in parameters] + list(live.values()))})"
 
 
 def apart(conditions: Iterable[Condition], bound: Bound) -> list[list[Condition]]:
-    """The conditions in groups that have no variable in common that is not bound."""
+    """Groups conditions so that different groups have no unbound variables in common."""
     groups = []
     for condition in conditions:
         names, group, others = variables_of(condition).keys() - bound.keys(), [condition], []
@@ -339,7 +340,7 @@ def apart(conditions: Iterable[Condition], bound: Bound) -> list[list[Condition]
 
 
 class Truth:
-    """The question is whether it is so."""
+    """The result is whether there is a way to satisfy all conditions."""
 
     is_test, names = True, ()
 
@@ -351,7 +352,7 @@ TRUTH = Truth()
 
 
 class Answer:
-    """An answer has these terms."""
+    """The result is a set of terms."""
 
     is_test = False
 
@@ -369,7 +370,7 @@ class Answer:
 
 
 class Derived:
-    """A row of a relation of a circle has these terms."""
+    """The result is added to the rows of a relation of a cycle."""
 
     is_test = False
 
@@ -386,12 +387,12 @@ class Derived:
         lines.put(place, f"W.add({self.number}, {self.row(bound)})")
 
 
-# What is done where all conditions of a body hold.
+# What to do when all conditions of a body hold.
 Finish = Truth | Answer | Derived
 
 
 class Asking:
-    """The function of a relation where some of its arguments are known."""
+    """The function of a relation for known arguments."""
 
     def __init__(self, program: Program, name: str, relation: Relation, known: tuple[bool, ...]) -> None:
         self.program, self.name, self.relation, self.known = program, name, relation, known
@@ -415,7 +416,7 @@ class Asking:
         return lines.text() + "\n".join(self.kept()) + "\n"
 
     def is_plain(self) -> bool:
-        """Whether there are no variables: the question is whether one of some tests holds."""
+        """Returns whether there are no variables, so that the result is whether one of some tests holds."""
         relations = self.program.relations
         rules = () if self.known or self.relation in relations.circles or self.relation in relations.denying else relations.rules.get(self.relation, ())
         return bool(rules) and all(is_test(condition, {}) for rule in rules for condition in rule.body)
@@ -430,7 +431,7 @@ class Asking:
         yield "    return R"
 
     def put_facts(self, lines: Lines) -> None:
-        """The lines that give the facts of the relation."""
+        """Writes the lines for the facts of the relation."""
         if self.is_test:
             lines.put(1, f"if {tuple_text(self.parameters)} in {self.program.facts(self.relation, None)}: return True")
             return
@@ -440,7 +441,7 @@ class Asking:
         lines.put(2, f"F[{key_text([f'R[{at}]' for at, is_given in enumerate(self.known) if not is_given])}] = None")
 
     def put_rule(self, lines: Lines, arguments: Sequence[Term], body: tuple[Condition, ...]) -> None:
-        """The lines of one rule: its head has the known arguments."""
+        """Writes the lines of a rule whose head has the known arguments."""
         bound = {}
         lines.put(1, "for _ in ONE:")
         for at, argument in enumerate(arguments):
@@ -450,7 +451,7 @@ class Asking:
         lines.body(2, body, bound, TRUTH if self.is_test else Answer(free))
 
     def kept(self) -> Iterator[str]:
-        """The function that looks first at what was found before."""
+        """Yields the function that caches results."""
         number = self.program.table((self.relation, self.known), self.relation in self.program.relations.timely)
         words, key = ["D", *self.parameters], key_text(self.parameters) if self.parameters else "0"
         yield f"def {self.name}({', '.join(words)}):"
@@ -467,11 +468,11 @@ class Asking:
 
 
 def spelled_relation(relation: Relation) -> str:
-    return f"a sentence of `{spelled(relation[0])}` depends on itself, through a denial"
+    return f"a sentence of `{spelled(relation[0])}` depends on itself through a negation"
 
 
 class Circle:
-    """The function that derives all that is true of a circle of relations."""
+    """The function that derives all rows of a cycle of relations."""
 
     def __init__(self, program: Program, name: str, circle: tuple[Relation, ...]) -> None:
         self.program, self.name, self.circle = program, name, circle
@@ -498,7 +499,7 @@ class Circle:
         return [at for at, condition in enumerate(body) if isinstance(condition, Asked) and condition.relation in self.circle]
 
     def put_variant(self, lines: Lines, number: int, rule: Rule, at: int, variants: list[list[str]]) -> None:
-        """The function that derives what follows by a rule from one row of what it asks for at this place."""
+        """Writes the function that derives what follows by a rule from one new row of the condition at this index."""
         name, asked, bound = self.program.fresh("d"), rule.body[at], {}
         variants[self.circle.index(asked.relation)].append(name)
         lines.put(0, f"def {name}(D, W, R):")

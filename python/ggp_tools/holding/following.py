@@ -1,4 +1,4 @@
-"""A record is followed by the published description: whether its roles, states, moves, errors, end and goals are those of the game."""
+"""Replays a record with the published description, and checks its roles, states, moves, errors, end and goals."""
 
 from collections.abc import Callable, Sequence
 
@@ -9,18 +9,18 @@ from .positions import Position, State
 from .reading import GOAL, INIT, LEGAL, NEXT, TERMINAL, NotFollowed, Term, term_of
 from .records import AT_END, ILLEGAL, UNREADABLE
 
-# So many of each kind are told.
+# At most this many differences of each kind are reported.
 MOST_TOLD = 5
-# So much of a text is shown that is no term.
+# At most this many characters of an invalid term are shown.
 MOST_SHOWN = 100
 
 
 class Differs(Exception):
-    """Where the record and the description differ, in lines."""
+    """The differences between the record and the description, in lines."""
 
 
 class Following:
-    """The game, and the texts of terms as a record has them. `seen` has the first sentence that was seen to give a move of a role."""
+    """The game, with caches of terms and their texts. `seen` has the first sentence that was seen to derive a move of a role."""
 
     def __init__(self, game: Game) -> None:
         self.game, self.texts, self.terms, self.seen = game, {}, {}, {}
@@ -32,16 +32,16 @@ class Following:
         return self.texts[term]
 
     def term(self, text: str) -> Term:
-        """Returns the term of a text. Records have each term in its canonical text."""
+        """Parses a term, which must be in canonical form."""
         if text not in self.terms:
-            found = term_of(text)
-            if spelled(found) != text:
-                raise NotFollowed(f"it is no record: {text[:MOST_SHOWN]!r} is no canonical text")
-            self.terms[text] = found
+            parsed = term_of(text)
+            if spelled(parsed) != text:
+                raise NotFollowed(f"it is not a record: {text[:MOST_SHOWN]!r} is not canonical text")
+            self.terms[text] = parsed
         return self.terms[text]
 
     def follow(self, record: dict) -> int:
-        """Follows a record to its end. Returns how many turns it has."""
+        """Checks a record to its end. Returns its number of turns."""
         self.look_at_roles(record["roles"])
         state = self.game.initial
         self.look_at_state("the first state", state, record["states"][0], lambda term: self.cited(INIT, (term,), frozenset()))
@@ -54,41 +54,41 @@ class Following:
 
     def look_at_roles(self, roles: list[str]) -> None:
         own = list(map(self.text, self.game.roles))
-        # Roles that a rule gives have no order in the description.
+        # Roles that a rule derives have no order in the description.
         if own != roles and (self.game.has_fixed_order or sorted(own) != sorted(roles)):
             raise Differs(f"the roles are {' '.join(own)} by the description, and {' '.join(roles)} in the record")
         self.in_order = list(map(self.term, roles))
 
     def look_at_state(self, when: str, state: State, texts: list[str], cited: Callable) -> None:
-        """Refuses another state than the record's."""
+        """Checks that the record has this state."""
         own = {self.text(term): term for term in state}
         if own.keys() == set(texts) and len(texts) == len(own):
             return
-        said = []
+        lines = []
         for text in sorted(own.keys() - set(texts))[:MOST_TOLD]:
-            said.append(f"{when} lacks {text}, which {cited(own[text])}")
+            lines.append(f"{when} lacks {text}, which {cited(own[text])}")
         for text in sorted(set(texts) - own.keys())[:MOST_TOLD]:
-            said.append(f"{when} has {text}, which no sentence of the description gives there")
-        raise Differs("\n".join(said or [f"{when} has a term twice"]))
+            lines.append(f"{when} has {text}, which no sentence of the description gives there")
+        raise Differs("\n".join(lines or [f"{when} has a term twice"]))
 
     def cited(self, relation: Relation, arguments: Sequence[Term], state: State, moves: Sequence[Term] = ()) -> str:
-        """Words for what gives this in a state."""
-        found = self.game.sources(relation, arguments, state, self.own_order(moves))
-        return " and ".join(f"{self.game.cited(number)} gives" for number in found[:MOST_TOLD]) or "the description gives"
+        """Returns which sentences derive this in a state, as the subject of a clause."""
+        numbers = self.game.sources(relation, arguments, state, self.own_order(moves))
+        return " and ".join(f"{self.game.cited(number)} gives" for number in numbers[:MOST_TOLD]) or "the description gives"
 
     def own_order(self, moves: Sequence[Term]) -> Sequence[Term]:
-        """The moves in the order in which the game has its roles."""
+        """Returns the moves in the game's role order."""
         by_role = dict(zip(self.in_order, moves))
         return tuple(by_role[role] for role in self.game.roles) if moves else ()
 
     # ---- Turns -----------------------------------------------------------------------------------
 
     def turn(self, when: str, state: State, texts: list[str], errors: list[str], following: list[str]) -> State:
-        """Follows one turn. Returns the state after it."""
+        """Checks one turn. Returns the state after it."""
         moves = list(map(self.term, texts))
         position = self.game.position(state, self.own_order(moves))
         if self.game.is_over(position):
-            raise Differs(f"{when} is played, and the match has ended before it: {self.cited(TERMINAL, (), state)} `terminal`")
+            raise Differs(f"{when} was played, but the match had ended before it: {self.cited(TERMINAL, (), state)} `terminal`")
         for role, move, error in zip(self.in_order, moves, errors):
             self.look_at_move(f"{when}, {self.text(role)}", position, role, move, error)
         after = frozenset(self.game.following(position))
@@ -96,40 +96,40 @@ class Following:
         return after
 
     def look_at_move(self, when: str, position: Position, role: str, move: Term, error: str) -> None:
-        """Refuses a move that is not legal, and one in the place of an answer that is, or that is not the first legal one."""
+        """Checks that a move is legal. If it was substituted, it must be the first legal move, and the answer must be illegal."""
         if not self.game.is_legal(position, role, move):
             raise Differs(f"{when}: the record plays {self.text(move)}, which is not legal by the description")
         if error.startswith(ILLEGAL) and error != UNREADABLE:
             answer = self.term(error.removeprefix(ILLEGAL))
             if self.game.is_legal(position, role, answer):
                 given = self.cited(LEGAL, (role, answer), position.state)
-                raise Differs(f"{when}: the answer {self.text(answer)} was taken for illegal, and {given} it")
+                raise Differs(f"{when}: the answer {self.text(answer)} was counted as illegal, but {given} it")
         if error:
             self.look_at_first(when, position, role, move)
 
     def look_at_first(self, when: str, position: Position, role: str, first: Term) -> None:
-        """Refuses a first legal move that another stands before. The instances of a sentence stand in the order of their heads, behind
-        those of the sentences before it, whatever the state: where several sentences have instances of a move its place may be open."""
+        """Checks that no legal move must come before the substituted one. Moves are ordered by the sentence that derives them, then by head. If
+        several sentences derive a move, its place may be unknown."""
         least = self.least_place(role, first)
         for move in self.game.moves(position, role):
             greatest = self.greatest_place(position, role, move)
             if greatest < least:
-                words = f"the record plays {self.text(first)} in the place of an answer, and {self.text(move)} stands before it"
+                words = f"the record plays {self.text(first)} instead of an answer, but {self.text(move)} comes before it"
                 raise Differs(f"{when}: {words}, by {self.game.cited(greatest[0])}")
 
     def least_place(self, role: str, move: Term) -> tuple[int, tuple]:
-        """The place that a move has where the first sentence that could give it does so in some state."""
+        """Returns the earliest possible place of a move: that of the first sentence that could derive it in some state."""
         for number, rules in self.game.by_sentence(LEGAL).items():
             if any(fits(rule.arguments, (role, move), {}) for rule in rules):
                 return number, place(move)
         raise NotFollowed(f"no head of a sentence fits the legal move {self.text(move)}")
 
     def greatest_place(self, position: Position, role: str, move: Term) -> tuple[int, tuple]:
-        """The place that a move has at the latest: by the first sentence that was seen to give it."""
+        """Returns the latest possible place of a move: that of the first sentence that was seen to derive it."""
         numbers = self.game.sources(LEGAL, (role, move), position.state)
-        found = min([*numbers, self.seen.get((role, move), numbers[0])])
-        self.seen[role, move] = found
-        return found, place(move)
+        first = min([*numbers, self.seen.get((role, move), numbers[0])])
+        self.seen[role, move] = first
+        return first, place(move)
 
     # ---- The end ---------------------------------------------------------------------------------
 
@@ -140,9 +140,9 @@ class Following:
         is_at_end = record["phase"] in AT_END or kind == "nogoal"
         is_over = self.game.is_over(position)
         if is_at_end and not is_over:
-            raise Differs("the record ends as at the end of the game, and the description has no end there: nothing gives `terminal`")
+            raise Differs("the match ends by the rules in the record, but not in the description: nothing gives `terminal`")
         if not is_at_end and is_over:
-            raise Differs(f"the record goes on, and the match has ended by the description: {self.cited(TERMINAL, (), state)} `terminal`")
+            raise Differs(f"the match goes on in the record, but has ended in the description: {self.cited(TERMINAL, (), state)} `terminal`")
         if kind == "nogoal":
             self.look_at_missing_goal(position, int(at[0]))
         elif is_at_end:
@@ -152,21 +152,21 @@ class Following:
             self.look_at_legal(position, int(at[0]) if kind == "nolegal" else None)
 
     def look_at_goal(self, position: Position, role: str, value: int) -> None:
-        found = self.game.goals(position, role)
-        if found != [value]:
-            given = [f"{self.cited(GOAL, (role, str(goal)), position.state)} {goal}" for goal in found]
+        goals = self.game.goals(position, role)
+        if goals != [value]:
+            given = [f"{self.cited(GOAL, (role, str(goal)), position.state)} {goal}" for goal in goals]
             raise Differs(f"{self.text(role)} has the goal {value} in the record, and by the description {'; '.join(given) or 'none'}")
 
     def look_at_missing_goal(self, position: Position, at: int) -> None:
-        """Refuses a match that was given up for the goals of a role that is not the first without a single one."""
+        """Checks the role for whose goals a match was given up: it must be the first without exactly one goal."""
         counts = [len(self.game.goals(position, role)) for role in self.in_order]
         without = next((place for place, count in enumerate(counts) if count != 1), None)
         if without != at:
             words = "no role lacks its goal" if without is None else f"{self.text(self.in_order[without])} does"
-            raise Differs(f"the record is given up since {self.text(self.in_order[at])} has no single goal, and by the description {words}")
+            raise Differs(f"the match was given up because {self.text(self.in_order[at])} has no single goal, and by the description {words}")
 
     def look_at_legal(self, position: Position, at: int | None) -> None:
-        """Refuses a role without a legal move that has one, and the other way round."""
+        """Checks which role has no legal move."""
         without = next((place for place, role in enumerate(self.in_order) if not self.game.moves(position, role)), None)
         if without != at:
             stuck = "no role" if without is None else self.text(self.in_order[without])

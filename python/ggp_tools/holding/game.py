@@ -1,4 +1,4 @@
-"""The game of a published description: its first state, and in each state what is legal, what follows, the end and the goals."""
+"""Interprets a game description: its first state, and in each state the legal moves, the next state, the end and the goals."""
 
 import re
 from collections.abc import Sequence
@@ -13,13 +13,12 @@ from .reading import GOAL, INIT, LEGAL, NEXT, ROLE, TERMINAL, Rule, Term, one_by
 from .relations import Relations
 
 GOAL_NUMBER = re.compile(r"0|[1-9][0-9]?|100")
-# Rules that ask for one another are looked up by calls in calls, as deep as this.
+# Nested rules are evaluated by nested calls, up to this depth.
 MOST_CALLS = 20_000
 
 
 class Game:
-    """A state is a set of terms. Of a position one asks for what is legal and where it ends, and, with its moves, for what follows. By a
-    ground description the legal moves come in its order."""
+    """Interprets a description. A state is a set of terms. For a ground description, legal moves are in the order of its rules."""
 
     def __init__(self, text: str, takes_bytes: bool = False) -> None:
         self.text, self.is_ground = text, not has_variables(text)
@@ -37,60 +36,60 @@ class Game:
         self.ranks = {head: rank for rank, head in enumerate(dict.fromkeys(heads))}
 
     def position(self, state: State, moves: Sequence[Term] = ()) -> Position:
-        """The position of a state, with a move of each role where there are some. If a state has many more terms than those before it, the
-        rules are planned again."""
+        """Returns the position of a state, with a move of each role if `moves` are given. If a state has many more terms than earlier ones, the rules
+        are planned again."""
         rows = by_functor(state)
         if not self.is_ground and (sizes := self.program.sizes.after(rows)):
             self.program = Program(self.program.relations, sizes)
         return self.program.position(state, list(zip(self.roles, moves)), rows)
 
     def following(self, position: Position) -> list[Term]:
-        """The terms of the state after the moves of a position."""
+        """Returns the terms of the state after the moves of a position."""
         return position.ask(NEXT, (False,))(position)
 
     def is_legal(self, position: Position, role: Term, move: Term) -> bool:
         return position.ask(LEGAL, (True, True))(position, role, move)
 
     def moves(self, position: Position, role: Term) -> list[Term]:
-        found = position.ask(LEGAL, (True, False))(position, role)
-        return sorted(found, key=lambda move: self.ranks[role, move]) if self.ranks else found
+        moves = position.ask(LEGAL, (True, False))(position, role)
+        return sorted(moves, key=lambda move: self.ranks[role, move]) if self.ranks else moves
 
     def is_over(self, position: Position) -> bool:
         return position.ask(TERMINAL, ())(position)
 
     def goals(self, position: Position, role: Term) -> list[int]:
-        """The goals of a role, without those that are no numbers from 0 to 100."""
+        """Returns the goals of a role that are numbers from 0 to 100."""
         return sorted({int(goal) for goal in self.goal_terms(position, role) if isinstance(goal, str) and GOAL_NUMBER.fullmatch(goal)})
 
     def goal_terms(self, position: Position, role: Term) -> list[Term]:
-        """The goals of a role, whatever they are."""
+        """Returns all goals of a role, also invalid ones."""
         return position.ask(GOAL, (True, False))(position, role)
 
     def sources(self, relation: Relation, arguments: Sequence[Term], state: State, moves: Sequence[Term] = ()) -> list[int]:
-        """The sentences that derive this in a state, looked up one by one."""
-        alone = {number: self.set_apart(relation, number, rules) for number, rules in self.by_sentence(relation).items()}
+        """Returns the sentences that derive this in a state."""
+        relations_by_sentence = {number: self.set_apart(relation, number, rules) for number, rules in self.by_sentence(relation).items()}
         if self.kept[0] != (state, moves):
             self.kept = (state, moves), self.position(state, moves)
         position, known = self.kept[1], (True,) * len(arguments)
-        return [number for number, apart in alone.items() if position.ask(apart, known)(position, *arguments)]
+        return [number for number, apart in relations_by_sentence.items() if position.ask(apart, known)(position, *arguments)]
 
     def by_sentence(self, relation: Relation) -> dict[int, list[Rule]]:
-        """The rules of a relation by their sentences."""
-        found = {}
+        """Returns the rules of a relation by their sentences."""
+        rules = {}
         for rule in self.rules:
             if rule.relation == relation:
-                found.setdefault(rule.sentence, []).append(rule)
-        return found
+                rules.setdefault(rule.sentence, []).append(rule)
+        return rules
 
     def set_apart(self, relation: Relation, number: int, rules: list[Rule]) -> Relation:
-        """Returns a relation that the rules of one sentence make alone."""
-        alone, relations = (f"{relation[0]} by sentence {number}", relation[1]), self.program.relations
-        if alone not in relations.facts:
-            relations.facts[alone] = {rule.arguments: None for rule in rules if not rule.body}
+        """Returns a relation that has only the rules of one sentence."""
+        separate, relations = (f"{relation[0]} by sentence {number}", relation[1]), self.program.relations
+        if separate not in relations.facts:
+            relations.facts[separate] = {rule.arguments: None for rule in rules if not rule.body}
             if any(rule.body for rule in rules):
-                relations.rules[alone] = [rule for rule in rules if rule.body]
-                relations.timely.add(alone)
-        return alone
+                relations.rules[separate] = [rule for rule in rules if rule.body]
+                relations.timely.add(separate)
+        return separate
 
     def cited(self, number: int) -> str:
         self.lines = self.lines or gdl.lines_of(self.text)

@@ -1,4 +1,4 @@
-"""A match of a game, turn by turn, and its record."""
+"""Plays a match of a game turn by turn, and makes its record."""
 
 from ggp_tools.kif import spelled
 
@@ -10,12 +10,12 @@ MOST_TURNS = 10_000
 
 
 def texts_of(state: State) -> list[str]:
-    """Returns the terms of a state as a record has them."""
+    """Returns the terms of a state as in a record."""
     return sorted(map(spelled, state))
 
 
 class Match:
-    """A match of a game: the judged turns so far, and the marks of START and of the end, by the numbers of roles."""
+    """A match: its turns so far, and the marks of START and of the end by role number."""
 
     def __init__(self, game: Game, name: str, start: int, play: int, players: list[str]) -> None:
         if len(players) != len(game.roles):
@@ -29,7 +29,7 @@ class Match:
         return self.game.moves(self.position, role)
 
     def phase(self) -> tuple[str, str | None]:
-        """Returns the phase, and the cause where the game aborts the match."""
+        """Returns the phase, and the cause if the game aborts the match."""
         if len(self.marks["start"]) < len(self.players):
             return "starting", None
         has_ended = len(self.marks["end"]) == len(self.players)
@@ -44,16 +44,16 @@ class Match:
         return "aborted" if has_ended else "aborting", cause
 
     def role_without_move(self) -> str | None:
-        """Returns the cause where a role has no legal move."""
+        """Returns the cause if a role has no legal move."""
         return next((f"nolegal {number}" for number, role in enumerate(self.game.roles) if not self.legal(role)), None)
 
     def goals(self) -> list[int | None]:
-        """Returns the goal of each role, or none where it has not exactly one."""
-        found = [self.game.goals(self.position, role) for role in self.game.roles]
-        return [values[0] if len(values) == 1 else None for values in found]
+        """Returns the goal of each role, or None if it does not have exactly one."""
+        values_by_role = [self.game.goals(self.position, role) for role in self.game.roles]
+        return [values[0] if len(values) == 1 else None for values in values_by_role]
 
     def turn(self, judged: list[tuple[Term, str]]) -> None:
-        """Adds a turn: for each role its move, and the error that it stands for, if any."""
+        """Adds a turn: each role's move, and the error that it replaces, if any."""
         self.moves.append([move for move, _ in judged])
         self.errors.append([error for _, error in judged])
         self.position.move(list(zip(self.game.roles, self.moves[-1])))
@@ -61,7 +61,7 @@ class Match:
         self.position = self.game.position(self.states[-1])
 
     def record(self) -> dict:
-        """Returns the record of the match, as JSON has it."""
+        """Returns the record of the match, for JSON."""
         phase, cause = self.phase()
         roles = range(len(self.players))
         return {

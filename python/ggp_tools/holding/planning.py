@@ -1,4 +1,4 @@
-"""The order in which the conditions of a rule are met: what is known first, then what has the fewest answers."""
+"""Orders the conditions of a rule: tests first, then the conditions with the fewest answers."""
 
 import math
 from collections.abc import Collection, Container, Iterable, Mapping, Sequence
@@ -10,25 +10,25 @@ from .positions import functor_of
 from .reading import DOES, TRUE, Asked, Condition, Rule, Term, variables_of
 from .relations import Relations
 
-# The answers for each argument that is not known, if a relation has no rows yet. And the most answers that an estimate gives.
+# The assumed number of values of an argument if a relation has no rows yet, and the maximum of an estimate.
 FEW, MOST = 3.0, 1e6
-# If a state has this many times the terms that the plan was made for, the rules are planned again.
+# If a state has GROWTH times the terms that the plan was made for, the rules are planned again.
 GROWTH, LEAST = 4, 2
 
 
 class Table(NamedTuple):
-    """How many rows a relation has, and how many values each of its arguments."""
+    """The number of rows of a relation, and the number of values of each argument."""
 
     rows: float
     values: Sequence[float]
 
     def answers(self, arguments: Sequence[Term], bound: Container[str]) -> float:
-        """How many rows fit the arguments if these variables are bound, on average."""
-        found = self.rows
+        """Returns the average number of rows that match the arguments if these variables are bound."""
+        rows = self.rows
         for argument, values in zip(arguments, self.values):
             if is_known(argument, bound):
-                found /= max(1.0, values)
-        return found
+                rows /= max(1.0, values)
+        return rows
 
 
 def counted(rows: Collection[Sequence[Term]]) -> Table:
@@ -40,7 +40,7 @@ def unknown(arguments: int) -> Table:
 
 
 class Sizes:
-    """How many answers a condition has, estimated from the facts and from the terms that states had so far, by their functors."""
+    """Estimates the number of answers of conditions, from the facts and from the terms of states so far, by functor."""
 
     def __init__(self, relations: Relations, roles: int, terms: Mapping[Relation, Collection[Term]]) -> None:
         self.relations, self.terms, self.tables = relations, terms, {}
@@ -48,19 +48,19 @@ class Sizes:
         self.all_terms = float(sum(map(len, terms.values())) or FEW)
 
     def after(self, terms: Mapping[Relation, Collection[Term]]) -> "Sizes | None":
-        """The sizes with those of a state that has many more terms of some functor; none if it has not."""
+        """Returns the sizes updated with a state that has many more terms of some functor, or None if it does not."""
         if all(len(rows) <= GROWTH * max(LEAST, len(self.terms.get(functor, ()))) for functor, rows in terms.items()):
             return None
         larger = {functor: rows for functor, rows in terms.items() if len(rows) > len(self.terms.get(functor, ()))}
         return Sizes(self.relations, int(self.moves.rows), {**self.terms, **larger})
 
     def answers(self, condition: Asked, bound: Container[str]) -> float:
-        """How many answers a condition has if these variables are bound."""
+        """Returns how many answers a condition has if these variables are bound."""
         arguments, table = self.table(condition)
         return table.answers(arguments, bound)
 
     def table(self, condition: Asked) -> tuple[Sequence[Term], Table]:
-        """The arguments of a condition, or of its term, and the table that they are looked up in."""
+        """Returns the arguments of a condition, or of its term, and the table for them."""
         relation, arguments = condition.relation, condition.arguments
         if relation == DOES:
             return arguments, self.moves
@@ -81,20 +81,20 @@ class Sizes:
         return counted([row[1:] for row in rows]) if rows and arguments else unknown(arguments)
 
     def derived(self, relation: Relation) -> Table:
-        """The table of a relation by its facts and rules."""
-        found = counted(self.relations.facts.get(relation, ()))
+        """Estimates the table of a relation from its facts and rules."""
+        facts = counted(self.relations.facts.get(relation, ()))
         rules = self.relations.rules.get(relation, ())
         if not rules:
-            return found
-        # What the relation asks of itself.
+            return facts
+        # The assumption for a relation that depends on itself.
         self.tables[relation] = unknown(relation[1] or 0)
         joined = [(rule, *self.joined(rule.body)) for rule in rules]
-        rows = max(1.0, min(MOST, found.rows + sum(count for _, count, _ in joined)))
-        columns = found.values or [0.0] * (relation[1] or 0)
+        rows = max(1.0, min(MOST, facts.rows + sum(count for _, count, _ in joined)))
+        columns = facts.values or [0.0] * (relation[1] or 0)
         return Table(rows, [min(rows, max(column, values_at(place, joined))) for place, column in enumerate(columns)])
 
     def joined(self, body: Iterable[Condition]) -> tuple[float, dict[str, float]]:
-        """In how many ways all conditions hold, and how many values each variable has."""
+        """Returns in how many ways all conditions hold, and how many values each variable has."""
         count, values, left = 1.0, {}, [condition for condition in body if isinstance(condition, Asked) and condition.positive]
         while left:
             best = min(left, key=lambda condition: self.answers(condition, values))
@@ -108,7 +108,7 @@ class Sizes:
 
 
 def values_at(place: int, joined: Iterable[tuple[Rule, float, Mapping[str, float]]]) -> float:
-    """How many values an argument of a relation has by its rules: those of a variable, or one for each term without variables."""
+    """Returns how many values an argument of a relation has by its rules: those of a variable, or one for each term without variables."""
     most, constants = 1.0, set()
     for rule, _, values in joined:
         argument = rule.arguments[place]

@@ -1,4 +1,4 @@
-"""What is looked up while a state is asked about: its terms and the moves by what is known of them, and what was found so far."""
+"""Indexes a state and its moves for queries, and caches the results."""
 
 from collections.abc import Callable, Iterable, Sequence
 from operator import itemgetter
@@ -6,68 +6,68 @@ from operator import itemgetter
 from .reading import Term
 
 State = frozenset[Term]
-# Rows by what they have at some places.
+# Rows by their values at some indices.
 Rows = dict[object, list[Term]]
 NONE = ()
 
 
 def functor_of(term: Term) -> tuple[str, int]:
-    """The first name of a term, and how many members it has: none for an atom."""
+    """Returns the functor of a term: its first name and its number of members, which is 0 for an atom."""
     return (term, 0) if isinstance(term, str) else (term[0], len(term))
 
 
 class Tables(dict):
-    """What was found so far, by the numbers of functions."""
+    """Cached results, by the numbers of functions."""
 
     def __missing__(self, number: int) -> dict:
-        self[number] = found = {}
-        return found
+        self[number] = table = {}
+        return table
 
 
 def index_of(rows: Iterable[Term], places: tuple[int, ...]) -> Rows:
-    """Rows by what they have at these places: by one value, or by a tuple of several."""
-    found, key = {}, itemgetter(*places)
+    """Groups rows by their values at these indices: by one value, or by a tuple of several."""
+    rows_by_key, key = {}, itemgetter(*places)
     for row in rows:
-        found.setdefault(key(row), []).append(row)
-    return found
+        rows_by_key.setdefault(key(row), []).append(row)
+    return rows_by_key
 
 
 class Index:
-    """An index of facts that stay."""
+    """An index of facts."""
 
     def __init__(self, rows: Iterable[Term], places: tuple[int, ...]) -> None:
         self.get = index_of(rows, places).get
 
 
 def by_functor(state: State) -> dict[tuple[str, int], list[Term]]:
-    """The terms of a state by their functors."""
-    found = {}
+    """Groups the terms of a state by functor."""
+    terms = {}
     for term in state:
-        found.setdefault(functor_of(term), []).append(term)
-    return found
+        terms.setdefault(functor_of(term), []).append(term)
+    return terms
 
 
 class Position:
-    """A state, with the moves of a turn where there are some."""
+    """A state, with the moves of a turn if there are some."""
 
     def __init__(self, state: State, pairs: Sequence[tuple[str, Term]], rows: dict[tuple[str, int], list[Term]], ask: Callable, tables: Tables) -> None:
         self.state, self.rows, self.ask, self.tables, self.indexes = state, rows, ask, tables, {}
         self.move(pairs)
 
     def move(self, pairs: Sequence[tuple[str, Term]]) -> None:
-        """Makes the moves. What was found before stays, since it depends on none."""
+        """Sets the moves. Cached results stay, because they do not depend on moves."""
         self.pairs, self.does = pairs, dict(pairs)
 
     def index(self, number: int, functor: tuple[str, int], places: tuple[int, ...]) -> Callable:
-        """The terms of a functor by what they have at these places."""
-        found = self.indexes.get(number)
-        if found is None:
-            found = self.indexes[number] = index_of(self.rows.get(functor, NONE), places).get
-        return found
+        """Returns an index of the terms of a functor by their values at these indices."""
+        lookup = self.indexes.get(number)
+        if lookup is None:
+            lookup = self.indexes[number] = index_of(self.rows.get(functor, NONE), places).get
+        return lookup
 
 
 class Whole:
-    """All that is true of relations that depend on themselves."""
+    """All derived rows of relations that depend on themselves."""
 
     def __init__(self, count: int) -> None:
         self.sets, self.lists, self.indexes = [set() for _ in range(count)], [[] for _ in range(count)], {}
@@ -79,19 +79,19 @@ class Whole:
         self.sets[number].add(row)
         self.lists[number].append(row)
         self.queue.append((number, row))
-        for found, key in self.keys[number]:
-            found.setdefault(key(row), []).append(row)
+        for table, key in self.keys[number]:
+            table.setdefault(key(row), []).append(row)
 
     def index(self, number: int, places: tuple[int, ...]) -> Callable:
-        """The rows of a relation by what they have at these places: it grows with them."""
-        found = self.indexes.get((number, places))
-        if found is None:
-            found = self.indexes[number, places] = index_of(self.lists[number], places)
-            self.keys[number].append((found, itemgetter(*places)))
-        return found.get
+        """Returns an index of the rows of a relation. It is updated when rows are added."""
+        table = self.indexes.get((number, places))
+        if table is None:
+            table = self.indexes[number, places] = index_of(self.lists[number], places)
+            self.keys[number].append((table, itemgetter(*places)))
+        return table.get
 
     def close(self, variants: list[list[Callable]]) -> None:
-        """Derives until there is no more: each row is put where it is asked for, once."""
+        """Derives all rows: each new row is passed to all rules that use it."""
         while self.queue:
             number, row = self.queue.pop()
             for variant in variants[number]:

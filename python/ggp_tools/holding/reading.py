@@ -1,7 +1,7 @@
-"""The rules of a description, as records are followed by it.
+"""Parses the rules of a description for the interpreter.
 
-A condition of a rule is one of the classes below; denials stand only before what is derived, and an `or` only where each of its variables
-is bound by other conditions of the rule. Where no sentence has a variable, each atomic sentence is a relation of its own.
+Conditions of rules are the classes below. Only derived sentences are negated, and an `or` is kept only if other conditions of the rule bind all of
+its variables. In a ground description each atomic sentence becomes a relation.
 """
 
 from collections.abc import Iterator
@@ -17,11 +17,11 @@ OWN = (INIT, NEXT, LEGAL, GOAL, ROLE, TERMINAL)
 
 
 class NotFollowed(Refused):
-    """Why a record could not be followed: nothing is said of the game."""
+    """Why a record could not be checked. This says nothing about the game."""
 
 
 class Asked(NamedTuple):
-    """That a sentence of a relation is true, or that it is not."""
+    """A sentence of a relation is true, or is not true."""
 
     positive: bool
     relation: tuple
@@ -29,14 +29,14 @@ class Asked(NamedTuple):
 
 
 class Same(NamedTuple):
-    """That two terms are the same, or that they are not."""
+    """Two terms are equal, or not equal."""
 
     positive: bool
     arguments: tuple
 
 
 class Either(NamedTuple):
-    """That one of several lists of conditions holds."""
+    """One of several lists of conditions holds."""
 
     ways: tuple
 
@@ -45,7 +45,7 @@ Condition = Asked | Same | Either
 
 
 class Rule(NamedTuple):
-    """What is derived where all conditions hold."""
+    """The sentence of a relation that is derived if all conditions hold."""
 
     sentence: int
     relation: tuple
@@ -54,32 +54,32 @@ class Rule(NamedTuple):
 
 
 def term_of(text: str) -> Term:
-    """The term that a text spells, as a move or a term of a state."""
-    found = expressions(text)
-    if len(found) != 1:
-        raise NotFollowed("it is no record: a text of it is not one term")
-    return found[0]
+    """Parses a move, or a term of a state."""
+    parsed = expressions(text)
+    if len(parsed) != 1:
+        raise NotFollowed("it is not a record: a text of it is not one term")
+    return parsed[0]
 
 
 def low(term: Term) -> Term:
-    """Returns a term. Refuses one that is larger than any that the referee takes, as rules make them that don't end."""
-    left = [(term, 0)]
-    while left:
-        inner, level = left.pop()
+    """Returns a term. Refuses a term that is nested more deeply than the referee allows, for example one from infinitely many instances."""
+    queue = [(term, 0)]
+    while queue:
+        inner, level = queue.pop()
         if isinstance(inner, tuple):
             if level == MOST_LEVELS:
-                raise NotFollowed(f"a term has more than {MOST_LEVELS} lists in one another")
-            left += [(member, level + 1) for member in inner]
+                raise NotFollowed(f"a term is nested more than {MOST_LEVELS} lists deep")
+            queue += [(member, level + 1) for member in inner]
     return term
 
 
 def is_built(term: Term) -> bool:
-    """Whether a term is a list that has variables."""
+    """Returns whether a term is a list that has variables."""
     return not isinstance(term, str) and bool(variables(term))
 
 
 def variables_of(condition: Condition) -> dict[str, None]:
-    """The variables of a condition."""
+    """Returns the variables of a condition."""
     if isinstance(condition, Either):
         return {name: None for way in condition.ways for inner in way for name in variables_of(inner)}
     return dict.fromkeys(variables(condition.arguments))
@@ -96,7 +96,7 @@ def condition_of(literal: gdl.Literal) -> Condition:
 
 
 def tests_of(literal: Expression, positive: bool = True) -> list[Condition]:
-    """The conditions that all hold where a literal does, or where it does not: an `or` stays one."""
+    """Returns conditions that are together equivalent to a literal, or to its negation. An `or` stays one condition."""
     match literal:
         case ("not", inner):
             return tests_of(inner, not positive)
@@ -107,38 +107,39 @@ def tests_of(literal: Expression, positive: bool = True) -> list[Condition]:
 
 
 def rules_of(number: int, sentence: Expression, names: Iterator[str]) -> list[Rule]:
-    """The rules of a sentence. An `or` whose variables are bound beside it is tested as it stands; each way of another has a rule."""
+    """Returns the rules of a sentence. An `or` whose variables are bound by other conditions becomes one condition. The ways of another `or` become
+    rules."""
     head, body = gdl.parted(sentence)
     bound = {name for literal in body if literal[0] not in gdl.NO_RELATIONS for name in variables(literal)}
     tested = [literal for literal in body if literal[0] in ("or", "and", "not") and bound.issuperset(variables(literal))]
     others = [literal for literal in body if literal not in tested]
     tests = [condition for literal in tested for condition in tests_of(literal)]
-    found = gdl.rules_of(number, ("<=", head, *others), names)
-    own = [tests if rule.head == head else [] for rule in found]
+    expanded = gdl.rules_of(number, ("<=", head, *others), names)
+    extra = [tests if rule.head == head else [] for rule in expanded]
     return [
-        Rule(number, relation(rule.head), arguments_of(rule.head), (*map(condition_of, rule.body), *more)) for rule, more in zip(found, own)
+        Rule(number, relation(rule.head), arguments_of(rule.head), (*map(condition_of, rule.body), *more)) for rule, more in zip(expanded, extra)
     ]
 
 
 def one_by_one(rules: list[Rule]) -> list[Rule]:
-    """The rules of a description without variables, by which each atomic sentence is looked up by itself: it is a relation."""
+    """Turns each atomic sentence in the conditions of a ground description into a relation."""
     return [rule._replace(body=tuple(map(alone, rule.body))) for rule in rules]
 
 
 def with_relations(rules: list[Rule]) -> list[Rule]:
-    """The rules of the game's own relations, and of each atomic sentence that is a relation."""
+    """Returns the rules of the game's own relations, and those of the atomic sentences that became relations."""
     asked, made = {condition.relation for rule in rules for condition in all_asked(rule.body)}, []
     for rule in rules:
-        own = alone(Asked(True, rule.relation, rule.arguments)).relation
+        separate = alone(Asked(True, rule.relation, rule.arguments)).relation
         if rule.relation in OWN:
             made.append(rule)
-        if own in asked and own not in OWN:
-            made.append(rule._replace(relation=own, arguments=()))
+        if separate in asked and separate not in OWN:
+            made.append(rule._replace(relation=separate, arguments=()))
     return made
 
 
 def alone(condition: Condition) -> Condition:
-    """The condition, with a relation of its own for each atomic sentence."""
+    """Replaces each atomic sentence of a condition by a relation without arguments."""
     if isinstance(condition, Either):
         return Either(tuple(tuple(map(alone, way)) for way in condition.ways))
     if isinstance(condition, Same) or condition.relation in (TRUE, DOES) or not condition.arguments:
@@ -147,7 +148,7 @@ def alone(condition: Condition) -> Condition:
 
 
 def all_asked(conditions: tuple[Condition, ...]) -> Iterator[Asked]:
-    """What conditions ask for."""
+    """Yields the sentences in conditions."""
     for condition in conditions:
         if isinstance(condition, Asked):
             yield condition

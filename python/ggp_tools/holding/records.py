@@ -1,4 +1,4 @@
-"""A record as it is followed: whether its phase, its cause, its errors, its goals and its marks fit together."""
+"""Parses a record, and checks that its phase, cause, errors, goals and marks are consistent."""
 
 from ggp_tools.records.record import ERRORS, NoRecord, checked_record, parsed
 
@@ -7,11 +7,11 @@ ILLEGAL, UNREADABLE = "IL ", "IL ?"
 
 
 def read_record(line: bytes | str) -> dict:
-    """Returns what a line says of a match. Refuses what is not a record."""
+    """Parses a record. Refuses a text that is not a record."""
     record = checked_record(parsed(line))
     phase, cause, goals, marks = record["phase"], record["cause"], record["goalValues"], record["startMarks"]
     if not all(error in ERRORS or error.startswith(ILLEGAL) for turn in record["errors"] for error in turn):
-        raise NoRecord("errors has a text that is none of an error")
+        raise NoRecord("errors has a text that is not an error")
     if (phase in GIVEN_UP) != (cause is not None):
         raise NoRecord("its cause does not fit its phase")
     if None in marks and (record["moves"] or phase != "starting" and cause != "asked") or phase == "starting" and None not in marks:

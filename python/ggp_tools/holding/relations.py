@@ -1,4 +1,4 @@
-"""The relations of a description: their facts and rules, which of them depend on the state or the moves, and which on themselves."""
+"""Classifies relations: their facts and rules, and which of them depend on the state, on moves, or on themselves."""
 
 from collections.abc import Iterator
 
@@ -10,7 +10,7 @@ from .reading import DOES, TRUE, Either, Rule, all_asked
 
 
 class Relations:
-    """Facts are the arguments of sentences without conditions."""
+    """The relations of a description. Facts are the arguments of sentences without conditions."""
 
     def __init__(self, rules: list[Rule]) -> None:
         self.facts, self.rules = {}, {}
@@ -23,17 +23,17 @@ class Relations:
         gdl.refuse_dependence(self.asks, self.source)
         self.circles, self.denying = {}, set()
         self.timely = {TRUE, DOES}
-        # The numbers of the tables that functions keep what they find in, and the tables of what depends on no state.
+        # The numbers of the functions' caches, and the caches of results that do not depend on the state.
         self.tables, self.fixed = {}, {}
         for group in components(self.asks):
             self.take(set(group))
 
     def source(self, head: Relation, asked: Relation) -> int:
-        """The first sentence by which a relation asks for another."""
+        """Returns the first sentence by which a relation uses another."""
         return next(rule.sentence for rule in self.rules[head] if any(condition.relation == asked for condition in all_asked(rule.body)))
 
     def take(self, group: set[Relation]) -> None:
-        """Takes relations that depend on each other. Those that they ask for beside were taken before."""
+        """Classifies relations that depend on each other. Those that they use are classified already."""
         if any(asked in self.timely for relation in group for asked in self.asks[relation]):
             self.timely |= group
         if len(group) == 1 and not group & self.asks[next(iter(group))].keys():
@@ -48,10 +48,10 @@ class Relations:
 
 
 def without_or(rule: Rule, group: set[Relation]) -> Iterator[Rule]:
-    """The rules that say the same without an `or` that asks for one of these relations."""
-    for at, condition in enumerate(rule.body):
+    """Yields equivalent rules without an `or` that uses one of these relations."""
+    for index, condition in enumerate(rule.body):
         if isinstance(condition, Either) and any(asked.relation in group for asked in all_asked((condition,))):
             for way in condition.ways:
-                yield from without_or(rule._replace(body=(*rule.body[:at], *way, *rule.body[at + 1 :])), group)
+                yield from without_or(rule._replace(body=(*rule.body[:index], *way, *rule.body[index + 1 :])), group)
             return
     yield rule

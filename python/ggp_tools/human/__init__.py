@@ -1,1 +1,1 @@
-"""A player whose moves a person makes in a browser."""
+"""A player that lets a person make its moves in a browser."""

@@ -1,11 +1,11 @@
-"""A player whose moves a person makes in a browser.
+"""A player that lets a person make its moves in a browser.
 
     ggp-human [--port P] [--bind ADDRESS] [--referee ADDRESS]..
 
-It is a player as any other: the referee reaches it at `NAME@HOST:P`. It prints the address of its page, which the person opens. The address
-has a token: without it nobody sees the page or moves. INFO is answered `busy` and START waits until the page is open. The page shows the
-board, the clock, the last moves and what was replaced. A move is made by clicks on its places or its column, or by a button. A single legal
-move is made without asking while the page is open. Rules may have variables (`--player-rules` of the referee).
+The referee reaches it at `NAME@HOST:P`, like any other player. It prints the address of its page. Open this address in a browser. It
+contains a token: without the token nobody can see the page or move. Until the page is open, INFO is answered `busy` and START waits. The page
+shows the board, the clock, the last moves and substituted moves. To move, click on the places or the column of the move, or on its button. If
+only one move is legal, it is made without asking while the page is open. The rules may have variables (`--player-rules` of the referee).
 """
 
 import argparse
@@ -20,9 +20,9 @@ MOST_CALLS = 20_000
 
 def main() -> int:
     words = argparse.ArgumentParser("ggp-human", description=__doc__, formatter_class=argparse.RawDescriptionHelpFormatter)
-    words.add_argument("--port", type=whole(0, 65_535), default=9150, metavar="P", help="the port (9150)")
-    words.add_argument("--bind", default="127.0.0.1", metavar="ADDRESS", help="the address to listen on (127.0.0.1)")
-    text = "take matches only from this address, which may be given several times (that of the first INFO or START)"
+    words.add_argument("--port", type=whole(0, 65_535), default=9150, metavar="P", help="the port (default: 9150)")
+    words.add_argument("--bind", default="127.0.0.1", metavar="ADDRESS", help="the address to listen on (default: 127.0.0.1)")
+    text = "accept matches only from this address; may be given several times (default: the sender of the first INFO or START)"
     words.add_argument("--referee", type=address, action="append", default=[], metavar="ADDRESS", help=text)
     given = words.parse_args()
     sys.setrecursionlimit(MOST_CALLS)

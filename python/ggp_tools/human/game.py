@@ -1,4 +1,4 @@
-"""What a person sees of a game: its boards, the places that a move names, and what is where."""
+"""Computes what the page shows of a game: boards, other terms, and the places that a move names."""
 
 from ggp_tools.holding.game import Game
 from ggp_tools.holding.match import texts_of
@@ -8,23 +8,23 @@ from ggp_tools.records.show import Board, Group, Named, board_places, boards_of,
 
 State = frozenset
 Place = tuple[int, int]
-# In the place of a row, for a move that names a column.
+# Stands for the row of a move that names only a column.
 ANY_ROW = 0
 
 
 class Shown:
-    """A match as it is shown: all its states so far, so that a board keeps its size."""
+    """The states of a match so far. Boards are computed from all of them, so that a board keeps its size."""
 
     def __init__(self, game: Game) -> None:
         self.game, self.states, self.named = game, [texts_of(game.initial)], Named(game.sentences)
         self.state: State = game.initial
-        # The moves that were legal so far, by their relations; the last one of each role that had a choice; and the roles that have one.
+        # The moves that were legal so far, by relation; the last move of each role that had a choice; and the roles that have a choice now.
         self.known: dict[Group, set[str]] = {}
         self.made: dict[object, str] = {}
         self.choosing = self.roles_with_choice()
 
     def advance(self, moves: tuple) -> None:
-        """Makes a joint move, in the order of the roles."""
+        """Applies a joint move, in role order."""
         self.state = frozenset(self.game.following(self.game.position(self.state, moves)))
         self.states.append(texts_of(self.state))
         self.made |= {role: spelled(move) for role, move in zip(self.game.roles, moves) if role in self.choosing}
@@ -34,18 +34,17 @@ class Shown:
         return {role for role in self.game.roles if len(self.legal(role)) > 1}
 
     def legal(self, role: object) -> list[str]:
-        """Returns the legal moves of a role."""
         return sorted(spelled(move) for move in self.game.moves(self.game.position(self.state), role))
 
     def goals(self) -> dict[str, int | None]:
-        """Returns the goal of each role, where it has exactly one."""
+        """Returns the goal of each role, or None if it does not have exactly one."""
         position = self.game.position(self.state)
         found = {spelled(role): self.game.goals(position, role) for role in self.game.roles}
         return {role: values[0] if len(values) == 1 else None for role, values in found.items()}
 
     def picture(self, legal: list[str]) -> dict:
-        """Returns the boards, the terms that none shows, the legal moves with the places that they name on each board, and of each role
-        whether it has several moves and which one it made last."""
+        """Returns the boards, the terms that no board shows, the legal moves with the places that they name on each board, and for each role whether
+        it has several moves and which one it made last."""
         boards = boards_of(self.states, self.named)
         forms = {form for board in boards for form in board.forms}
         for move in filter(words_of, legal):
@@ -59,18 +58,18 @@ class Shown:
         }
 
     def placed(self, board: Board) -> dict[str, list[Place]]:
-        """Returns the places of a board that moves name. Either all moves of a relation name places, or none does: so 1 and 2 are no place
-        in (push 1 2) of a game with (push 0 0). A move with one argument names a column if these arguments are all columns."""
-        found: dict[str, list[Place]] = {}
+        """Returns the places of a board that moves name. Either all moves of a relation name places, or none does: 1 and 2 are not a place in (push 1
+        2) if there is a (push 0 0). A move with one argument names a column if these arguments are exactly the columns."""
+        named_places: dict[str, list[Place]] = {}
         for group, known in self.known.items():
             places = {move: places_of(move, board) for move in known}
             if group[1] == 2 and {words_of(move)[1] for move in known} == set(board.across):
                 places = {move: [(board.across.index(words_of(move)[1]) + 1, ANY_ROW)] for move in known}
-            found |= places if all(places.values()) else {}
-        return found
+            named_places |= places if all(places.values()) else {}
+        return named_places
 
     def board_value(self, board: Board) -> dict:
-        """Returns a board as the page draws it: its axes, what is at each place and what is shown of it, and the places that have changed."""
+        """Returns a board for the page: its axes, the labels at each place, how to show them, and the places that have changed."""
         places, before = (board_places(board, state) for state in (self.states[-1], self.states[-2:][0]))
         marks = board.marks(self.named)
         signs = {label: (marks[visible(label)].text, " ".join(marks[visible(label)].kinds())) for _, _, label in board.known.values()}

@@ -1,4 +1,4 @@
-"""A person's seat in one match at a time: what the referee says to it, and what the person answers."""
+"""Plays one match at a time for a person: answers the referee's messages with the person's moves."""
 
 import math
 import re
@@ -9,20 +9,20 @@ from ggp_tools.holding.game import Game
 from ggp_tools.human.game import Shown
 from ggp_tools.kif import Refused, expressions, spelled
 
-# The keyword of a message, and the id of its match as it is written.
+# The keyword of a message, and the id of its match.
 HEAD = re.compile(r"\s*\(\s*([A-Za-z]+)\s+([^\s()]+)")
-# The referee has to get the answer before its clock is over.
+# Answers are sent this many seconds before the referee's clock runs out.
 SPARE = 0.5
-# A referee that is so many seconds late with its next message is taken for lost: another one's START is then answered.
+# A referee that is this many seconds late with its next message is considered lost. Then a START of another referee is accepted.
 PATIENCE = 10.0
 NO_MOVES = ("nil", ())
 CLOCK = re.compile("[0-9]{1,5}")
-# What the reading of rules that are none may end with.
+# The exceptions that invalid rules can cause.
 BAD_RULES = (Refused, RecursionError, IndexError, KeyError, TypeError, ValueError)
 
 
 class Unread(Exception):
-    """A text that is no message."""
+    """Why a text is not a message."""
 
 
 def read_message(text: str) -> tuple[str, str, tuple]:
@@ -31,7 +31,7 @@ def read_message(text: str) -> tuple[str, str, tuple]:
         return "info", "", ()
     head = HEAD.match(text)
     try:
-        # Rules stand in lists of the message, and are looked at apart from it.
+        # The rules in a message are parsed separately.
         terms = expressions(text, math.inf, takes_bytes=True)
     except Refused as why:
         raise Unread(str(why)) from None
@@ -43,19 +43,19 @@ def read_message(text: str) -> tuple[str, str, tuple]:
 def game_of(rules: object) -> Game:
     """Returns the game of a START's rules."""
     if not isinstance(rules, tuple):
-        raise Refused("they are no list")
+        raise Refused("they are not a list")
     return Game("\n".join(map(spelled, rules)), takes_bytes=True)
 
 
 def clock_of(text: object) -> int:
-    """Returns the seconds of a clock."""
+    """Parses the seconds of a clock."""
     if not isinstance(text, str) or not CLOCK.fullmatch(text):
-        raise Unread("a clock is no number of seconds")
+        raise Unread("a clock is not a number of seconds")
     return int(text)
 
 
 def joint_move(moves: object, count: int) -> tuple:
-    """Returns the moves of a message, none where it has `NIL`."""
+    """Returns the moves of a message, empty for `NIL`."""
     if moves in NO_MOVES:
         return ()
     if not isinstance(moves, tuple) or len(moves) != count:
@@ -64,15 +64,15 @@ def joint_move(moves: object, count: int) -> tuple:
 
 
 class Seat:
-    """What the person sees, and what waits for the person's move. Each change raises `version`, and wakes those who wait for one."""
+    """The state of the match that the page shows, and the person's pending move. Each change increases `version` and wakes the waiting threads."""
 
     def __init__(self, waits_for_page: bool = True) -> None:
         self.changed = threading.Condition()
         self.version, self.pages, self.waits_for_page = 0, 0, waits_for_page
         self.match, self.receiver = "", ""
-        # Which message of a match is in hand, counted over all matches: whoever waits for an earlier one gives up.
+        # The number of the current message, counted over all matches. Threads that wait for an earlier one give up.
         self.asked = 0
-        # Until then the next message of the match has to come.
+        # When the next message of the match must arrive.
         self.expected = 0.0
         self.shown: Shown | None = None
         self.view: dict = {"phase": "waiting", "note": "No match yet: the referee has not sent START."}
@@ -86,7 +86,7 @@ class Seat:
     # ---- what the referee says
 
     def answer(self, text: str, receiver: str = "") -> str | None:
-        """Answers a message to a receiver. None: the person made no move in time, or a later message came."""
+        """Answers a message to a receiver. Returns None if the person made no move in time, or if a later message came."""
         keyword, match, more = read_message(text)
         is_own = match == self.match and receiver == self.receiver
         match keyword:
@@ -105,15 +105,15 @@ class Seat:
         return "busy"
 
     def is_free(self) -> bool:
-        """Returns whether another match may begin: there is none, or its referee is lost."""
+        """Returns whether another match may begin, because there is none or its referee is lost."""
         return not self.match or time.monotonic() > self.expected
 
     def is_person_there(self) -> bool:
-        """Returns whether a page is open. Without one nothing is answered for the person."""
+        """Returns whether a page is open. Without one no move is made for the person."""
         return bool(self.pages) or not self.waits_for_page
 
     def next_message(self, seconds: int = 0) -> int:
-        """Notes that a message of a match has come whose clock has so many seconds. Returns its number. No move is awaited now."""
+        """Records that a message of a match with a clock of this many seconds has come. Returns its number. Any pending move is cancelled."""
         with self.changed:
             self.asked += 1
             self.expected = time.monotonic() + seconds + PATIENCE
@@ -122,7 +122,7 @@ class Seat:
             return self.asked
 
     def start(self, match: str, receiver: str, role: object, rules: object, start: object, play: object) -> str:
-        """Begins a match, once a page is open."""
+        """Begins a match after a page was opened."""
         deadline, play_clock = time.monotonic() + clock_of(start) - SPARE, clock_of(play)
         asked = self.next_message(clock_of(start))
         try:
@@ -143,14 +143,14 @@ class Seat:
         return "ready"
 
     def refuse(self, asked: int, note: str) -> None:
-        """Says why a START was refused, and leaves the match of which it was a second one."""
+        """Shows why a START was refused. If it was a repeated START, its match is left."""
         with self.changed:
             if self.asked == asked:
                 self.match = ""
                 self.say(phase="waiting", note=note)
 
     def play(self, moves: object) -> str | None:
-        """Shows the state and waits for the person's move. While a page is open a single legal move is made without asking."""
+        """Shows the state and waits for the person's move. While a page is open, a single legal move is made without asking."""
         deadline, made = time.monotonic() + self.play_clock - SPARE, joint_move(moves, len(self.roles))
         asked = self.next_message(self.play_clock)
         note = self.advance(made)
@@ -172,7 +172,7 @@ class Seat:
             return self.sent
 
     def has_move(self) -> bool:
-        """Returns whether the person has chosen a move, or has but one to make."""
+        """Returns whether the person has chosen a move, or has only one."""
         return self.sent is not None or len(self.legal) == 1 and self.is_person_there()
 
     def stop(self, moves: object) -> str:
@@ -180,12 +180,12 @@ class Seat:
         self.next_message()
         note = self.advance(made)
         goals = self.shown.goals() if self.shown else {}
-        said = ", ".join(f"{role} {'no goal' if goal is None else goal}" for role, goal in goals.items())
-        self.end("over", f"{note} The match is over: {said}.".strip())
+        text = ", ".join(f"{role} {'no goal' if goal is None else goal}" for role, goal in goals.items())
+        self.end("over", f"{note} The match is over: {text}.".strip())
         return "done"
 
     def advance(self, moves: tuple) -> str:
-        """Makes the joint move of a message. Returns what is to be said of it."""
+        """Applies the joint move of a message. Returns a note about it."""
         if not moves or self.shown is None:
             return ""
         self.shown.advance(moves)
@@ -195,7 +195,7 @@ class Seat:
     # ---- what the person sees and does
 
     def show(self, phase: str, legal: list[str], note: str) -> None:
-        """Shows the present state."""
+        """Shows the current state."""
         picture = self.shown.picture(legal) if self.shown else {}
         turn = len(self.shown.states) if self.shown else 0
         named = {"match": self.match, "role": spelled(self.role), "name": self.receiver, "turn": turn, "clock": self.play_clock, "sent": self.sent}
@@ -212,7 +212,7 @@ class Seat:
             self.match, self.receiver = "", ""
 
     def move(self, text: str, asked: int) -> str | None:
-        """Takes the person's move, which was chosen when so many messages had come. Returns why it is not taken."""
+        """Takes the person's move, chosen at message number `asked`. Returns an error, or None."""
         with self.changed:
             if not self.legal or self.sent is not None:
                 return "no move is awaited"
@@ -225,13 +225,13 @@ class Seat:
         return None
 
     def page_opens(self, count: int) -> None:
-        """Notes that a page is open (1), or no longer (-1)."""
+        """Counts open pages: 1 for an opened one, -1 for a closed one."""
         with self.changed:
             self.pages += count
             self.changed.notify_all()
 
     def next_view(self, version: int, seconds: float) -> tuple[int, dict]:
-        """Returns the view once it is another one than that of a version, or after some seconds, with the seconds that the person has left."""
+        """Waits until the view has another version, or for some seconds. Returns its version and the view with the person's time left."""
         with self.changed:
             self.changed.wait_for(lambda: self.version != version, seconds)
             left = max(0.0, self.deadline - time.monotonic()) if self.view["phase"] in ("moving", "sent") else None

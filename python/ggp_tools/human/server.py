@@ -1,5 +1,5 @@
-"""Serves the referee and the person's browser on one port: POST / is a message of the referee, GET /TOKEN/ the page. Only the person has
-the token, so nobody else sees the page or the chosen move: no other user of this computer, and no page of another site."""
+"""Serves the referee and the person's browser on one port: POST / is a message of the referee, GET /TOKEN/ is the page. Only the person has the
+token, so other users of this computer and pages of other sites cannot see the page or the chosen move."""
 
 import ipaddress
 import json
@@ -17,20 +17,19 @@ from ggp_tools.templating import source
 
 # A START carries the whole rules.
 MOST_BYTES, MOST_MOVE = 16_777_216, 65_536
-# The messages by which a referee introduces itself. Any other long message is not parsed before it has done so.
+# A referee introduces itself with one of these messages. Before that no other long message is parsed.
 INTRODUCES = re.compile(r"[\s(]*(?:info|start)\b", re.IGNORECASE)
-# A page that is told nothing for so many seconds gets a line that says that the player is still there.
-# So soon it is noticed that the page was closed.
+# After this many seconds without a change the page gets a line, which also detects that the page was closed.
 ALIVE = 1.0
-# An address may have so many connections at once.
+# The maximum number of connections from one address.
 MOST_CONNECTIONS = 32
-# The files of the page by their names below its token, and what it may load and run: only these.
+# The files of the page by their names below the token. The page may load and run only these.
 FILES = {"": ("human.html", "text/html"), "style.css": ("style.css", "text/css"), "human.js": ("human.js", "text/javascript")}
 POLICY = "default-src 'none'; style-src 'self'; script-src 'self'; connect-src 'self'; base-uri 'none'; form-action 'none'; frame-ancestors 'none'"
 
 
 def is_own_name(host: str, own: str) -> bool:
-    """Returns whether a page may be opened under this name: it is an address, this computer, or a name of it."""
+    """Returns whether a page may be opened under this name: an address, or a name of this computer."""
     name = re.sub(":[0-9]*$", "", host).strip("[]").lower()
     try:
         ipaddress.ip_address(name)
@@ -40,7 +39,7 @@ def is_own_name(host: str, own: str) -> bool:
 
 
 class Handler(BaseHTTPRequestHandler):
-    """One request. A connection that sends nothing for so many seconds is closed."""
+    """Handles one request. A connection that sends nothing for `timeout` seconds is closed."""
 
     timeout = 30
     server: "Server"
@@ -65,10 +64,10 @@ class Handler(BaseHTTPRequestHandler):
         elif not is_own_name(self.headers["Host"] or "localhost", self.server.server_name):
             self.send_error(HTTPStatus.FORBIDDEN)
         elif not is_move and (self.headers["Origin"] is not None or self.headers["Sec-Fetch-Site"] is not None):
-            # A browser sends one of them with what a page posts; a referee sends neither.
+            # Browsers send one of these headers when a page posts; referees send neither.
             self.send_error(HTTPStatus.FORBIDDEN)
         elif not is_trusted:
-            # A long message of a stranger is neither read nor parsed: that takes minutes.
+            # Long messages of strangers are not read, because parsing them could take minutes.
             self.reply(HTTPStatus.OK, "text/acl", b"busy")
         elif body is None:
             self.send_error(HTTPStatus.BAD_REQUEST)
@@ -78,14 +77,14 @@ class Handler(BaseHTTPRequestHandler):
             self.take_message(body)
 
     def body(self, most: int) -> bytes | None:
-        """Returns the body of a request, none where its length is not given, or too large."""
+        """Returns the body of a request, or None if its length is missing or too large."""
         size = self.headers["Content-Length"] or ""
         if not re.fullmatch("[0-9]{1,8}", size) or int(size) > most:
             return None
         return self.rfile.read(int(size))
 
     def take_message(self, body: bytes) -> None:
-        """Answers the referee. Without a move in time the connection is closed: that is no answer."""
+        """Answers the referee. If there is no move in time, the connection is closed without an answer."""
         try:
             text = body.decode("latin-1")
             if not self.server.referees and (len(text) <= MOST_MOVE or INTRODUCES.match(text)) and read_message(text)[0] in ("info", "start"):
@@ -143,7 +142,7 @@ class Handler(BaseHTTPRequestHandler):
 
 
 class Server(ThreadingHTTPServer):
-    """The server of a person's seat: it takes messages from these referees, by their addresses, or from that of the first INFO or START."""
+    """Serves a person's seat. Messages are accepted from these addresses of referees, or else from the sender of the first INFO or START."""
 
     daemon_threads = True
     request_queue_size = 256
@@ -155,7 +154,7 @@ class Server(ThreadingHTTPServer):
         self.counting = threading.Lock()
 
     def verify_request(self, request: object, client_address: tuple[str, int]) -> bool:
-        """Counts a connection. It is closed if its address has too many."""
+        """Counts a connection, or closes it if its address has too many."""
         with self.counting:
             if self.connections[client_address[0]] >= MOST_CONNECTIONS:
                 return False
@@ -170,5 +169,5 @@ class Server(ThreadingHTTPServer):
                 self.connections[client_address[0]] -= 1
 
     def may_be_referee(self, address: str) -> bool:
-        """Returns whether messages from this address are read: they are from a referee, or there is none yet."""
+        """Returns whether messages from this address are read: it is a referee's, or there is no referee yet."""
         return not self.referees or address in self.referees

@@ -1,1 +1,1 @@
-"""The ground description of a game, made from its description with variables."""
+"""Grounds games: makes a ground description from one with variables."""

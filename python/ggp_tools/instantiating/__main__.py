@@ -1,4 +1,4 @@
-"""The command `ggp-instantiate`, for a process that is started with this package alone."""
+"""Runs `ggp-instantiate` as `python -m ggp_tools.instantiating`."""
 
 import sys
 

@@ -1,23 +1,21 @@
-"""Instantiates a game: reads a description with variables, and writes the ground description of the same game, for --rules-file.
+"""Grounds a game: reads a description with variables, and writes a ground description of the same game for --rules-file of ggp_manager.
 
     ggp-instantiate [--seconds N] [--large] [--folded | --unfolded] [--split] [--player-rules FILE] [FILE]
 
-Reads FILE, or standard input. What was done is said on standard error, beside the limits of the program, and where more was done
-than to find the instances a comment at the head says so. N is the seconds of a processor, above 0 and up to 1,000,000 (60 if not
-given). The work is that of the grounder gringo, which has to be installed, and of the modules beside this one.
+Reads FILE, or standard input, and reports its steps and the limits on standard error. If it transforms the ground rules, it says so in a comment
+at the top of the output. N is the limit of processor time in seconds, above 0 and up to 1,000,000 (60 by default). It needs the grounder gringo.
 
-A description that is past the program's limits is folded: fewer and shorter sentences for the same game. With --folded every
-description is, with --unfolded none. If folding takes too much work, or does not help, the limits are those that the program has with
-its --large; with --large they are so from the start. One that has many instances, or is past the limits all the same, has its rules
-split, with --split any: parts of them get relations of their own, so that fewer variables stand in one rule. With --player-rules the
-description with variables is written to this FILE for players, one sentence a line, with its `base` and `input`.
+If a ground description exceeds the limits of ggp_manager, it is factored into fewer and shorter sentences for the same game. --folded factors every
+description, --unfolded none. If factoring takes too long or does not help, the larger limits of `ggp_manager --large` apply; with --large they
+apply from the start. If there are too many instances, or the limits are still exceeded, rules are split: parts of them become auxiliary
+relations, so that each rule has fewer variables. --split splits in any case. --player-rules writes the description with variables to this FILE
+for players, one sentence on each line, with `base` and `input`.
 
-Each sentence becomes rules without `or`, and each rule tells the grounder which of its instances there can be: those whose
-`true` sentences speak of what some `init` or `next` derives, and whose `does` sentences of what some `legal` derives, whatever
-the state. What depends on no state is settled by the grounder, and left out. Sentences that depend on each other in one state are
-unrolled in rounds. The order of what is written depends on the description alone: by sentences as they stand there; the instances
-of one sentence by head, then by body; numbers by their value before other atoms by their bytes, atoms before lists, lists member by
-member.
+How it works: each sentence is expanded into rules without `or`. For each rule the grounder computes all instances that are possible in any state:
+`true` ranges over the terms that some `init` or `next` derives, `does` over the moves that some `legal` derives. The grounder evaluates relations
+that do not depend on the state, and they are left out. Sentences that depend on each other within one state are unrolled in rounds. The order of
+the output depends only on the description: the instances follow the order of sentences; those of one sentence are sorted by head, then by body.
+Numbers are sorted by value and come before other atoms, which are sorted by bytes. Atoms come before lists, and lists are sorted by their members.
 """
 
 import argparse
@@ -30,19 +28,19 @@ from ggp_tools.streams import MOST_SECONDS, STANDARD_INPUT, Ended, opened, repor
 
 COMMAND = "ggp-instantiate"
 SECONDS = 60
-# So long it is searched for what is suspicious, and so many lines are printed.
+# The time limit of the search for suspicious sentences, and the maximum number of lines that are printed.
 SECONDS_OF_SEARCH, MOST_SUSPICIONS = 5, 20
 HELP = (
-    "Reads the description of a game with variables, and writes the ground description of the same game, for --rules-file of ggp_manager. "
-    "What was done is said on standard error. The grounder gringo has to be installed."
+    "Reads the description of a game with variables, and writes a ground description of the same game, for --rules-file of ggp_manager. "
+    "It reports its steps on standard error. It needs the grounder gringo."
 )
 
 
 def write_player_rules(made: Making, file: str) -> None:
-    """Writes the description with variables, and says how long it is."""
+    """Writes the description with variables, and reports its length."""
     text = made.text_for_players()
     if len(text) > MOST["bytes"]:
-        raise Refused(f"nothing is written, since the text for players is past the limit: bytes ({len(text):,} of {MOST['bytes']:,})")
+        raise Refused(f"nothing is written, because the text for players exceeds the limit: bytes ({len(text):,} of {MOST['bytes']:,})")
     with open(file, "w", encoding="ascii") as stream:
         stream.write(text)
     report(f"  for players {len(text):,} bytes with variables in {file}")
@@ -50,40 +48,40 @@ def write_player_rules(made: Making, file: str) -> None:
 
 def arguments() -> argparse.Namespace:
     usage = "ggp-instantiate [--seconds N] [--large] [--folded | --unfolded] [--split] [--player-rules FILE] [FILE]"
-    words = argparse.ArgumentParser(COMMAND, usage=usage, description=HELP, epilog="More is said in examples/games/general/README.md.")
-    told = f"the seconds of a processor that it may take, above 0 and up to {MOST_SECONDS:,} ({SECONDS})"
-    words.add_argument("--seconds", type=seconds, default=SECONDS, metavar="N", help=told)
-    words.add_argument("--large", action="store_true", help="do not try for the usual limits of ggp_manager: keep to those of ggp_manager --large")
+    words = argparse.ArgumentParser(COMMAND, usage=usage, description=HELP, epilog="examples/games/general/README.md has details.")
+    text = f"the limit of processor time in seconds, above 0 and up to {MOST_SECONDS:,} (default: {SECONDS})"
+    words.add_argument("--seconds", type=seconds, default=SECONDS, metavar="N", help=text)
+    words.add_argument("--large", action="store_true", help="use the limits of ggp_manager --large from the start")
     how = words.add_mutually_exclusive_group()
-    told = "fold the description: fewer and shorter sentences for the same game (done where it is past the limits of ggp_manager)"
-    how.add_argument("--folded", dest="folding", action="store_const", const=ALWAYS, default=WHERE_NEEDED, help=told)
-    how.add_argument("--unfolded", dest="folding", action="store_const", const=NEVER, help="do not fold it")
-    told = "split the rules into parts with relations of their own (done where there are many instances)"
-    words.add_argument("--split", action="store_true", help=told)
+    text = "factor the description into fewer and shorter sentences for the same game (default: if it exceeds the limits of ggp_manager)"
+    how.add_argument("--folded", dest="folding", action="store_const", const=ALWAYS, default=WHERE_NEEDED, help=text)
+    how.add_argument("--unfolded", dest="folding", action="store_const", const=NEVER, help="do not factor it")
+    text = "split rules into parts with auxiliary relations (default: if there are many instances)"
+    words.add_argument("--split", action="store_true", help=text)
     words.add_argument("--player-rules", metavar="FILE", help="write the description with variables to this FILE, for players")
-    words.add_argument("file", nargs="?", default="-", metavar="FILE", help="the description with variables (standard input, also as `-`)")
+    words.add_argument("file", nargs="?", default="-", metavar="FILE", help="the description with variables (default: standard input, also as `-`)")
     return words.parse_args()
 
 
 def say_suspicions(text: bytes) -> None:
-    """Says what may be a mistake in the description."""
+    """Reports possible mistakes in the description."""
     for line in suspicions(text, None, SECONDS_OF_SEARCH).lines[:MOST_SUSPICIONS]:
         report(f"  suspicious: {line}")
 
 
 def perform(asked: argparse.Namespace) -> int:
-    """Writes the ground description, or says why there is none."""
+    """Writes the ground description, or reports why there is none."""
     with opened(asked.file) as file:
-        given = file.read()
-    made = Making(given.decode("latin-1"), asked.seconds, asked.folding, asked.split, asked.large)
+        data = file.read()
+    made = Making(data.decode("latin-1"), asked.seconds, asked.folding, asked.split, asked.large)
     try:
         text = made.run()
         if asked.player_rules:
             write_player_rules(made, asked.player_rules)
         say(text, end="")
-        say_suspicions(given)
+        say_suspicions(data)
     except Refused as why:
-        say_suspicions(given)
+        say_suspicions(data)
         name = STANDARD_INPUT if asked.file == "-" else asked.file
         has_place = why.sentence is not None or isinstance(why, KifFault)
         raise Ended(f"{name}: {told(made.text, why)}" if has_place else told(made.text, why), 1) from None

@@ -1,12 +1,11 @@
-"""Folding: fewer and shorter sentences for the same game.
+"""Factors ground rules into fewer and shorter sentences for the same game.
 
-Rules of one head that differ in one literal become one with an `or`, again and again. A sentence that is asked for once, or that
-only gives another a name, goes where it is asked for, and a formula that stands in many sentences becomes a sentence of its own,
-where that makes the text smaller. Where there are still too many sentences, those of one head become one, and what is asked for
-goes where it is asked for, what costs the fewest bytes first.
+Rules with one head that differ in one literal are repeatedly merged into one with an `or`. A sentence that is used once, or that only renames
+another, is inlined, and a formula that many sentences share becomes a sentence, if this makes the text smaller. If there are still too many
+sentences, those of one head are joined, and more sentences are inlined, those first that cost the fewest bytes.
 
-What a sentence says never changes, and so does no state, move, goal or end. The first sentence with a head stays where the first
-one was, so the order of roles and of legal moves stays too.
+The meaning of sentences never changes, so states, moves, goals and ends stay the same. The first sentence of a head keeps its place, so the
+order of roles and of legal moves stays the same too.
 """
 
 import math
@@ -18,26 +17,26 @@ from .formulas import FALSE, TRUE, Formulas
 from ggp_tools.kif import Expression, Refused, atoms, fresh_before_digits, relation
 from ggp_tools.gdl import GAME, Rule
 
-# A body, as the numbers of its formulas.
+# The numbers of the formulas of a body.
 Formed = frozenset[int]
-# Lists stand in one another this deep at most, in sentences that are made of several.
+# Joined sentences are nested at most this deep.
 MOST_DEEP = 48
 ROUNDS = 30
-# No sentence with a condition has fewer bytes, where its names are as short as those of parts.
+# A lower bound for the bytes of a sentence with a condition, if its names are as short as those of parts.
 LEAST_BYTES = 24
 
 
-# Folding costs so many times the work of the first estimate, or more. And where sentences have to stand in others, the text does not become
-# shorter than by this factor. Both are so in all games that were tried.
+# In all games that were tried, factoring takes at least MORE_WORK times the work of the first estimate, and if sentences must be inlined, the text
+# does not become shorter than by the factor SHORTER.
 MORE_WORK, SHORTER = 1.5, 2
 
 
 class Hopeless(Refused):
-    """What is past a limit, however it is folded, or costs more work than is allowed."""
+    """The game exceeds a limit however it is factored, or factoring it takes more work than allowed."""
 
 
 class Target(NamedTuple):
-    """How many sentences and bytes there may be, and how much work it may take. About 30,000 take a second of a processor."""
+    """The maximum numbers of sentences, bytes and steps of work. About 30,000 steps take a second of processor time."""
 
     sentences: int
     bytes: int
@@ -45,8 +44,8 @@ class Target(NamedTuple):
 
 
 class Folded:
-    """The game as formulas: of each head its bodies, each a set of formulas that all have to be true. `origins` has for each body of a head
-    how many bytes come from which sentences of the description; of a part that several ask for they are those of who asks."""
+    """The game as formulas: the bodies of each head, each a set of formulas that must all be true. `origins` has for each body how many of its bytes
+    come from which sentences of the description. Parts have no origins; theirs are those of the bodies that use them."""
 
     def __init__(self, rules: list[Rule]) -> None:
         self.formulas, self.bodies, self.sources = Formulas(), {}, {}
@@ -72,15 +71,15 @@ class Folded:
         self.part_count, self.cache, self.most_work = 0, {}, math.inf
 
     def of_bodies(self, head: int, make: Callable) -> object:
-        """What is made of the bodies of a head, again only if these are others."""
+        """Computes a value from the bodies of a head. It is cached until these change."""
         bodies, key = self.bodies[head], (head, make)
         if key not in self.cache or self.cache[key][0] is not bodies:
             if self.formulas.work > self.most_work:
-                raise Hopeless(f"to fold it takes more than {self.most_work:,} steps")
+                raise Hopeless(f"factoring takes more than {self.most_work:,} steps")
             self.cache[key] = bodies, make(bodies)
         return self.cache[key][1]
 
-    # ---- What it comes to ------------------------------------------------------------------------
+    # ---- Sizes -----------------------------------------------------------------------------------
 
     def sentence_size(self, head: int, body: Iterable[int]) -> int:
         size = self.formulas.sizes[head]
@@ -92,31 +91,31 @@ class Folded:
     def bytes(self) -> int:
         return sum(self.sentence_size(head, body) for head, bodies in self.bodies.items() for body in bodies)
 
-    # ---- Whose it is -----------------------------------------------------------------------------
+    # ---- Origins ---------------------------------------------------------------------------------
 
     def costs(self, is_bytes: bool) -> Counter[int]:
-        """What the sentences of the description cost in what is written."""
-        found, asked_by, known = Counter(), self.asked_by(), {}
+        """Returns how many bytes or sentences of the output come from each sentence of the description."""
+        costs, asked_by, known = Counter(), self.asked_by(), {}
         for head, bodies in self.bodies.items():
             for body in bodies:
                 cost = self.sentence_size(head, body) if is_bytes else 1
                 own = scaled(self.origins[head][body], cost) if head in self.origins else scaled(self.of_part(head, asked_by, known), cost)
                 for sentence, share in own.items():
-                    found[sentence] += share
-        return found
+                    costs[sentence] += share
+        return costs
 
     def asked_by(self) -> dict[int, list[tuple[int, Formed]]]:
-        """The bodies that ask for each part, with their heads."""
-        found = defaultdict(list)
+        """Returns the bodies that use each part, with their heads."""
+        users = defaultdict(list)
         for head, bodies in self.bodies.items():
             for body in bodies:
                 for part in self.atoms_in(body):
                     if part in self.bodies and part not in self.origins:
-                        found[part].append((head, body))
-        return found
+                        users[part].append((head, body))
+        return users
 
     def of_part(self, part: int, asked_by: dict[int, list[tuple[int, Formed]]], known: dict[int, Counter[int]]) -> Counter[int]:
-        """The bytes of a part by the sentences of who asks for it."""
+        """Returns the origins of a part: those of the bodies that use it."""
         if part not in known:
             known[part] = Counter()
             for head, body in asked_by[part]:
@@ -124,7 +123,7 @@ class Folded:
         return known[part]
 
     def take_origins(self, head: int, body: Formed, new: Formed, by: dict[int, int]) -> None:
-        """Notes whose a body is with formulas in the place of heads: what it has grown by comes from the rules of these."""
+        """Records the origins of a body after replacing heads by formulas. The added bytes come from the rules of these heads."""
         own = self.origins[head][new]
         own.update(scaled(self.origins[head][body], self.sentence_size(head, body)))
         grown = self.sentence_size(head, new) - self.sentence_size(head, body)
@@ -135,7 +134,7 @@ class Folded:
             own.update(scaled(whose, grown * self.formulas.sizes[by[atom]] / sizes))
 
     def rewrite(self, head: int, bodies: list[Formed]) -> None:
-        """Puts bodies in the place of those of a head, one for each, which say the same."""
+        """Replaces each body of a head by an equivalent one."""
         if head in self.origins:
             origins = self.origins.pop(head)
             for old, new in zip(self.bodies[head], bodies):
@@ -150,7 +149,7 @@ class Folded:
                 self.bodies[head] = self.cache[head, merged] = merged(bodies, self.formulas, self.origins[head])
 
     def settle(self) -> None:
-        """Puts what is always or never true into its place."""
+        """Replaces heads that are always or never true by constants."""
         while True:
             known = {head: TRUE for head, bodies in self.bodies.items() if frozenset() in bodies and head not in self.own}
             known |= {head: FALSE for head, bodies in self.bodies.items() if not bodies}
@@ -159,7 +158,7 @@ class Folded:
             self.put(known)
 
     def put(self, by: dict[int, int]) -> None:
-        """Puts formulas in the place of heads that are no longer there."""
+        """Replaces heads by formulas, and removes these heads."""
         for head in by:
             del self.bodies[head]
             self.own.discard(head)
@@ -167,20 +166,20 @@ class Folded:
         for head, bodies in self.bodies.items():
             if self.below(head).isdisjoint(by):
                 continue
-            found = {}
+            unique = {}
             for body in bodies:
                 parts = [self.formulas.replaced(formula, by, known) for formula in body]
                 new = body if all(part == formula for part, formula in zip(parts, body)) else self.formulas.body(parts)
                 if new is not None:
-                    found[new] = None
+                    unique[new] = None
                     if new != body:
                         self.take_origins(head, body, new, by)
-            self.bodies[head] = [frozenset()] if frozenset() in found else list(found)
+            self.bodies[head] = [frozenset()] if frozenset() in unique else list(unique)
         for head in by:
             self.origins.pop(head, None)
 
     def factored(self, bodies: list[Formed], depth: int = 0) -> int:
-        """One formula that is true where all of some body is: what most bodies share stands once."""
+        """Returns one formula that is true if some body is. Formulas that most bodies share are factored out."""
         if frozenset() in bodies:
             return TRUE
         if len(bodies) == 1:
@@ -190,12 +189,13 @@ class Folded:
         if count == 1 or depth > 6:
             return self.formulas.any([self.formulas.all(body) for body in bodies])
         rest = self.factored([body - {shared} for body in bodies if shared in body], depth + 1)
-        found = self.formulas.all([shared, rest])
+        shared_part = self.formulas.all([shared, rest])
         others = [body for body in bodies if shared not in body]
-        return self.formulas.any([found, self.factored(others, depth + 1)]) if others else found
+        return self.formulas.any([shared_part, self.factored(others, depth + 1)]) if others else shared_part
 
     def join(self, most: int) -> None:
-        """Makes one sentence of those of a head, where that costs least first, until there are as few sentences as that."""
+        """Joins the sentences of one head into one, the cheapest first, until there are at most `most` sentences. It also joins those that this makes
+        shorter."""
         costs = []
         for head, bodies in self.bodies.items():
             if len(bodies) > 1:
@@ -214,10 +214,10 @@ class Folded:
                 self.origins[head][joined].update(scaled(origins[body], self.sentence_size(head, body)))
             self.bodies[head] = [joined]
 
-    # ---- What is asked for -----------------------------------------------------------------------
+    # ---- Inlining --------------------------------------------------------------------------------
 
     def uses(self) -> list[int]:
-        """How often each formula stands in the text."""
+        """Returns how often each formula occurs in the text."""
         counts = [0] * len(self.formulas.nodes)
         for bodies in self.bodies.values():
             for body in bodies:
@@ -231,15 +231,15 @@ class Folded:
         return counts
 
     def below(self, head: int) -> set[int]:
-        """The heads that a head's sentences ask for."""
+        """Returns the heads that a head's sentences use."""
         return self.of_bodies(head, self.atoms_below)
 
     def atoms_below(self, bodies: list[Formed]) -> set[int]:
         return self.atoms_in(formula for body in bodies for formula in body)
 
     def atoms_in(self, formulas: Iterable[int]) -> set[int]:
-        """The atomic sentences that stand in formulas."""
-        found, seen, open_formulas = set(), set(), list(formulas)
+        """Returns the atomic sentences in formulas."""
+        atoms_found, seen, open_formulas = set(), set(), list(formulas)
         while open_formulas:
             formula = open_formulas.pop()
             if formula in seen:
@@ -247,13 +247,13 @@ class Folded:
             seen.add(formula)
             node = self.formulas.nodes[formula]
             if node[0] == "atom":
-                found.add(formula)
+                atoms_found.add(formula)
             else:
                 open_formulas += (node[1],) if node[0] == "not" else node[1]
-        return found
+        return atoms_found
 
     def place_in(self, most: int) -> None:
-        """Puts what is asked for in its place where that makes the text smaller, and while there are more sentences than that."""
+        """Inlines sentences if this makes the text smaller, or while there are more than `most` sentences."""
         for _ in range(ROUNDS):
             costs = sorted(self.costs_of_placing())
             count, by, taken = self.sentences(), {}, set()
@@ -271,8 +271,8 @@ class Folded:
             self.settle()
 
     def must_have_room(self, target: Target) -> None:
-        """Refuses what is past a target before it is folded for long. Each sentence of the game's own relations stays, and of the others
-        those that are too many have to be put where they are asked for: now that costs so many bytes, and later it costs more."""
+        """Refuses a game that cannot be factored to a target, before much work is done. The sentences of the game's own relations stay, so the others
+        above the limit must be inlined. Their cost in bytes only grows later."""
         if len(self.own) > target.sentences:
             raise Hopeless(f"sentences (at least {len(self.own):,} of {target.sentences:,})")
         many = len(self.bodies) - target.sentences
@@ -281,19 +281,19 @@ class Folded:
             raise Hopeless(f"sentences (at least {len(self.bodies) - len(costs):,} of {target.sentences:,})")
         least = sum(costs[:many]) + LEAST_BYTES * target.sentences
         if many > 0 and least > target.bytes:
-            raise Hopeless(f"bytes (at least {least:,} of {target.bytes:,}, since {many:,} of {len(self.bodies):,} sentences have to stand in others)")
+            raise Hopeless(f"bytes (at least {least:,} of {target.bytes:,}, because {many:,} of {len(self.bodies):,} sentences must be inlined)")
         if costs and MORE_WORK * self.formulas.work > target.work:
-            raise Hopeless(f"to fold it takes more than {target.work:,} steps")
+            raise Hopeless(f"factoring takes more than {target.work:,} steps")
         if costs:
             self.must_be_short(target)
 
     def must_be_short(self, target: Target) -> None:
-        """Refuses what is expected to be past a target of limited work: this is no proof."""
+        """Refuses a game that is expected to exceed a target of limited work. This is an estimate."""
         if target.work < math.inf and self.bytes() > SHORTER * target.bytes:
             raise Hopeless(f"bytes (about {self.bytes() // SHORTER:,} of {target.bytes:,})")
 
     def fold(self, target: Target) -> None:
-        """Folds the game, if possible to within the target."""
+        """Factors the game, if possible to within the target."""
         self.most_work = target.work
         self.place_in(self.sentences())
         if self.sentences() > target.sentences:
@@ -310,7 +310,7 @@ class Folded:
         return self.sentences() <= target.sentences and self.bytes() <= target.bytes
 
     def costs_of_placing(self) -> Iterator[tuple[int, int, int, set[int]]]:
-        """For each head that is only asked for, how many bytes it costs to put its formula there."""
+        """Yields for each head that can be inlined how many bytes this costs, its formula, and the heads that it uses."""
         uses, sizes, depths = self.uses(), self.formulas.sizes, self.formulas.depths
         deepest = max((depths[formula] for bodies in self.bodies.values() for body in bodies for formula in body), default=0)
         for head, bodies in self.bodies.items():
@@ -323,7 +323,7 @@ class Folded:
     # ---- Common parts ----------------------------------------------------------------------------
 
     def shorten(self) -> None:
-        """Puts each formula into its shortest form."""
+        """Replaces each formula by its shortest form."""
         known = {}
         for head, bodies in self.bodies.items():
             self.rewrite(head, [self.shortest_body(body, known) for body in bodies])
@@ -332,19 +332,19 @@ class Folded:
         for formula in body:
             if formula not in known:
                 known[formula] = self.formulas.shortest(formula)
-        found = {known[formula] for formula in body}
-        denied = [self.formulas.nodes[formula][1] for formula in found if self.formulas.nodes[formula][0] == "not"]
+        formulas = {known[formula] for formula in body}
+        denied = [self.formulas.nodes[formula][1] for formula in formulas if self.formulas.nodes[formula][0] == "not"]
         if len(denied) > 1:
-            found = {formula for formula in found if self.formulas.nodes[formula][0] != "not"}
+            formulas = {formula for formula in formulas if self.formulas.nodes[formula][0] != "not"}
             members = set()
             for formula in denied:
                 node = self.formulas.nodes[formula]
                 members.update(node[1] if node[0] == "or" else (formula,))
-            found.add(self.formulas.no(self.formulas.listed(members)))
-        return frozenset(found)
+            formulas.add(self.formulas.no(self.formulas.listed(members)))
+        return frozenset(formulas)
 
     def share_bodies(self, most: int) -> None:
-        """Makes a sentence of each body that many sentences have, if that makes the text smaller, up to this many sentences."""
+        """Makes a sentence of each body that many sentences have, if this makes the text smaller, up to `most` sentences."""
         counts = Counter(body for bodies in self.bodies.values() for body in bodies if len(body) > 1)
         name_size, gains = len(self.word) + 4, []
         for place, (body, count) in enumerate(counts.items()):
@@ -364,7 +364,7 @@ class Folded:
         return self.formulas.atom(f"{self.word}{self.part_count}")
 
     def share(self, most: int) -> None:
-        """Makes a sentence of each formula that stands in many, if that makes the text smaller, up to this many sentences."""
+        """Makes a sentence of each formula that many sentences share, if this makes the text smaller, up to `most` sentences."""
         refs = Counter(formula for bodies in self.bodies.values() for body in bodies for formula in body)
         nodes, sizes = self.formulas.nodes, self.formulas.sizes
         for number in range(len(nodes) - 1, -1, -1):
@@ -377,8 +377,8 @@ class Folded:
             for formula, count in refs.items()
             if count > 1 and nodes[formula][0] in ("or", "not")
         ]
-        room = most - self.sentences()
-        chosen = [formula for gain, formula in sorted(gains, key=lambda pair: (-pair[0], pair[1])) if gain > 0][: max(room, 0)]
+        allowed = most - self.sentences()
+        chosen = [formula for gain, formula in sorted(gains, key=lambda pair: (-pair[0], pair[1])) if gain > 0][: max(allowed, 0)]
         if chosen:
             self.name_parts(sorted(chosen))
 
@@ -387,7 +387,7 @@ class Folded:
         return (node[1],) if node[0] == "not" else node[1] if node[0] == "or" else ()
 
     def rename(self) -> None:
-        """Gives short names to sentences that are asked for alone, where that makes the text smaller."""
+        """Gives short names to relations that are not the game's own, if this makes the text smaller."""
         uses, by = self.uses(), {}
         for head, bodies in self.bodies.items():
             name_size, size = len(self.word) + 4, self.formulas.sizes[head]
@@ -403,7 +403,7 @@ class Folded:
             self.bodies[by.get(head, head)] = bodies
 
     def name_parts(self, chosen: list[int]) -> None:
-        """Gives each of these formulas a sentence, the smaller ones first, and its name wherever it stands."""
+        """Gives each of these formulas a sentence, the smaller ones first, and uses its name wherever the formula occurs."""
         known, made = {}, {}
         for number in chosen:
             name = self.new_part()
@@ -420,10 +420,10 @@ class Folded:
             self.sources.setdefault(name, min(self.sources.values()))
         self.bodies.update(made)
 
-    # ---- What is written -------------------------------------------------------------------------
+    # ---- Output ----------------------------------------------------------------------------------
 
     def written(self) -> Iterator[tuple[int, Expression]]:
-        """Each sentence, with the number of the one that it comes from."""
+        """Yields each sentence with the number of the sentence that it comes from."""
         for head, bodies in self.bodies.items():
             atom = self.formulas.nodes[head][1]
             for body in bodies:
@@ -433,14 +433,14 @@ class Folded:
 
 
 def scaled(shares: Mapping[int, float], size: float) -> dict[int, float]:
-    """The same shares, so many bytes in all."""
+    """Scales shares so that they add up to a size."""
     total = sum(shares.values())
     return {sentence: share * size / total for sentence, share in shares.items()} if total else {}
 
 
 def merged(bodies: list[Formed], formulas: Formulas, origins: dict[Formed, Counter[int]]) -> list[Formed]:
-    """The bodies with an `or` in the place of what two or more of them differ in, as long as there are such. Takes what comes of several
-    for what comes of the sentences of them all."""
+    """Merges bodies that differ in one literal into one with an `or`, as long as there are any. A merged body has the origins of all of its
+    bodies."""
     while True:
         groups, known = {}, set(bodies)
         for body in bodies:
@@ -463,7 +463,7 @@ def merged(bodies: list[Formed], formulas: Formulas, origins: dict[Formed, Count
 
 
 def begun(rules: list[Rule]) -> Folded:
-    """The game with the rules of each head put together."""
+    """Returns the game with the rules of each head merged."""
     game = Folded(rules)
     game.settle()
     game.merge()
@@ -472,7 +472,8 @@ def begun(rules: list[Rule]) -> Folded:
 
 
 def folded(rules: list[Rule], targets: Sequence[Target]) -> Folded:
-    """The game folded to the first of these targets that it can be within, each larger than the one before. Refuses it if there is none."""
+    """Factors the game to the first of these targets that is possible. Each target is larger than the one before. Refuses the game if none is
+    possible."""
     game, why = None, None
     for target in targets:
         game = game or begun(rules)

@@ -1,4 +1,4 @@
-"""The description with variables, as players get it: their programs read `base` and `input` there."""
+"""Writes the description with variables for players, whose programs read `base` and `input` there."""
 
 from collections.abc import Iterator
 
@@ -7,23 +7,23 @@ from ggp_tools.gdl import Literal, Rule, each_of, ways_of
 
 
 def text_for_players(sentences: list[Expression], rules: list[Rule]) -> str:
-    """One sentence a line, in canonical text, without `and`. Roles that a rule gives stand as facts, in the order of the ground
-    description; and where no sentence speaks of `base` or of `input`, its facts are added: the terms that a state can have, and the moves
-    of each role. Where one asks for what no sentence gives, such facts would make another game."""
-    spoken = {used for sentence in sentences for used in relations_in(sentence)}
-    found = [plain for sentence in sentences if relation(head_of(sentence)) != ("role", 1) for plain in without_and(sentence)]
-    found = [rule.head for rule in rules if relation(rule.head) == ("role", 1)] + found
-    if ("base", 1) not in spoken:
+    """Returns one sentence on each line, in canonical text and without `and`. Roles that rules derive are written as facts, in the order of the
+    ground description. If no sentence mentions `base` or `input`, its facts are added: all possible terms of states, or all possible moves. If a
+    sentence uses them without defining them, adding facts would change the game."""
+    mentioned = {used for sentence in sentences for used in relations_in(sentence)}
+    written = [plain for sentence in sentences if relation(head_of(sentence)) != ("role", 1) for plain in without_and(sentence)]
+    written = [rule.head for rule in rules if relation(rule.head) == ("role", 1)] + written
+    if ("base", 1) not in mentioned:
         terms = dict.fromkeys(rule.head[1] for rule in rules if relation(rule.head) in (("init", 1), ("next", 1)))
-        found += [("base", term) for term in terms]
-    if ("input", 2) not in spoken:
+        written += [("base", term) for term in terms]
+    if ("input", 2) not in mentioned:
         moves = dict.fromkeys(rule.head[1:] for rule in rules if relation(rule.head) == ("legal", 2))
-        found += [("input", *move) for move in moves]
-    return "".join(f"{spelled(expression)}\n" for expression in found)
+        written += [("input", *move) for move in moves]
+    return "".join(f"{spelled(expression)}\n" for expression in written)
 
 
 def relations_in(expression: Expression) -> Iterator[Relation]:
-    """The relations that a sentence or a literal speaks of."""
+    """Yields the relations in a sentence or a literal."""
     if isinstance(expression, tuple) and expression[0] in ("<=", "not", "or", "and"):
         for member in expression[1:]:
             yield from relations_in(member)
@@ -32,7 +32,7 @@ def relations_in(expression: Expression) -> Iterator[Relation]:
 
 
 def without_and(sentence: Expression) -> list[Expression]:
-    """The sentences that say the same without `and`, which is no word of GDL."""
+    """Returns equivalent sentences without `and`, which is not part of GDL."""
     if not has_and(sentence):
         return [sentence]
     ways = [ways_of(part) if has_and(part) else [(part,)] for literal in sentence[2:] for part in spliced(literal)]
@@ -40,14 +40,14 @@ def without_and(sentence: Expression) -> list[Expression]:
 
 
 def has_and(expression: Expression) -> bool:
-    """Whether a sentence or a literal has an `and`."""
+    """Returns whether a sentence or a literal contains `and`."""
     if isinstance(expression, str) or expression[0] not in ("<=", "not", "or", "and"):
         return False
     return expression[0] == "and" or any(map(has_and, expression[1:]))
 
 
 def spliced(literal: Expression) -> list[Expression]:
-    """The literals that all have to be true where this one is: those of an `and`, and else itself."""
+    """Returns the members of an `and`, or the literal itself."""
     if literal[0] != "and":
         return [literal]
     return [part for inner in literal[1:] for part in spliced(inner)]

@@ -1,4 +1,4 @@
-"""The forms of a description that are tried one after the other, those that cost least first, until one is within the limits."""
+"""Lists the forms of a description that are tried one after the other, the cheapest first, until one is within the limits."""
 
 from typing import NamedTuple
 
@@ -6,12 +6,12 @@ from .gringo import MOST_INSTANCES
 from ggp_tools.gdl import Rule
 from .splitting import split
 
-# Up to so many instances a description is tried as it stands. It folds best so, in seconds, and stays what it was.
+# Up to this many instances a description is tried unchanged. In this form it factors best, within seconds.
 FEW_INSTANCES = 1 << 16
 
 
 class Form(NamedTuple):
-    """The rules of a description in one form, with how many instances are taken, and what is said of it."""
+    """The rules of a description in one form, the maximum number of instances, and notes."""
 
     rules: list[Rule]
     most: int
@@ -19,11 +19,11 @@ class Form(NamedTuple):
 
 
 def forms(rules: list[Rule], is_whole: bool, is_split: bool) -> list[Form]:
-    """The description as it stands where it has few instances; then with its rules split; then as it stands, however many it has. Where
-    one of these is asked for it is the only one."""
+    """Returns the unchanged description if it has few instances, then the one with split rules, then the unchanged one with any number of instances.
+    If one of these was asked for, it is the only one."""
     whole, parts = Form(rules, MOST_INSTANCES), split(rules)
     if is_whole or len(parts) == len(rules):
         return [whole]
-    note = f"split: {len(parts) - len(rules):,} parts of rules have relations of their own, so that fewer variables stand in one rule"
+    note = f"split: {len(parts) - len(rules):,} parts of rules became auxiliary relations, so that each rule has fewer variables"
     parted = Form(parts, MOST_INSTANCES, (note,))
     return [parted] if is_split else [whole._replace(most=FEW_INSTANCES), parted, whole]

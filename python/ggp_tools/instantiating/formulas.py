@@ -1,7 +1,7 @@
-"""Formulas over ground atomic sentences: each is there once, under a number that is larger than those of its parts.
+"""Formulas over ground atomic sentences. Each formula is stored once, with a number that is larger than those of its parts.
 
-In a turn each role makes exactly one of its moves. So of one role's `does` sentences exactly one is true wherever they are asked,
-the `or` of them all is true, and an `or` of most of them is the denial of the `or` of the few others.
+In a turn each role makes exactly one of its moves. So exactly one of a role's `does` sentences is true, the `or` of all of them is true, and an `or`
+of most of them is equivalent to the negation of the `or` of the others.
 """
 
 from collections.abc import Iterable
@@ -12,7 +12,7 @@ TRUE, FALSE = 0, 1
 
 
 class Formulas:
-    """A node is an atomic sentence, `("not", number)` or `("or", numbers in order)`. `work` counts the members of formulas that were made."""
+    """A node is an atomic sentence, `("not", number)` or `("or", sorted numbers)`. `work` counts the members of created formulas."""
 
     def __init__(self) -> None:
         self.work = 0
@@ -34,13 +34,13 @@ class Formulas:
         return self.made(node, len(spelled(atom)), levels(atom)) if number is None else number
 
     def set_moves(self, moves: dict[Expression, Iterable[Expression]]) -> None:
-        """Takes the moves of each role, as `does` sentences."""
+        """Sets the moves of each role, as `does` sentences."""
         for role, sentences in moves.items():
             self.moves[role] = frozenset(map(self.atom, sentences))
             self.role_of.update(dict.fromkeys(self.moves[role], role))
 
     def no(self, number: int) -> int:
-        """The denial of a formula."""
+        """Returns the negation of a formula."""
         if number in (TRUE, FALSE):
             return TRUE + FALSE - number
         node = self.nodes[number]
@@ -49,7 +49,7 @@ class Formulas:
         return self.made(("not", number), self.sizes[number] + 6, self.depths[number] + 1)
 
     def any(self, numbers: Iterable[int]) -> int:
-        """That one of these is true."""
+        """Returns the formula that is true if one of these is."""
         members = set()
         for number in numbers:
             node = self.nodes[number]
@@ -61,7 +61,7 @@ class Formulas:
         return FALSE if not members else TRUE if self.has_all_moves(members) else self.listed(members)
 
     def listed(self, members: set[int]) -> int:
-        """The `or` of these, as it stands."""
+        """Returns the `or` of these without simplifying it."""
         if len(members) == 1:
             return next(iter(members))
         members = tuple(sorted(members))
@@ -76,30 +76,30 @@ class Formulas:
         return any(count == len(self.moves[role]) for role, count in counts.items())
 
     def all(self, numbers: Iterable[int]) -> int:
-        """That all of these are true."""
+        """Returns the formula that is true if all of these are."""
         return self.no(self.any([self.no(number) for number in numbers]))
 
     def parts(self, number: int) -> list[int]:
-        """The formulas that all have to be true where this one is."""
+        """Returns the members of a conjunction, or the formula itself."""
         node = self.nodes[number]
         if node[0] == "not" and self.nodes[node[1]][0] == "or":
             return [self.no(member) for member in self.nodes[node[1]][1]]
         return [number]
 
     def allowed(self, number: int) -> tuple[Expression, frozenset[int]] | None:
-        """For a formula that speaks of one role's moves alone: the role, and the moves with which it is true. Otherwise none."""
+        """If a formula is only about one role's moves, returns the role and the moves for which it is true, else None."""
         node = self.nodes[number]
         if node[0] == "not":
-            found = self.allowed(node[1])
-            return found and (found[0], self.moves[found[0]] - found[1])
+            inner = self.allowed(node[1])
+            return inner and (inner[0], self.moves[inner[0]] - inner[1])
         members = node[1] if node[0] == "or" else (number,)
         roles = {self.role_of.get(member) for member in members}
         role = roles.pop()
         return None if roles or role is None else (role, frozenset(members))
 
     def body(self, numbers: Iterable[int]) -> frozenset[int] | None:
-        """The formulas that all have to be true where these are, as a set: those of one role's moves are one. None if that can't be."""
-        found, allowed = set(), {}
+        """Returns the formulas of a body as a set, with those about one role's moves combined. Returns None if it is never true."""
+        formulas, allowed = set(), {}
         for number in numbers:
             for part in self.parts(number):
                 moves = self.allowed(part)
@@ -107,16 +107,16 @@ class Formulas:
                     role, those = moves
                     allowed[role] = allowed.get(role, self.moves[role]) & those
                 else:
-                    found.add(part)
+                    formulas.add(part)
         for those in allowed.values():
-            found.add(self.any(those))
-        found.discard(TRUE)
-        if FALSE in found or any(self.no(formula) in found for formula in found if self.nodes[formula][0] == "not"):
+            formulas.add(self.any(those))
+        formulas.discard(TRUE)
+        if FALSE in formulas or any(self.no(formula) in formulas for formula in formulas if self.nodes[formula][0] == "not"):
             return None
-        return frozenset(found)
+        return frozenset(formulas)
 
     def shortest(self, number: int) -> int:
-        """The formula with the few moves in the place of the many, wherever that is shorter."""
+        """Returns the formula with few moves instead of many, wherever this is shorter."""
         node = self.nodes[number]
         if node[0] == "not":
             inner = self.shortest(node[1])
@@ -132,7 +132,7 @@ class Formulas:
         for role, those in groups.items():
             others = self.no(self.listed(self.moves[role].difference(those)))
             together = self.listed(those)
-            # An `or` of its own, since it may stand in other sentences too.
+            # It stays a separate `or`, because other sentences may share it.
             members.append(others if self.sizes[others] < self.sizes[together] else together)
         return members[0] if len(members) == 1 else self.listed(set(members))
 
@@ -145,21 +145,21 @@ class Formulas:
         return "or", *map(self.expression, node[1])
 
     def replaced(self, number: int, by: dict[int, int], known: dict[int, int]) -> int:
-        """The formula with others in the place of some atoms; `known` keeps what has been found."""
+        """Returns the formula with some atoms replaced, and simplified. `known` is a cache."""
         if number in known:
             return known[number]
         node = self.nodes[number]
         if node[0] == "not":
-            found = self.no(self.replaced(node[1], by, known))
+            result = self.no(self.replaced(node[1], by, known))
         elif node[0] == "or":
-            found = self.any([self.replaced(member, by, known) for member in node[1]])
+            result = self.any([self.replaced(member, by, known) for member in node[1]])
         else:
-            found = by.get(number, number)
-        known[number] = found
-        return found
+            result = by.get(number, number)
+        known[number] = result
+        return result
 
     def renamed(self, number: int, known: dict[int, int]) -> int:
-        """The formula as it stands, with other atoms in the place of some; `known` keeps what has been found."""
+        """Returns the formula with some atoms replaced, without simplifying it. `known` is a cache."""
         if number not in known:
             node = self.nodes[number]
             if node[0] == "not":

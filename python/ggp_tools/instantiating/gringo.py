@@ -1,4 +1,4 @@
-"""The grounder gringo: the program that it gets, and the instances that it finds."""
+"""Writes programs for the grounder gringo, runs it, and reads the instances."""
 
 import math
 import re
@@ -13,13 +13,13 @@ from typing import TextIO
 from ggp_tools.kif import MOST_LEVELS, Expression, Refused, Relation, relation, variables
 from ggp_tools.gdl import GAME, Literal, Rule
 
-# What the grounder may take and give before it is stopped.
+# The limits of the grounder's memory and of the number of instances.
 MEMORY, MOST_INSTANCES = 2 << 30, 1_000_000
 
 
 class LogicProgram:
-    """The text for the grounder: relations are p0, p1, .., the instances of the rules that are kept i0, i1, .., and terms are
-    quoted atoms and tuples, so that every KIF atom can stand there."""
+    """The input of the grounder. Relations are p0, p1, .., the instances of kept rules are i0, i1, .., and terms are quoted strings and tuples, so
+    that every KIF atom is possible."""
 
     def __init__(self, rules: list[Rule], unsettled: set[Relation]) -> None:
         self.unsettled, self.numbers = unsettled, {}
@@ -40,11 +40,12 @@ class LogicProgram:
         return literal.same or relation(literal.atom) not in self.unsettled
 
     def lines_of(self, rule: Rule) -> list[str]:
-        """A settled relation is derived as it stands. Of another only what can be true is: what it denies is left out."""
+        """Returns the lines of a rule. A relation that the grounder can evaluate is derived exactly. Of the others everything that can be true is
+        derived, so negations are dropped."""
         names = {name: f"V{k}" for k, name in enumerate(variables((rule.head, *(literal.atom for literal in rule.body))))}
         body = [self.literal(literal, names) for literal in rule.body if literal.positive or self.is_settled(literal)]
         if relation(rule.head)[0] not in GAME and relation(rule.head) not in self.unsettled:
-            # The first rule of a relation that asks for something is the one to look at, and else its first fact.
+            # Errors cite the first rule of a relation that has conditions, else its first fact.
             source = self.name(relation(rule.head))
             if source not in self.sources or (body and source not in self.derived):
                 self.sources[source] = rule.sentence
@@ -53,7 +54,7 @@ class LogicProgram:
             return [rule_line(self.atom(rule.head, names), body)]
         shown = [literal for literal in rule.body if not self.is_settled(literal)]
         needed = variables((rule.head, *(literal.atom for literal in shown)))
-        # Ways of one sentence that differ in what is settled have their instances together, each once.
+        # Ways of one sentence that differ only in settled literals share their instances.
         kept = Rule(rule.sentence, rule.head, tuple(shown))
         name = self.names.setdefault(kept, f"i{len(self.kept)}")
         instance = applied(name, [names[name] for name in needed])
@@ -89,7 +90,7 @@ def term_text(term: Expression, names: dict[str, str]) -> str:
 
 
 def term_list(text: str) -> list[str]:
-    """The terms that the grounder's text lists."""
+    """Parses a list of terms in the grounder's output."""
     levels = [[]]
     for token in re.findall(r'"(?:[^"\\]|\\.)*"|[()]', text):
         if token == "(":
@@ -103,7 +104,7 @@ def term_list(text: str) -> list[str]:
 
 
 def level_count(text: str) -> int:
-    """How many lists stand in one another in a line of the grounder."""
+    """Returns how deep the lists of a line are nested."""
     deepest = level = 0
     for token in re.findall(r'"(?:[^"\\]|\\.)*"|[()]', text):
         level += {"(": 1, ")": -1}.get(token, 0)
@@ -112,21 +113,21 @@ def level_count(text: str) -> int:
 
 
 class TooMany(Refused):
-    """There are more instances than are taken."""
+    """There are too many instances."""
 
 
 class TooSlow(Refused):
-    """The grounder has used its seconds."""
+    """The grounder has used up its time."""
 
 
 class Grounder:
-    """One run of gringo. It ends where it has found all, is past a limit, or an exception comes, as from the clock."""
+    """One run of gringo. It ends when all instances were read, a limit is exceeded, or an exception is raised, for example by the timer."""
 
     def __init__(self, program: LogicProgram, most: int = MOST_INSTANCES, seconds: float = math.inf) -> None:
         self.program, self.most, self.seconds, self.counts, self.lists = program, most, seconds, Counter(), {}
 
     def instances(self) -> list[tuple[int, list[str]]]:
-        """The instances that it finds, each with the number of its rule and its terms."""
+        """Returns the instances, each with the number of its rule and its terms."""
         pipes = {"stdin": subprocess.PIPE, "stdout": subprocess.PIPE, "stderr": subprocess.PIPE}
         try:
             run = subprocess.Popen(["gringo", "--text", "--warn=none"], **pipes, text=True, preexec_fn=lambda: limit_process(self.seconds))
@@ -135,19 +136,19 @@ class Grounder:
         writer = threading.Thread(target=write, args=(run.stdin, self.program.text))
         writer.start()
         try:
-            found = list(self.read(run.stdout))
-            said, status = run.stderr.read(), run.wait()
+            instances = list(self.read(run.stdout))
+            errors, status = run.stderr.read(), run.wait()
         finally:
             run.kill()
             writer.join()
             run.wait()
         if status == -signal.SIGXCPU:
             raise TooSlow(f"gringo took more than {self.seconds:g} s")
-        if "bad_alloc" in said or status < 0:
+        if "bad_alloc" in errors or status < 0:
             raise Refused(f"gringo took {MEMORY >> 30} GiB")
         if status:
-            raise Refused(f"gringo refuses it: {' '.join(said.split())[:300]}")
-        return found
+            raise Refused(f"gringo refuses it: {' '.join(errors.split())[:300]}")
+        return instances
 
     def read(self, lines: Iterable[str]) -> Iterator[tuple[int, list[str]]]:
         kept = 0
@@ -157,8 +158,8 @@ class Grounder:
             self.counts[name] += 1
             self.lists[name] = max(lists, self.lists.get(name, 0))
             if lists > MOST_LEVELS and level_count(line) > MOST_LEVELS + 1:
-                raise Refused(f"a term has more than {MOST_LEVELS} lists in one another")
-            # A line that gringo did not end is one in which it was stopped.
+                raise Refused(f"a term is nested more than {MOST_LEVELS} lists deep")
+            # An unfinished line means that gringo was stopped.
             if line.startswith("i") and line.endswith("\n"):
                 kept += 1
                 if kept > self.most:
@@ -166,11 +167,11 @@ class Grounder:
                 yield int(name[1:]), term_list(rest.rpartition(")")[0])
 
     def lists_in(self, rule: Rule) -> int:
-        """How many lists the largest sentence has among those that were found for a rule's relation."""
+        """Returns the number of lists in the largest sentence that was derived for a rule's relation."""
         return self.lists.get(self.program.name(relation(rule.head)), 0)
 
     def largest(self) -> tuple[int, ...]:
-        """The sentence that has made the most instances so far, and how many: none where nothing has come yet."""
+        """Returns the sentence with the most instances so far and their number, or None."""
         by_sentence = Counter()
         for name, count in self.counts.items():
             if name in self.program.sources:
@@ -179,11 +180,11 @@ class Grounder:
 
 
 def limit_process(seconds: float) -> None:
-    """Limits the memory of this process, and the seconds of a processor that it may use."""
+    """Limits the memory and the processor time of this process."""
     resource.setrlimit(resource.RLIMIT_AS, (MEMORY, MEMORY))
     if seconds < math.inf:
         most = math.ceil(seconds)
-        # Past the second number it would be killed without the signal that says why.
+        # At the second limit it would be killed without SIGXCPU, which tells the reason.
         resource.setrlimit(resource.RLIMIT_CPU, (most, most + 1))
 
 

@@ -1,18 +1,18 @@
-"""The ground rules of a game, from the instances that the grounder has found."""
+"""Computes the ground rules of a game from the grounder's instances."""
 
 from collections.abc import Iterable, Sequence
 
 from ggp_tools.kif import Expression, place, put, relation
 from ggp_tools.gdl import GAME, Body, Literal, Rule
 
-# The rules that were grounded, each with the variables that an instance has terms for, and an instance: the number of its rule, and its terms.
+# The grounded rules, each with the variables for which an instance has terms; and an instance: the number of its rule, and its terms.
 Kept = Sequence[tuple[Rule, Sequence[str]]]
 Instance = tuple[int, Sequence[Expression]]
 
 
 def ground(kept: Kept, instances: Iterable[Instance]) -> list[Rule]:
-    """The instances of the rules, without the denials of what is never true."""
-    found, literals = [], {}
+    """Returns the instances of the rules, without negations of sentences that are never true."""
+    rules, literals = [], {}
     for number, terms in instances:
         rule, names = kept[number]
         values = dict(zip(names, terms))
@@ -20,21 +20,21 @@ def ground(kept: Kept, instances: Iterable[Instance]) -> list[Rule]:
         for condition in rule.body:
             literal = Literal(condition.positive, put(condition.atom, values))
             body.append(literals.setdefault(literal, literal))
-        found.append(Rule(rule.sentence, put(rule.head, values), tuple(body)))
-    can_be = possible(found)
-    return [Rule(rule.sentence, rule.head, shortened(rule.body, can_be)) for rule in found]
+        rules.append(Rule(rule.sentence, put(rule.head, values), tuple(body)))
+    can_be = possible(rules)
+    return [Rule(rule.sentence, rule.head, shortened(rule.body, can_be)) for rule in rules]
 
 
 def possible(rules: list[Rule]) -> set[Expression]:
-    """The sentences that can be true in some state, and with some moves."""
-    found = {rule.head for rule in rules}
-    for head in list(found):
+    """Returns the sentences that can be true in some state with some moves."""
+    sentences = {rule.head for rule in rules}
+    for head in list(sentences):
         match head:
             case ("init", term) | ("next", term):
-                found.add(("true", term))
-            case ("legal", role, move) if ("role", role) in found:
-                found.add(("does", role, move))
-    return found
+                sentences.add(("true", term))
+            case ("legal", role, move) if ("role", role) in sentences:
+                sentences.add(("does", role, move))
+    return sentences
 
 
 def shortened(body: Body, can_be: set[Expression]) -> Body | None:
@@ -42,29 +42,29 @@ def shortened(body: Body, can_be: set[Expression]) -> Body | None:
 
 
 def needed(rules: list[Rule]) -> list[Rule]:
-    """The rules of the game's own relations, and those of what they ask for."""
+    """Returns the rules of the game's own relations, and those that these depend on."""
     rules_for = {}
     for rule in rules:
         rules_for.setdefault(rule.head, []).append(rule)
     open_heads = [head for head in rules_for if relation(head)[0] in GAME]
-    found = set(open_heads)
+    heads = set(open_heads)
     while open_heads:
         for rule in rules_for.get(open_heads.pop(), ()):
-            asked = {literal.atom for literal in rule.body} - found
-            found |= asked
+            asked = {literal.atom for literal in rule.body} - heads
+            heads |= asked
             open_heads += asked
-    return [rule for rule in rules if rule.head in found]
+    return [rule for rule in rules if rule.head in heads]
 
 
 def in_order(rules: list[Rule]) -> list[Rule]:
-    """The rules in the order in which they are written, each once."""
+    """Returns the rules in the order of the output, without duplicates."""
     atoms = {atom for rule in rules for atom in (rule.head, *(literal.atom for literal in rule.body))}
     ranks = {atom: rank for rank, atom in enumerate(sorted(atoms, key=place))}
     rules = sorted(rules, key=lambda rule: (rule.sentence, ranks[rule.head], [(ranks[literal.atom], literal.positive) for literal in rule.body]))
-    found = {}
+    unique = {}
     for rule in rules:
-        found.setdefault((rule.head, rule.body), rule)
-    return list(found.values())
+        unique.setdefault((rule.head, rule.body), rule)
+    return list(unique.values())
 
 
 def sentence_of(rule: Rule) -> Expression:

@@ -1,4 +1,4 @@
-"""From a description to its ground description: what is done one after the other, and what is said of it."""
+"""Grounds a description step by step, and reports what was done."""
 
 import math
 import signal
@@ -12,20 +12,20 @@ from ggp_tools.streams import report
 from .forms import Form, forms
 from ggp_tools.gdl import Relations, Rule, all_rules, as_read, cited, lines_of
 
-# How a game is written: folded where it is past a limit otherwise, always, or never.
+# When to factor a game: only if it exceeds a limit otherwise, always, or never.
 WHERE_NEEDED, ALWAYS, NEVER = "where needed", "always", "never"
 FOLDABLE = ("sentences", "atomic sentences", "bytes")
-# So many times a limit is far past it.
+# More than this many times a limit is far past it.
 FAR = 4
-# The work of folding a game to within the usual limits: about twenty seconds of a processor. It is counted, so a game has the same form
-# on each machine.
+# The maximum work of factoring a game to within the usual limits, about twenty seconds of processor time. It is counted in steps, so that the
+# result is the same on every machine.
 MOST_WORK = 400_000
-# After so many seconds what is known is said at once.
+# After this many seconds intermediate results are reported at once.
 SOON = 2
 
 
 class Late(Exception):
-    """The seconds are over."""
+    """The time is up."""
 
 
 def late(signal_number: int, frame: object) -> None:
@@ -33,9 +33,8 @@ def late(signal_number: int, frame: object) -> None:
 
 
 class Written(NamedTuple):
-    """A ground description: its sentences, each with the number of the one that it comes from, and its text; of each thing that has a
-    limit how much of it there is, and how much there may be; what the text says of itself; the game that was folded, if it was; and
-    whether the limits are those for large games."""
+    """A ground description: its sentences, each with the number of the sentence that it comes from, its text, the limited quantities, the notes at
+    its top, the factored game if it was factored, and whether the large limits apply."""
 
     sentences: list
     text: str
@@ -45,23 +44,23 @@ class Written(NamedTuple):
     is_large: bool = False
 
     def as_large(self) -> "Written":
-        """The same by the limits for large games, with a note that says so."""
+        """Returns the same description with the large limits, and with a note about it."""
         text = f"; {limits.LARGE_NOTE}\n{self.text}"
         figures = [(name, len(text) if name == "bytes" else count, limits.LARGE.get(name, most)) for name, count, most in self.figures]
         return self._replace(text=text, figures=figures, notes=[limits.LARGE_NOTE, *self.notes], is_large=True)
 
     def past(self) -> list[limits.Figure]:
-        """What is past its limit."""
+        """Returns the quantities that exceed their limits."""
         return [(name, count, most) for name, count, most in self.figures if count > most]
 
     def is_far_past(self) -> bool:
-        """Whether no other form of the game can be expected to be within the limits: one is at most some three times as long as another."""
+        """Returns whether no other form of the game is likely to be within the limits. Forms differ by a factor of about three at most."""
         return any(count > FAR * most for _, count, most in self.past())
 
 
 class Making:
-    """The making of one ground description, within the usual limits of the program or, if that takes too much or can't be, those for large
-    games. With `is_large` the usual limits are not tried for."""
+    """Grounds one description, within the usual limits of the referee or, if that takes too long or is impossible, within the large ones. With
+    `is_large` it does not try the usual limits."""
 
     def __init__(self, text: str, seconds: int, folding_wanted: str, is_split: bool = False, is_large: bool = False) -> None:
         self.text, self.seconds, self.wanted, self.is_split, self.is_large = text, seconds, folding_wanted, is_split, is_large
@@ -69,7 +68,8 @@ class Making:
         self.notes, self.best, self.hopeless, self.known, self.count, self.is_unrolled = [], None, None, [], 0, False
 
     def run(self) -> str:
-        """The ground description, or why there is none, within the seconds of a processor. The grounder has as many beside them."""
+        """Returns the ground description, or refuses the description. The limit of processor time applies to this process and to the grounder
+        separately."""
         self.began = time.monotonic()
         signal.signal(signal.SIGPROF, late)
         try:
@@ -77,7 +77,7 @@ class Making:
                 signal.setitimer(signal.ITIMER_PROF, self.seconds)
                 return self.made()
             finally:
-                # The seconds may be over here too.
+                # The timer may fire here too.
                 signal.setitimer(signal.ITIMER_PROF, 0)
         except Late:
             why = f"stopped after {self.seconds:g} s, {self.work}"
@@ -98,7 +98,7 @@ class Making:
         return self.reported(self.first_within(forms(rules, is_whole, self.is_split)))
 
     def first_within(self, tried: list[Form]) -> Written:
-        """What is written in the first form that is within the limits; where none is, what is past them in the last that was written."""
+        """Returns the first form that is within the limits, else the last one that was written."""
         done = []
         for form in tried:
             if any(form.rules is rules for rules in done) or (self.best and self.best.is_far_past()):
@@ -118,26 +118,26 @@ class Making:
                 break
             done.append(form.rules)
         if not self.best:
-            raise Refused(f"nothing is written, since this is past the limit, however it is folded: {self.hopeless}")
+            raise Refused(f"nothing is written, because this exceeds the limit however it is factored: {self.hopeless}")
         return self.best
 
     def ground_rules_of(self, form: Form) -> list[Rule]:
-        """The ground rules of a form, without cycles."""
+        """Returns the ground rules of a form, without cycles."""
         self.notes, self.known, self.is_unrolled = list(form.notes), [], False
-        found = self.ground(gringo.LogicProgram(form.rules, Relations(form.rules).unsettled()), form.most)
-        if self.hopeless and 2 * len(found) > self.count:
+        rules = self.ground(gringo.LogicProgram(form.rules, Relations(form.rules).unsettled()), form.most)
+        if self.hopeless and 2 * len(rules) > self.count:
             raise self.hopeless
-        self.count = len(found)
+        self.count = len(rules)
         self.work = "unrolling its cycles"
-        found, circles = rounds.unrolled(found)
-        if circles:
+        rules, cycles = rounds.unrolled(rules)
+        if cycles:
             self.is_unrolled = True
-            found = grounding.in_order(grounding.needed(found))
-            self.note_circles([circle for circle in circles if circle[1] > 1])
-            self.know(f"{len(found):,} ground sentences, since {self.notes[-1] if self.notes else 'cycles are unrolled'}")
-        limits.refuse_faults(found)
-        self.ground_rules = found
-        return found
+            rules = grounding.in_order(grounding.needed(rules))
+            self.note_circles([cycle for cycle in cycles if cycle[1] > 1])
+            self.know(f"{len(rules):,} ground sentences, because {self.notes[-1] if self.notes else 'cycles are unrolled'}")
+        limits.refuse_faults(rules)
+        self.ground_rules = rules
+        return rules
 
     def note_circles(self, circles: list[tuple[Expression, int, int]]) -> None:
         if circles:
@@ -157,29 +157,29 @@ class Making:
         except Refused as why:
             self.refuse(str(why))
         self.work = "putting them in order"
-        found = grounding.needed(grounding.ground(program.kept, instances))
-        first = next((rule.sentence for rule in found if limits.is_high(rule.head)), None)
-        found, high = limits.without_high_goals(found)
+        rules = grounding.needed(grounding.ground(program.kept, instances))
+        first = next((rule.sentence for rule in rules if limits.is_high(rule.head)), None)
+        rules, high = limits.without_high_goals(rules)
         if high:
             self.notes.append(f"goals past 100 are left out ({high:,}, the first by {self.cited(first)}): {limits.WITHOUT_HIGH_GOALS}")
-        found = grounding.in_order(found)
-        self.know(f"{len(found):,} ground sentences")
-        return found
+        rules = grounding.in_order(rules)
+        self.know(f"{len(rules):,} ground sentences")
+        return rules
 
     def know(self, words: str) -> None:
-        """Notes what is known of a form, which a run that goes on for long says at once."""
+        """Records a fact about a form. A run that takes long reports it at once."""
         self.known.append(words)
         if time.monotonic() - self.began > SOON:
             report(f"  after {time.monotonic() - self.began:.0f} s: {words}")
 
     def explained(self, why: str) -> str:
-        """The reason, with what is known of the instances so far."""
+        """Returns the reason with the facts that are known about the instances."""
         why = "; ".join([why, *self.known])
         rule = endless(self.rules)
-        # What it makes has to be seen to grow: a sentence without instances makes nothing.
+        # The derived terms must actually grow: a sentence without instances derives nothing.
         if rule and self.grounder and self.grounder.lists_in(rule) > spelled(self.sentences[rule.sentence]).count("("):
-            why = f"the instances do not end: {why}; {self.cited(rule.sentence)}, puts what it makes into itself"
-        # Of what is unrolled the rounds are too many, and not the instances.
+            why = f"there are infinitely many instances: {why}; {self.cited(rule.sentence)}, derives ever larger terms from its own"
+        # After unrolling, the rounds are too many, not the instances.
         if self.grounder and not self.is_unrolled and (largest := self.grounder.largest()):
             why += f"; the most instances, {largest[1]:,}, are those of {self.cited(largest[0])}"
         return why
@@ -187,19 +187,19 @@ class Making:
     def cited(self, number: int) -> str:
         return cited(number, self.sentences, self.lines)
 
-    # ---- What is written, and said ---------------------------------------------------------------
+    # ---- Output ----------------------------------------------------------------------------------
 
     def written(self, rules: list[Rule]) -> Written:
-        """The ground description of rules: as they stand if they are within the usual limits, else folded, or as they stand by the limits for
-        large games if they can't be folded to within the usual ones with the work that this may take."""
+        """Returns the ground description of rules: unchanged if it is within the usual limits, else factored. If factoring to within the usual limits
+        takes too much work, it is left unchanged within the large limits."""
         plain = self.as_written([(rule.sentence, grounding.sentence_of(rule)) for rule in rules])
         can_stay = self.wanted == WHERE_NEEDED and not plain.past()
         if self.wanted == NEVER or can_stay and (self.is_large or not plain.is_large) or any(name not in FOLDABLE for name, _, _ in plain.past()):
             return plain
         if can_stay:
-            # What is written if the seconds are over.
+            # The result if the time runs out.
             self.best = plain
-        self.work = "folding it"
+        self.work = "factoring it"
         usual, large = (folding.Target(most["sentences"], most["bytes"], work) for most, work in ((limits.MOST, MOST_WORK), (limits.LARGE, math.inf)))
         try:
             game = folding.folded(rules, [*([] if self.is_large else [usual]), *([] if can_stay else [large])])
@@ -209,17 +209,17 @@ class Making:
             raise
         folded = list(game.written())
         size = sum(len(spelled(sentence)) + 1 for _, sentence in plain.sentences)
-        self.notes.append(f"folded: {len(rules):,} ground sentences of {size:,} bytes became {len(folded):,}")
-        found = self.as_written(folded)._replace(game=game)
-        return plain if can_stay and found.past() else found
+        self.notes.append(f"factored: {len(rules):,} ground sentences of {size:,} bytes became {len(folded):,}")
+        result = self.as_written(folded)._replace(game=game)
+        return plain if can_stay and result.past() else result
 
     def as_written(self, sentences: list[limits.Numbered]) -> Written:
         text = text_of(sentences, self.notes)
-        found = Written(sentences, text, list(limits.figures(sentences, len(text))), [*self.notes])
-        return found.as_large() if any(name in FOLDABLE for name, _, _ in found.past()) else found
+        written = Written(sentences, text, list(limits.figures(sentences, len(text))), [*self.notes])
+        return written.as_large() if any(name in FOLDABLE for name, _, _ in written.past()) else written
 
     def reported(self, written: Written) -> str:
-        """Says what was made, beside the limits, and refuses what is past one. Returns its text."""
+        """Reports the result and the limits. Returns the text, or refuses it if a limit is exceeded."""
         report(f"ggp-instantiate: {len(self.sentences)} sentences gave {len(written.sentences):,} ground ones, in {time.monotonic() - self.began:.2f} s")
         for note in written.notes:
             report(f"  {note}")
@@ -227,18 +227,18 @@ class Making:
         for name, count, most in written.figures:
             report(f"  {name:{wide}} {count:>9,} of {most:>9,}" + (": PAST THE LIMIT" if count > most else ""))
         if limits.MOST_IN_A_WORD < len(written.text) and not written.past():
-            report(f"  one word of a command line holds {limits.MOST_IN_A_WORD:,} bytes on Linux, and this is longer")
+            report(f"  this is too long for one argument of a command on Linux, which holds {limits.MOST_IN_A_WORD:,} bytes")
         if past := written.past():
             is_bytes = past[0][0] == "bytes"
             costs = written.game.costs(is_bytes) if written.game else limits.costs_of(written.sentences, is_bytes)
             for line in limits.dearest(costs, self.sentences, self.lines, is_bytes):
-                report(f"  dear: {line}")
+                report(f"  largest: {line}")
             listed = ", ".join(f"{name} ({count:,} of {most:,})" for name, count, most in past)
-            raise Refused(f"nothing is written, since this is past the limit: {listed}")
+            raise Refused(f"nothing is written, because this exceeds the limit: {listed}")
         return written.text
 
     def text_for_players(self) -> str:
-        """The description with variables, for players."""
+        """Returns the description with variables for players."""
         return for_players.text_for_players(self.sentences, self.ground_rules)
 
 

@@ -1,13 +1,13 @@
-"""Sentences that depend on each other in a circle, without negation, as where stones are connected: they are unrolled.
+"""Unrolls cycles of sentences that depend on each other without negation, for example connected stones.
 
-Such sentences hold where they can be derived. In round 0 stands what can be derived without the others of the circle, in round
-n + 1 what can be from those of round n. Of k sentences, each that can be derived at all is so by round k - 1: on the way to it none
-has to come twice. The last round is the sentence itself, and what no later round asks for is left out. Two kinds need fewer:
+Such sentences hold if they can be derived. Round 0 has those that can be derived without the others of the cycle, round n + 1 those that can be
+derived from those of round n. In a cycle of k sentences every derivable one is derived by round k - 1, because a derivation needs no sentence
+twice. The last round is the sentence itself, and sentences that no later round uses are left out. Two kinds of cycles need fewer rounds:
 
-- A relation of two places that is derived from its own halves alone, `r a c` from `r a b` and `r b c`: a round doubles the length of
-  the ways, and the logarithm of the number of places is enough.
-- Sentences each of which asks for one other, and for the same beside that whichever it is, as a stone for its own cell: the shortest
-  way to one takes no two of them that it could have gone between directly, so it takes two at most of each clique.
+- A transitive relation with two arguments that is derived only from two halves, `r a c` from `r a b` and `r b c`. Each round doubles the length of
+  paths, so the logarithm of the number of terms is enough.
+- Sentences that each use one other, with the same further conditions for all others, for example that the own cell has a stone. A shortest path
+  has at most two sentences of each clique, because it could go directly from one to any other.
 """
 
 from collections.abc import Iterable, Iterator, Mapping
@@ -18,17 +18,17 @@ from ggp_tools.gdl import Literal, Rule
 # The rules of each sentence.
 RulesFor = dict[Expression, list[Rule]]
 MOST_RULES = 2_000_000
-# So many sentences of a cycle are named.
+# An error names at most this many sentences of a cycle.
 MOST_NAMED = 6
 
 
 def asked(rule: Rule) -> list[Expression]:
-    """What a rule asks for that is derived in the same state."""
+    """Returns the sentences that a rule uses in the same state."""
     return [literal.atom for literal in rule.body if relation(literal.atom)[0] not in ("true", "does")]
 
 
 def circles(rules: list[Rule]) -> list[list[Expression]]:
-    """The sets of sentences that depend on each other, each with more than one or with one that depends on itself."""
+    """Returns the cycles: sets of sentences that depend on each other, or single ones that depend on themselves."""
     graph = {}
     for rule in rules:
         graph.setdefault(rule.head, {}).update(dict.fromkeys(asked(rule)))
@@ -36,12 +36,12 @@ def circles(rules: list[Rule]) -> list[list[Expression]]:
 
 
 def components(graph: Mapping[Expression, Iterable[Expression]]) -> list[list[Expression]]:
-    """The strongly connected components of a graph, each a list, those below first."""
-    places, lows, stack, on_stack, found = {}, {}, [], set(), []
+    """Returns the strongly connected components of a graph, each as a list, in topological order from below."""
+    indices, lows, stack, on_stack, components_found = {}, {}, [], set(), []
     for start in graph:
-        open_nodes = [] if start in places else [(start, iter(graph[start]))]
+        open_nodes = [] if start in indices else [(start, iter(graph[start]))]
         if open_nodes:
-            places[start] = lows[start] = len(places)
+            indices[start] = lows[start] = len(indices)
             stack.append(start)
             on_stack.add(start)
         while open_nodes:
@@ -49,36 +49,36 @@ def components(graph: Mapping[Expression, Iterable[Expression]]) -> list[list[Ex
             for other in others:
                 if other not in graph:
                     continue
-                if other not in places:
-                    places[other] = lows[other] = len(places)
+                if other not in indices:
+                    indices[other] = lows[other] = len(indices)
                     stack.append(other)
                     on_stack.add(other)
                     open_nodes.append((other, iter(graph[other])))
                     break
                 if other in on_stack:
-                    lows[node] = min(lows[node], places[other])
+                    lows[node] = min(lows[node], indices[other])
             else:
                 open_nodes.pop()
                 if open_nodes:
                     above = open_nodes[-1][0]
                     lows[above] = min(lows[above], lows[node])
-                if lows[node] == places[node]:
-                    found.append(popped_until(node, stack))
-                    on_stack.difference_update(found[-1])
-    return found
+                if lows[node] == indices[node]:
+                    components_found.append(popped_until(node, stack))
+                    on_stack.difference_update(components_found[-1])
+    return components_found
 
 
 def popped_until(last: Expression, stack: list[Expression]) -> list[Expression]:
-    """Takes what stands on a stack from one on, and returns it in its order."""
-    found = [stack.pop()]
-    while found[-1] != last:
-        found.append(stack.pop())
-    return found[::-1]
+    """Pops the elements of a stack down to `last`, and returns them in their order."""
+    popped = [stack.pop()]
+    while popped[-1] != last:
+        popped.append(stack.pop())
+    return popped[::-1]
 
 
 def is_halved(circle: list[Expression], rules_for: RulesFor) -> bool:
-    """Whether the circle is one relation of two places that is derived from its two halves alone, and from any two: where a rule asks for
-    more of some, such as a fact of the game, other halves have no rule, and a circle of so few rounds would lack what goes round them."""
+    """Returns whether the cycle is one relation with two arguments that is derived only from its two halves, and from any two. If a rule has further
+    conditions, some halves have no rule, and the few rounds would miss paths that go around these."""
     if any(isinstance(atom, str) or len(atom) != 3 or atom[0] != circle[0][0] for atom in circle):
         return False
     members = set(circle)
@@ -91,8 +91,8 @@ def is_halved(circle: list[Expression], rules_for: RulesFor) -> bool:
 
 
 def has_all_halves(circle: list[Expression], rules_for: RulesFor) -> bool:
-    """Whether any two sentences of the circle that can be halves of a third have a rule for it, and it is in the circle as well: what is
-    outside is no half of another, so ways that go over it are not made of halves."""
+    """Returns whether any two sentences of the cycle that are halves of a third have a rule for it, and the third is in the cycle. Otherwise some
+    paths are not made of halves."""
     begun, bodies, members = {}, {}, set(circle)
     for atom in circle:
         begun.setdefault(atom[1], []).append(atom)
@@ -114,7 +114,7 @@ def halves(whole: Expression, first: Expression, second: Expression) -> bool:
 
 
 def last_round(circle: list[Expression], rules_for: RulesFor) -> int:
-    """The number of the round in which all is derived that can be."""
+    """Returns the number of the round after which nothing new is derived."""
     if is_halved(circle, rules_for):
         return (len({term for atom in circle for term in atom[1:]}) - 1).bit_length()
     steps = steps_of(circle, rules_for)
@@ -124,34 +124,35 @@ def last_round(circle: list[Expression], rules_for: RulesFor) -> int:
 
 
 def steps_of(circle: list[Expression], rules_for: RulesFor) -> dict[Expression, set[Expression]]:
-    """Of each sentence those that it can be derived from, if each way asks for one alone and all for the same beside it; else none."""
+    """Returns the sentences from which each can be derived, if each rule uses exactly one of the cycle and has the same further conditions, else
+    None."""
     members, steps = set(circle), {}
     for atom in circle:
-        beside = {}
+        conditions = {}
         for rule in rules_for[atom]:
             own = inner(rule, members)
             if len(own) > 1:
                 return None
             for other in own - {atom}:
-                beside.setdefault(other, set()).add(frozenset(literal for literal in rule.body if literal.atom != other))
-        if len(set(map(frozenset, beside.values()))) > 1:
+                conditions.setdefault(other, set()).add(frozenset(literal for literal in rule.body if literal.atom != other))
+        if len(set(map(frozenset, conditions.values()))) > 1:
             return None
-        steps[atom] = set(beside)
+        steps[atom] = set(conditions)
     return steps
 
 
 def cliques(circle: list[Expression], steps: dict[Expression, set[Expression]]) -> list[list[Expression]]:
-    """The sentences in sets in which each can be derived from each other one."""
-    left, found = dict.fromkeys(circle), []
+    """Splits the sentences into sets in which each can be derived from each other one."""
+    left, cliques_found = dict.fromkeys(circle), []
     while left:
         clique = [next(iter(left))]
         for atom in left:
             if all(atom in steps[other] and other in steps[atom] for other in clique):
                 clique.append(atom)
-        found.append(clique)
+        cliques_found.append(clique)
         for atom in clique:
             del left[atom]
-    return found
+    return cliques_found
 
 
 def refuse_denial(circle: list[Expression], rules_for: RulesFor) -> None:
@@ -160,32 +161,32 @@ def refuse_denial(circle: list[Expression], rules_for: RulesFor) -> None:
         for rule in rules_for[atom]:
             for literal in rule.body:
                 if not literal.positive and literal.atom in members:
-                    words = f"a cycle: {spelled(atom)} depends on itself, through the denial of {spelled(literal.atom)}"
+                    words = f"a cycle: {spelled(atom)} depends on itself through the negation of {spelled(literal.atom)}"
                     if others := [spelled(other) for other in circle if other not in (atom, literal.atom)]:
                         words += f", with {', '.join(others[:MOST_NAMED])}" + (f" and {len(others) - MOST_NAMED:,} more" if len(others) > MOST_NAMED else "")
                     raise Refused(words, rule.sentence, "ask for one of these in the state before it, by `true`")
 
 
 def alive(circle: list[Expression], rules_for: RulesFor, last: int) -> list[set[Expression]]:
-    """Of each round the sentences that some rule can derive in it."""
-    members, found = set(circle), [set()]
+    """Returns for each round the sentences that can be derived in it."""
+    members, rounds = set(circle), [set()]
     for _ in range(last + 1):
-        below = found[-1]
-        found.append({atom for atom in circle if any(inner(rule, members) <= below for rule in rules_for[atom])})
-        if found[-1] == below:
-            found += [below] * (last + 2 - len(found))
+        below = rounds[-1]
+        rounds.append({atom for atom in circle if any(inner(rule, members) <= below for rule in rules_for[atom])})
+        if rounds[-1] == below:
+            rounds += [below] * (last + 2 - len(rounds))
             break
-    return found[1:]
+    return rounds[1:]
 
 
 def inner(rule: Rule, members: set[Expression]) -> set[Expression]:
-    """What a rule asks for in its own circle."""
+    """Returns the sentences of its own cycle that a rule uses."""
     return {literal.atom for literal in rule.body if literal.atom in members}
 
 
 def layers(circle: list[Expression], rules_for: RulesFor, last: int, word: str) -> Iterator[Rule]:
-    """The rules of all rounds of a circle that its sentences ask for. The first rule of a sentence stands where the first one stood that
-    it had, also where that one is left out, since legal moves have their order by it."""
+    """Yields the rules of all rounds of a cycle. The first rule of a sentence keeps the place of its first original rule, even if that one is left
+    out, because the order of legal moves depends on it."""
     members, lives = set(circle), alive(circle, rules_for, last)
 
     def named(count: int, atom: Expression) -> Expression:
@@ -208,22 +209,22 @@ def layers(circle: list[Expression], rules_for: RulesFor, last: int, word: str) 
 
 
 def unrolled(rules: list[Rule]) -> tuple[list[Rule], list[tuple[Expression, int, int]]]:
-    """The rules without circles, and of each circle a sentence of it, how many it has, and its last round."""
-    found = circles(rules)
-    if not found:
+    """Returns the rules without cycles, and for each cycle a sentence, its size and its last round."""
+    cycles = circles(rules)
+    if not cycles:
         return rules, []
     rules_for = {}
     for rule in rules:
         rules_for.setdefault(rule.head, []).append(rule)
     word = fresh("round", {name for rule in rules for name in atoms(rule.head)})
-    in_circles = {atom for circle in found for atom in circle}
-    made, told = [rule for rule in rules if rule.head not in in_circles], []
-    for circle in found:
-        refuse_denial(circle, rules_for)
-        last = last_round(circle, rules_for)
-        told.append((circle[0], len(circle), last))
-        if len(made) + last * sum(len(rules_for[atom]) for atom in circle) > MOST_RULES:
-            why = f"its {last + 1:,} rounds have over {MOST_RULES:,} rules"
-            raise Refused(f"a cycle of {len(circle):,} sentences, as {spelled(circle[0])}: {why}")
-        made += layers(circle, rules_for, last, word)
-    return made, told
+    in_circles = {atom for cycle in cycles for atom in cycle}
+    made, summary = [rule for rule in rules if rule.head not in in_circles], []
+    for cycle in cycles:
+        refuse_denial(cycle, rules_for)
+        last = last_round(cycle, rules_for)
+        summary.append((cycle[0], len(cycle), last))
+        if len(made) + last * sum(len(rules_for[atom]) for atom in cycle) > MOST_RULES:
+            why = f"its {last + 1:,} rounds have more than {MOST_RULES:,} rules"
+            raise Refused(f"a cycle of {len(cycle):,} sentences, such as {spelled(cycle[0])}: {why}")
+        made += layers(cycle, rules_for, last, word)
+    return made, summary

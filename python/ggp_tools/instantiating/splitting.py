@@ -1,8 +1,8 @@
-"""Rules that join independent parts are split before they are instantiated.
+"""Splits rules that join independent parts before they are grounded.
 
-A rule has as many instances as there are values for all of its variables together. Where a part of its body shares few of them with
-the rest and the head, that part gets a relation of its own over what it shares, `split1`, `split2` .., and what was a product becomes
-a sum. What holds is the same: the part's other variables stand nowhere else. Relations that depend on themselves stay as they are.
+The number of instances of a rule is the product over all of its variables. If a part of its body shares only a few variables with the rest and the
+head, that part becomes an auxiliary relation over the shared ones, `split1`, `split2` .., and the product becomes a sum. The meaning is the same,
+because the other variables of the part occur nowhere else. Relations that depend on themselves are not split.
 """
 
 import itertools
@@ -12,12 +12,12 @@ from typing import NamedTuple
 from ggp_tools.kif import Expression, atoms, fresh_before_digits, put, relation, variables
 from ggp_tools.gdl import Literal, Relations, Rule
 
-# Longer bodies have too many parts to try them all. A rule of fewer variables joins nothing.
+# Longer bodies have too many parts to try them all. Rules with fewer variables join nothing.
 MOST_LITERALS, FEW_VARIABLES = 13, 3
 
 
 class Part(NamedTuple):
-    """What a body is parted into: the places of the literals that get a relation, those of the others, and what both have to name."""
+    """A split of a body: the indices of the literals that get a relation, those of the others, and the variables that both share."""
 
     cost: tuple
     inside: tuple
@@ -26,7 +26,7 @@ class Part(NamedTuple):
 
 
 def split(rules: list[Rule]) -> list[Rule]:
-    """The rules with those parts as relations of their own; the same rules where no part is worth it."""
+    """Returns the rules after splitting, or the same rules if no part is worth it."""
     below = Relations(rules).below
     word = fresh_before_digits("split", {name for rule in rules for name in (*atoms(rule.head), *body_atoms(rule.body))})
     splitting = Splitting(word)
@@ -43,7 +43,7 @@ def body_atoms(body: Iterable[Literal]) -> Iterator[Expression]:
 
 
 class Splitting:
-    """The rules so far, and the relation of each part by what it says."""
+    """The rules so far, and the relation of each part."""
 
     def __init__(self, word: str) -> None:
         self.word, self.rules, self.relations = word, [], {}
@@ -57,7 +57,7 @@ class Splitting:
         self.add(Rule(rule.sentence, rule.head, (*(rule.body[at] for at in part.outside), literal)))
 
     def relation_of(self, sentence: int, body: list[Literal], shared: frozenset[str]) -> Literal:
-        """The literal that stands for a part. Parts that differ in the names of variables alone have one relation."""
+        """Returns the literal that replaces a part. Parts that differ only in the names of variables share one relation."""
         names = dict.fromkeys(name for literal in body for name in variables(literal.atom))
         canonical = {name: f"?{count}" for count, name in enumerate(names)}
         key = tuple(literal._replace(atom=put(literal.atom, canonical)) for literal in body), tuple(canonical[name] for name in names if name in shared)
@@ -72,29 +72,29 @@ def applied(word: str, arguments: Sequence[str]) -> Expression:
 
 
 def best_part(rule: Rule) -> Part | None:
-    """The part of a rule's body with which the fewest variables stand in one rule; none where they would be no fewer."""
+    """Returns the part whose split leaves the fewest variables in one rule, or None if no split leaves fewer."""
     named = [frozenset(variables(literal.atom)) for literal in rule.body]
     binding = [them if literal.positive and not literal.same else frozenset() for literal, them in zip(rule.body, named)]
     head, count = frozenset(variables(rule.head)), len(rule.body)
     every = head.union(*named)
     if not 2 <= count <= MOST_LITERALS or len(every) < FEW_VARIABLES:
         return None
-    found = None
+    best = None
     for size in range(1, count):
         for inside in itertools.combinations(range(count), size):
             part = part_of(inside, head, named, binding)
-            if part and part.cost[0] < len(every) and (found is None or part.cost < found.cost):
-                found = part
-    return found
+            if part and part.cost[0] < len(every) and (best is None or part.cost < best.cost):
+                best = part
+    return best
 
 
 def part_of(inside: tuple[int, ...], head: frozenset[str], named: list[frozenset[str]], binding: list[frozenset[str]]) -> Part | None:
-    """The part of these places: none where it or the rest would have a variable that nothing binds, or nothing would be gained."""
+    """Returns the part of these literals, or None if a variable would be unbound in it or in the rest, or if nothing is gained."""
     outside = tuple(at for at in range(len(named)) if at not in inside)
-    own, others = frozenset().union(*(named[at] for at in inside)), head.union(*(named[at] for at in outside))
-    shared = own & others
-    if shared == own or not own <= frozenset().union(*(binding[at] for at in inside)):
+    inner, outer = frozenset().union(*(named[at] for at in inside)), head.union(*(named[at] for at in outside))
+    shared = inner & outer
+    if shared == inner or not inner <= frozenset().union(*(binding[at] for at in inside)):
         return None
-    if not others <= shared.union(*(binding[at] for at in outside)):
+    if not outer <= shared.union(*(binding[at] for at in outside)):
         return None
-    return Part((max(len(own), len(others)), len(own) + len(others), len(shared)), inside, outside, shared)
+    return Part((max(len(inner), len(outer)), len(inner) + len(outer), len(shared)), inside, outside, shared)

@@ -1,1 +1,1 @@
-"""The records of matches: shown as a page, explained where they are not lawful, checked by many processes."""
+"""Shows match records as pages, explains why they are not lawful, checks them in parallel, and collects them in tables."""

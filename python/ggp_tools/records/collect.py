@@ -1,4 +1,4 @@
-"""Sorts a mixed pile of records by game, has the program check each, and makes tables, pages, facts, or matches as ggp-base or PGN has them.
+"""Sorts files of mixed records by game, checks each record, and writes them as tables, pages, facts, matches of ggp-base, or text like PGN.
 
     ggp-records --rules FOLDER check [--explain] PILE ..
     ggp-records --rules FOLDER sqlite FILE PILE ..
@@ -9,22 +9,28 @@
     ggp-records --rules FOLDER facts [--log LOG ..] [--descriptions FOLDER] [--refereed-by TEXT] FILE PILE ..
     ggp-records log LOG ..
 
-A PILE is a file with a record on each line, as `season` and `run` write them, or `-` for standard input; either may be packed by gzip.
-Lines of accounts are skipped. Options may come anywhere. FOLDER has the ground rules of
-the games, a file NAME.kif each: a record is of the game with its roles and its first state. With --large the limits of the rules are those
-for large games. `check` writes a line for each record: the file, the line's number, the match, the game and the verdict, with a tab between
-each two. With --explain lines below one that is not lawful say what was expected and what was found. The tables of `sqlite` and `csv` have
-each record: `lawful` is 1 or 0, and `copy_of` has the number of an earlier record with the same bytes; the views `counted_players` and
-`counted_moves` of the database have only lawful records, each once. `ggp-base` writes a file for each
-record that is lawful, as ggp-base has a match, and names the others. URL/NAME/ is then the address of the game NAME. `pgn` writes headers and
-moves of each record that is lawful, with an empty line between two matches, and `facts` a line of JSON for each, with what it does not say
-itself; both name the others. LOG, a file or a folder of files, has the
-times of messages, as the folder `logs` of a competition. `log` prints logs as text, an event on each line, with at most 200 bytes of each
-message and each answer. The FOLDER of --descriptions has what the rules were made from, by the same names,
-and TEXT names the program that refereed the matches. FILE and DIR must not be there. docs/RECORDS.md has the verdicts,
-examples/records/README.md the keys for ggp-base and of facts, and the form of `pgn`.
+A PILE is a file with a record on each line, as written by `season` and `run`, or `-` for standard input. It may be compressed by gzip.
+Lines of accounts are skipped. Options may come anywhere. FOLDER has the ground rules of the games, each in a file NAME.kif. A record belongs
+to the game that has its roles and its first state. --large allows large rules.
 
-The status is 0 if all records are lawful, 1 if not, 2 for wrong use, 3 if the program came to no verdict."""
+`check` prints a line for each record: the file, the number of the line, the match, the game and the verdict, separated by tabs. With --explain
+the lines below a record that is not lawful say what was expected and what was found.
+
+`sqlite` and `csv` write tables of all records. `lawful` is 1 or 0, and `copy_of` has the number of an earlier record with the same bytes. The
+database has the views `counted_players` and `counted_moves`, which have only lawful records, each once.
+
+`ggp-base`, `pgn` and `facts` write only lawful records, and name the others. `ggp-base` writes a file for each match, in the format of ggp-base;
+URL/NAME/ is the address of the game NAME. `pgn` writes the headers and the moves of each match, with an empty line between two matches. `facts`
+writes a line of JSON for each record, with facts that the record itself does not have. LOG, a file or a directory such as `logs` of a
+competition, has the times of messages. The FOLDER of --descriptions has the descriptions that were grounded, by the same names. TEXT names the
+program that refereed the matches.
+
+`log` prints logs as text, an event on each line, with at most 200 bytes of each message and each answer.
+
+FILE and DIR must not exist yet. docs/RECORDS.md explains the verdicts. examples/records/README.md describes the formats of `ggp-base`, `pgn` and
+`facts`.
+
+The exit status is 0 if all records are lawful, 1 if not, 2 for a usage error, 3 if there is no verdict."""
 
 import argparse
 import collections
@@ -50,14 +56,14 @@ from ggp_tools.referee import NoReferee, Referee, Unchecked, find_program
 from ggp_tools.streams import report, say, status_of, whole
 
 COMMAND = "ggp-records"
-# What an action writes, and the options that only some have.
+# The output of each action, and the options that only some actions have.
 OUTPUTS = {"check": None, "sqlite": "FILE", "csv": "DIR", "pages": "DIR", "ggp-base": "DIR", "pgn": "FILE", "facts": "FILE", "log": None}
 OWN = {"explain": ["check"], "log": ["ggp-base", "pgn", "facts"], "games": ["ggp-base"], "descriptions": ["facts"], "refereed_by": ["facts"]}
 NOT_LAWFUL = "not lawful: "
 
 
 class Count:
-    """How many lines have which verdict, without its details."""
+    """Counts lines by verdict, without the details of verdicts."""
 
     def __init__(self) -> None:
         self.by_verdict: collections.Counter[str] = collections.Counter()
@@ -83,67 +89,67 @@ def row_of(judged: Judged) -> str:
 
 
 def explained(judged: Judged) -> list[str]:
-    """Returns why a line is no lawful record, as far as that is known."""
+    """Explains why a line is not a lawful record, as far as this is known."""
     if judged.game and judged.verdict.startswith(NOT_LAWFUL):
         return explanation(judged.verdict.removeprefix(NOT_LAWFUL), judged.game.rules, judged.line.data)
     return json_lines(judged.line.data)[1:] if judged.line.record is None and judged.line.data else []
 
 
 def print_check(lines: Iterable[Judged], explains: bool) -> None:
-    """Writes a line for each record, and below one that is not lawful why, if that is wanted."""
+    """Prints a line for each record and, if wanted, explanations of those that are not lawful."""
     for judged in lines:
         say("\n\t".join([row_of(judged), *(explained(judged) if explains else ())]))
 
 
 def name_others(others: Iterable[Judged]) -> None:
-    """Names each line of which nothing is written."""
+    """Reports each line that was not written."""
     for judged in others:
         report(f"{COMMAND}: not written: {visible(judged.line.file)}, line {judged.line.number}: {visible(judged.verdict)}")
 
 
 def facts_for(given: argparse.Namespace, referee: Referee, logs: MatchLogs) -> Facts:
-    """Returns what makes the facts of records, with all that is read before any of these."""
+    """Returns the maker of facts. It has read everything that does not depend on a record."""
     refereed_by = given.refereed_by or version_beside(given.rules)
     return Facts(referee.version(), refereed_by, description_sums(given.rules, given.descriptions), logs)
 
 
 def arguments(words: list[str]) -> argparse.Namespace:
     reader = argparse.ArgumentParser(COMMAND, description=__doc__, formatter_class=argparse.RawDescriptionHelpFormatter)
-    reader.add_argument("--program", metavar="FILE", help="ggp_manager, if it is not beside this program or on the path")
-    reader.add_argument("--rules", metavar="FOLDER", help="the games: a file NAME.kif of ground rules each")
-    reader.add_argument("--large", action="store_true", help="the limits of the rules are those for large games")
+    reader.add_argument("--program", metavar="FILE", help="ggp_manager, if it is not next to this program or on the path")
+    reader.add_argument("--rules", metavar="FOLDER", help="the games: ground rules in files NAME.kif")
+    reader.add_argument("--large", action="store_true", help="allow large rules")
     reader.add_argument("--jobs", type=whole(1, MOST_JOBS), default=len(os.sched_getaffinity(0)), metavar="N", help="at most N processes at a time")
-    reader.add_argument("--explain", action="store_true", help="`check`: say why a record is not lawful")
-    reader.add_argument("--log", action="append", metavar="LOG", help="`ggp-base`, `pgn`, `facts`: a log of matches, or a folder of logs; may be given again")
+    reader.add_argument("--explain", action="store_true", help="`check`: explain why a record is not lawful")
+    reader.add_argument("--log", action="append", metavar="LOG", help="`ggp-base`, `pgn`, `facts`: a log of matches, or a directory of logs; may be given several times")
     reader.add_argument("--games", metavar="URL", help="`ggp-base`: where the games are published: the game NAME at URL/NAME/")
-    reader.add_argument("--descriptions", metavar="FOLDER", help="`facts`: what the rules were made from, by the same names")
-    told = "`facts`: the program that refereed the matches (as VERSION says beside FOLDER of --rules)"
-    reader.add_argument("--refereed-by", metavar="TEXT", help=told)
-    reader.add_argument("action", choices=OUTPUTS, help="what is done")
-    reader.add_argument("files", metavar="FILE", nargs="*", help="what is written, if it is not standard output; then each PILE, or each LOG of `log`")
-    given = reader.parse_intermixed_args(words)
+    reader.add_argument("--descriptions", metavar="FOLDER", help="`facts`: the descriptions that were grounded, by the same names")
+    text = "`facts`: the program that refereed the matches (default: VERSION next to the FOLDER of --rules)"
+    reader.add_argument("--refereed-by", metavar="TEXT", help=text)
+    reader.add_argument("action", choices=OUTPUTS, help="what to do")
+    reader.add_argument("files", metavar="FILE", nargs="*", help="the output, unless it is standard output; then each PILE, or each LOG of `log`")
+    parsed = reader.parse_intermixed_args(words)
     for option, actions in OWN.items():
-        if getattr(given, option) and given.action not in actions:
-            reader.error(f"`{given.action}` has no option --{option.replace('_', '-')}")
-    output = OUTPUTS[given.action]
-    given.output = pathlib.Path(given.files.pop(0)) if output and given.files else None
-    missing = ["--rules"] * (given.rules is None and given.action != "log") + [output] * (output is not None and not given.output)
-    missing += [] if given.files else ["LOG" if given.action == "log" else "PILE"]
+        if getattr(parsed, option) and parsed.action not in actions:
+            reader.error(f"`{parsed.action}` has no option --{option.replace('_', '-')}")
+    output = OUTPUTS[parsed.action]
+    parsed.output = pathlib.Path(parsed.files.pop(0)) if output and parsed.files else None
+    missing = ["--rules"] * (parsed.rules is None and parsed.action != "log") + [output] * (output is not None and not parsed.output)
+    missing += [] if parsed.files else ["LOG" if parsed.action == "log" else "PILE"]
     if missing:
         reader.error(f"the following arguments are required: {', '.join(missing)}")
-    if given.output and os.path.lexists(given.output):
-        reader.error(f"{given.output} is there already")
-    return given
+    if parsed.output and os.path.lexists(parsed.output):
+        reader.error(f"{parsed.output} exists already")
+    return parsed
 
 
 def report_others(count: int) -> None:
-    """Says how many lines of logs are no events."""
+    """Reports how many lines of logs are not events."""
     if count:
         report(f"{COMMAND}: {count:,} {'line is' if count == 1 else 'lines are'} not of a log")
 
 
 def print_log(paths: list[str]) -> int:
-    """Prints logs as text. Returns the status: 1 if a line is not an event."""
+    """Prints logs as text. Returns the exit status, which is 1 if a line is not an event."""
     others = 0
     for line in lines_of_logs(paths):
         event = event_of(line)
@@ -155,7 +161,7 @@ def print_log(paths: list[str]) -> int:
 
 
 def perform(given: argparse.Namespace) -> int:
-    """Does what the words ask for. Returns the status."""
+    """Performs the action. Returns the exit status."""
     if given.action == "log":
         return print_log(given.files)
     referee, pile, count = Referee(find_program(given.program), given.large), Pile(given.files), Count()
@@ -163,8 +169,8 @@ def perform(given: argparse.Namespace) -> int:
     report_others(logs.others)
     facts = facts_for(given, referee, logs) if given.action == "facts" else None
     games, refused = known_games(given.rules, referee)
-    for said in refused:
-        report(f"{COMMAND}: skipped: {visible(said)}")
+    for error in refused:
+        report(f"{COMMAND}: skipped: {visible(error)}")
     if not games:
         report(f"{COMMAND}: {visible(given.rules)} has no rules of a game, in a file NAME.kif")
         return 3

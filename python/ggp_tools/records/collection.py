@@ -1,5 +1,5 @@
-"""A pile of records: of which game each one is, and whether it is lawful. The program judges; a game is known by its roles and its first
-state. Lines of accounts are skipped."""
+"""Reads files of records, finds the game of each record by its roles and its first state, and has the referee check it. Lines of accounts are
+skipped."""
 
 import collections
 import concurrent.futures
@@ -17,9 +17,9 @@ from ggp_tools.records.record import ACCOUNT_LINE, LONGEST_RECORD, TOO_LONG, NoR
 from ggp_tools.referee import LAWFUL, BadRules, Referee
 from ggp_tools.streams import opened
 
-# Records that one process of the program checks: their bytes.
+# One process of the referee checks about this many bytes of records.
 BATCH = 4 << 20
-# This many batches may wait beside those that are being checked.
+# This many batches may wait while others are being checked.
 WAITING = 2
 SURROGATE = re.compile("[\ud800-\udfff]")
 NO_GAME, NO_RECORD = "no game has its roles", "no record: "
@@ -27,7 +27,7 @@ NO_GAME, NO_RECORD = "no game has its roles", "no record: "
 
 @dataclass(frozen=True, eq=False)
 class KnownGame:
-    """A game of the folder of rules. `name` is its file's, `rules` are for the interpreter, `first` the texts of its first state."""
+    """A game of the directory of rules. `name` is that of its file, `rules` are for the interpreter, `first` is its first state."""
 
     name: str
     path: str
@@ -39,7 +39,7 @@ class KnownGame:
 
 @dataclass(frozen=True, eq=False)
 class Line:
-    """A line of a pile, with its number from 1 on. `said` is what is wrong with a line that is no JSON object."""
+    """A line of a file of records, with its number, counted from 1. `said` is the error of a line that is not a JSON object."""
 
     file: str
     number: int
@@ -53,13 +53,13 @@ class Line:
 
     @property
     def match_id(self) -> str:
-        found = self.record.get("matchId") if self.record else None
-        return found if isinstance(found, str) else ""
+        match_id = self.record.get("matchId") if self.record else None
+        return match_id if isinstance(match_id, str) else ""
 
 
 @dataclass(frozen=True, eq=False)
 class Judged:
-    """A line with its game and its verdict: `lawful`, `not lawful: FAULT`, or why there is none."""
+    """A line with its game and its verdict: `lawful`, `not lawful: FAULT`, or the reason for having no verdict."""
 
     line: Line
     game: KnownGame | None
@@ -71,9 +71,9 @@ class Judged:
 
 
 def game_of(path: pathlib.Path) -> KnownGame:
-    """Returns the game of a file of ground rules. Refuses what has variables, or no first state."""
+    """Reads a file of ground rules. Refuses rules that have variables, or no first state."""
     if SURROGATE.search(str(path)):
-        raise Refused("its name is no UTF-8")
+        raise Refused("its name is not UTF-8")
     data = path.read_bytes()
     text = data.decode("latin-1")
     if has_variables(text):
@@ -88,7 +88,7 @@ def game_of(path: pathlib.Path) -> KnownGame:
 
 
 def known_games(folder: str, referee: Referee) -> tuple[list[KnownGame], list[str]]:
-    """Returns the games of a folder, and what is said of the files there that are of none."""
+    """Returns the games of a directory, and error messages about its other files."""
     games, refused = [], []
     for name in sorted(os.listdir(folder)):
         path = pathlib.Path(folder, name)
@@ -104,16 +104,16 @@ def known_games(folder: str, referee: Referee) -> tuple[list[KnownGame], list[st
 
 
 def candidates(record: dict, games: list[KnownGame]) -> list[KnownGame]:
-    """Returns the games with a record's roles, first those whose first state is most like the record's."""
+    """Returns the games with a record's roles, ordered by how much their first states differ from the record's."""
     roles, states = record.get("roles"), record.get("states")
     fitting = [game for game in games if list(game.roles) == roles]
     first = states[0] if isinstance(states, list) and states and isinstance(states[0], list) else []
-    found = {term for term in first if isinstance(term, str)}
-    return sorted(fitting, key=lambda game: (list(game.first) != first, len(found ^ set(game.first))))
+    terms = {term for term in first if isinstance(term, str)}
+    return sorted(fitting, key=lambda game: (list(game.first) != first, len(terms ^ set(game.first))))
 
 
 def line_of(file: str, number: int, data: bytes) -> Line:
-    """Returns a line that was read, with the record that it may be."""
+    """Parses a line."""
     if len(data) > LONGEST_RECORD:
         return Line(file, number, b"", None, TOO_LONG)
     try:
@@ -124,55 +124,55 @@ def line_of(file: str, number: int, data: bytes) -> Line:
 
 
 class Pile:
-    """The lines of some files. It counts what it skips."""
+    """The lines of some files. It counts skipped lines."""
 
     def __init__(self, files: Iterable[str]) -> None:
         self.files, self.skipped = list(files), 0
 
     def batches(self) -> Iterator[list[Line]]:
-        """Gives the lines of all files in their order, some megabytes at a time."""
-        held, size = [], 0
+        """Yields the lines of all files in order, some megabytes at a time."""
+        batch, size = [], 0
         for file in self.files:
             with opened(file) as lines:
                 for number, data in numbered_lines(lines):
                     if ACCOUNT_LINE.fullmatch(data):
                         self.skipped += 1
                         continue
-                    held.append(line_of(file, number, data))
+                    batch.append(line_of(file, number, data))
                     size += len(data)
                     if size >= BATCH:
-                        yield held
-                        held, size = [], 0
-        if held:
-            yield held
+                        yield batch
+                        batch, size = [], 0
+        if batch:
+            yield batch
 
 
 def judged_batch(referee: Referee, games: list[KnownGame], batch: list[Line]) -> list[Judged]:
-    """Returns what the program says of each line. A line that could be of several games is lawful if it is so of one."""
-    open_lines = {at: candidates(line.record, games) for at, line in enumerate(batch) if line.record is not None}
-    found: dict[int, Judged] = {}
-    for at, line in enumerate(batch):
+    """Returns the verdict on each line. If several games are possible, a line is lawful if it is lawful for one of them."""
+    open_lines = {index: candidates(line.record, games) for index, line in enumerate(batch) if line.record is not None}
+    judged: dict[int, Judged] = {}
+    for index, line in enumerate(batch):
         if line.record is None:
-            found[at] = Judged(line, None, NO_RECORD + line.said)
-        elif not open_lines[at]:
-            found[at] = Judged(line, None, NO_GAME)
+            judged[index] = Judged(line, None, NO_RECORD + line.said)
+        elif not open_lines[index]:
+            judged[index] = Judged(line, None, NO_GAME)
     turn = 0
     while any(len(tries) > turn for tries in open_lines.values()):
         by_game = collections.defaultdict(list)
-        for at, tries in open_lines.items():
-            if len(tries) > turn and not (at in found and found[at].is_lawful):
-                by_game[tries[turn]].append(at)
-        for game, places in by_game.items():
-            verdicts = referee.verdicts(game.path, [batch[at].data + b"\n" for at in places])
-            for at, verdict in zip(places, verdicts):
-                if at not in found or verdict == LAWFUL:
-                    found[at] = Judged(batch[at], game, verdict)
+        for index, tries in open_lines.items():
+            if len(tries) > turn and not (index in judged and judged[index].is_lawful):
+                by_game[tries[turn]].append(index)
+        for game, indices in by_game.items():
+            verdicts = referee.verdicts(game.path, [batch[index].data + b"\n" for index in indices])
+            for index, verdict in zip(indices, verdicts):
+                if index not in judged or verdict == LAWFUL:
+                    judged[index] = Judged(batch[index], game, verdict)
         turn += 1
-    return [found[at] for at in range(len(batch))]
+    return [judged[index] for index in range(len(batch))]
 
 
 def judged_lines(referee: Referee, games: list[KnownGame], pile: Pile, jobs: int) -> Iterator[Judged]:
-    """Gives each line of the pile with its verdict, in order. So many processes of the program check at a time."""
+    """Yields each line with its verdict, in order. At most `jobs` processes of the referee run at a time."""
     running: collections.deque[concurrent.futures.Future[list[Judged]]] = collections.deque()
     with concurrent.futures.ThreadPoolExecutor(jobs) as pool:
         for batch in pile.batches():

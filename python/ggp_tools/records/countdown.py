@@ -1,6 +1,6 @@
-"""The ground description of Countdown, the game that `ggp_manager` has built in, from any heap."""
+"""The ground description of Countdown, the game that is built into `ggp_manager`, for a heap of any size."""
 
-# All but what depends on the size of the first heap.
+# The rules that do not depend on the size of the first heap.
 RULES = """
 (role red) (role blue)
 (init (turn red))
@@ -25,11 +25,11 @@ TAKEN = {1: "one", 2: "two"}
 
 
 def countdown(heap: int) -> str:
-    """Returns the description of Countdown from a heap of this size."""
-    nexts = [
+    """Returns the description of Countdown for a first heap of this size."""
+    rules = [
         f"(<= (next (heap {size - count})) (true (heap {size})) {word})"
         for size in range(heap, 0, -1)
         for count, word in TAKEN.items()
         if count <= size
     ]
-    return f"{RULES}(init (heap {heap}))\n{' '.join(nexts)}"
+    return f"{RULES}(init (heap {heap}))\n{' '.join(rules)}"

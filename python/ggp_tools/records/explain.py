@@ -22,12 +22,12 @@ from ggp_tools.streams import STANDARD_INPUT, Ended, opened, report, say, status
 
 COMMAND = "ggp-explain-record"
 ABOUT = (
-    "Explains why a record is not lawful: what was expected, and what was found. If it is lawful, `lawful` is printed. Otherwise the fault "
-    "is printed as the program names it, and below it what that means: here turns are counted from 1, and roles have their names. What was "
-    "expected comes from an interpreter that shares nothing with the program. If it finds another fault first, that is said. With --lines "
-    "each line is a record: only those that are not lawful are named, each with the number of its line and its explanation. Lines of accounts are skipped."
+    "Explains why a record is not lawful: what was expected, and what was found. If the record is lawful, it prints `lawful`. Otherwise it prints "
+    "the fault in the referee's words, and an explanation below, in which turns are counted from 1 and roles have their names. An interpreter that "
+    "shares no code with the referee computes what was expected. If the interpreter finds a different fault first, this is reported. With --lines "
+    "each line is a record. Those that are not lawful are printed, with the number of the line and an explanation. Lines of accounts are skipped."
 )
-STATUS = "status 0: the record is lawful, or all are. 1: it is not, or one is not. 2: wrong use. 3: there is no verdict."
+STATUS = "status 0: all records are lawful. 1: a record is not. 2: usage error. 3: there is no verdict."
 LONGEST_RULES, LONGEST_OF_LARGE = 1 << 20, 4 << 20
 MOST_LISTED, MOST_OF_TEXT = 20, 400
 NOT_LAWFUL = re.compile(r"ggp_manager: not lawful: (.+)")
@@ -44,7 +44,7 @@ def listed(texts: Sequence[str]) -> str:
 
 
 def end_words(phase: str, cause: str | None, names: Sequence[str]) -> str:
-    """Returns a phase with its cause, and the name of the role of which the cause has the number."""
+    """Returns a phase with its cause, and the name of the role that the cause has by number."""
     number = (cause or "").partition(" ")[2]
     return f"phase {phase}, cause {cause or 'null'}" + (f" (the role {names[int(number)]})" if number else "")
 
@@ -60,12 +60,12 @@ WHY = {
 }
 
 
-# The words of a fault as `verify` says it, and the lines that explain it.
+# A fault in the words of `verify`, and the lines that explain it.
 Found = tuple[str, ...]
 
 
 class Replay(Match):
-    """The match of a record of the right shape, played again by the interpreter."""
+    """Replays a record of the right shape in the interpreter."""
 
     def __init__(self, game: Game, record: dict, names: Sequence[str]) -> None:
         super().__init__(game, record["matchId"], record["startClock"], record["playClock"], record["players"])
@@ -92,9 +92,9 @@ class Replay(Match):
 
     def first_fault(self) -> Found | None:
         for terms, moves, errors in itertools.zip_longest(*(self.given[key] for key in ("states", "moves", "errors"))):
-            found = self.state_fault(terms) or moves and self.turn_fault(moves, errors)
-            if found:
-                return found
+            fault = self.state_fault(terms) or moves and self.turn_fault(moves, errors)
+            if fault:
+                return fault
             if moves:
                 self.advance(moves, errors)
         return self.goals_fault() or self.end_fault()
@@ -110,9 +110,9 @@ class Replay(Match):
             return None
         given, right = set(terms), set(wanted)
         sides = ("missing", [term for term in wanted if term not in given]), ("too many", [term for term in terms if term not in right])
-        lines = [f"{said}: {listed(listed_terms)}" for said, listed_terms in sides if listed_terms] or ["Its terms are right, but do not stand in byte order, each once."]
-        where = f"after turn {turn} is not what the rules and the moves" if turn else "before turn 1 is not what the rules"
-        return (f"state {turn}", f"The state {where} make it.", *lines)
+        lines = [f"{said}: {listed(listed_terms)}" for said, listed_terms in sides if listed_terms] or ["Its terms are right, but not in byte order, or not each once."]
+        where = f"after turn {turn} is not the one that follows from the rules and the moves" if turn else "before turn 1 is not the first state of the rules"
+        return (f"state {turn}", f"The state {where}.", *lines)
 
     def turn_fault(self, moves: list[str], errors: list[str]) -> Found | None:
         turn, (phase, cause) = len(self.moves), self.phase()
@@ -124,20 +124,20 @@ class Replay(Match):
 
     def role_fault(self, role: int, move: str, error: str) -> Found | None:
         legal = self.legal_moves[role]
-        place, who = f"{len(self.moves)} {role}", f"Turn {len(self.moves) + 1}, role {self.names[role]}"
+        indices, who = f"{len(self.moves)} {role}", f"Turn {len(self.moves) + 1}, role {self.names[role]}"
         if move not in legal:
             wanted = f"expected{f' one of {len(legal):,}' if len(legal) > 1 else ''}: {listed([*legal])}"
-            return (f"illegal {place}", f"{who}: the move is not legal.", wanted, f"found: {short(move)}")
+            return (f"illegal {indices}", f"{who}: the move is not legal.", wanted, f"found: {short(move)}")
         if error and move != (first := next(iter(legal))):
-            why = f"beside the error {short(error)} the first legal move must stand"
-            return (f"notfirst {place}", f"{who}: {why}.", f"expected: {short(first)}", f"found: {short(move)}")
+            why = f"with the error {short(error)} the move must be the first legal one"
+            return (f"notfirst {indices}", f"{who}: {why}.", f"expected: {short(first)}", f"found: {short(move)}")
         if error.startswith("IL ") and error[3:] in legal:
             why = f"the error says that {short(error[3:])} is not legal, but it is"
-            return (f"notfirst {place}", f"{who}: {why}.", "expected: no error", f"found: the error {short(error)}")
+            return (f"notfirst {indices}", f"{who}: {why}.", "expected: no error", f"found: the error {short(error)}")
         if (error == "RT") != self.is_retired(role):
-            had = f"it had errors in up to {counted(self.most[role], 'turn')} in a row, and the strikes are {self.strikes}"
+            reason = f"it had errors in up to {counted(self.most[role], 'turn')} in a row, and the strikes are {self.strikes}"
             kind, wanted = ("not retired", "another error, or none") if error == "RT" else ("retired", "the error RT")
-            return (f"retired {place}", f"{who}: the role is {kind}: {had}.", f"expected: {wanted}", f"found: {short(error) or 'no error'}")
+            return (f"retired {indices}", f"{who}: the role is {kind}: {reason}.", f"expected: {wanted}", f"found: {short(error) or 'no error'}")
         return None
 
     def goals_fault(self) -> Found | None:
@@ -151,26 +151,26 @@ class Replay(Match):
         return ("goals", f"A record of the phase {phase} {why}.", f"expected: {sides[0]}", f"found: {sides[1]}")
 
     def end_fault(self) -> Found | None:
-        """Compares phase and cause with those that the marks and the last state leave, by the table in docs/RECORDS.md."""
+        """Compares phase and cause with those that follow from the marks and the last state, by the table in docs/RECORDS.md."""
         for kind in self.marks:
             self.marks[kind] = {role: mark for role, mark in enumerate(self.given[f"{kind}Marks"]) if mark is not None}
-        given, (phase, cause), found = len(self.marks["end"]), self.phase(), (self.given["phase"], self.given["cause"])
+        count, (phase, cause), found = len(self.marks["end"]), self.phase(), (self.given["phase"], self.given["cause"])
         ends = [(phase, cause)]
         if phase in ("starting", "playing"):
-            ends = [*ends * (not given), (self.aborted(), "asked")] if phase == "playing" or not self.moves else []
+            ends = [*ends * (not count), (self.aborted(), "asked")] if phase == "playing" or not self.moves else []
         if found in ends:
             return None
         known = {"starting": f"a START mark is missing after {counted(len(self.moves), 'turn')}", "playing": "the match can go on"}.get(phase) or self.why(cause)
         lines = [", or ".join(end_words(*end, self.names) for end in group) or "other marks or turns: no phase has these" for group in (ends, [found])]
-        said = f"At the end {known}, and {given} of {counted(len(self.names), 'role')} {'has' if given == 1 else 'have'} an end mark."
-        return ("end", said, f"expected: {lines[0]}", f"found: {lines[1]}")
+        sentence = f"At the end {known}, and {count} of {counted(len(self.names), 'role')} {'has' if count == 1 else 'have'} an end mark."
+        return ("end", sentence, f"expected: {lines[0]}", f"found: {lines[1]}")
 
 
 # ---- the program
 
 
 def explanation(word: str, game: Game, data: bytes) -> list[str]:
-    """Returns the lines below the program's fault."""
+    """Returns the lines that explain the referee's fault."""
     if word == "json":
         first, *more = json_lines(data)
         return [f"The text is not JSON: {first}.", *more]
@@ -180,22 +180,22 @@ def explanation(word: str, game: Game, data: bytes) -> list[str]:
         if word.startswith("shape "):
             return shape_lines(word.split()[1], record, names)
         sys.setrecursionlimit(MOST_CALLS)
-        found = Replay(game, record, names).first_fault()
+        fault = Replay(game, record, names).first_fault()
     except RecursionError:
-        return ["There is no explanation: the rules ask for one another too deeply for the interpreter."]
+        return ["There is no explanation: the rules are nested too deeply for the interpreter."]
     except (AttributeError, IndexError, KeyError, TypeError, ValueError):
-        found = ("that the record is of another shape",)
-    if found and found[0] == word:
-        return found[1:]
-    return [f"The interpreter finds {': '.join(found[:2]) if found else 'no fault'}", "One of the two is wrong: please report this, with the record and the rules."]
+        fault = ("that the record is of another shape",)
+    if fault and fault[0] == word:
+        return fault[1:]
+    return [f"The interpreter finds {': '.join(fault[:2]) if fault else 'no fault'}", "One of the two is wrong: please report this, with the record and the rules."]
 
 
 def asked(program: str, words: list[str], data: bytes) -> subprocess.CompletedProcess:
-    """Returns what `verify` of the program says of records."""
+    """Runs `verify` on records."""
     try:
         return subprocess.run([program, "verify", *words], input=data, capture_output=True)
     except (OSError, ValueError) as why:
-        raise Ended(f"{program} can't be run: {getattr(why, 'strerror', None) or 'its name has a byte 0'}", 3) from None
+        raise Ended(f"cannot run {program}: {getattr(why, 'strerror', None) or 'its name has a NUL byte'}", 3) from None
 
 
 def no_verdict(program: str, said: subprocess.CompletedProcess) -> Ended:
@@ -204,36 +204,36 @@ def no_verdict(program: str, said: subprocess.CompletedProcess) -> Ended:
 
 
 def judged(program: str, words: list[str], data: bytes) -> str | None:
-    """Returns the fault that the program names, or None if the record is lawful."""
-    said = asked(program, words, data)
-    if (said.returncode, said.stdout) == (0, b"lawful\n"):
+    """Returns the referee's fault, or None if the record is lawful."""
+    run = asked(program, words, data)
+    if (run.returncode, run.stdout) == (0, b"lawful\n"):
         return None
-    lines = said.stderr.decode("ascii", "replace").splitlines()
-    named = NOT_LAWFUL.fullmatch(lines[-1]) if lines and said.returncode == 1 else None
+    lines = run.stderr.decode("ascii", "replace").splitlines()
+    named = NOT_LAWFUL.fullmatch(lines[-1]) if lines and run.returncode == 1 else None
     if not named:
-        raise no_verdict(program, said)
+        raise no_verdict(program, run)
     return named[1]
 
 
 def judged_lines(program: str, words: list[str], lines: list[bytes]) -> list[str | None]:
-    """Returns the same for each of some lines, of which none is one of an account."""
-    said = asked(program, ["--lines", *words], b"".join(line + b"\n" for line in lines))
-    found = [LINE_VERDICT.fullmatch(line) for line in said.stdout.decode("ascii", "replace").splitlines()]
-    wrong = sum(bool(verdict and verdict[1]) for verdict in found)
-    if len(found) != len(lines) or not all(found) or said.returncode != bool(wrong):
-        raise no_verdict(program, said)
-    return [verdict[1] for verdict in found]
+    """Returns the fault of each line, or None. No line is one of an account."""
+    run = asked(program, ["--lines", *words], b"".join(line + b"\n" for line in lines))
+    verdicts = [LINE_VERDICT.fullmatch(line) for line in run.stdout.decode("ascii", "replace").splitlines()]
+    wrong = sum(bool(verdict and verdict[1]) for verdict in verdicts)
+    if len(verdicts) != len(lines) or not all(verdicts) or run.returncode != bool(wrong):
+        raise no_verdict(program, run)
+    return [verdict[1] for verdict in verdicts]
 
 
 def read(name: str, most: int) -> bytes:
-    """Returns the bytes of a file, up to one more than the most that the program takes."""
+    """Reads a file, up to one byte more than the referee accepts."""
     with opened(name) as file:
         return file.read(most + 1)
 
 
 @contextlib.contextmanager
 def rules_of(asked_for: argparse.Namespace) -> Iterator[tuple[list[str], Callable[[], Game]]]:
-    """Gives the option that names the game to the program, and what makes the game once the program has taken it."""
+    """Yields the option that names the game to the referee, and a function that makes the game once the referee has accepted it."""
     if asked_for.countdown is not None:
         yield [f"--countdown={asked_for.countdown}"], functools.cache(lambda: Game(countdown(int(asked_for.countdown))))
         return
@@ -243,7 +243,7 @@ def rules_of(asked_for: argparse.Namespace) -> Iterator[tuple[list[str], Callabl
 
 
 def explain_one(asked_for: argparse.Namespace) -> int:
-    """Explains a record, and returns the status."""
+    """Explains a record. Returns the exit status."""
     data = read(asked_for.record, LONGEST_RECORD)
     with rules_of(asked_for) as (words, game):
         word = judged(asked_for.program, words, data)
@@ -252,16 +252,16 @@ def explain_one(asked_for: argparse.Namespace) -> int:
 
 
 def explain_lines(asked_for: argparse.Namespace) -> int:
-    """Explains each record of a file that is not lawful. The game is read once."""
+    """Explains each record of a file that is not lawful. The game is parsed once."""
     counts, pile = [0, 0], Pile([asked_for.record])
     batches = pile.batches()
     with rules_of(asked_for) as (words, game):
-        # Without a record too the program says what is wrong with the rules.
+        # Even without records the referee reports errors in the rules.
         for batch in itertools.chain([next(batches, [])], batches):
             fitting = [line for line in batch if not line.is_too_long]
-            found = dict(zip((line.number for line in fitting), judged_lines(asked_for.program, words, [line.data for line in fitting])))
+            faults = dict(zip((line.number for line in fitting), judged_lines(asked_for.program, words, [line.data for line in fitting])))
             for line in batch:
-                word = found.get(line.number, line.said)
+                word = faults.get(line.number, line.said)
                 counts[bool(word)] += 1
                 if word:
                     match = f", match {shown(line.match_id, MOST_OF_VALUE)}" if line.match_id else ""
@@ -274,11 +274,11 @@ def explain_lines(asked_for: argparse.Namespace) -> int:
 
 def parser() -> argparse.ArgumentParser:
     reader = argparse.ArgumentParser(COMMAND, description=ABOUT, epilog=STATUS)
-    reader.add_argument("program", metavar="PROGRAM", help="the referee, ggp_manager, whose `verify` judges the record")
-    told = f"a file with one record, or with --lines with one a line ({STANDARD_INPUT}, also as `-`)"
-    reader.add_argument("record", metavar="RECORD", nargs="?", default="-", help=told)
+    reader.add_argument("program", metavar="PROGRAM", help="the referee, ggp_manager, whose `verify` checks the record")
+    text = f"a file with one record, or with --lines one on each line (default: {STANDARD_INPUT}, also as `-`)"
+    reader.add_argument("record", metavar="RECORD", nargs="?", default="-", help=text)
     reader.add_argument("--lines", action="store_true", help="each line is a record")
-    reader.add_argument("--large", action="store_true", help="the limits of the description are those for large games")
+    reader.add_argument("--large", action="store_true", help="allow a large description")
     game = reader.add_mutually_exclusive_group(required=True)
     game.add_argument("--rules-file", metavar="FILE", help="the ground description of the game")
     game.add_argument("--countdown", metavar="N", help="the game is Countdown, from a heap of N")

@@ -1,6 +1,6 @@
-"""What a record does not say of its match, as one line of JSON beside it: the sums of the record and of the rules, who refereed it, and
-what a log has: when it was played, how long each message took, and why an answer was broken. examples/records/README.md has the keys;
-those that `matches.jsonl` of a competition has too mean the same."""
+"""Writes facts about a match that its record does not have, as a line of JSON: the checksums of the record and of the rules, the referee, and, from
+a log, when the match was played, how long each message took, and why an answer was broken. examples/records/README.md describes the keys. They
+mean the same as in `matches.jsonl` of a competition."""
 
 import errno
 import json
@@ -22,62 +22,62 @@ TWO_RECORDS, TWO_LOGS = "several matches have this id", "several matches of the 
 
 
 def description_sums(rules: str, descriptions: str | None) -> dict[str, str]:
-    """Returns the sums of the descriptions that rules were made from, by the names of the games: of the files of a folder, else those that
-    stand beside the rules, as in a competition."""
+    """Returns the checksums of the descriptions that were grounded, by game: those of the files in a directory, else those that are stored next to
+    the rules, as in a competition."""
     if descriptions is not None:
         return {file.stem: sum_of_file(file) for file in sorted(pathlib.Path(descriptions).iterdir()) if file.suffix == ".kif" and file.is_file()}
     path = pathlib.Path(rules, DESCRIPTIONS)
     sums = read_sums(path.read_bytes()) if path.is_file() else {}
     if sums is None:
-        raise OSError(errno.EINVAL, "it has a file twice, or a line that is no sum", str(path))
+        raise OSError(errno.EINVAL, "it has a file twice, or a line that is not a checksum", str(path))
     return {name.removesuffix(".kif"): digest for name, digest in sums.items()}
 
 
 def version_beside(rules: str) -> str | None:
-    """Returns which referee the folder of some rules stands beside, as in the archive of a competition, none where nothing says it."""
+    """Returns the version of the referee that is stored next to a directory of rules, as in the archive of a competition, or None."""
     path = pathlib.Path(rules).absolute().parent / VERSION
-    said = path.read_bytes() if path.is_file() else b""
-    return said.decode("ascii").strip() if VERSION_LINE.fullmatch(said) else None
+    data = path.read_bytes() if path.is_file() else b""
+    return data.decode("ascii").strip() if VERSION_LINE.fullmatch(data) else None
 
 
 def broken_answers(exchanges: "Exchanges", whys: dict[tuple[int, int], str]) -> list[dict[str, object]]:
-    """Returns where answers were broken, each with its reason, none where no log has it."""
+    """Returns the broken answers, each with its reason, which is None if no log has it."""
     return [{"role": role, "message": number, "why": whys.get((role, number)) or None} for role, number in exchanges.broken()]
 
 
 class Exchanges:
-    """What a record says of the messages of its match: their texts, and where an answer was broken."""
+    """The messages of a match, as far as its record implies them: their texts, and which answers were broken."""
 
     def __init__(self, record: dict) -> None:
         self.record, self.players = record, record["players"]
         joints = ["NIL", *(f"({' '.join(moves)})" for moves in record["moves"])]
         self.plays = [self.text("PLAY", joint) for joint in joints]
         completed, aborted = {"STOP": self.text("STOP", joints[-1])}, {"ABORT": self.text("ABORT")}
-        # What ends the match, by its kind; nothing where it is not over.
+        # The last message of the match by its kind. It is empty if the match is not over.
         self.ends = completed if record["phase"] in COMPLETED else aborted if record["phase"] in ABORTED else {}
         errors = [[turn[role] for turn in record["errors"]] for role in range(len(self.players))]
-        # In so many turns a role was asked for a move. Who is retired stays so.
+        # The number of turns in which each role was asked for a move. A retired role stays retired.
         self.asked = [turns.index("RT") if "RT" in turns else len(turns) for turns in errors]
 
     def text(self, kind: str, joint: str = "") -> str:
         return f"({kind} {self.record['matchId']}{' ' * bool(joint)}{joint})"
 
     def last(self, role: int) -> int:
-        """Returns the number of the last message to a role: after START, each PLAY and what ends the match."""
+        """Returns the number of the last message to a role, after START, each PLAY, and STOP or ABORT."""
         return 1 + self.asked[role] + len(self.ends)
 
     def has(self, role: int, number: int, kind: str, known: int) -> bool:
-        """Returns whether a message is one of the match, by its sum."""
+        """Returns whether the match has this message, by its hash."""
         if role >= len(self.players) or not 1 <= number <= self.last(role):
             return False
         if (kind == "START") != (number == 1) or (kind in self.ends) != (number == self.asked[role] + 2):
             return False
-        wanted = self.ends[kind] if kind in self.ends else self.plays[number - 2]
-        return known == message_sum(self.players[role], kind, wanted)
+        text = self.ends[kind] if kind in self.ends else self.plays[number - 2]
+        return known == message_sum(self.players[role], kind, text)
 
     def broken(self) -> Iterator[tuple[int, int | None]]:
-        """Gives the role and the number of each message whose answer was broken. Before an asked ABORT a PLAY of the open turn may have been
-        sent, so its number is not known."""
+        """Yields the role and the number of each message whose answer was broken. The number of an ABORT that was asked for is not known, because a
+        PLAY of the open turn may have been sent before it."""
         for role in range(len(self.players)):
             marks = [self.record["startMarks"][role], *(turn[role] for turn in self.record["errors"][: self.asked[role]])]
             yield from ((role, number) for number, mark in enumerate(marks, 1) if mark == BROKEN)
@@ -86,47 +86,47 @@ class Exchanges:
 
 
 def messages_of(exchanges: Exchanges, logged: Beginning) -> list[list[list | None]] | str:
-    """Returns for each role its messages, each as its kind and its milliseconds; none where the log lacks a line. Or why the log is not
-    that of the record."""
-    found: list[list[list | None]] = [[None] * exchanges.last(role) for role in range(len(exchanges.players))]
+    """Returns the messages of each role as kind and milliseconds, None where the log lacks a line, or else a reason why the log does not belong to
+    the record."""
+    messages: list[list[list | None]] = [[None] * exchanges.last(role) for role in range(len(exchanges.players))]
     for role, number, kind, milliseconds, known in logged.messages():
         if not exchanges.has(role, number, KINDS[kind], known):
             return f"its log is that of another match: role {role}, message {number}"
-        found[role][number - 1] = [KINDS[kind].lower(), milliseconds]
+        messages[role][number - 1] = [KINDS[kind].lower(), milliseconds]
     for role, number in exchanges.broken():
-        if number and found[role][number - 1] and (role, number) not in logged.broken:
+        if number and messages[role][number - 1] and (role, number) not in logged.broken:
             return f"its log has an answer where the record has {BROKEN}: role {role}, message {number}"
-    return found
+    return messages
 
 
 class Facts:
-    """Makes the lines, and keeps what there is to say of matches whose logs are not taken."""
+    """Makes the lines of JSON, and collects the reasons for ignoring logs."""
 
     def __init__(self, checked_by: str, refereed_by: str | None, descriptions: dict[str, str], logs: MatchLogs) -> None:
         self.checked_by, self.refereed_by, self.descriptions, self.logs = checked_by, refereed_by, descriptions, logs
-        # The sum of the first record of each id.
+        # The checksum of the first record of each id.
         self.sums: dict[str, str] = {}
         self.faults: dict[str, str] = {}
 
     def of_log(self, judged: Judged, exchanges: Exchanges) -> tuple[Beginning, list[list[list | None]]] | None:
-        """Returns the match of the logs that is that of a record, and its messages, if there is one."""
+        """Returns the match in the logs that belongs to a record, and its messages, or None."""
         match_id = judged.line.match_id
-        found = self.logs.of(match_id)
-        if len(found) > 1:
+        beginnings = self.logs.of(match_id)
+        if len(beginnings) > 1:
             self.faults[match_id] = TWO_LOGS
-        if len(found) != 1:
+        if len(beginnings) != 1:
             return None
-        messages = messages_of(exchanges, found[0])
+        messages = messages_of(exchanges, beginnings[0])
         if isinstance(messages, str):
             self.faults.setdefault(match_id, messages)
             return None
-        return found[0], messages
+        return beginnings[0], messages
 
     def of(self, judged: Judged) -> dict[str, object]:
-        """Returns the line of a lawful record."""
+        """Returns the facts of a lawful record."""
         line, game, exchanges = judged.line, judged.game, Exchanges(judged.line.record)
-        found = record_sum(line.data)
-        if self.sums.setdefault(line.match_id, found) != found:
+        checksum = record_sum(line.data)
+        if self.sums.setdefault(line.match_id, checksum) != checksum:
             self.faults[line.match_id] = TWO_RECORDS
         begin = end = host = messages = None
         whys: dict[tuple[int, int], str] = {}
@@ -136,7 +136,7 @@ class Facts:
             whys = logged.broken
         return {
             "id": line.match_id,
-            "record": found,
+            "record": checksum,
             "game": game.name,
             "rules": game.rules_sum,
             "description": self.descriptions.get(game.name),
@@ -151,12 +151,12 @@ class Facts:
         }
 
     def without_log(self, data: bytes) -> bytes:
-        """Returns a line without what a log has said, if there are several matches of its id."""
-        found = json.loads(data)
-        if self.faults.get(found["id"]) != TWO_RECORDS:
+        """Returns a line without the values from a log, if its id has several matches."""
+        values = json.loads(data)
+        if self.faults.get(values["id"]) != TWO_RECORDS:
             return data
-        broken = [{**answer, "why": None} for answer in found["broken"]]
-        return line_of(found | {"begin": None, "end": None, "host": None, "messages": None, "broken": broken})
+        broken = [{**answer, "why": None} for answer in values["broken"]]
+        return line_of(values | {"begin": None, "end": None, "host": None, "messages": None, "broken": broken})
 
 
 def line_of(found: dict[str, object]) -> bytes:
@@ -164,7 +164,7 @@ def line_of(found: dict[str, object]) -> bytes:
 
 
 def write_facts(path: pathlib.Path, lines: Iterable[Judged], facts: Facts) -> Iterator[Judged]:
-    """Writes a line for each lawful record, and gives the other lines. Which ids there are twice is known at the end."""
+    """Writes a line for each lawful record, and yields the other lines. Duplicate ids are known only at the end."""
     with made_whole(path) as made:
         first = made.with_name("first")
         with open(first, "wb") as file:
@@ -176,5 +176,5 @@ def write_facts(path: pathlib.Path, lines: Iterable[Judged], facts: Facts) -> It
         if TWO_RECORDS not in facts.faults.values():
             first.rename(made)
             return
-        with open(first, "rb") as given, open(made, "wb") as file:
-            file.writelines(map(facts.without_log, given))
+        with open(first, "rb") as lines_of_all, open(made, "wb") as file:
+            file.writelines(map(facts.without_log, lines_of_all))

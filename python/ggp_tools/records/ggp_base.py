@@ -1,5 +1,5 @@
-"""Records as ggp-base has its matches: for each a JSON object, in a file of its own. examples/records/README.md says what becomes of each
-key. Times come from logs, where each line has the time of day at which it came."""
+"""Writes records in the format of ggp-base: each match is a JSON object in its own file. examples/records/README.md says what becomes of each
+key. Times come from logs."""
 
 import hashlib
 import json
@@ -10,14 +10,14 @@ from ggp_tools.records.collection import Judged
 from ggp_tools.records.index import file_name
 from ggp_tools.records.match_logs import Beginning, MatchLogs
 
-# What ggp-base has where a match had no preview, and here where the time of its beginning is unknown: its reader needs a number.
+# The values of ggp-base for a match without a preview, and for an unknown start time, which must be a number.
 NO_PREVIEW, UNKNOWN = -1, 0
 ABORTED, COMPLETED = ("aborting", "aborted"), ("stopping", "finished")
 
 
 def times_of(found: list[Beginning], turns: int) -> tuple[int, list[int]]:
-    """Returns when a match began, and when each state had come, in milliseconds since 1970. The logs may lack times, or have several
-    matches of its id."""
+    """Returns when a match began and when each state was reached, in milliseconds since 1970. Times are unknown if the logs lack some, or have
+    several matches of this id."""
     if len(found) != 1:
         return UNKNOWN, []
     times = [found[0].began or UNKNOWN, *(found[0].turns.get(turn, UNKNOWN) for turn in range(1, turns + 1))]
@@ -25,7 +25,7 @@ def times_of(found: list[Beginning], turns: int) -> tuple[int, list[int]]:
 
 
 def spaced(text: str) -> str:
-    """Returns an expression as ggp-base writes it, with spaces inside of parentheses."""
+    """Returns an expression as ggp-base writes it, with spaces inside parentheses."""
     return text.replace("(", "( ").replace(")", " )")
 
 
@@ -34,7 +34,7 @@ def state_text(terms: list[str]) -> str:
 
 
 def match_of(judged: Judged, logged: list[Beginning], games_address: str | None) -> dict[str, object]:
-    """Returns a lawful record as ggp-base has a match. A key for which there is nothing is absent."""
+    """Returns a lawful record as a match of ggp-base, without keys that have no value."""
     record, line = judged.line.record, judged.line
     began, state_times = times_of(logged, len(record["moves"]))
     match = {
@@ -58,11 +58,11 @@ def match_of(judged: Judged, logged: list[Beginning], games_address: str | None)
 
 
 def write_matches(folder: pathlib.Path, lines: Iterable[Judged], logs: MatchLogs, games_address: str | None) -> Iterator[Judged]:
-    """Writes a file for each lawful record, and gives the other lines."""
+    """Writes a file for each lawful record, and yields the other lines."""
     folder.mkdir(parents=True, exist_ok=True)
     for number, judged in enumerate(lines, 1):
         if not judged.is_lawful:
             yield judged
             continue
-        found = match_of(judged, logs.of(judged.line.match_id), games_address)
-        (folder / file_name(number, judged.line.match_id, "json")).write_text(json.dumps(found) + "\n", encoding="ascii")
+        match = match_of(judged, logs.of(judged.line.match_id), games_address)
+        (folder / file_name(number, judged.line.match_id, "json")).write_text(json.dumps(match) + "\n", encoding="ascii")

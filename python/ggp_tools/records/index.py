@@ -1,4 +1,4 @@
-"""Pages of a collection: one for each match, and an index that links them."""
+"""Writes a page for each match of a collection, and an index of them."""
 
 import pathlib
 import re
@@ -9,13 +9,13 @@ from ggp_tools.records.record import NoRecord, checked_record
 from ggp_tools.records.show import page_of, winner_words
 from ggp_tools.templating import page
 
-# What a file's name may hold of a match's id.
+# The characters of an id that are replaced in the name of a file.
 OTHERS = re.compile(r"[^A-Za-z0-9._-]")
 LONGEST_ID = 64
 
 
 def file_name(number: int, match_id: str, ending: str) -> str:
-    """Returns the name of a match's file, which no other match of the collection has."""
+    """Returns a unique name for the file of a match."""
     return f"{number:06}-{OTHERS.sub('_', match_id)[:LONGEST_ID] or 'match'}.{ending}"
 
 
@@ -24,18 +24,18 @@ def page_name(number: int, match_id: str) -> str:
 
 
 def index_row(number: int, judged: Judged, record: dict | None) -> dict[str, object]:
-    """Returns the row of a line. It has a page if the line is a record by its shape."""
-    found = {"name": judged.line.match_id or f"line {judged.line.number}", "game": judged.game.name if judged.game else "", "page": ""}
-    found |= {"phase": "", "turns": "", "verdict": judged.verdict, "is_lawful": judged.is_lawful}
+    """Returns the row of a line. It links to a page if the line has the shape of a record."""
+    row = {"name": judged.line.match_id or f"line {judged.line.number}", "game": judged.game.name if judged.game else "", "page": ""}
+    row |= {"phase": "", "turns": "", "verdict": judged.verdict, "is_lawful": judged.is_lawful}
     if record:
         goals = record["goalValues"] or [None] * len(record["players"])
-        found |= {"page": page_name(number, judged.line.match_id), "players": [*zip(record["players"], goals)]}
-        found |= {"winner": winner_words(record["players"], record["goalValues"]).rstrip("."), "phase": record["phase"], "turns": len(record["moves"])}
-    return found
+        row |= {"page": page_name(number, judged.line.match_id), "players": [*zip(record["players"], goals)]}
+        row |= {"winner": winner_words(record["players"], record["goalValues"]).rstrip("."), "phase": record["phase"], "turns": len(record["moves"])}
+    return row
 
 
 def write_pages(folder: pathlib.Path, lines: Iterable[Judged]) -> None:
-    """Writes a page for each line that is a record by its shape, and the index last."""
+    """Writes a page for each line that has the shape of a record, and then the index."""
     folder.mkdir(parents=True, exist_ok=True)
     rows = []
     for number, judged in enumerate(lines, 1):

@@ -1,5 +1,4 @@
-"""What logs say of matches, by their ids: of each message the player, what it carried and its milliseconds, and why an answer was broken.
-Logs may be large, so of a message no more is kept than that."""
+"""Reads matches from logs: the hash and the duration of each message, and why an answer was broken. Logs may be large, so nothing else is kept."""
 
 import itertools
 import pathlib
@@ -13,34 +12,34 @@ from ggp_tools.match_log import event_of, whole_lines
 from ggp_tools.moments import moment_at
 from ggp_tools.streams import opened
 
-# The names of logs that a competition keeps of matches that do not count.
+# The names of logs of matches that do not count in a competition.
 SET_ASIDE = re.compile(r".*\.(refused|unchecked|differs)(\.\d+)?")
-# Of one match, so many beginnings show that there are several.
+# This many different beginnings of an id show that it is not unique.
 SEVERAL = 2
 
 
 def files_of(path: str) -> list[pathlib.Path]:
-    """Returns a file, or all files of a folder but those that were set aside."""
-    there = pathlib.Path(path)
-    if not there.is_dir():
-        return [there]
-    return sorted(file for file in there.iterdir() if file.is_file() and not SET_ASIDE.fullmatch(file.name))
+    """Returns the file, or all files of a directory except those that were set aside."""
+    given_path = pathlib.Path(path)
+    if not given_path.is_dir():
+        return [given_path]
+    return sorted(file for file in given_path.iterdir() if file.is_file() and not SET_ASIDE.fullmatch(file.name))
 
 
 def lines_of_logs(paths: Iterable[str]) -> Iterator[bytes]:
-    """Gives the whole lines of logs, and of the logs of folders."""
+    """Yields the whole lines of log files, and of directories of logs."""
     for file in itertools.chain.from_iterable(map(files_of, paths)):
         with opened(file) as log:
             yield from whole_lines(log)
 
 
 def message_sum(player: str, kind: str, message: str) -> int:
-    """Returns a hash of a message and its player. What START carries no record says."""
+    """Returns a hash of a message and its player. The content of START is not hashed, because records do not have it."""
     return hash((player, START if kind == START else message))
 
 
 class Beginning:
-    """What a log says of a match since it began: of each message five numbers, one behind another."""
+    """A match in a log since it began. Each message takes five numbers in one array."""
 
     def __init__(self) -> None:
         self.host: str | None = None
@@ -48,9 +47,9 @@ class Beginning:
         self.ended = 0
         self.numbers = array("q")
         self.broken: dict[tuple[int, int], str | None] = {}
-        # When the last answer of each turn had come.
+        # When the last answer of each turn arrived.
         self.turns: dict[int, int] = {}
-        # When the last message to each role was sent, and whether one was sent before the message before it.
+        # When the last message to each role was sent, and whether the clock was ever set back.
         self.sent: dict[int, int] = {}
         self.is_set_back = False
         self.is_short, self.has_end = False, False
@@ -86,30 +85,30 @@ class Beginning:
             self.turns[message.turn()] = max(message.time + message.ms, self.turns.get(message.turn(), 0))
 
     def is_over(self) -> bool:
-        """Returns whether it may have a record. A match in which the referee was short of something has none."""
+        """Returns whether there may be a record. There is none if the referee ran out of a resource."""
         return self.has_end and not self.is_short
 
     def messages(self) -> Iterator[tuple[int, ...]]:
-        """Gives of each message its role, number, kind, milliseconds and hash."""
+        """Yields the role, number, kind, milliseconds and hash of each message."""
         values = iter(self.numbers)
         return zip(values, values, values, values, values)
 
     def by_role(self, roles: int) -> list[list[list]]:
-        """Returns the messages of each role, each as its kind and its milliseconds."""
-        found: list[list[list]] = [[] for _ in range(roles)]
+        """Returns the kind and the milliseconds of each message by role."""
+        messages: list[list[list]] = [[] for _ in range(roles)]
         for role, _, kind, milliseconds, _ in self.messages():
             if role < roles:
-                found[role].append([KINDS[kind].lower(), milliseconds])
-        return found
+                messages[role].append([KINDS[kind].lower(), milliseconds])
+        return messages
 
     def times(self) -> tuple[str | None, str | None, str | None]:
-        """Returns when it began and ended, and on which host."""
+        """Returns when it began and ended, and its host."""
         began = None if self.began is None else moment_at(self.began / 1_000)
         return began, moment_at(self.ended / 1_000) if self.ended else None, self.host
 
 
 def beginnings(found: Iterable[Event]) -> Iterator[tuple[str, Beginning]]:
-    """Gives the matches of a log with their ids. If a match begins again before it is over, what was before does not count."""
+    """Yields the matches of a log with their ids. If a match begins again before it is over, its earlier part is dropped."""
     open_matches: dict[str, tuple[Runs, Beginning]] = {}
     for event in found:
         if isinstance(event, Other):
@@ -127,12 +126,12 @@ def beginnings(found: Iterable[Event]) -> Iterator[tuple[str, Beginning]]:
 
 
 def logged(run: Iterable[Event]) -> Beginning:
-    """Returns what the last run of a match says of it."""
+    """Returns the last run of a match."""
     return next((found for _, found in beginnings(run)), Beginning())
 
 
 class MatchLogs:
-    """The matches of some logs. What is not over counts where nothing else is known of a match. `others` counts lines that are no events."""
+    """The matches of some logs. A match that is not over counts only if no other with its id is over. `others` counts lines that are not events."""
 
     def __init__(self, paths: Iterable[str]) -> None:
         self.found: dict[str, tuple[list[Beginning], list[Beginning]]] = {}
@@ -152,6 +151,6 @@ class MatchLogs:
                 self.others += 1
 
     def of(self, match_id: str) -> list[Beginning]:
-        """Returns the match of this id; several where nobody knows which of them it is."""
+        """Returns the match with this id. There are several if it is not known which one is meant."""
         unfinished, over = self.found.get(match_id, ([], []))
         return over or unfinished

@@ -1,5 +1,4 @@
-"""Records as texts, much as chess has its games in PGN: of each match its headers, and a row for each turn. examples/records/README.md has the
-form."""
+"""Writes records as text, similar to PGN: headers of each match, and a line for each turn. examples/records/README.md describes the format."""
 
 import json
 import pathlib
@@ -14,8 +13,7 @@ from ggp_tools.records.tables import made_whole
 
 
 def text_of(judged: Judged, logged: list[Beginning]) -> str:
-    """Returns a lawful record as a text. No atom has a capital or `;`, so no role has the name of another header, and no move looks like an
-    error."""
+    """Returns a lawful record as text. Roles and moves are in lower case and have no `;`, so they cannot be confused with headers and errors."""
     record, (began, _) = judged.line.record, times_of(logged, 0)
     headers = {"Match": record["matchId"], "Game": judged.game.name, **dict(zip(record["roles"], record["players"]))}
     headers |= {"Result": "-".join(map(str, record["goalValues"])) or "*", "Phase": record["phase"]}
@@ -24,13 +22,13 @@ def text_of(judged: Judged, logged: list[Beginning]) -> str:
     headers |= {"Date": moment_at(began / 1_000)} if began else {}
     rows = [f"[{name} {json.dumps(value)}]" for name, value in headers.items()]
     for number, (moves, errors) in enumerate(zip(record["moves"], record["errors"]), 1):
-        said = "; ".join(f"{role}: {error}" for role, error in zip(record["roles"], errors) if error)
-        rows.append(f"{number}. {' '.join(moves)}{f' ; {said}' if said else ''}")
+        notes = "; ".join(f"{role}: {error}" for role, error in zip(record["roles"], errors) if error)
+        rows.append(f"{number}. {' '.join(moves)}{f' ; {notes}' if notes else ''}")
     return "".join(f"{row}\n" for row in rows)
 
 
 def write_pgn(path: pathlib.Path, lines: Iterable[Judged], logs: MatchLogs) -> Iterator[Judged]:
-    """Writes the texts of all lawful records, with an empty row between each two, and gives the other lines."""
+    """Writes all lawful records, separated by empty lines, and yields the other lines."""
     with made_whole(path) as made, open(made, "w", encoding="ascii", newline="\n") as file:
         for judged in lines:
             if judged.is_lawful:

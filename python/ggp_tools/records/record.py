@@ -1,5 +1,4 @@
-"""The records of matches: what is read of them, what each key must hold after docs/RECORDS.md, and what is wrong with a text
-that is not a record."""
+"""Parses match records, checks the shape of each key, which docs/RECORDS.md defines, and explains why a text is not a record."""
 
 import hashlib
 import json
@@ -17,24 +16,24 @@ TOO_LONG = "it is longer than 16 MiB"
 PHASES = ("starting", "playing", "stopping", "finished", "aborting", "aborted")
 ERRORS = ("", "TO", "CE", "RT", "IL ?")
 CAUSE = re.compile(r"(asked|toolong|allretired)|(nolegal|nogoal) (0|[1-9][0-9]?)")
-# The program goes by the same form. No reply ends as a record does, which may have been joined to a line that was cut.
+# The referee uses the same format. A reply never ends as a record does, so a record that was joined to a cut line does not match.
 ACCOUNT_LINE = re.compile(rb"[0-9]+\t(?:open|strict|next|submit|miss|query|abort)(?: [^\t]*)?\t[^\t]*[0-9A-Za-z)]")
 MOST_LISTS, LONGEST_EXPRESSION, MOST_OF_VALUE = 64, 8_192, 80
-# JSON is read by calls in calls, which have no room for more than the first number. A record has three lists in one another. The limit holds
-# for all threads, so it is lowered only where a command has raised it that far, which has no threads.
+# The JSON parser is recursive, and more than ROOM calls overflow its stack. Records are nested three lists deep. The limit applies to all
+# threads, so it is lowered only if a command has raised it above ROOM; such commands have no threads.
 ROOM, MOST_CALLS = 20_000, 1_000
 TOKEN = re.compile(r"[()]|[^() ]+|.")
-# Printable ASCII without capitals and `;`, with one space between members and none beside a parenthesis inside of it.
+# Printable ASCII without capitals and `;`, with single spaces between members and none inside parentheses.
 SPACED = re.compile(r"(?!.*(^ | $|  |\( | \)|[^ (]\(|\)[^ )]))[!-:<-@\[-~ ]+")
 
 # ---- JSON
 
-# What may follow a record: another one, or a line of its account.
+# A record may be followed by another one, or by a line of its account.
 FOLLOWS = re.compile(r"\{|[0-9]+\t[^\t\n]+\t")
-# How each record begins, and what may stand at the end of one that was cut within a word or a number.
+# The beginning of each record, and the end of one that was cut within a word or a number.
 BEGIN = '{"cause":'
 CUT_WORD = re.compile(r"-|t(ru?)?|f(a(ls?)?)?|n(ul?)?")
-# What Python's reader of JSON says, in other words.
+# The messages of Python's JSON parser in our words.
 JSON_WORDS = {
     "Expecting value": "a value is missing", "Extra data": "more follows the value", "Unterminated string starting at": "a text has no end",
     "Expecting property name enclosed in double quotes": "a key is missing", "Expecting ':' delimiter": "`:` is missing",
@@ -43,11 +42,11 @@ JSON_WORDS = {
 
 
 class NoRecord(Refused):
-    """What is wrong with a text that is not a record."""
+    """Why a text is not a record."""
 
 
 def parsed(data: bytes | str) -> object:
-    """Returns the JSON value that a text spells."""
+    """Parses JSON."""
     most = sys.getrecursionlimit()
     try:
         sys.setrecursionlimit(MOST_CALLS if most > ROOM else most)
@@ -63,7 +62,7 @@ def json_constant(word: str) -> None:
 
 
 def json_lines(data: bytes) -> list[str]:
-    """Returns where a text is not JSON, and why that may be so."""
+    """Explains where and why a text is not JSON."""
     if not data.strip():
         return ["it is empty"]
     try:
@@ -71,24 +70,24 @@ def json_lines(data: bytes) -> list[str]:
     except json.JSONDecodeError as why:
         lines = [f"line {why.lineno}, column {why.colno}: {JSON_WORDS.get(why.msg, 'an escape is not one of JSON')}"]
         if why.msg == "Extra data" and FOLLOWS.match(why.doc, why.pos):
-            return [*lines, "More follows the first record: give one record at a time, without its account. With --lines each line is one."]
+            return [*lines, "More text follows the first record. Pass one record, without its account, or use --lines if each line is a record."]
         return lines + cut_lines(why.doc, why)
     except UnicodeDecodeError as why:
         line, column = data.count(b"\n", 0, why.start) + 1, why.start - data.rfind(b"\n", 0, why.start)
         return [f"line {line}, byte {column} of it: it is not UTF-8"]
     except RecursionError:
         pass
-    return ["a value is nested more than 127 deep, a number is not one or past the range of binary64, or a surrogate pair is not whole"]
+    return ["a value is nested more than 127 deep, a number is invalid or outside the range of binary64, or a surrogate pair is incomplete"]
 
 
 def cut_lines(doc: str, why: json.JSONDecodeError) -> list[str]:
-    """Returns what is said of a record that is there in part. A text that ends within a record begins as one does."""
+    """Explains which part of a record is missing."""
     text, again = doc.rstrip(), doc.find(BEGIN, 1)
     if doc.startswith("{") and again > 0:
-        return [f"Another record begins at byte {again + 1}: what is before it was cut off, for example since a file was written to the end of a half line."]
+        return [f"Another record begins at byte {again + 1}: the one before it was cut off, for example because a record was appended to an unfinished line."]
     is_cut = why.pos >= len(text) or why.msg.startswith("Unterminated string") or CUT_WORD.fullmatch(text, why.pos)
     if text.startswith("{") and is_cut:
-        return ["The text ends within the record: its end was cut off, or it is on several lines where each line must be a record."]
+        return ["The text ends within the record: its end was cut off, or it is on several lines although each line must be a record."]
     if text.endswith("}") and not text.startswith(("{", "[")) and '"' in text:
         return ["The text begins within a record: its beginning was cut off."]
     return []
@@ -96,7 +95,7 @@ def cut_lines(doc: str, why: json.JSONDecodeError) -> list[str]:
 
 # ---- what a record holds
 
-# What says whether a value is of a kind.
+# Checks the type of a value.
 Kind = Callable[[object], bool]
 
 
@@ -113,7 +112,7 @@ def is_text_or_null(value: object) -> bool:
 
 
 def is_list(value: object, is_member: Kind, lengths: list[int] | None = None) -> bool:
-    """Returns whether a value is a list of such members, of one of these lengths where there are any."""
+    """Returns whether a value is a list of such members, of one of these lengths if any are given."""
     return isinstance(value, list) and all(map(is_member, value)) and (lengths is None or len(value) in lengths)
 
 
@@ -122,7 +121,7 @@ def list_of(is_one: Kind) -> Kind:
 
 
 def is_expression(text: str) -> bool:
-    """Returns whether a text is the folded canonical text of one expression."""
+    """Returns whether a text is the canonical text of one expression in lower case."""
     level = 0
     for place, token in enumerate(TOKEN.findall(text)):
         if place and not level:
@@ -134,7 +133,7 @@ def is_expression(text: str) -> bool:
 
 
 def is_error(value: object) -> bool:
-    """Returns whether a value is what a record says of the answer to one PLAY."""
+    """Returns whether a value is a valid error of a turn."""
     if not isinstance(value, str) or value in ERRORS:
         return isinstance(value, str)
     return value.startswith("IL ") and len(value) <= len("IL ") + LONGEST_EXPRESSION and is_expression(value.removeprefix("IL "))
@@ -142,17 +141,17 @@ def is_error(value: object) -> bool:
 
 MARKS, CLOCK = 'for each role a mark: null, "", "TO" or "CE"', "a whole number of seconds, 1 to 86,400"
 NAME = "1 to 64 letters, digits, `-`, `_` and `.`"
-# The keys of a record: whether a value is of the key's kind, as far as a page needs it, and what the key must hold.
+# The keys of a record: a check of the type, as far as a page needs it, and a description of the value.
 KEYS: dict[str, tuple[Kind, str]] = {
-    "cause": (is_text_or_null, 'null, "asked", "toolong", "allretired", "nolegal R" or "nogoal R", where R is the number of a role, from 0 on'),
+    "cause": (is_text_or_null, 'null, "asked", "toolong", "allretired", "nolegal R" or "nogoal R", where R is the number of a role, counted from 0'),
     "endMarks": (list_of(is_text_or_null), MARKS),
     "errors": (
         list_of(list_of(is_text)), 'for each turn of moves a list with one text for each role: "", "TO", "CE", "RT", "IL ?", or "IL " and an '
-        "expression in folded canonical text of at most 8,192 bytes",
+        "expression in canonical text and lower case, of at most 8,192 bytes",
     ),
     "goalValues": (list_of(is_whole), "an empty list, or for each role a whole number of 0 to 100"),
     "matchId": (is_text, NAME),
-    "moves": (list_of(list_of(is_text)), "for each turn, of which there are at most 10,000, a list with one text for each role"),
+    "moves": (list_of(list_of(is_text)), "for each turn, at most 10,000 of them, a list with one text for each role"),
     "phase": (is_text, f"one of the texts {', '.join(PHASES)}"),
     "playClock": (is_whole, CLOCK),
     "players": (list_of(is_text), f"for each role a name of {NAME}"),
@@ -160,19 +159,19 @@ KEYS: dict[str, tuple[Kind, str]] = {
     "startClock": (is_whole, CLOCK),
     "startMarks": (list_of(is_text_or_null), MARKS),
     "states": (list_of(list_of(is_text)), "a list of states, one more than turns in moves, each a list of texts"),
-    "strikes": (is_whole, "a whole number of 0 to 255, since the record is of version 2"),
+    "strikes": (is_whole, "a whole number of 0 to 255, because the record has version 2"),
     "version": (lambda value: is_whole(value) and value in (1, 2), "1 or 2"),
 }
-# In a list for each turn the member that is wrong is looked for.
+# For lists by turn, the first wrong member is reported.
 IS_ONE = {"errors": is_error, "moves": is_text, "states": is_text}
 
 
 def shape_lines(key: str, record: object, roles: Sequence[str]) -> list[str]:
-    """Returns what a key must hold, and what it holds."""
-    wanted = KEYS[key][1]
-    lines = [f"expected in {key}: {wanted}", *[f"the roles are: {', '.join(roles)}"] * bool(roles and "role" in wanted)]
+    """Returns the expected and the actual value of a key."""
+    expected = KEYS[key][1]
+    lines = [f"expected in {key}: {expected}", *[f"the roles are: {', '.join(roles)}"] * bool(roles and "role" in expected)]
     if not isinstance(record, dict):
-        return [*lines, f"found: no JSON object, but {shown(json.dumps(record), MOST_OF_VALUE)}"]
+        return [*lines, f"found: not a JSON object, but {shown(json.dumps(record), MOST_OF_VALUE)}"]
     if key not in record:
         return [*lines, "found: no such key"]
     value, lengths, where = record[key], None if key == "states" else [len(roles)], ""
@@ -191,13 +190,13 @@ def refuse_key(key: str, record: dict) -> None:
 
 
 def check_lengths(record: dict, is_cut: bool) -> None:
-    """Looks that there is one of each for each role, and one state more than turns, or fewer in a record that is cut."""
+    """Checks that lists by role have one member for each role, and that there is one state more than turns. A cut record may have fewer states."""
     roles, turns = len(record["roles"]), len(record["moves"])
     lengths = {"players": [roles], "startMarks": [roles], "endMarks": [roles], "goalValues": [0, roles], "errors": [turns], "states": [turns + 1]}
     if is_cut:
         lengths["states"] = range(1, turns + 2)
-    for key, wanted in lengths.items():
-        if len(record[key]) not in wanted or key == "roles" and not roles:
+    for key, allowed in lengths.items():
+        if len(record[key]) not in allowed or key == "roles" and not roles:
             refuse_key(key, record)
     for key in ("moves", "errors"):
         if any(len(texts) != roles for texts in record[key]):
@@ -205,7 +204,7 @@ def check_lengths(record: dict, is_cut: bool) -> None:
 
 
 def checked_record(record: object, is_cut: bool = False) -> dict:
-    """Returns a value that is a record by its shape, as far as a page needs it, or one without its last states. Version 1 is filled in."""
+    """Checks the shape of a record, as far as a page needs it, and fills in version 1. A cut record lacks its last states."""
     if not isinstance(record, dict):
         raise NoRecord("it is JSON, and not an object")
     record.setdefault("version", 1)
@@ -227,8 +226,8 @@ def checked_record(record: object, is_cut: bool = False) -> dict:
 
 
 def read_record(data: bytes) -> dict:
-    """Returns the keys of the record that the bytes spell. If it is longer than 16 MiB, `states` has the first ones, as many as these hold."""
-    # The end of its line is no part of the record.
+    """Parses a record. If it is longer than 16 MiB, `states` has only the first states, as many as fit into 16 MiB."""
+    # The newline is not part of the record.
     if len(data) - data.endswith(b"\n") <= LONGEST_RECORD:
         return checked_record(parsed(data))
     rest = without_states(data)
@@ -241,12 +240,12 @@ def read_record(data: bytes) -> dict:
 
 
 def record_sum(data: bytes) -> str:
-    """Returns the checksum of a record's line, with one LF at its end."""
+    """Returns the checksum of the line of a record, with one LF at its end."""
     return hashlib.sha256(data.rstrip(b"\r\n") + b"\n").hexdigest()
 
 
 def numbered_lines(lines: BinaryIO) -> Iterator[tuple[int, bytes]]:
-    """Gives the lines of a file with their numbers, and of one that is too long only so much that this shows."""
+    """Yields the lines of a file with their numbers. A line that is too long is cut, to just above the limit."""
     number, enough = 0, LONGEST_RECORD + 3
     while data := lines.readline(enough):
         number += 1

@@ -1,4 +1,4 @@
-"""Makes a page of a match's record, to be looked at in a browser."""
+"""Makes a page of a match record for a browser."""
 
 import argparse
 import functools
@@ -21,18 +21,18 @@ if TYPE_CHECKING:
     from markupsafe import Markup
 
 ABOUT = (
-    "Makes a page of a match's record, to be looked at in a browser. The page says who played and how it ended, has a table of the turns "
-    "with each move that was substituted, and shows each state with what changed, as a board where its terms name places and the page has "
-    "at most 32,768 boards. It needs nothing beside itself, loads nothing, and runs no script but its own. What is no record is refused "
-    "with what is wrong with it. `ggp_manager verify` says whether a record is that of a lawful match; this command does not look at that."
+    "Makes a page of a match record for a browser. The page shows the players and how the match ended, a table of all turns with substituted "
+    "moves, and each state with its changes. A state is shown as a board if its terms name places, unless the page would have more than 32,768 "
+    "boards. The page is one file, loads nothing, and runs only its own script. If the file is not a record, the command says why. It does not "
+    "check whether the match is lawful: use `ggp_manager verify` for this."
 )
-STATUS = "status 0: the page is written. 1: the text is no record. 2: wrong use, or it can't be read, or the page can't be written."
+STATUS = "status 0: the page was written. 1: the file is not a record. 2: usage error, or the file cannot be read, or the page cannot be written."
 RECORD_BEGINS = b'{"cause":'
-ONE_RECORD = "A page is of one record: `ggp-records pages` makes a page of each"
+ONE_RECORD = "Pass one record, or make a page of each with `ggp-records pages`"
 LONGEST_AXIS = 32
-# A page that would draw more boards, in all states together, lists their terms instead: a board is some hundred times as long as its terms.
+# A page that would have more boards lists terms instead, because a board is about a hundred times as long as its terms.
 MOST_DRAWN = 32_768
-# So many cells, and openings of boards, are kept that were made last.
+# The sizes of the caches of cells and of openings of boards.
 MOST_CELLS, MOST_BOARDS = 16_384, 64
 
 PHASES = {
@@ -58,10 +58,10 @@ ERRORS = {
     "IL": "the answer was no legal move",
 }
 
-# The terms by which a state says whose turn it is.
+# Terms of a state that name the role whose turn it is.
 TURN = re.compile(r"\((?:control|turn|on-turn) ([^()]*)\)")
 
-# What is at each place of a board.
+# The labels at each place of a board.
 Place = tuple[int, int]
 Places = dict[Place, list[str]]
 # A relation and the number of its members.
@@ -72,18 +72,18 @@ Group = tuple[str, int]
 
 
 def record_of(file: BinaryIO) -> bytes:
-    """Returns the bytes of a file that has one record. The account that `run --history` writes behind it is read over."""
+    """Returns the record of a file that has one record. The account that `run --history` writes after it is skipped."""
     first, second = file.readline(LONGEST_RECORD + 2), file.readline(LONGEST_RECORD + 2)
     if ACCOUNT_LINE.fullmatch(second.rstrip(b"\r\n")):
         for number, line in numbered_lines(file):
             if not ACCOUNT_LINE.fullmatch(line):
-                raise NoRecord(f"line {number + 2} is no line of its account. {ONE_RECORD}")
+                raise NoRecord(f"line {number + 2} is not a line of its account. {ONE_RECORD}")
         data = first
     elif first.startswith(RECORD_BEGINS) and second.startswith(RECORD_BEGINS):
-        raise NoRecord(f"line 2 has another one. {ONE_RECORD}")
+        raise NoRecord(f"line 2 is another record. {ONE_RECORD}")
     else:
         data = (first + second + file.read(LONGEST_RECORD + 2))[: LONGEST_RECORD + 2]
-    # If it is too long for a page of one file, only its beginning was read.
+    # Only the beginning of a record that is too long was read.
     if len(data) - data.endswith(b"\n") > LONGEST_RECORD:
         raise NoRecord(TOO_LONG)
     return data
@@ -94,22 +94,21 @@ def record_of(file: BinaryIO) -> bytes:
 
 @functools.cache
 def words_of(term: str) -> list[str]:
-    """Returns the members of a term that is a list of atoms, else none."""
+    """Returns the members of a term that is a list of atoms, else an empty list."""
     is_flat = term.startswith("(") and term.endswith(")") and not re.search(r"[()]", term[1:-1])
     return term[1:-1].split(" ") if is_flat else []
 
 
 def axis_of(values: Iterable[str]) -> list[str] | None:
-    """Returns the places of an axis, from the least value to the greatest: numbers behind at most one letter, or single letters.
-    None where the values are no such places."""
+    """Returns the places of an axis in order: numbers after at most one letter, or single letters. Returns None if the values are not such places."""
     if all(re.fullmatch("[a-z]", value) for value in values):
         axis = [chr(number) for number in range(ord(min(values)), ord(max(values)) + 1)]
     else:
-        found = [re.fullmatch(r"([a-z]?)(0|[1-9][0-9]?)", value) for value in values]
-        if not all(found) or len({match[1] for match in found}) > 1:
+        matches = [re.fullmatch(r"([a-z]?)(0|[1-9][0-9]?)", value) for value in values]
+        if not all(matches) or len({match[1] for match in matches}) > 1:
             return None
-        numbers = [int(match[2]) for match in found]
-        axis = [f"{found[0][1]}{number}" for number in range(min(numbers), max(numbers) + 1)]
+        numbers = [int(match[2]) for match in matches]
+        axis = [f"{matches[0][1]}{number}" for number in range(min(numbers), max(numbers) + 1)]
     return axis if 2 <= len(axis) <= LONGEST_AXIS else None
 
 
@@ -118,15 +117,16 @@ def kind_of(axis: list[str]) -> str:
 
 
 def is_pairing(states: list[list[list[str]]]) -> bool:
-    """Returns whether in every state each first argument has one second argument, or each second one first: then they are no places."""
+    """Returns whether in every state each first argument has exactly one second argument, or each second argument one first. Such arguments are not
+    places."""
     return any(all(len({term[side] for term in terms}) == len(terms) for terms in states) for side in (1, 2))
 
 
 @dataclass
 class Board:
-    """Terms that name places. Of each relation, with its number of members, it is known where the two places stand and what is
-    shown there: the other arguments, or the relation where there are none. Of a board of hexagons it is known how many half places each
-    row is further to the right than the one below it, 1 or -1; else that is 0."""
+    """Terms that name places. `forms` has, for each relation and its number of members, the index of the two places and the indices of the label: the
+    other arguments, or the relation if there are none. `lean` is 0, or for a board of hexagons 1 or -1: the number of half places by which each row
+    is shifted to the right of the one below it."""
 
     across: list
     up: list
@@ -147,14 +147,14 @@ class Board:
         return self.across.index(words[at]) + 1, self.up.index(words[at + 1]) + 1, " ".join(words[place] for place in labels)
 
     def marks(self, named: "Named") -> dict[str, Mark]:
-        """Returns what the board shows of each label, also of those that the rules name, so that a label looks the same in all states."""
+        """Returns the mark of each label, also of those in the rules, so that a label looks the same in all states."""
         own = ([words[at] for at in places] for group, (_, places) in self.forms.items() for words in named.terms.get(group, ()))
         labels = {" ".join(label) for label in own if not any(map(is_variable, label))}
         return marks_of(map(visible, labels.union(label for _, _, label in self.known.values())))
 
 
 def lean_of(places: set[Place]) -> int:
-    """Returns how boards of hexagons lean whose places are a hexagon, a star or a triangle: these are the same once turned by 120 degrees.
+    """Returns the lean of a board of hexagons whose places form a hexagon, a star or a triangle, which rotating by 120 degrees does not change.
     Returns 0 for other places."""
     count, across, up = len(places), sum(x for x, _ in places), sum(y for _, y in places)
     for lean in (1, -1) if count > 6 else ():
@@ -165,29 +165,30 @@ def lean_of(places: set[Place]) -> int:
 
 
 def places_of(move: str, board: Board) -> list[Place]:
-    """Returns the places of a board that a move names by two arguments in a row, in their order."""
-    words, found, at = words_of(move), [], 1
-    while at + 1 < len(words):
-        if words[at] in board.across and words[at + 1] in board.up:
-            found.append((board.across.index(words[at]) + 1, board.up.index(words[at + 1]) + 1))
-            at += 2
+    """Returns the places of a board that a move names by two consecutive arguments, in order."""
+    words, places, index = words_of(move), [], 1
+    while index + 1 < len(words):
+        if words[index] in board.across and words[index + 1] in board.up:
+            places.append((board.across.index(words[index]) + 1, board.up.index(words[index + 1]) + 1))
+            index += 2
         else:
-            at += 1
-    return found
+            index += 1
+    return places
 
 
 def members_of(states: Iterable[list[list[str]]]) -> list[set[str]]:
-    """Returns the words that each member of a relation is in some states."""
+    """Returns the words of each member of a relation in some states."""
     return list(map(set, zip(*(words for state in states for words in state))))
 
 
 def form_of(words_by_state: list[list[list[str]]], members: list[set[str]]) -> tuple[int, list[int]] | None:
-    """Returns where the terms of one relation name a place and where its label is; None if they name none. Their members may be these words."""
+    """Returns the indices of place and label in the terms of one relation, or None if they do not name places. `members` has the possible words of
+    each member."""
     # (on X Y); (cell X Y V) and (cell X Y V W); (piece V X Y)
     for at, labels in {3: [(1, [0])], 4: [(1, [3]), (2, [1])], 5: [(1, [3, 4])]}.get(len(members), []):
         if axis_of(members[at]) and axis_of(members[at + 1]):
             if members[0] & PIECES:
-                # Of (king white X Y) and (rook X Y) the relation is the piece, of which there may be one.
+                # In (king white X Y) and (rook X Y) the relation is the piece, and there may be only one of it.
                 return at, sorted({0, *labels})
             is_function = is_pairing(words_by_state) if len(members) == 3 else max(map(len, words_by_state)) < 2
             return None if is_function else (at, labels)
@@ -195,8 +196,8 @@ def form_of(words_by_state: list[list[list[str]]], members: list[set[str]]) -> t
 
 
 class Named:
-    """What rules name: by relations the words of each term that they give a state, with or without variables, and the moves that may be legal.
-    And whether the places of boards are hexagons, which their shape shows otherwise."""
+    """The terms and moves in rules: for each relation the words of each term of a state, with or without variables, and the legal moves; and whether
+    the places of boards are hexagons, if this does not follow from their shape."""
 
     def __init__(self, sentences: Iterable[Expression] = (), is_hex: bool = False) -> None:
         heads = [head for head in map(head_of, sentences) if head[0] in ("init", "next", "legal") and len(head) > 1]
@@ -205,25 +206,25 @@ class Named:
         for words in filter(None, map(words_of, dict.fromkeys(spelled(head[1]) for head in heads if head[0] != "legal"))):
             self.terms.setdefault((words[0], len(words)), []).append(words)
         self.ground = {group: [words for words in terms if not any(map(is_variable, words))] for group, terms in self.terms.items()}
-        # By relations, the words that each member may be.
+        # The possible words of each member, by relation.
         self.members = {group: members_of([terms]) for group, terms in self.ground.items() if terms}
 
     @functools.cached_property
     def boards(self) -> list[Board]:
-        """The boards that are known without a state: moves name places on them. Rows have no letters: (on a b) is a pile."""
+        """The boards that are known without a state: those with places that moves name. Rows are not letters, because (on a b) is a pile."""
         found = grouped_boards({group: {0: terms} for group, terms in self.ground.items() if terms}, Named((), self.is_hex))
         return [board for board in found if kind_of(board.up) != "letters" and any(places_of(move, board) for move in self.moves)]
 
 
 @functools.lru_cache(16)
 def named_in(rules: bytes, is_hex: bool) -> Named:
-    """Returns what a text of rules names."""
+    """Returns the names in a text of rules."""
     return Named(expressions(rules.decode("latin-1")), is_hex)
 
 
 def boards_of(states: Iterable[list[str]], named: Named = Named()) -> list[Board]:
-    """Returns the boards of a match: one for each relation like (cell X Y V), and one for all others with the same kinds of places. A board
-    also has the places that the rules name; if the states show none, it may be empty."""
+    """Returns the boards of a match: one for each relation like (cell X Y V), and one for all others with the same kinds of places. A board also has
+    the places that the rules name, and may be empty."""
     grouped: dict[Group, dict[int, list[list[str]]]] = {}
     for at, state in enumerate(states):
         for words in filter(None, map(words_of, state)):
@@ -232,12 +233,12 @@ def boards_of(states: Iterable[list[str]], named: Named = Named()) -> list[Board
 
 
 def grouped_boards(grouped: dict[Group, dict[int, list[list[str]]]], named: Named) -> list[Board]:
-    """Returns the boards of terms by their relations and states, with those that the rules name."""
+    """Returns the boards of terms, given by relation and state, with the places that the rules name."""
     boards, found = {}, []
     for group, by_state in grouped.items():
         states, seen = list(by_state.values()), members_of(by_state.values())
         words = [word | more for word, more in zip(seen, named.members.get(group, seen))]
-        # What rules name may be no places at all, as what is off the board.
+        # Words in rules may not be places, for example words for places off the board.
         further = named.ground.get(group, ()) if form_of(states, words) else ()
         words = words if further else seen
         if form := form_of(states, words):
@@ -259,23 +260,23 @@ def why_of(error: str) -> str:
 
 
 def ending(record: dict) -> str:
-    """Returns the sentence that says how the match ended."""
-    said = PHASES[record["phase"]]
+    """Describes how the match ended."""
+    sentence = PHASES[record["phase"]]
     cause = CAUSE.fullmatch(record["cause"] or "")
     if cause:
         role = f"role {cause[3]} ({record['roles'][int(cause[3])]})" if cause[3] else ""
-        said = f"{said.rstrip('.')}: {CAUSES[cause[1] or cause[2]].format(role)}."
-    return said if said.endswith(".") else f"{said}."
+        sentence = f"{sentence.rstrip('.')}: {CAUSES[cause[1] or cause[2]].format(role)}."
+    return sentence if sentence.endswith(".") else f"{sentence}."
 
 
 def kinds_of_errors(record: dict) -> list[tuple[str, str]]:
-    """Returns what each kind of error of a record means, with its form."""
-    found = {why_of(error): error for turn in record["errors"] for error in turn if error}
-    return sorted((why, "IL" if why == ERRORS["IL"] else error) for why, error in found.items())
+    """Returns the meaning of each kind of error in a record, with its form."""
+    kinds = {why_of(error): error for turn in record["errors"] for error in turn if error}
+    return sorted((why, "IL" if why == ERRORS["IL"] else error) for why, error in kinds.items())
 
 
 def board_places(board: Board, state: list[str]) -> Places:
-    """Returns what is at each place of the board."""
+    """Returns the labels at each place of a board."""
     places = {}
     for term in state:
         if found := board.known.get(tuple(words_of(term))):
@@ -284,7 +285,7 @@ def board_places(board: Board, state: list[str]) -> Places:
 
 
 def ground_of(board: Board, places: Places) -> str | None:
-    """Returns what is at more than half of all places, if something is at each: that is what an empty cell shows."""
+    """Returns the label of more than half of all places, if every place has one: an empty cell."""
     labels = [labels[0] for labels in places.values()]
     if len(labels) < len(board.across) * len(board.up):
         return None
@@ -293,7 +294,8 @@ def ground_of(board: Board, places: Places) -> str | None:
 
 @functools.lru_cache(MOST_CELLS)
 def cell(place: Place, name: str, labels: tuple[str, ...], marks: tuple[Mark, ...], is_new: bool, is_ground: bool) -> "Markup":
-    """Returns a cell as HTML: most cells are the same in many states and matches. If its marks are not its labels, these are its title."""
+    """Returns a cell as HTML. If its marks differ from its labels, the labels are its title. Cells are cached, because most are the same in many
+    states."""
     kinds = ["new"] * is_new + ["ground"] * is_ground + (marks[0].kinds() if len(marks) == 1 else [])
     is_named = len(labels) > 1 or [mark.text for mark in marks] != [*labels]
     return macros("boards").cell(*place, " ".join(kinds), f"{name}: {', '.join(labels)}" if labels and is_named else "", is_ground, marks)
@@ -301,7 +303,7 @@ def cell(place: Place, name: str, labels: tuple[str, ...], marks: tuple[Mark, ..
 
 @functools.lru_cache(MOST_BOARDS)
 def board_opening(across: tuple[str, ...], up: tuple[str, ...], lean: int, places: frozenset[Place]) -> "Markup":
-    """Returns the opening of a board with these axes; of one of hexagons with these places."""
+    """Returns the opening tags of a board. Boards of hexagons also need the places."""
     if not lean:
         return macros("boards").open_board(across, up)
     tops = {x: max(y for column, y in places if column == x) + 1 for x, _ in places}
@@ -310,7 +312,7 @@ def board_opening(across: tuple[str, ...], up: tuple[str, ...], lean: int, place
 
 
 def board_page(board: Board, places: Places, before: Places | None, ground: str | None, marks: dict[str, Mark]) -> "Markup":
-    """Returns a board as HTML; places where something else is than before are marked as new."""
+    """Returns a board as HTML, with changed places marked as new."""
     cells = []
     for at in sorted({*places, *(before or {}), *(board.places if board.lean else ())}):
         own = places.get(at, [])
@@ -322,8 +324,8 @@ def board_page(board: Board, places: Places, before: Places | None, ground: str 
 
 
 def states_of_page(states: list[list[str]], roles: Sequence[str], named: Named = Named(), since: int = 0) -> Iterator[dict[str, object]]:
-    """Gives each state from a number on: its boards; the terms that no board shows, of now, of before, and those that are gone; and the role
-    whose turn it is, if the state says it."""
+    """Yields each state from a number on: its boards, the terms that no board shows (current, previous and removed ones), and the role whose turn it
+    is, if the state has it."""
     boards = boards_of(states, named)
     boards = boards if len(boards) * (len(states) - since) <= MOST_DRAWN else []
     on_boards = {form for board in boards for form in board.forms}
@@ -333,7 +335,7 @@ def states_of_page(states: list[list[str]], roles: Sequence[str], named: Named =
         places = [board_places(board, state) for board in boards]
         ground = ground or [ground_of(board, own) for board, own in zip(boards, places)]
         mover = mover_of(state, roles)
-        # What says no more than whose turn it is stands above the state.
+        # A term that only says whose turn it is becomes the heading of the state.
         said = [] if mover is None else [term for _, term in named_roles(state, roles) if len(words_of(term)) == 2]
         terms = [term for term in state if not is_on_board(term, on_boards) and term not in said]
         known, known_before = set(terms), known
@@ -349,29 +351,28 @@ def named_roles(state: list[str], roles: Sequence[str]) -> list[tuple[str, str]]
 
 
 def mover_of(state: list[str], roles: Sequence[str]) -> int | None:
-    """Returns the role whose turn it is; None if the state does not name one, or names several. The other roles have one legal move then."""
+    """Returns the role whose turn it is, or None if the state does not name exactly one. In such states the other roles have one legal move."""
     named = {role for role, _ in named_roles(state, roles)}
     return roles.index(named.pop()) if len(named) == 1 else None
 
 
 def winner_words(players: Sequence[str], worths: Sequence[int]) -> str:
-    """Returns who won a match, or who drew, by what it came to for each player. Empty for one player, and if there is no worth from 0 on."""
+    """Returns who won a match, or who drew, by the result of each player. It is empty for one player, and if no result is 0 or more."""
     best = max(worths, default=-1)
     names = [player for player, worth in zip(players, worths) if worth == best >= 0]
     return f"{' and '.join(names)} {'won' if len(names) == 1 else 'drew'}." if names and len(players) > 1 else ""
 
 
 def is_on_board(term: str, forms: set[tuple[str, int]]) -> bool:
-    """Returns whether a board shows a term."""
     words = words_of(term)
     return bool(words) and (words[0], len(words)) in forms
 
 
 def turn_of_page(moves: Sequence[str], errors: Sequence[str], mover: int | None, why: Callable[[int, str], str]) -> list[dict[str, object]]:
-    """Returns the moves of a turn by roles, with why they were replaced."""
+    """Returns the moves of a turn by role, with the reasons for substitutions."""
     found = []
     for role, (move, error) in enumerate(zip(moves, errors)):
-        # Of a role that is not to move one word, such as `noop`, is its only legal move.
+        # The only legal move of a role whose turn it is not is one word, such as `noop`.
         is_idle = mover not in (None, role) and not error and "(" not in move
         found.append({"text": move, "error": error, "why": why(role, error) if error else "", "is_idle": is_idle})
     return found
@@ -385,10 +386,10 @@ def page_of(
     named: Named = Named(),
     winner: str | None = None,
 ) -> bytes:
-    """Returns the page, in ASCII, with a head of HTML. With the game, and with what was answered, by role and turn counted from 0, the page
-    says more of replaced moves. The goals say who won, if nothing else is given."""
+    """Returns the page in ASCII. `head` is HTML. With the game and the answers, by role and turn counted from 0, the page explains substituted moves.
+    The goals determine the winner, unless it is given."""
     states, whys = list(states_of_page(record["states"], record["roles"], named)), Whys(record, game, answers or {})
-    # Of a record that is too long there are the first states.
+    # A record that is too long has only its first states.
     movers = itertools.chain((state["mover"] for state in states), itertools.repeat(None))
     turns = [
         turn_of_page(moves, errors, mover, lambda role, error: why_of(error) + whys.more(role, turn, error))
@@ -410,17 +411,17 @@ def page_of(
 
 
 def perform(name: str) -> int:
-    """Writes the page of a file's record."""
+    """Writes the page of a record."""
     try:
         with opened(name) as file:
-            shown = page_of(read_record(record_of(file)))
+            content = page_of(read_record(record_of(file)))
     except NoRecord as why:
         raise Ended(f"no record: {why}", 1) from None
-    put_bytes(shown)
+    put_bytes(content)
     return 0
 
 
 def main() -> int:
     reader = argparse.ArgumentParser("ggp-show-record", usage="ggp-show-record [RECORD] > page.html", description=ABOUT, epilog=STATUS)
-    reader.add_argument("record", metavar="RECORD", nargs="?", default="-", help="a file with one record, as `run` and `desk` print it, also with its account (standard input, also as `-`)")
+    reader.add_argument("record", metavar="RECORD", nargs="?", default="-", help="a file with one record, as printed by `run` and `desk`, also with its account (default: standard input, also as `-`)")
     return status_of("ggp-show-record", lambda: perform(reader.parse_args().record), 2)

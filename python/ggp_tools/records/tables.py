@@ -1,5 +1,5 @@
-"""The records of a collection as tables: of matches, of players and of moves. They are written as one SQLite database, or as CSV. Each row
-says whether its record is lawful, and of which earlier record it is a copy; the views have only lawful records, each once."""
+"""Writes tables of matches, players and moves as an SQLite database or as CSV. Each row has whether its record is lawful and which earlier record
+it is a copy of. The views have only lawful records, each once."""
 
 import contextlib
 import csv
@@ -29,14 +29,14 @@ Row = tuple[object, ...]
 
 
 def stored(value: object) -> object:
-    """Returns a value as a table takes it: a number of more than 64 bits as its digits, a text that is no Unicode with codes."""
+    """Converts a value for a table: a number of more than 64 bits to its digits, and surrogates in a text to escapes."""
     if isinstance(value, int) and value.bit_length() > 63:
         return str(value)
     return value.encode("ascii", "backslashreplace").decode() if isinstance(value, str) and SURROGATE.search(value) else value
 
 
 def names_of(table: str) -> list[str]:
-    """Returns the names of a table's columns."""
+    """Returns the names of the columns."""
     return [column.split()[0] for column in TABLES[table].split(", ")]
 
 
@@ -52,7 +52,7 @@ def match_row(number: int, judged: Judged, record: dict) -> Row:
 
 
 def mark_word(mark: str | None) -> str | None:
-    """Returns a mark as a word: in CSV an empty text would look like none."""
+    """Returns a mark as a word, because in CSV an empty text would look like no value."""
     return "answered" if mark == "" else mark
 
 
@@ -65,24 +65,24 @@ def player_rows(number: int, record: dict) -> Iterator[Row]:
 
 
 def move_rows(number: int, record: dict) -> Iterator[Row]:
-    """Gives the recorded moves. Turns are counted from 1."""
+    """Yields the moves. Turns are counted from 1."""
     for turn, (moves, errors) in enumerate(zip(record["moves"], record["errors"]), 1):
         for role, (move, error) in enumerate(zip(moves, errors)):
             yield number, turn, role, move, error
 
 
 def all_rows(lines: Iterable[Judged]) -> Iterator[tuple[str, Row]]:
-    """Gives the rows of all lines, each with its table. What is no record by its shape has a row of matches alone."""
+    """Yields the rows of all lines, each with its table. A line that does not have the shape of a record is only in `matches`."""
     firsts: dict[str, int] = {}
     for number, judged in enumerate(lines, 1):
-        found = record_sum(judged.line.data) if judged.line.data else None
-        first = firsts.setdefault(found, number) if found else number
+        checksum = record_sum(judged.line.data) if judged.line.data else None
+        first = firsts.setdefault(checksum, number) if checksum else number
         marks = int(judged.is_lawful), first if first != number else None
         try:
             record = checked_record(dict(judged.line.record or {}))
         except NoRecord:
             record = {}
-        yield "matches", stored_row((*match_row(number, judged, record), found, *marks))
+        yield "matches", stored_row((*match_row(number, judged, record), checksum, *marks))
         if record:
             yield from (("players", stored_row((*row, *marks))) for row in player_rows(number, record))
             yield from (("moves", stored_row((*row, *marks))) for row in move_rows(number, record))
@@ -90,7 +90,7 @@ def all_rows(lines: Iterable[Judged]) -> Iterator[tuple[str, Row]]:
 
 @contextlib.contextmanager
 def made_whole(path: pathlib.Path) -> Iterator[pathlib.Path]:
-    """Gives the place at which a file is made, in a folder of its own. It is at its path once it is whole, if no other is there."""
+    """Yields a temporary path, and renames it to the final path after it was written, if that does not exist."""
     with tempfile.TemporaryDirectory(prefix=".ggp-records-", dir=path.parent) as folder:
         made = pathlib.Path(folder, "made")
         yield made
@@ -100,7 +100,6 @@ def made_whole(path: pathlib.Path) -> Iterator[pathlib.Path]:
 
 
 def write_sqlite(path: pathlib.Path, lines: Iterable[Judged]) -> None:
-    """Writes the tables as a database."""
     with made_whole(path) as made, contextlib.closing(sqlite3.connect(made)) as database:
         fill_database(database, lines)
 
@@ -118,7 +117,7 @@ def fill_database(database: sqlite3.Connection, lines: Iterable[Judged]) -> None
 
 
 def write_csv(folder: pathlib.Path, lines: Iterable[Judged]) -> None:
-    """Writes the tables as files of comma-separated values, with the names of the columns first."""
+    """Writes a CSV file for each table, with the names of the columns first."""
     folder.mkdir(parents=True, exist_ok=True)
     files = {table: open(folder / f"{table}.csv", "w", encoding="utf-8", newline="") for table in TABLES}
     try:

@@ -1,4 +1,4 @@
-"""What the drivers beside this folder share: how they run the program, the players inside them, and how they say what they found."""
+"""Shared by the drivers next to this directory: running the program, players, and reports."""
 import pathlib
 
 TOP = pathlib.Path(__file__).resolve().parents[3]

@@ -1,4 +1,4 @@
-"""Runs the program as somebody might: with any standard streams, in a terminal, and against servers that are no good."""
+"""Runs the program in all situations: with any standard streams, in a terminal, and against bad servers."""
 import contextlib
 import os
 import pty
@@ -17,7 +17,7 @@ LINE_OFF = struct.pack("ii", 1, 0)
 
 
 class Said(NamedTuple):
-    """What a run of the program came to."""
+    """The result of a run of the program."""
 
     status: int
     output: bytes
@@ -25,15 +25,15 @@ class Said(NamedTuple):
 
 
 def checks_memory(program):
-    """Returns whether a program is one that is not proved, and checks memory as it runs."""
+    """Returns whether a program is unproved, and checks memory as it runs."""
     with open(program, "rb") as file:
         return b"AddressSanitizer" in file.read()
 
 
 @contextlib.contextmanager
 def begun(words, **streams):
-    """Begins a program, and gives its process. It is killed where it does not end within the patience, or where it is left by a fault: no
-    read of what it says, and no wait for it, is without an end."""
+    """Starts a program, and yields its process. It is killed if it does not end within the time limit, or after an exception, so no read and no wait
+    is endless."""
     child = subprocess.Popen(words, **streams)
     patience = threading.Timer(PATIENCE, child.kill)
     patience.daemon = True
@@ -50,7 +50,7 @@ def begun(words, **streams):
 
 
 def wait_until(is_so, seconds, rest=0.01):
-    """Returns whether something is so before the seconds are over."""
+    """Returns whether a condition becomes true within the time limit."""
     ends = time.monotonic() + seconds
     while not is_so():
         if time.monotonic() > ends:
@@ -60,7 +60,7 @@ def wait_until(is_so, seconds, rest=0.01):
 
 
 def asked(program, words, text=b""):
-    """Returns what the program comes to with these words, on this input."""
+    """Returns the result of the program with these arguments and this input."""
     ran = subprocess.run([program, *words], input=text, capture_output=True, timeout=PATIENCE)
     return Said(ran.returncode, ran.stdout, ran.stderr.decode())
 
@@ -74,15 +74,15 @@ def asked_for_seconds(program, words, text=b""):
 
 
 def asked_in_shell(program, words, streams, text=b"", before=""):
-    """Does so with the standard streams as the shell sets them by these words, as `>&-`, which closes standard output; before the
-    program the shell does something else."""
+    """Does so with standard streams that the shell sets by these words, such as `>&-`, which closes standard output. The shell may run something
+    before the program."""
     call = ["bash", "-c", f'{before} exec "$0" "$@" {streams}', program, *words]
     ran = subprocess.run(call, input=text, capture_output=True, timeout=PATIENCE)
     return Said(ran.returncode, ran.stdout, ran.stderr.decode(errors="replace"))
 
 
 def asked_by_bytes(program, words, count):
-    """Does so on an input of this many bytes, each of which takes a read of its own."""
+    """Does so with an input of this many bytes, each of which takes a read."""
     ours, theirs = socket.socketpair(socket.AF_UNIX, socket.SOCK_SEQPACKET)
     with begun([program, *words], stdin=theirs, stdout=subprocess.PIPE, stderr=subprocess.PIPE) as child:
         theirs.close()
@@ -98,7 +98,7 @@ def asked_by_bytes(program, words, count):
 
 
 def asked_with_closed_pipe(program, words, text=b""):
-    """Does so where nobody reads standard output any more."""
+    """Does so with a standard output that nobody reads any more."""
     ours, theirs = os.pipe()
     os.close(ours)
     ran = subprocess.run([program, *words], input=text, stdout=theirs, stderr=subprocess.PIPE, timeout=PATIENCE)
@@ -107,7 +107,7 @@ def asked_with_closed_pipe(program, words, text=b""):
 
 
 def read_to_close(end, look=lambda said: None):
-    """Returns all that comes out of a terminal until the program has closed its other end. What has come by then is looked at as it comes."""
+    """Returns all output of a terminal until the program has closed its end. The output so far can be inspected as it comes."""
     said = b""
     try:
         while piece := os.read(end, 4096):
@@ -121,8 +121,8 @@ def read_to_close(end, look=lambda said: None):
 
 
 def asked_in_terminal(program, words, stream="stderr", text=b"", look=lambda said: None):
-    """Returns the status, and what comes of the standard stream that is a terminal, and of the other one. What comes of the terminal is
-    looked at as it comes."""
+    """Returns the exit status, and the outputs of the standard stream that is a terminal and of the other one. The terminal's output can be inspected
+    as it comes."""
     other = "stdout" if stream == "stderr" else "stderr"
     ours, theirs = pty.openpty()
     with tempfile.TemporaryFile() as given, tempfile.TemporaryFile() as kept:
@@ -155,7 +155,7 @@ def received(connection):
 
 
 class Server(threading.Thread):
-    """A server on a port of its own, in the place of a player: each connection is handed to a function, one after the other."""
+    """A server on its own port instead of a player. It passes each connection to a function, one after the other."""
 
     def __init__(self, serve, receives=None):
         super().__init__(daemon=True)
@@ -182,13 +182,13 @@ class Server(threading.Thread):
 
 
 def reset(connection):
-    """Closes a connection so that the other end is told that it broke."""
+    """Closes a connection by a reset."""
     connection.setsockopt(socket.SOL_SOCKET, socket.SO_LINGER, LINE_OFF)
     connection.close()
 
 
 def answers(reply, thinking=0):
-    """Returns what serves each connection with these bytes, this many seconds after the request is read."""
+    """Returns a function that sends these bytes over each connection, this many seconds after the request was read."""
 
     def serve(connection):
         body_of(connection)
@@ -199,5 +199,5 @@ def answers(reply, thinking=0):
 
 
 def told(answer, thinking=0):
-    """Returns what serves each connection with this answer, after this many seconds."""
+    """Returns a function that sends this answer over each connection, after this many seconds."""
     return answers(f"HTTP/1.0 200 OK\r\nContent-Length: {len(answer)}\r\n\r\n{answer}".encode(), thinking)

@@ -1,4 +1,4 @@
-"""What each driver does at its beginning and at its end: it reads the words of the command line, and says what it found."""
+"""The beginning and the end of each driver: it parses the command line, and reports the result."""
 import argparse
 import os
 import resource
@@ -10,7 +10,7 @@ from typing import NoReturn
 
 
 def runnable(word: str) -> str:
-    """Returns the path of the program that a word of the command line names."""
+    """Returns the path of the program in an argument."""
     path = os.path.abspath(word)
     if os.path.isdir(path) or not os.access(path, os.X_OK):
         raise argparse.ArgumentTypeError(f"{path} is no program that can be run")
@@ -18,14 +18,14 @@ def runnable(word: str) -> str:
 
 
 def words_with_program(about: str) -> argparse.ArgumentParser:
-    """Returns a reader of a command line whose first word is the program. `--help` prints what the driver is about."""
+    """Returns a parser whose first argument is the program. `--help` prints the description of the driver."""
     words = argparse.ArgumentParser(description=about, formatter_class=argparse.RawDescriptionHelpFormatter)
     words.add_argument("program", metavar="PROGRAM", type=runnable)
     return words
 
 
 def program_of(about: str) -> str:
-    """Returns the path of the program, the one word of the command line."""
+    """Returns the path of the program, the only argument."""
     return words_with_program(about).parse_args().program
 
 
@@ -42,7 +42,7 @@ def run_test(about: str, faults: Callable[[str], Iterable[str]], well: str) -> N
 
 
 def little_room(size: int, reaction: Callable | signal.Handlers | int | None) -> Callable[[], None]:
-    """Returns what lets the files of a process get this large at most. A write past that fails, and its signal has this reaction."""
+    """Returns a function that limits the size of a process's files. A write past the limit fails, and its signal has this action."""
 
     def limit() -> None:
         signal.signal(signal.SIGXFSZ, reaction)
@@ -52,8 +52,8 @@ def little_room(size: int, reaction: Callable | signal.Handlers | int | None) ->
 
 
 def closed_port() -> socket.socket:
-    """Returns a socket whose port takes no connection. The port is nobody else's as long as the socket is open, but a server of this process
-    may listen there now and then."""
+    """Returns a socket whose port accepts no connection. The port is reserved as long as the socket is open, but a server of this process may listen
+    there at times."""
     endpoint = socket.socket()
     endpoint.setsockopt(socket.SOL_SOCKET, socket.SO_REUSEADDR, 1)
     endpoint.bind(("127.0.0.1", 0))

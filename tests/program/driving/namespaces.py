@@ -1,4 +1,4 @@
-"""Network namespaces: computers of their own on this computer, and matches of one player in them. They take root and `ip`."""
+"""Network namespaces, which act as separate computers, and matches of one player in them. They need root and `ip`."""
 import contextlib
 import ctypes
 import json
@@ -22,7 +22,7 @@ def inside(namespace: str, call: str, is_needed: bool = True) -> None:
 
 @contextlib.contextmanager
 def entered(namespace: str) -> Iterator[None]:
-    """Lets this thread make its sockets in a namespace."""
+    """Makes this thread create its sockets in a namespace."""
     libc = ctypes.CDLL(None, use_errno=True)
     with open("/proc/thread-self/ns/net", "rb") as before, open(f"/run/netns/{namespace}", "rb") as there:
         if libc.setns(there.fileno(), 0):
@@ -35,7 +35,7 @@ def entered(namespace: str) -> Iterator[None]:
 
 @contextlib.contextmanager
 def namespaces(*names: str) -> Iterator[None]:
-    """Makes namespaces with these names, each with its loopback interface, and deletes them at the end."""
+    """Creates namespaces with these names, each with its loopback interface, and deletes them at the end."""
     try:
         for name in names:
             subprocess.run(["ip", "netns", "add", name], check=True)
@@ -67,14 +67,14 @@ class Ann(threading.Thread):
 
 
 class Ended(NamedTuple):
-    """How a match ended: its status, its record, and what was reported."""
+    """The end of a match: the exit status, the record, and the messages."""
 
     status: int
     output: str
     errors: str
 
     def marks(self) -> list[str]:
-        """Returns the errors of the answers to START, each PLAY and STOP. Without a record there is none."""
+        """Returns the errors of the answers to START, each PLAY and STOP, none without a record."""
         if not self.output:
             return []
         record = json.loads(self.output)
@@ -89,12 +89,12 @@ def played(namespace: str, program: str, address: str, start: int) -> Ended:
 
 
 def blamed(case: str, ended: Ended, marks: list[str]) -> Iterator[str]:
-    """Yields what is wrong if there has to be a record with these errors of the player."""
+    """Yields the errors if there must be a record with these errors of the player."""
     if (ended.status, ended.marks()) != (0, marks):
         yield f"{case}: expected a record with {marks}, got status {ended.status}, {ended.marks()}, {ended.errors!r}"
 
 
 def spared(case: str, ended: Ended) -> Iterator[str]:
-    """Yields what is wrong if this computer is the cause."""
+    """Yields the errors if this computer is the cause."""
     if (ended.status, ended.output) != (2, "") or "no network" not in ended.errors:
         yield f"{case}: expected no record and a report of no network, got status {ended.status}, {ended.marks()}, {ended.errors!r}"

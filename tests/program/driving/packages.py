@@ -1,4 +1,4 @@
-"""The packages of Debian that are installed here, and what they depend on."""
+"""The Debian packages that are installed here, and their dependences."""
 import re
 import subprocess
 import typing
@@ -7,7 +7,7 @@ FIELDS = "${Package}\t${Pre-Depends}, ${Depends}\t${Provides}\n"
 
 
 class Package(typing.NamedTuple):
-    """An installed package: for each dependence its alternatives, and the names that it stands for."""
+    """An installed package: the alternatives of each dependence, and the names that the package provides."""
 
     needs: list[list[str]]
     provides: list[str]
@@ -20,7 +20,7 @@ def names_in(field: str) -> list[list[str]]:
 
 
 def installed(text: str) -> dict[str, Package]:
-    """Returns the packages that a text with the fields names."""
+    """Parses the packages in a text of fields."""
     found = {}
     for line in text.splitlines():
         name, needs, provides = line.split("\t")
@@ -29,7 +29,7 @@ def installed(text: str) -> dict[str, Package]:
 
 
 def closure(wanted: typing.Iterable[str], known: dict[str, Package]) -> list[str]:
-    """Returns packages with all that they depend on, as they are installed."""
+    """Returns packages with all that they depend on, as installed."""
     of_name = {name: package for package, found in known.items() for name in found.provides} | {name: name for name in known}
     found, left = set(), [*wanted]
     while left:
@@ -41,7 +41,7 @@ def closure(wanted: typing.Iterable[str], known: dict[str, Package]) -> list[str
 
 
 def first_of(names: list[str], of_name: dict[str, str]) -> str | None:
-    """Returns the package that is the first of some alternatives to be installed, or none."""
+    """Returns the first installed package of some alternatives, or None."""
     return next((of_name[name] for name in names if name in of_name), None)
 
 

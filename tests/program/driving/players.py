@@ -1,5 +1,5 @@
-"""Players of Countdown inside a driver: one thread serves all of them, each on a port of its own. They go on where a program that asks
-them is killed, and keep what they were asked."""
+"""Players of Countdown inside a driver. One thread serves all of them, each on its own port. They keep running and remember their messages when a
+program that asks them is killed."""
 import asyncio
 import random
 import re
@@ -9,7 +9,7 @@ ROLES = ("red", "blue")
 
 
 class Seat:
-    """A match of Countdown as one of its players sees it, and the moves that it sent."""
+    """A match of Countdown from the view of one of its players, and the moves that it sent."""
 
     def __init__(self, role, heap):
         self.role, self.heap, self.sent = role, heap, []
@@ -23,8 +23,8 @@ class Seat:
 
 
 class Player:
-    """A player that thinks for some seconds before each answer. It sits in any number of matches at a time; one that is strict sits in
-    one, and answers START with `busy` until that is over. Its answers may be made longer, by this many spaces."""
+    """A player that thinks for some seconds before each answer. It plays any number of matches at a time; a strict one plays one, and answers START
+    with `busy` until that is over. Its answers may be padded with this many spaces."""
 
     def __init__(self, name, heap, think=0.0, is_strict=False, padding=0):
         self.name, self.heap, self.think, self.is_strict, self.padding = name, heap, think, is_strict, padding
@@ -77,7 +77,7 @@ class Player:
 
 
 class Hall(threading.Thread):
-    """The thread that serves players. Each of them has its port once it is made."""
+    """The thread that serves players. Each player has a port as soon as it is created."""
 
     def __init__(self, players):
         super().__init__(daemon=True)
@@ -102,11 +102,11 @@ class Hall(threading.Thread):
         await asyncio.gather(*(server.serve_forever() for server in servers))
 
     def messages(self):
-        """Returns how many messages came to the players."""
+        """Returns how many messages the players got."""
         return sum(player.messages for player in self.players)
 
     def settle(self):
-        """Returns once the players have read all that a program sent which is no more, and have answered it."""
+        """Returns after the players have read and answered all messages of a program that has ended."""
         asyncio.run_coroutine_threadsafe(self.settled(), self.loop).result()
 
     async def settled(self):

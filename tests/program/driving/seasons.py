@@ -1,4 +1,4 @@
-"""Seasons of Countdown that a script has a program play between players of its own, and what is looked at in their records."""
+"""Plays seasons of Countdown between the players of a script, and checks their records."""
 import json
 import subprocess
 import tempfile
@@ -14,13 +14,13 @@ PATIENCE = 1800
 
 
 def schedule(pairs, clocks="600 600", name="m"):
-    """Returns the text of a schedule in which these players sit, red and blue of each match, and the ids of its matches."""
+    """Returns the text of a schedule for these players, red and blue of each match, and the ids of its matches."""
     ids = [f"{name}{number}" for number in range(len(pairs))]
     return "".join(f"{match} {clocks} {red.address()} {blue.address()}\n" for match, (red, blue) in zip(ids, pairs)), ids
 
 
 def paired(players, matches):
-    """Returns the two players of each of this many matches: those that stand side by side, in turn."""
+    """Returns the two players of each of this many matches: neighbours, in turn."""
     pairs = list(zip(players[::2], players[1::2]))
     return [pairs[number % len(pairs)] for number in range(matches)]
 
@@ -30,7 +30,7 @@ def run(program, words, text=""):
 
 
 def start(program, words, plan, records, **more):
-    """Starts a season of a schedule with this text, whose records are written to this file."""
+    """Starts a season with this schedule, whose records are written to this file."""
     with tempfile.TemporaryFile() as given:
         given.write(plan.encode())
         given.seek(0)
@@ -38,7 +38,7 @@ def start(program, words, plan, records, **more):
 
 
 def all_said(child):
-    """Returns what a program writes to its pipes until it ends. Where it does not end it is killed."""
+    """Returns the output to a program's pipes until it ends. If it does not end, it is killed."""
     try:
         return child.communicate(timeout=PATIENCE)
     except subprocess.TimeoutExpired:
@@ -47,26 +47,26 @@ def all_said(child):
 
 
 def ended(child):
-    """Returns the status of a program, and what it told if that goes to a pipe. Where it does not end it is killed."""
+    """Returns the exit status of a program, and its messages if they go to a pipe. If it does not end, it is killed."""
     told = all_said(child)[1]
     return child.returncode, told
 
 
 def whole_lines(text):
-    """Returns the lines of a file of bytes that are whole, and what stands behind them: a line that was cut, or nothing."""
+    """Returns the whole lines of a file, and an incomplete last line, if any."""
     whole, feed, cut = text.rpartition(b"\n")
     return (whole + feed).splitlines(keepends=True), cut
 
 
 def partial_records(lines):
-    """Returns the numbers, from 1 on, of the lines with records whose accounts are not whole: that of each role ends with `over`."""
+    """Returns the numbers, counted from 1, of the lines with records whose accounts are not whole: a whole account ends with `over` for each role."""
     places = [place for place, line in enumerate(lines) if line.startswith(b"{")]
     ends = [*places[1:], len(lines)]
     return [place + 1 for place, end in zip(places, ends) if sum(line.endswith(b"\tover\n") for line in lines[place:end]) != len(ROLES)]
 
 
 def cut_off(folder):
-    """Takes the last line of the file `records` in this folder away where it was cut."""
+    """Removes an incomplete last line from the file `records` in this directory."""
     subprocess.run(["bash", "-c", CUT_OFF], cwd=folder, check=True)
 
 
@@ -87,8 +87,7 @@ def errors_of(record):
 
 
 def faults_of_records(program, game, text, ids, players):
-    """Gives what is not as it should be in the records of a season: of each match there is to be one, which is lawful, has no error,
-    and has the moves that its players sent."""
+    """Yields the errors in the records of a season: each match must have one lawful record, without errors, with the moves that its players sent."""
     try:
         records = records_in(whole_lines(text)[0])
     except ValueError as fault:

@@ -1,4 +1,4 @@
-"""How the drivers run a program that may not end: each is killed, and says so by its status."""
+"""How the drivers run a program that may hang: it is killed, and its status shows it."""
 import subprocess
 import threading
 import unittest

@@ -1,4 +1,4 @@
-"""Tests of the budget of the proofs."""
+"""The budget of the proofs."""
 from budget import totals_of
 
 

@@ -1,4 +1,4 @@
-"""The tables of crates: what a crate says of itself first, what it stands on, and where a table is put."""
+"""The tables of crates: the first sentence about a crate, the crates that it uses, and where a table goes."""
 import unittest
 
 from crate_tables import CRATES, LAYERS, TESTS, comment_of, layers, nearest, purpose, with_layers, with_table

@@ -1,4 +1,4 @@
-"""What is read of crates.txt, the order of crates, and sums of their text."""
+"""Parsing of crates.txt, the order of crates, and checksums of their text."""
 import os
 import tempfile
 import unittest

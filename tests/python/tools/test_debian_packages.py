@@ -1,4 +1,4 @@
-"""The packages of Debian that a package depends on."""
+"""The Debian packages that a package depends on."""
 import unittest
 
 from driving.packages import closure, installed, names_in

@@ -1,4 +1,4 @@
-"""Every Python script that is called by hand says by --help what it does, and does nothing else."""
+"""Every Python script for people prints its help for --help, and does nothing else."""
 import glob
 import os
 import subprocess

@@ -1,4 +1,4 @@
-"""The interpreter of `tests/oracle`: what is true by rules with variables, also by those that go round."""
+"""The interpreter of `tests/oracle`: the true sentences of rules with variables, also of recursive ones."""
 import time
 import unittest
 

@@ -1,4 +1,4 @@
-"""How the gate runs commands, and what it counts of them."""
+"""How the gate runs commands, and counts their tests."""
 import os
 import subprocess
 import sys

@@ -1,4 +1,4 @@
-"""Which words of the toolchain the crates' code must not have."""
+"""The words of the toolchain that the crates' code must not use."""
 import importlib.machinery
 import importlib.util
 
@@ -7,7 +7,7 @@ from crates import TOP
 
 
 def load() -> object:
-    """Returns tools/kit-words as a module."""
+    """Loads tools/kit-words as a module."""
     loader = importlib.machinery.SourceFileLoader("kit_words", f"{TOP}/tools/kit-words")
     module = importlib.util.module_from_spec(importlib.util.spec_from_loader("kit_words", loader))
     loader.exec_module(module)

@@ -1,4 +1,4 @@
-"""Which imports reach past the public definitions of another crate, and which crates are named and not used."""
+"""Imports of non-public definitions of other crates, and crates that are listed and not used."""
 import unittest
 
 from crates import reaching, unmentioned

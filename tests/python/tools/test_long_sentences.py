@@ -1,17 +1,17 @@
-"""Which sentences of a document are too long, and what counts as one sentence."""
+"""Sentences of documents that are too long, and where sentences end."""
 import unittest
 
 from documents import MOST_WORDS, sentences, too_long, words
 
 
 def faults(text: str) -> list[int]:
-    """Returns the numbers of the lines at which a text has sentences that are too long."""
+    """Returns the numbers of the lines with sentences that are too long."""
     lines = [(number, line, line.startswith("    ")) for number, line in enumerate(text.splitlines(), 1)]
     return [number for number, _ in too_long(lines)]
 
 
 def of_words(count: int) -> str:
-    """Returns a sentence of so many words."""
+    """Returns a sentence of this many words."""
     return f"{' '.join(['word'] * count)}."
 
 

@@ -1,4 +1,4 @@
-"""Pages of the manual and completions follow from what commands print by --help."""
+"""Manual pages and completions are generated from the --help of commands."""
 import shutil
 import subprocess
 import unittest
@@ -36,7 +36,7 @@ Before. status 0: all is well. 1: it is not.
 
 
 def some():
-    """Returns a help with a command within it."""
+    """Returns a help with a subcommand."""
     found, _ = read_help("some", BY_ARGPARSE)
     found.commands = [read_help("some run", BY_CLAP)[0]]
     return found

@@ -1,4 +1,4 @@
-"""Which small wrong changes of Python code there are, and which of them tests find."""
+"""The mutants of Python code, and which of them tests detect."""
 import importlib.util
 import subprocess
 from importlib.machinery import SourceFileLoader

@@ -1,4 +1,4 @@
-"""How mutations of the crates are written and applied, and on what the prover is said to refuse one."""
+"""How mutations of the crates are written and applied, and why the prover refuses one."""
 from pathlib import Path
 
 import pytest
@@ -17,7 +17,7 @@ def top(tmp_path: Path) -> Path:
 
 
 def listed(top: Path, text: str) -> list[dict[str, str]]:
-    """Returns what the mutations of a text make of the crate `low`."""
+    """Returns the mutations of a text for the crate `low`."""
     (top / "tests/mutations/low.txt").write_text(text, encoding="utf-8")
     return [mutation.applied(str(top)) for mutation in mutations_of("low", str(top))]
 

@@ -1,4 +1,4 @@
-"""What the tools print if Python or the Rattle toolchain is missing, or is too old."""
+"""The messages of the tools if Python or the Rattle toolchain is missing or too old."""
 import os
 import pathlib
 import subprocess

@@ -1,4 +1,4 @@
-"""What the tests need of the system, and what is printed if it is missing."""
+"""The system packages that the tests need, and the messages if they are missing."""
 import contextlib
 import os
 import pathlib

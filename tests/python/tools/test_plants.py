@@ -1,4 +1,4 @@
-"""Which findings of `rt plant` are left to explain."""
+"""The findings of `rt plant` that are not explained."""
 import importlib.util
 from importlib.machinery import SourceFileLoader
 

@@ -1,4 +1,4 @@
-"""The example player: how it answers, also to what it may not expect, and that it goes on."""
+"""The example player: its answers, also to unexpected messages, and that it goes on."""
 import contextlib
 import io
 import os
@@ -22,7 +22,7 @@ TRIES = 5
 
 
 def asked(port, body, size=None):
-    """Returns the status of the answer to a message whose length is said to be this, and its body; nothing where there is no answer."""
+    """Returns the status and the body of the answer to a message with this length field, or None if there is no answer."""
     head = f"POST / HTTP/1.0\r\nReceiver: ann\r\nContent-Length: {len(body) if size is None else size}\r\n\r\n"
     with socket.create_connection(("127.0.0.1", port), SECONDS) as connection:
         connection.sendall((head + body).encode())
@@ -35,7 +35,7 @@ def asked(port, body, size=None):
 
 @contextlib.contextmanager
 def server():
-    """The port of a server inside this process, and what it says."""
+    """The port of a server in this process, and its output."""
     with contextlib.redirect_stderr(io.StringIO()) as said, player.Server(("127.0.0.1", 0), player.Player(lambda moves: moves[0])) as host:
         threading.Thread(target=host.serve_forever, daemon=True).start()
         try:
@@ -46,7 +46,7 @@ def server():
 
 @contextlib.contextmanager
 def started(name, errors):
-    """The port of a player that is a process of its own, and takes connections. Another process may take the port before it does."""
+    """The port of a running player process. Another process may take the port before it does."""
     for port in free_ports(TRIES):
         with subprocess.Popen([sys.executable, "-B", f"{TOP}/examples/players/{name}.py", str(port), "1"], stderr=errors) as child:
             try:
@@ -59,7 +59,7 @@ def started(name, errors):
 
 
 def is_there(child, port):
-    """Waits until a player takes connections. Returns whether it does: it may have ended."""
+    """Waits until a player accepts connections. Returns False if it has ended."""
     while child.poll() is None:
         with socket.socket() as connection:
             if connection.connect_ex(("127.0.0.1", port)) == 0:
@@ -120,7 +120,7 @@ class Serving(unittest.TestCase):
             self.assertEqual(asked(port, "(INFO)"), (200, "available"))
 
     def test_a_large_game(self):
-        """More bytes than the usual limits allow, and rules that ask for one another more deeply."""
+        """A game with more bytes than the usual limits allow, and rules that are nested more deeply."""
         count, lists = 4_500, 60
         steps = (f"(<= (c {number}) {'(or ' * lists}(c {number + 1}){')' * lists})" for number in range(count))
         rules = f"((role red) (legal red go) (<= (legal red deep) (c 0)) {' '.join(steps)} (c {count}) (f {'x' * 4_194_304}))"

@@ -1,4 +1,4 @@
-"""Limits that a program which checks memory does not come to within minutes: the number in the code is that of docs/COMMANDS.md."""
+"""Limits that an unproved program does not reach within minutes: the code and docs/COMMANDS.md have the same numbers."""
 import os
 import re
 import unittest

@@ -1,4 +1,4 @@
-"""How long the rest of some work takes, and how much this computer has room for."""
+"""The estimated time left, and how much work this computer can do at once."""
 import os
 import pathlib
 

@@ -1,4 +1,4 @@
-"""What the tools read in the output of `rt ci`, and the budget of the proofs."""
+"""How the tools parse the output of `rt ci`, and the budget of the proofs."""
 import json
 import pathlib
 

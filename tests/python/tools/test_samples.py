@@ -1,11 +1,11 @@
-"""Which lines of a document are taken from a file, and which crate a cell of the index of promises names."""
+"""Code samples in documents, and the crates in cells of the index of guarantees."""
 import unittest
 
 from documents import indexed, sources, without_targets
 
 
 def shown(text):
-    """Returns what is taken from a file in a text whose code is indented."""
+    """Returns the lines of a text that are taken from a file. The code is indented."""
     lines = [(number, line, line.startswith("    ")) for number, line in enumerate(text.splitlines(), 1)]
     return [*sources(lines)]
 

@@ -1,4 +1,4 @@
-"""The players inside the drivers of seasons, and what these look at in a file of records."""
+"""The players in the drivers of seasons, and the drivers' checks of record files."""
 import os
 import pathlib
 import tempfile

@@ -1,4 +1,4 @@
-"""The tests that are left in a crate of tests/unit/ where some are asked for by their names."""
+"""The tests that remain in a crate of tests/unit/ if some are selected by name."""
 import os
 import tempfile
 import unittest

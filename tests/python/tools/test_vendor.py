@@ -1,4 +1,4 @@
-"""What `tools/vendor` leaves alone in the repository to which it copies crates."""
+"""What `tools/vendor` does not change in the repository to which it copies crates."""
 import os
 import pathlib
 import subprocess
@@ -33,7 +33,7 @@ class Vendor(unittest.TestCase):
         for words, wanted in (((CRATE,), "none"), (("call_history",), "Wait"), (("match_workers",), "Threads, Wait"), (("--cached", CRATE), "Threads, Wait, Net")):
             said = self.vendor(*words).stdout.splitlines()
             self.assertEqual(handles.read_text(encoding="utf-8"), f"Handles allowed: {wanted}.\n")
-            self.assertEqual(said[-1].startswith("cached proofs: none are taken"), "--cached" not in words)
+            self.assertEqual(said[-1].startswith("cached proofs: none can be used"), "--cached" not in words)
             handles.unlink()
 
     def test_handles_that_are_there_are_left_alone(self):

@@ -16,7 +16,7 @@ FILES = {
 
 
 def said(versions: dict[str, str]) -> tuple[int, str]:
-    """Returns the status of the look, and what it says, where each file has its version, 1.2.3 if it is not given."""
+    """Returns the exit status and the messages for these versions. The default is 1.2.3."""
     with tempfile.TemporaryDirectory() as top:
         for file, form in FILES.items():
             os.makedirs(os.path.dirname(f"{top}/{file}"), exist_ok=True)
@@ -39,4 +39,4 @@ class Version(unittest.TestCase):
                 self.assertEqual((status, "1.2.4" in words and "1.2.3" in words), (0, True), words)
 
     def test_a_place_without_a_version_is_named(self):
-        self.assertEqual(said({"README.md": "none"}), (0, "README.md: the version does not stand there\n"))
+        self.assertEqual(said({"README.md": "none"}), (0, "README.md: there is no version\n"))
