@@ -292,8 +292,11 @@ def pages_of(site: Site, tables: list[Table], results: list[Result]) -> dict[str
     texts, of_game = standing_texts(tables[0]), grouped(results, lambda match: [match.game])
     of_player = grouped(results, lambda match: dict.fromkeys(match.players))
     found = {"index.html": PageOf("", results, "", functools.partial(site.first_parts, tables, results))}
-    for name in pages_of_all(results):
-        found[f"{name}.html"] = PageOf("all matches", results, "", functools.partial(site.all_matches, results, name))
+    lists = pages_of_all(results)
+    # Each list links the others by their matches.
+    ends = " ".join(own[-1].match.id for own in lists.values() if own)
+    for name, own in lists.items():
+        found[f"{name}.html"] = PageOf("all matches", own, ends, functools.partial(site.all_matches, results, name))
     for table in tables[1:]:
         own, words = of_game.get(table.game, []), "rated" if any(line.rating for line in table.lines.values()) else ""
         found[f"games/{table.game}.html"] = PageOf(table.game, own, words, functools.partial(site.game_parts, table, own))
