@@ -31,8 +31,8 @@ def purpose(readme: str) -> str:
 
 def comment_of(source: str) -> str:
     """Returns the first sentence of the comment at the top of a Rattle file."""
-    found = COMMENT.match(source)
-    return first_sentence(found[1].replace("//! ", "")) if found else ""
+    comment = COMMENT.match(source)
+    return first_sentence(comment[1].replace("//! ", "")) if comment else ""
 
 
 def nearest(deps: list[str], known: dict[str, list[str]]) -> list[str]:

@@ -63,8 +63,8 @@ def texts_of(name, parts=PARTS):
 
 def strays(folder, names, top=TOP):
     """Returns the non-empty subdirectories of a directory that do not have any of these names, so that no tool reads them."""
-    with os.scandir(f"{top}/{folder}") as found:
-        others = sorted(entry.name for entry in found if entry.is_dir() and entry.name not in names)
+    with os.scandir(f"{top}/{folder}") as entries:
+        others = sorted(entry.name for entry in entries if entry.is_dir() and entry.name not in names)
     return [other for other in others if any(files for _, _, files in os.walk(f"{top}/{folder}/{other}"))]
 
 
@@ -133,8 +133,8 @@ def is_within(path, crate):
 def reaching(path, text, known):
     """Yields the imports of non-public definitions of other crates in a file: the module, and each name or `*`."""
     own = path.split("/")[1]
-    for found in NAMED.finditer(COMMENT.sub("", text)):
-        crate, module, names = found[1], f"{found[1]}{found[2]}", found[3] or ""
+    for match in NAMED.finditer(COMMENT.sub("", text)):
+        crate, module, names = match[1], f"{match[1]}{match[2]}", match[3] or ""
         if crate not in known or crate == own and is_within(path, own):
             continue
         for name in [word.split()[0] for word in names.strip("{}").split(",") if word.strip()] or ["*"]:

@@ -114,8 +114,8 @@ def without_targets(cell):
 
 def indexed(part):
     """Returns the crate in a part of a cell of the index, and the part as the crate's own table has it, or None."""
-    found = INDEXED.fullmatch(part)
-    return (found[2], f"`{found[1]}`{found[3]}") if found else None
+    match = INDEXED.fullmatch(part)
+    return (match[2], f"`{match[1]}`{match[3]}") if match else None
 
 
 def sources(lines):
@@ -125,8 +125,8 @@ def sources(lines):
         if is_code and source and line.strip():
             yield number, line.strip(), source
         elif not is_code and line.strip():
-            found = SOURCE.search(line)
-            source = found and found[1]
+            match = SOURCE.search(line)
+            source = match and match[1]
 
 
 # ---- sentences

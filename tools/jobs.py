@@ -43,11 +43,11 @@ class Counts:
 def counts_in(last_line: str, is_well: bool) -> Counts:
     """Returns what the last line of a command counts by `N passed`, `N failed`, `N errors` and `N skipped`. A command without such a line is one
     test. A command with another exit status than 0 has failed, whatever it prints."""
-    found = {word.removesuffix("s"): int(number) for number, word in COUNTED.findall(last_line)}
-    if not found:
+    numbers = {word.removesuffix("s"): int(number) for number, word in COUNTED.findall(last_line)}
+    if not numbers:
         return Counts(passed=int(is_well), failed=int(not is_well))
-    failed = found.get("failed", 0) + found.get("error", 0)
-    return Counts(found.get("passed", 0), failed or int(not is_well), found.get("skipped", 0))
+    failed = numbers.get("failed", 0) + numbers.get("error", 0)
+    return Counts(numbers.get("passed", 0), failed or int(not is_well), numbers.get("skipped", 0))
 
 
 @dataclass

@@ -33,23 +33,23 @@ def paragraphs(text: str) -> list[list[str]]:
 
 def entries(lines: list[str]) -> list[tuple[str, str]]:
     """Returns the arguments of a list with their descriptions."""
-    found = [ENTRY.fullmatch(line) for line in lines]
-    return [(entry[1], entry[2] or "") for entry in found if entry]
+    matches = [ENTRY.fullmatch(line) for line in lines]
+    return [(entry[1], entry[2] or "") for entry in matches if entry]
 
 
 def read_help(name: str, text: str) -> tuple[Help, list[str]]:
     """Parses the help of a command. Returns it with the names of the subcommands."""
-    found, within = Help(name, "", [], [], []), []
+    command_help, within = Help(name, "", [], [], []), []
     for lines in paragraphs(text):
         if lines[0].lower().startswith("usage:"):
-            found.usage = " ".join(line.strip() for line in lines).split(":", 1)[1].strip()
+            command_help.usage = " ".join(line.strip() for line in lines).split(":", 1)[1].strip()
         elif HEAD.fullmatch(lines[0]) and lines[0].lower() == "commands:":
             within = [word for word, _ in entries(lines[1:]) if word not in NO_COMMANDS]
         elif HEAD.fullmatch(lines[0]):
-            found.words += entries(lines[1:])
+            command_help.words += entries(lines[1:])
         else:
-            (found.more if found.words else found.about).append(" ".join(lines))
-    return found, within
+            (command_help.more if command_help.words else command_help.about).append(" ".join(lines))
+    return command_help, within
 
 
 # ---- The manual

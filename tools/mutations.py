@@ -99,20 +99,20 @@ def listed(crate: str, path: Path, top: str) -> list[Mutation]:
 
 def mutations_of(crate: str, top: str = TOP) -> list[Mutation]:
     """Returns the mutations of a crate: those that the gate tries, then the others."""
-    found = [gated(crate, path, top) for path in sorted(Path(top, "crates", crate, "must-fail").glob("*.edit"))]
+    gate_mutations = [gated(crate, path, top) for path in sorted(Path(top, "crates", crate, "must-fail").glob("*.edit"))]
     path = Path(top, "tests/mutations", f"{crate}.txt")
-    return found + (listed(crate, path, top) if path.is_file() else [])
+    return gate_mutations + (listed(crate, path, top) if path.is_file() else [])
 
 
 def errors_in(crates: list[str], top: str = TOP) -> Iterator[str]:
     """Yields why mutations cannot be read or applied."""
     for crate in crates:
         try:
-            found = mutations_of(crate, top)
+            crate_mutations = mutations_of(crate, top)
         except MutationError as error:
             yield str(error)
             continue
-        for mutation in found:
+        for mutation in crate_mutations:
             try:
                 mutation.applied(top)
             except MutationError as error:

@@ -35,8 +35,8 @@ def toolchain_error(version):
     words = version.split()
     if words and words[0] in TOOLCHAINS:
         return None
-    found = words[0] if words else "a version that does not say its name"
-    return "the Rattle toolchain here is " + found + ", and this repository is proved by " + spell_toolchains() + ": " + WHAT_TO_DO
+    name = words[0] if words else "a version that does not say its name"
+    return "the Rattle toolchain here is " + name + ", and this repository is proved by " + spell_toolchains() + ": " + WHAT_TO_DO
 
 
 def toolchain_version():

@@ -63,10 +63,10 @@ def numbers_in(file, form=r"(\d+)"):
     """Returns the numbers at the beginning of a file, or None if the file does not exist or sets no limit."""
     try:
         with open(file, encoding="ascii") as stream:
-            found = re.match(form, stream.read())
+            match = re.match(form, stream.read())
     except OSError:
         return None
-    return [int(word) for word in found.groups()] if found else None
+    return [int(word) for word in match.groups()] if match else None
 
 
 def free_memory(file="/proc/meminfo", group=GROUP):

@@ -58,8 +58,8 @@ class Proofs:
         self.block.append(line)
         if line.startswith("logic=proved "):
             self.result = f"proved, {said_words(line).get('functions', '?')} functions"
-        elif found := ENDS.match(line):
-            self.end(found[1], found[2])
+        elif match := ENDS.match(line):
+            self.end(match[1], match[2])
         elif line.startswith("rt: ") and not OF_EDITS.match(line):
             print(line, end="", flush=True)
 

@@ -48,8 +48,8 @@ def module_of(file: str) -> str:
 
 def without_other_tests(text: str, module: str, part: str) -> tuple[str, list[str]]:
     """Returns the text of a file without the tests whose names lack this part, and the names of the others."""
-    names = [name for name in (module + found[1] for found in TEST.finditer(text)) if part in name]
-    return TEST.sub(lambda found: found[0] if module + found[1] in names else "", text), names
+    names = [name for name in (module + match[1] for match in TEST.finditer(text)) if part in name]
+    return TEST.sub(lambda match: match[0] if module + match[1] in names else "", text), names
 
 
 def leave_tests(top: str, name: str, part: str) -> list[str]:

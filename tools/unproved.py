@@ -30,15 +30,15 @@ def running_below(folder):
 
 def wait_for_program(folder, compiling, who):
     """Waits until the compiled program runs, and shows the time on a terminal. Returns its path, or None."""
-    began, found = time.monotonic(), None
-    while compiling.poll() is None and time.monotonic() - began < PATIENCE and not found:
+    began, running = time.monotonic(), None
+    while compiling.poll() is None and time.monotonic() - began < PATIENCE and not running:
         if sys.stderr.isatty():
             print(f"\r{who}: compiling, {spell(time.monotonic() - began)} ", end="", file=sys.stderr, flush=True)
         time.sleep(0.2)
-        found = running_below(folder)
+        running = running_below(folder)
     if sys.stderr.isatty():
         print("\r\033[K", end="", file=sys.stderr)
-    return found
+    return running
 
 
 def compile_unproved(crate, kept, flags=(), arguments=(), given=b"", top=TOP):
@@ -46,25 +46,25 @@ def compile_unproved(crate, kept, flags=(), arguments=(), given=b"", top=TOP):
     for at least a second. Returns whether it was compiled, else prints the last lines of `rt try`."""
     room_of = os.path.dirname(kept)
     os.makedirs(room_of, exist_ok=True)
-    with tempfile.TemporaryDirectory(prefix="unproved-", dir=room_of) as room:
-        with open(f"{room}/given", "wb") as file:
+    with tempfile.TemporaryDirectory(prefix="unproved-", dir=room_of) as directory:
+        with open(f"{directory}/given", "wb") as file:
             file.write(given)
         call = [f"{TOP}/tools/try-alone", "--steps", "1", *flags, "--", *arguments]
-        with open(f"{room}/given", "rb") as stdin, open(f"{room}/log", "w+", errors="replace") as log:
-            how = {"cwd": f"{top}/crates/{crate}", "env": {**os.environ, "TMPDIR": room}, "stdin": stdin}
+        with open(f"{directory}/given", "rb") as stdin, open(f"{directory}/log", "w+", errors="replace") as log:
+            how = {"cwd": f"{top}/crates/{crate}", "env": {**os.environ, "TMPDIR": directory}, "stdin": stdin}
             compiling = subprocess.Popen(call, **how, stdout=log, stderr=log)
             try:
-                found = wait_for_program(room, compiling, crate)
-                if found:
-                    shutil.copyfile(found, f"{room}/kept")
+                running = wait_for_program(directory, compiling, crate)
+                if running:
+                    shutil.copyfile(running, f"{directory}/kept")
             finally:
                 compiling.terminate()
                 compiling.wait()
-            if not found:
+            if not running:
                 log.seek(0)
                 print(*log.read().splitlines()[-LAST_LINES:], sep="\n", file=sys.stderr)
                 print(f"{crate}: not compiled; the lines above are the last that `rt try` printed", file=sys.stderr)
                 return False
-        os.chmod(f"{room}/kept", 0o755)
-        os.replace(f"{room}/kept", kept)
+        os.chmod(f"{directory}/kept", 0o755)
+        os.replace(f"{directory}/kept", kept)
     return True

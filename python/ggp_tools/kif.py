@@ -139,7 +139,7 @@ def fits(pattern: Expression, term: Expression, values: dict[str, Expression]) -
         return values.setdefault(pattern, term) == term
     if isinstance(pattern, str) or isinstance(term, str):
         return pattern == term
-    return len(pattern) == len(term) and all(fits(wanted, given, values) for wanted, given in zip(pattern, term))
+    return len(pattern) == len(term) and all(fits(part, member, values) for part, member in zip(pattern, term))
 
 
 def put(term: Expression, values: dict[str, Expression]) -> Expression:

@@ -120,13 +120,13 @@ def status_of(command: str, perform: Callable[[], int], failed: int, known: tupl
 
 
 def whole(least: int, most: int) -> Callable[[str], int]:
-    """Returns what parses a whole number in these limits."""
+    """Returns a parser of whole numbers within these limits."""
 
     def parse(text: str) -> int:
         if text.isascii() and text.isdigit() and len(text) <= MOST_DIGITS and least <= int(text) <= most:
             return int(text)
-        found = ascii(text if len(text) <= MOST_DIGITS else f"{text[:MOST_DIGITS]}..")
-        raise argparse.ArgumentTypeError(f"expected a number from {least:,} to {most:,}, found {found}")
+        shown = ascii(text if len(text) <= MOST_DIGITS else f"{text[:MOST_DIGITS]}..")
+        raise argparse.ArgumentTypeError(f"expected a number from {least:,} to {most:,}, found {shown}")
 
     return parse
 

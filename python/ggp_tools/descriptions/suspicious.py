@@ -171,7 +171,7 @@ class Description:
             self.is_well_formed = False
             return
         part = Part(number, (1,) if is_rule else (), head_of(sentence))
-        asked = [Part(number, *found) for at, literal in enumerate(sentence[2:] if is_rule else (), 2) for found in conditions(literal, (at,))]
+        asked = [Part(number, *pair) for at, literal in enumerate(sentence[2:] if is_rule else (), 2) for pair in conditions(literal, (at,))]
         try:
             for literal in sentence[2:] if is_rule else ():
                 must_be_literal(literal)
@@ -346,8 +346,8 @@ class Search:
     def of_condition(self, part: Part) -> Finding | None:
         self.look_at_clock()
         key, atom = relation(part.atom), part.atom
-        if found := self.of_role(part):
-            return found
+        if finding := self.of_role(part):
+            return finding
         if key == ("true", 1):
             is_given, words = self.terms.may_give(atom), f"no `init` and no `next` gives the term {shown(atom[1])}"
             return None if is_given else Finding(part, words, ("true", relation(atom[1])))

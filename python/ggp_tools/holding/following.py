@@ -102,8 +102,8 @@ class Following:
         if error.startswith(ILLEGAL) and error != UNREADABLE:
             answer = self.term(error.removeprefix(ILLEGAL))
             if self.game.is_legal(position, role, answer):
-                given = self.cited(LEGAL, (role, answer), position.state)
-                raise Differs(f"{when}: the answer {self.text(answer)} was counted as illegal, but {given} it")
+                sources = self.cited(LEGAL, (role, answer), position.state)
+                raise Differs(f"{when}: the answer {self.text(answer)} was counted as illegal, but {sources} it")
         if error:
             self.look_at_first(when, position, role, move)
 
@@ -154,8 +154,8 @@ class Following:
     def look_at_goal(self, position: Position, role: str, value: int) -> None:
         goals = self.game.goals(position, role)
         if goals != [value]:
-            given = [f"{self.cited(GOAL, (role, str(goal)), position.state)} {goal}" for goal in goals]
-            raise Differs(f"{self.text(role)} has the goal {value} in the record, and by the description {'; '.join(given) or 'none'}")
+            reasons = [f"{self.cited(GOAL, (role, str(goal)), position.state)} {goal}" for goal in goals]
+            raise Differs(f"{self.text(role)} has the goal {value} in the record, and by the description {'; '.join(reasons) or 'none'}")
 
     def look_at_missing_goal(self, position: Position, at: int) -> None:
         """Checks the role for whose goals a match was given up: it must be the first without exactly one goal."""
@@ -170,5 +170,5 @@ class Following:
         without = next((place for place, role in enumerate(self.in_order) if not self.game.moves(position, role)), None)
         if without != at:
             stuck = "no role" if without is None else self.text(self.in_order[without])
-            said = "no role" if at is None else self.text(self.in_order[at])
-            raise Differs(f"after the last turn {said} has no legal move in the record, and by the description {stuck}")
+            recorded = "no role" if at is None else self.text(self.in_order[at])
+            raise Differs(f"after the last turn {recorded} has no legal move in the record, and by the description {stuck}")

@@ -24,14 +24,14 @@ def main() -> int:
     words.add_argument("--bind", default="127.0.0.1", metavar="ADDRESS", help="the address to listen on (default: 127.0.0.1)")
     text = "accept matches only from this address; may be given several times (default: the sender of the first INFO or START)"
     words.add_argument("--referee", type=address, action="append", default=[], metavar="ADDRESS", help=text)
-    given = words.parse_args()
+    options = words.parse_args()
     sys.setrecursionlimit(MOST_CALLS)
     try:
-        server = Server((given.bind, given.port), Seat(), given.referee)
+        server = Server((options.bind, options.port), Seat(), options.referee)
     except (OSError, OverflowError) as why:
-        print(f"ggp-human: {given.bind}:{given.port}: {getattr(why, 'strerror', None) or why}", file=sys.stderr)
+        print(f"ggp-human: {options.bind}:{options.port}: {getattr(why, 'strerror', None) or why}", file=sys.stderr)
         return 1
-    print(f"open http://{given.bind}:{server.server_address[1]}{server.page}", file=sys.stderr, flush=True)
+    print(f"open http://{options.bind}:{server.server_address[1]}{server.page}", file=sys.stderr, flush=True)
     try:
         server.serve_forever()
     except KeyboardInterrupt:

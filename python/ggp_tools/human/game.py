@@ -39,8 +39,8 @@ class Shown:
     def goals(self) -> dict[str, int | None]:
         """Returns the goal of each role, or None if it does not have exactly one."""
         position = self.game.position(self.state)
-        found = {spelled(role): self.game.goals(position, role) for role in self.game.roles}
-        return {role: values[0] if len(values) == 1 else None for role, values in found.items()}
+        values_by_role = {spelled(role): self.game.goals(position, role) for role in self.game.roles}
+        return {role: values[0] if len(values) == 1 else None for role, values in values_by_role.items()}
 
     def picture(self, legal: list[str]) -> dict:
         """Returns the boards, the terms that no board shows, the legal moves with the places that they name on each board, and for each role whether

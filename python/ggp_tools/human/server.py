@@ -102,8 +102,8 @@ class Handler(BaseHTTPRequestHandler):
     def take_move(self, body: bytes) -> None:
         """Takes the person's move."""
         try:
-            given = json.loads(body)
-            why = self.server.seat.move(given["move"], given["asked"])
+            values = json.loads(body)
+            why = self.server.seat.move(values["move"], values["asked"])
         except (ValueError, KeyError, TypeError, RecursionError):
             why = "that is no move"
         self.reply(HTTPStatus.CONFLICT if why else HTTPStatus.OK, "text/plain", (why or "taken").encode())

@@ -22,7 +22,7 @@ def is_endless(rule: Rule) -> bool:
     # The variables of the derived instance are renamed, because the next instance has its own.
     head = put(head, {name: name + "'" for name in variables(head)})
     for literal in asked:
-        if relation(literal.atom) != key or not all(fits(wanted, given, values) for wanted, given in zip(arguments(literal.atom), arguments(head))):
+        if relation(literal.atom) != key or not all(fits(pattern, term, values) for pattern, term in zip(arguments(literal.atom), arguments(head))):
             return False
     return any(isinstance(term, tuple) and name + "'" in variables(term) for name, term in values.items())
 

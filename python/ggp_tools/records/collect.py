@@ -197,5 +197,5 @@ def perform(given: argparse.Namespace) -> int:
 
 
 def main() -> int:
-    given = arguments(sys.argv[1:])
-    return status_of(COMMAND, lambda: perform(given), 3, (NoReferee, Unchecked, sqlite3.Error))
+    options = arguments(sys.argv[1:])
+    return status_of(COMMAND, lambda: perform(options), 3, (NoReferee, Unchecked, sqlite3.Error))

@@ -108,9 +108,9 @@ class Replay(Match):
         turn, wanted = len(self.moves), texts_of(self.states[-1])
         if terms == wanted:
             return None
-        given, right = set(terms), set(wanted)
-        sides = ("missing", [term for term in wanted if term not in given]), ("too many", [term for term in terms if term not in right])
-        lines = [f"{said}: {listed(listed_terms)}" for said, listed_terms in sides if listed_terms] or ["Its terms are right, but not in byte order, or not each once."]
+        recorded, expected = set(terms), set(wanted)
+        sides = ("missing", [term for term in wanted if term not in recorded]), ("too many", [term for term in terms if term not in expected])
+        lines = [f"{label}: {listed(listed_terms)}" for label, listed_terms in sides if listed_terms] or ["Its terms are right, but not in byte order, or not each once."]
         where = f"after turn {turn} is not the one that follows from the rules and the moves" if turn else "before turn 1 is not the first state of the rules"
         return (f"state {turn}", f"The state {where}.", *lines)
 
@@ -141,12 +141,12 @@ class Replay(Match):
         return None
 
     def goals_fault(self) -> Found | None:
-        phase, found = self.given["phase"], self.given["goalValues"]
+        phase, recorded = self.given["phase"], self.given["goalValues"]
         has_goals = phase in ("stopping", "finished")
         wanted = self.goals() if has_goals else []
-        if found == wanted:
+        if recorded == wanted:
             return None
-        sides = [", ".join(f"{name} {'without exactly one goal' if goal is None else goal}" for name, goal in zip(self.names, goals)) or "none" for goals in (wanted, found)]
+        sides = [", ".join(f"{name} {'without exactly one goal' if goal is None else goal}" for name, goal in zip(self.names, goals)) or "none" for goals in (wanted, recorded)]
         why = "has the goals of the last state" if has_goals else "has no goals"
         return ("goals", f"A record of the phase {phase} {why}.", f"expected: {sides[0]}", f"found: {sides[1]}")
 
@@ -154,14 +154,14 @@ class Replay(Match):
         """Compares phase and cause with those that follow from the marks and the last state, by the table in docs/RECORDS.md."""
         for kind in self.marks:
             self.marks[kind] = {role: mark for role, mark in enumerate(self.given[f"{kind}Marks"]) if mark is not None}
-        count, (phase, cause), found = len(self.marks["end"]), self.phase(), (self.given["phase"], self.given["cause"])
+        count, (phase, cause), recorded = len(self.marks["end"]), self.phase(), (self.given["phase"], self.given["cause"])
         ends = [(phase, cause)]
         if phase in ("starting", "playing"):
             ends = [*ends * (not count), (self.aborted(), "asked")] if phase == "playing" or not self.moves else []
-        if found in ends:
+        if recorded in ends:
             return None
         known = {"starting": f"a START mark is missing after {counted(len(self.moves), 'turn')}", "playing": "the match can go on"}.get(phase) or self.why(cause)
-        lines = [", or ".join(end_words(*end, self.names) for end in group) or "other marks or turns: no phase has these" for group in (ends, [found])]
+        lines = [", or ".join(end_words(*end, self.names) for end in group) or "other marks or turns: no phase has these" for group in (ends, [recorded])]
         sentence = f"At the end {known}, and {count} of {counted(len(self.names), 'role')} {'has' if count == 1 else 'have'} an end mark."
         return ("end", sentence, f"expected: {lines[0]}", f"found: {lines[1]}")
 

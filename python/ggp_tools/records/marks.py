@@ -57,10 +57,10 @@ def card_of(words: list[str]) -> Mark | None:
 def piece_of(label: str, has_codes: bool) -> tuple[str, str] | None:
     """Returns the side and the piece of a label. The side may be missing."""
     words = label.split(" ")
-    if found := COMPOUND.fullmatch(label):
-        words = [found[1], found[2]]
-    elif has_codes and (found := CODE.fullmatch(label)):
-        words = [SIDE_LETTERS[found[1]], PIECE_LETTERS[found[2]]]
+    if match := COMPOUND.fullmatch(label):
+        words = [match[1], match[2]]
+    elif has_codes and (match := CODE.fullmatch(label)):
+        words = [SIDE_LETTERS[match[1]], PIECE_LETTERS[match[2]]]
     sides, pieces = ([word for word in words if word in known] for known in (SIDES, PIECES))
     if len(pieces) == 1 and len(sides) == len(words) - 1 <= 1:
         return "".join(sides), pieces[0]
@@ -69,8 +69,8 @@ def piece_of(label: str, has_codes: bool) -> tuple[str, str] | None:
 
 def has_piece_codes(labels: set[str]) -> bool:
     """Returns whether labels such as `wk` and `bp` are pieces: there are more than two, of both sides."""
-    codes = [found for found in map(CODE.fullmatch, labels) if found]
-    return len(codes) > 2 and len({found[1] for found in codes}) == 2
+    codes = [match for match in map(CODE.fullmatch, labels) if match]
+    return len(codes) > 2 and len({match[1] for match in codes}) == 2
 
 
 def simple_mark(label: str, labels: set[str]) -> Mark | None:

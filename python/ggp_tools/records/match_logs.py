@@ -127,7 +127,7 @@ def beginnings(found: Iterable[Event]) -> Iterator[tuple[str, Beginning]]:
 
 def logged(run: Iterable[Event]) -> Beginning:
     """Returns the last run of a match."""
-    return next((found for _, found in beginnings(run)), Beginning())
+    return next((beginning for _, beginning in beginnings(run)), Beginning())
 
 
 class MatchLogs:

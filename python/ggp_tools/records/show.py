@@ -336,8 +336,8 @@ def states_of_page(states: list[list[str]], roles: Sequence[str], named: Named =
         ground = ground or [ground_of(board, own) for board, own in zip(boards, places)]
         mover = mover_of(state, roles)
         # A term that only says whose turn it is becomes the heading of the state.
-        said = [] if mover is None else [term for _, term in named_roles(state, roles) if len(words_of(term)) == 2]
-        terms = [term for term in state if not is_on_board(term, on_boards) and term not in said]
+        shown_above = [] if mover is None else [term for _, term in named_roles(state, roles) if len(words_of(term)) == 2]
+        terms = [term for term in state if not is_on_board(term, on_boards) and term not in shown_above]
         known, known_before = set(terms), known
         if number >= since:
             drawn = joined([board_page(*parts) for parts in zip(boards, places, before, ground, marks)])

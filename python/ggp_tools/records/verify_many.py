@@ -185,21 +185,21 @@ def arguments(words: list[str]) -> tuple[argparse.Namespace, list[str]]:
     reader.add_argument("--piece", type=number(MOST_PIECE), default=PIECE, metavar="BYTES", help=f"the size of a piece (default: {PIECE})")
     reader.add_argument("program", metavar="PROGRAM", help="ggp_manager")
     end = words.index("--") if "--" in words else len(words)
-    given = reader.parse_args(words[:end])
+    parsed = reader.parse_args(words[:end])
     if end == len(words):
         reader.error("expected `--` and the options of `verify --lines` after PROGRAM")
-    return given, words[end + 1 :]
+    return parsed, words[end + 1 :]
 
 
 def main() -> int:
-    given, options = arguments(sys.argv[1:])
+    parsed, options = arguments(sys.argv[1:])
     hold_closed_streams()
     if signal.getsignal(signal.SIGINT) is signal.default_int_handler:
         # Ctrl-C ends this command and its processes alike. Any that remain end with their input.
         signal.signal(signal.SIGINT, signal.SIG_DFL)
     status, has_why = 0, "--why" in options
     try:
-        check_all([given.program, "verify", "--lines", *options], given.jobs, given.piece)
+        check_all([parsed.program, "verify", "--lines", *options], parsed.jobs, parsed.piece)
     except Fault as fault:
         say(fault.said)
         status = fault.status_with_why() if has_why else fault.status
