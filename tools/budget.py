@@ -10,8 +10,8 @@ from crates import TOP, with_below
 MEASURED = f"{TOP}/bin/budget.json"
 BUDGET = f"{TOP}/tools/budget.txt"
 HEAD = """\
-# About how many megabytes a check lays out of each crate; then of all crates, and of the longest chain of crates that stand on one
-# another, each with its aim. `tools/budget --write` writes this file.
+# The proof cost of each crate in megabytes; then of all crates, and of the longest chain of crates that use one another, each with its aim.
+# `tools/budget --write` writes this file.
 """
 TOTALS = {"in_all": "in all", "longest_chain": "longest chain"}
 # Fitted to full checks of 27 libraries of 24 to 393 MB. The error is mostly 6%, and at most 20%. A step costs more for each type parameter of

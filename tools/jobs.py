@@ -84,7 +84,7 @@ class Jobs:
         reader = threading.Thread(target=self.read, args=(job, child, lines), daemon=True)
         reader.start()
         status = child.wait()
-        # What the command has left running would hold its output open.
+        # Processes that the command has left running would keep its output open.
         self.kill(child.pid, signal.SIGKILL)
         reader.join()
         with self.lock:
@@ -109,7 +109,7 @@ class Jobs:
         print(f"== {job.name}: {'done' if job.is_needed and is_well else counts}, in {spell(time.monotonic() - began)}", flush=True)
 
     def run_all(self, chain: Sequence[Job]) -> bool:
-        """Runs commands one after another, also after one that failed, if that is not needed. Returns whether all went well."""
+        """Runs commands one after another, also after one that failed, unless that one is needed. Returns whether all succeeded."""
         well = True
         for job in chain:
             passed = self.run(job)
@@ -119,7 +119,7 @@ class Jobs:
         return well
 
     def side_by_side(self, *chains: Sequence[Job]) -> bool:
-        """Runs each chain of commands beside the others. Returns whether all went well."""
+        """Runs several chains of commands in parallel. Returns whether all succeeded."""
         with ThreadPoolExecutor(len(chains)) as pool:
             try:
                 return all([*pool.map(self.run_all, chains)])

@@ -1,4 +1,4 @@
-"""The crates of tests/unit. They are compiled and not proved, in a directory that has them beside copies of the repository's crates."""
+"""The crates of tests/unit. They are compiled without proofs, in a directory with copies of the repository's crates."""
 import os
 import re
 import shutil

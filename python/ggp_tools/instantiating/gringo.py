@@ -184,7 +184,7 @@ def limit_process(seconds: float) -> None:
     resource.setrlimit(resource.RLIMIT_AS, (MEMORY, MEMORY))
     if seconds < math.inf:
         most = math.ceil(seconds)
-        # At the second limit it would be killed without SIGXCPU, which tells the reason.
+        # At the second limit it would be killed without SIGXCPU, which shows the reason.
         resource.setrlimit(resource.RLIMIT_CPU, (most, most + 1))
 
 
