@@ -27,7 +27,7 @@ class Answers(unittest.TestCase):
             ("(" * 65 + ")" * 65, "lists are nested more than 64 deep at column 65"),
             ("st?y", "the log shows `?` for the byte at column 3"),
             ("x" * 200 + "..", "the log has only the beginning of such a long answer"),
-            ("stay", ""),
+            *((answer, "") for answer in ("stay", "x" * 202)),
         ):
             with self.subTest(answer):
                 self.assertEqual(no_expression(answer), words)
