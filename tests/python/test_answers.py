@@ -46,6 +46,7 @@ class Answers(unittest.TestCase):
         self.assertEqual(illegal.moves(0, 1, "IL (take 2)"), "1: noop; it was legal in the turn before")
         self.assertEqual([illegal.moves(0, 0, error) for error in ("IL ?", "TO", "CE", "RT")], [""] * 4)
         self.assertEqual(Illegal([["(heap"]], ["red"], game).moves(0, 0, "IL noop"), "")
+        self.assertEqual(Illegal([*STATES, ["(heap 1)", "(turn red)"]], ["red", "blue"], game).moves(0, 2, "IL (take 3)"), "1: (take 1)")
 
     def test_a_page_tells_of_the_first_illegal_moves(self):
         whys = Whys(RECORD, game, {(1, 0): "a b"})

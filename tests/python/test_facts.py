@@ -96,6 +96,10 @@ class Logs(unittest.TestCase):
         for log in (LOG + other, mixed):
             self.assertEqual([begin[11:13] for begin, _, _ in self.times(log)], ["06", "08"])
 
+    def test_a_turn_ends_with_the_latest_of_its_answers(self):
+        lines = [line(M1, role, 2, "(PLAY m1 NIL)", "x", 9, time) for role, time in ((0, 7), (1, 5))]
+        self.assertEqual(logged(events(io.BytesIO("".join(lines).encode()))).turns, {1: 16})
+
     def test_a_clock_was_set_back_if_a_message_was_sent_before_the_one_before(self):
         def was_set_back(*sent: tuple[int, int | None]) -> bool:
             lines = [line(M1, role, number, "(PLAY m1 NIL)", "x", 9, time) for number, (role, time) in enumerate(sent, 2)]
