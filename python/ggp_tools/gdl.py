@@ -51,7 +51,7 @@ def as_read(expression: Expression) -> Expression:
 def must_be_term(expression: Expression) -> None:
     if isinstance(expression, tuple):
         if not expression or not isinstance(expression[0], str) or expression[0].startswith("?"):
-            raise Refused(f"{spelled(expression)} is no term")
+            raise Refused(f"{spelled(expression)} is not a term")
         for member in expression[1:]:
             must_be_term(member)
 
@@ -66,7 +66,7 @@ def form_of(name: str) -> str:
 def must_be_atomic(atom: Expression, is_head: bool) -> None:
     """Refuses an atom that is not an atomic sentence, or that is not allowed in a head or in a body."""
     if isinstance(atom, str) and atom.startswith("?"):
-        raise Refused(f"{atom} is no sentence", advice="a variable stands only in the arguments of a sentence")
+        raise Refused(f"{atom} is not a sentence", advice="a variable stands only in the arguments of a sentence")
     must_be_term(atom)
     name, arity = relation(atom)
     if is_head and (name, arity) in (("sees", 2), ("sees", 3)):
@@ -75,7 +75,7 @@ def must_be_atomic(atom: Expression, is_head: bool) -> None:
         raise Refused(f"the role `random` {SECRET}")
     if name in NO_RELATIONS or ARITIES.get(name, arity) != arity:
         form = form_of(name)
-        raise Refused(f"{spelled(atom)} is no sentence", advice=f"write {form}" if form else "")
+        raise Refused(f"{spelled(atom)} is not a sentence", advice=f"write {form}" if form else "")
     if is_head and name in ("true", "does"):
         advice = "`next` and `init` say what is true in a state" if name == "true" else "`legal` says which moves there are"
         raise Refused(f"{spelled(atom)} is a head", advice=advice)

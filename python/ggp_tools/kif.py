@@ -54,7 +54,7 @@ def tokens(text: str, takes_bytes: bool = False) -> Iterator[tuple[str, int, int
     `takes_bytes` any bytes are allowed, for messages."""
     text = blanked(text)
     if not takes_bytes and (bad := NO_CHARACTER.search(text)):
-        raise KifFault(f"a byte that is no character of KIF: {bad[0]!r}", bad.start(), advice_for_bytes(text))
+        raise KifFault(f"a byte that is not a character of KIF: {bad[0]!r}", bad.start(), advice_for_bytes(text))
     opened = []
     for token in TOKEN.finditer(text):
         if token[0] == ")":

@@ -48,7 +48,7 @@ def find_program(given: str | None) -> str:
     """Returns the path of the referee: the given one, else the one next to this program, in bin/ of the repository or on the path of the shell."""
     if given:
         if not shutil.which(given):
-            raise NoReferee(f"{given} is no program that can be run")
+            raise NoReferee(f"{given} is not an executable program")
         return os.path.abspath(shutil.which(given))
     beside = pathlib.Path(sys.argv[0]).absolute().parent
     inside = pathlib.Path(__file__).resolve().parents[2] / "bin"
@@ -135,7 +135,7 @@ class Referee:
     def version(self) -> str:
         run = self.call("--version")
         if not VERSION_LINE.fullmatch(run.stdout):
-            raise NoReferee(f"{self.path} is no {PROGRAM}: `--version` does not say `{PROGRAM} N.N.N`")
+            raise NoReferee(f"{self.path} is not {PROGRAM}: `--version` does not print `{PROGRAM} N.N.N`")
         return run.stdout.decode("ascii").strip()
 
     def roles(self, rules: bytes, name: object) -> tuple[str, ...]:

@@ -206,7 +206,7 @@ class Archive(unittest.TestCase):
 
     def test_another_program_publishes_nothing(self):
         published, other = self.archive.read_bytes(), program_but(self.other / "other", '"$1" = --version', "echo ggp_manager 9; exit")
-        said = f"ggp_competition: {other} is no ggp_manager: `--version` does not say `ggp_manager N.N.N`\n"
+        said = f"ggp_competition: {other} is not ggp_manager: `--version` does not print `ggp_manager N.N.N`\n"
         self.assertEqual(run(self.folder, "publish", "--program", other), (2, "", said))
         self.assertEqual(self.archive.read_bytes(), published)
 

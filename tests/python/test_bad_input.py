@@ -275,7 +275,7 @@ class BadInput(InFolder):
         for words in ([], ["plan", "one", "two"], ["play", "--at-once", "0"], ["check"], ["look"]):
             self.assertEqual(subprocess.run([sys.executable, COMMAND, *words], capture_output=True).returncode, 2, words)
         said = subprocess.run([sys.executable, COMMAND, "plan", "--program", "/none"], capture_output=True, text=True)
-        self.assertEqual((said.returncode, said.stderr), (2, "ggp_competition: /none is no program that can be run\n"))
+        self.assertEqual((said.returncode, said.stderr), (2, "ggp_competition: /none is not an executable program\n"))
 
     def test_help_and_version(self):
         def said(*words):

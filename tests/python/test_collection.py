@@ -129,7 +129,7 @@ class Piles(InFolder):
         self.assertEqual(refused, [
             f"{rules}/h0.kif: it has variables: `ggp-instantiate` makes ground rules of it", f"{rules}/h1.kif: it has no role", f"{rules}/h2.kif: bad",
             f"{rules}/h3.kif: line 1, column 1: a `)` with no open list; a sentence before it may have a `)` too many",
-            f"{rules}/h4.kif: line 1, column 1: (role) is no sentence: (role); write (role _)",
+            f"{rules}/h4.kif: line 1, column 1: (role) is not a sentence: (role); write (role _)",
         ])
 
     def test_the_game_whose_first_state_is_most_like_it_comes_first(self):

@@ -229,7 +229,7 @@ class Game(InFolder):
             ("(role a)\n(role b)\n(role A)", ["these name the same role: line 1, column 1: (role a); line 3, column 1: (role a)"]),
             ("(role a)\n(<= terminal p)\n(<= p (does a b))", ["line 3, column 1: terminal depends on does, by p: (<= p (does a b)); let `next` keep what the moves did, and ask for that by `true`"]),
             ("(role a)\n(goal a 101)", ["line 2, column 1: (goal a 101) can be derived, and its goal is not a number from 0 to 100: (goal a 101)"]),
-            ("(role a)\n(role a b)", ["line 2, column 1: (role a b) is no sentence: (role a b); write (role _)"]),
+            ("(role a)\n(role a b)", ["line 2, column 1: (role a b) is not a sentence: (role a b); write (role _)"]),
             ("(role a)\n" + "".join(f"(<= p{number} p{(number + 1) % 10})\n" for number in range(10)), [
                 "these depend on each other: " + "; ".join(f"line {at + 2}, column 1: (<= p{at} p{at + 1})" for at in range(8)) + "; and 2 more"
             ]),

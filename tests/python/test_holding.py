@@ -333,9 +333,9 @@ class Described(unittest.TestCase):
             ("(role a)\n" + "(" * 70_000, "line 2, column 65: lists are nested more than 64 deep"),
             ("(role a)\n(<= p " + "(not " * 70_000 + "q" + ")" * 70_001, "line 2, column 322: lists are nested more than 64 deep"),
             ("(role a) (p", "line 1, column 10: a list that is not closed; add a `)`"),
-            ("(role a) ()", "line 1, column 10: () is no term: ()"), ("(role a) (init ((s)))", "line 1, column 10: ((s)) is no term: (init ((s)))"),
+            ("(role a) ()", "line 1, column 10: () is not a term: ()"), ("(role a) (init ((s)))", "line 1, column 10: ((s)) is not a term: (init ((s)))"),
             ("(role a) (<=)", "line 1, column 10: a rule without a head: (<=); write (<= _ ..) as a whole sentence"),
-            ("(role a) (goal a)", "line 1, column 10: (goal a) is no sentence: (goal a); write (goal _ _)"),
+            ("(role a) (goal a)", "line 1, column 10: (goal a) is not a sentence: (goal a); write (goal _ _)"),
             ("(role a)\n)", "line 2, column 1: a `)` with no open list; a sentence before it may have a `)` too many"),
             ("(true x)", "line 1, column 1: (true x) is a head: (true x); `next` and `init` say what is true in a state"),
         ]:

@@ -34,7 +34,7 @@ class Texts(unittest.TestCase):
     def test_characters(self):
         self.assertEqual(expressions("! ~ \t\r\n"), ["!", "~"])
         for bad in "\x00\x08\x0b\x1f\x7f\xe9":
-            self.assert_fault(f"(a b{bad})", f"a byte that is no character of KIF: {bad!r}", 4)
+            self.assert_fault(f"(a b{bad})", f"a byte that is not a character of KIF: {bad!r}", 4)
 
     def test_refusals_have_their_place_the_sentence_and_what_to_do(self):
         def words(text, why=None):
@@ -49,7 +49,7 @@ class Texts(unittest.TestCase):
             ("\xef\xbb\xbf(a)", "the file begins with a byte order mark: save it without one"), ("\x1f\x8b\x08", "the file is packed by gzip: unpack it"),
             ("\xff\xfe(\x00", "the file is UTF-16: save it as ASCII"), ("\xe9", "write it in ASCII, or in a comment"),
         ):
-            self.assertEqual(words(text).partition("; ")[::2], (f"line 1, column 1: a byte that is no character of KIF: {text[0]!r}", advice))
+            self.assertEqual(words(text).partition("; ")[::2], (f"line 1, column 1: a byte that is not a character of KIF: {text[0]!r}", advice))
         long = "(c " + "d" * 200 + ")"
         self.assertEqual(words(f"(a)\n  (B  b)\n{long}", Refused("why", 1, "do this")), "line 2, column 3: why: (b b); do this")
         self.assertEqual(words(f"(a)\n{long}", Refused("why", 1)), f"line 2, column 1: why: (c {'d' * 157}..")

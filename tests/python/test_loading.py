@@ -107,7 +107,7 @@ class Loading(unittest.TestCase):
     def test_texts_that_are_no_descriptions(self):
         for text, words in (
             (b"", "line 1, column 1: there is no sentence"), (b" ; (\n", "line 1, column 1: there is no sentence"), (b"(role x)\n (a", "line 2, column 2: a list that is not closed; add a `)`"),
-            (b"(role x)\n\xe9", "line 2, column 1: a byte that is no character of KIF: '\xe9'; write it in ASCII, or in a comment"), (b"(role x)\n (<= p (not (q ?x)))", None), (b"(role x)\n\n  (<= (legal x ?m) (does x ?m))", f"line 3, column 3: {DEPENDS}"),
+            (b"(role x)\n\xe9", "line 2, column 1: a byte that is not a character of KIF: '\xe9'; write it in ASCII, or in a comment"), (b"(role x)\n (<= p (not (q ?x)))", None), (b"(role x)\n\n  (<= (legal x ?m) (does x ?m))", f"line 3, column 3: {DEPENDS}"),
         ):
             if words is None:
                 unsafe = "?x is unsafe: no sentence of the body that is not negated has it"

@@ -232,7 +232,7 @@ class Words(WithStandIn):
             self.answers(other)
             with self.assertRaises(NoReferee) as why:
                 self.referee.version()
-            self.assertIn("`--version` does not say `ggp_manager N.N.N`", str(why.exception))
+            self.assertIn("`--version` does not print `ggp_manager N.N.N`", str(why.exception))
 
 
 class Finding(unittest.TestCase):
@@ -258,7 +258,7 @@ class Finding(unittest.TestCase):
             self.assertEqual(find_program("ggp_manager"), given)
         with self.assertRaises(NoReferee) as why:
             find_program(f"{given}s")
-        self.assertEqual(str(why.exception), f"{given}s is no program that can be run")
+        self.assertEqual(str(why.exception), f"{given}s is not an executable program")
 
     def test_else_it_stands_beside_the_command_or_in_bin_or_on_the_path(self):
         on_path = self.program_in("path")

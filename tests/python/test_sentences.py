@@ -107,23 +107,23 @@ class Refusals(unittest.TestCase):
 
     def test_what_is_no_sentence(self):
         for text, words in (
-            ("?x", "?x is no sentence"), ("()", "() is no term"), ("((p) a)", "((p) a) is no term"), ("(?p a)", "(?p a) is no term"), ("(p ())", "() is no term"),
-            ("(p (f (?g)))", "(?g) is no term"), ("(or p q)", "(or p q) is no sentence"), ("(role a b)", "(role a b) is no sentence"), ("role", "role is no sentence"),
-            ("(terminal a)", "(terminal a) is no sentence"), ("(legal r)", "(legal r) is no sentence"), ("(goal r)", "(goal r) is no sentence"),
+            ("?x", "?x is not a sentence"), ("()", "() is not a term"), ("((p) a)", "((p) a) is not a term"), ("(?p a)", "(?p a) is not a term"), ("(p ())", "() is not a term"),
+            ("(p (f (?g)))", "(?g) is not a term"), ("(or p q)", "(or p q) is not a sentence"), ("(role a b)", "(role a b) is not a sentence"), ("role", "role is not a sentence"),
+            ("(terminal a)", "(terminal a) is not a sentence"), ("(legal r)", "(legal r) is not a sentence"), ("(goal r)", "(goal r) is not a sentence"),
             ("(<=)", "a rule without a head"), ("(true p)", "(true p) is a head"), ("(does r m)", "(does r m) is a head"),
-            ("(<= p (distinct a))", "(distinct a) is no sentence"), ("(<= p (not))", "(not) is no sentence"), ("(<= p (or))", "(or) is no sentence"),
-            ("(<= p (distinct () b))", "() is no term"), ("(<= p (distinct a ()))", "() is no term"), ("(<= p (or q (not ())))", "() is no term"),
-            ("(<= p (or (next a) q))", "(next a) is in a body"), ("(<= p (and () q))", "() is no term"),
-            ("(<= p (init a))", "(init a) is in a body"), ("(<= p (not (next a)))", "(next a) is in a body"), ("(<= p ?x)", "?x is no sentence"),
+            ("(<= p (distinct a))", "(distinct a) is not a sentence"), ("(<= p (not))", "(not) is not a sentence"), ("(<= p (or))", "(or) is not a sentence"),
+            ("(<= p (distinct () b))", "() is not a term"), ("(<= p (distinct a ()))", "() is not a term"), ("(<= p (or q (not ())))", "() is not a term"),
+            ("(<= p (or (next a) q))", "(next a) is in a body"), ("(<= p (and () q))", "() is not a term"),
+            ("(<= p (init a))", "(init a) is in a body"), ("(<= p (not (next a)))", "(next a) is in a body"), ("(<= p ?x)", "?x is not a sentence"),
         ):
             self.assert_refused(text, words)
 
     def test_what_to_do(self):
         for text, words, advice in (
-            ("(role a b)", "(role a b) is no sentence", "write (role _)"), ("(terminal a)", "(terminal a) is no sentence", "write terminal"),
-            ("(<= p (distinct a))", "(distinct a) is no sentence", "write (distinct _ _)"), ("(<= p (not))", "(not) is no sentence", "write (not _)"),
+            ("(role a b)", "(role a b) is not a sentence", "write (role _)"), ("(terminal a)", "(terminal a) is not a sentence", "write terminal"),
+            ("(<= p (distinct a))", "(distinct a) is not a sentence", "write (distinct _ _)"), ("(<= p (not))", "(not) is not a sentence", "write (not _)"),
             ("(true p)", "(true p) is a head", "`next` and `init` say what is true in a state"), ("(does r m)", "(does r m) is a head", "`legal` says which moves there are"),
-            ("(<= p (next a))", "(next a) is in a body", "ask for what is true in the state by `true`"), ("(p ())", "() is no term", ""),
+            ("(<= p (next a))", "(next a) is in a body", "ask for what is true in the state by `true`"), ("(p ())", "() is not a term", ""),
             ("(p ?x)", "?x is unsafe: no sentence of the body that is not negated has it", "add a condition with ?x that is not negated"),
         ):
             self.assertEqual(self.assert_refused(text, words), advice)

@@ -298,7 +298,7 @@ class Pages(Served):
             (files.Refused(f"{path}/schedule.tsv is not what {path}/competition.toml says"), "schedule.tsv is not what competition.toml says"),
             (files.Refused(f"{path}/schedule.tsv: /opt/games/heap.kif is there"), "schedule.tsv: heap.kif is there"),
             (OSError(5, "Input/output error", f"{path}/rules/heap.kif"), "rules/heap.kif: Input/output error"),
-            (NoReferee(f"{path}/ggp_manager is no program that can be run"), "the program can&#39;t be asked for its rules"),
+            (NoReferee(f"{path}/ggp_manager is not an executable program"), "the program can&#39;t be asked for its rules"),
         )
         places = ["/", "/matches.html", "/games/heap.html", f"/matches/{match.id}.html", f"/matches/{other.id}.html", "/players/player-ann.html"]
         for number, (fault, said) in enumerate(faults):

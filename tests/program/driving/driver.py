@@ -13,7 +13,7 @@ def runnable(word: str) -> str:
     """Returns the path of the program in an argument."""
     path = os.path.abspath(word)
     if os.path.isdir(path) or not os.access(path, os.X_OK):
-        raise argparse.ArgumentTypeError(f"{path} is no program that can be run")
+        raise argparse.ArgumentTypeError(f"{path} is not an executable program")
     return path
 
 
