@@ -72,11 +72,11 @@ class Seconds(InFolder):
 
     def test_a_plan_that_is_stopped_changes_nothing(self):
         (self.folder / "long.kif").write_text(LONG)
-        (self.folder / "competition.toml").write_text(toml(PLAYERS[:1], [("long", "long.kif", "seconds = 1")]))
+        (self.folder / "competition.toml").write_text(toml(PLAYERS[:1], [("long", "long.kif", "instantiate = 1")]))
         status, out, said = run(self.folder, "plan")
         self.assertEqual((status, out), (3, ""))
         self.assertIn("long.kif: ggp-instantiate: stopped after 1 s", said)
-        self.assertIn("; `seconds` of the game gives it more time; nothing is changed\n", said)
+        self.assertIn("; `instantiate` of the game gives it more time; nothing is changed\n", said)
         self.assertFalse((self.folder / "rules").exists())
 
 
