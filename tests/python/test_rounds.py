@@ -98,7 +98,9 @@ class ByRounds(unittest.TestCase):
         self.assertEqual(list(notes(tables[0]))[:3], [f"round {found.number}; bye: {found.byes[0]}" for found in plan.rounds])
         files = table_files(plan, tables)
         self.assertTrue(files["table.txt"].startswith(b"cup: 12 of 12 matches, 3 of 3 rounds\n"))
-        self.assertEqual([[found["round"], *found["byes"]] for found in json.loads(files["table.json"])["rounds"]], [[1, "p4"], [2, "p3"], [3, plan.rounds[2].byes[0]]])
+        said = json.loads(files["table.json"])
+        self.assertEqual([[found["round"], *found["byes"]] for found in said["rounds"]], [[1, "p4"], [2, "p3"], [3, plan.rounds[2].byes[0]]])
+        self.assertEqual(said["order"], "swiss")
 
     def test_a_knockout_from_its_first_round_to_its_table(self):
         self.write(6, 'kind = "knockout"')

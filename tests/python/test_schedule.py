@@ -90,7 +90,7 @@ class Schedule(unittest.TestCase):
 
     def test_two_players_meet_in_whatever_seats_they_sit(self):
         plan = types.SimpleNamespace(competition=read_competition(toml([(f"p{at}", f"h:{at + 1}") for at in range(3)], [("g0", "f")]).encode()), roles=lambda _: ("a", "b"))
-        self.assertEqual(said_of_game(plan, matches(3, 2)), "6 matches, roles a b; each player in each seat: 2; each two players: 2")
+        self.assertEqual(said_of_game(plan, matches(3, 2)), "6 matches, roles a b; each player in each role: 2; each two players: 2")
 
     def test_a_game_of_one_role_is_played_by_each_player_alone(self):
         for form in ('kind = "round_robin"', 'kind = "gauntlet"\none = "p1"'):

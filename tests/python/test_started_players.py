@@ -409,7 +409,7 @@ class Started(InFolder):
 
     def test_try(self):
         self.planned()
-        status, out, said = run(self.folder, "try", "competition.toml", "ann")
+        status, out, said = run(self.folder, "try", ".", "ann")
         self.assertEqual((status, said), (0, ""), out)
         self.assertIn("START", out)
         for words, why in ((("cid",), "competition.toml has no player cid"), (("ann", "--game", "go"), "competition.toml has no game go")):

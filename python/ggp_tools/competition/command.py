@@ -57,7 +57,7 @@ def add_options(command: argparse.ArgumentParser, name: str) -> None:
         add_init(command)
         return
     if name == "try":
-        command.add_argument("file", metavar="FILE", help="competition.toml")
+        command.add_argument("folder", metavar="FOLDER", help="the folder of the competition, or its competition.toml")
         command.add_argument("player", metavar="PLAYER", help="the name of the player")
         command.add_argument("--game", metavar="NAME", help="the game (the first one)")
         return
@@ -127,7 +127,7 @@ def spread(counts: Iterable[int]) -> str:
 
 
 def said_of_game(plan: Plan, matches: list[Match]) -> str:
-    """Returns how many matches of a game there are, how often a player sits in each seat, and how often two players meet."""
+    """Returns how many matches of a game there are, how often a player has each role, and how often two players meet."""
     if not matches:
         return "no match"
     names = [player.name for player in plan.competition.players]
@@ -135,7 +135,7 @@ def said_of_game(plan: Plan, matches: list[Match]) -> str:
     met = collections.Counter((player, other) for match in matches for player in match.players for other in match.players if player < other)
     roles = plan.roles(matches[0].game)
     times = spread([seats[seat, name] for seat in range(len(roles)) for name in names])
-    said = f"{len(matches)} matches, roles {' '.join(roles)}; each player in each seat: {times}"
+    said = f"{len(matches)} matches, roles {' '.join(roles)}; each player in each role: {times}"
     pairs = [met[player, other] for player in names for other in names if player < other]
     return f"{said}; each two players: {spread(pairs)}" if len(roles) > 1 else said
 
@@ -347,7 +347,7 @@ def run_why(asked: argparse.Namespace, referee: Referee) -> int:
 
 
 def run_try(asked: argparse.Namespace, referee: Referee) -> int:
-    return try_player(asked.file, asked.player, asked.game, referee)
+    return try_player(asked.folder, asked.player, asked.game, referee)
 
 
 def run_check(asked: argparse.Namespace, referee: Referee) -> int:

@@ -63,10 +63,10 @@ def fields(line: Line) -> dict[str, object]:
     return {head: said[head] for head in HEADS}
 
 
-def meetings(table: Table) -> list[dict[str, object]]:
-    """Returns how often each two players met, and the points of the first, by the heads of the columns of a file."""
+def crosstable(table: Table) -> list[dict[str, object]]:
+    """Returns how many matches each two players had, and the points of the first, by the heads of the columns of a file."""
     return [
-        {"player": player, "opponent": opponent, "meetings": met, "points": table.points[player, opponent]}
+        {"player": player, "opponent": opponent, "matches": met, "points": table.points[player, opponent]}
         for (player, opponent), met in sorted(table.met.items())
     ]
 
@@ -120,7 +120,7 @@ def standings_rows(table: Table) -> Iterator[list[str]]:
 
 
 def crosstable_rows(table: Table) -> Iterator[list[str]]:
-    """Gives the rows of the crosstable, the heads first: points, and behind a stroke the meetings. Players are numbered in the order of
+    """Gives the rows of the crosstable, the heads first: points, and behind a stroke the matches. Players are numbered in the order of
     the standings."""
     order = [line.player for line in table.standings()]
     yield ["", "player", *map(str, range(1, len(order) + 1))]
@@ -160,7 +160,7 @@ def table_text(plan: Plan, tables: list[Table]) -> str:
     for table in tables:
         lines += ["", table.game, "", *columns(list(standings_rows(table)))]
         if table.is_of_pairs():
-            lines += ["", "points / meetings", *columns(list(crosstable_rows(table)))]
+            lines += ["", "points / matches", *columns(list(crosstable_rows(table)))]
         lines += [f"* {note}" for note in notes(table)]
     return "\n".join([*lines, "", f"Ratings: {method_of(plan.competition)}.", ""])
 
@@ -180,7 +180,7 @@ def json_text(plan: Plan, tables: list[Table]) -> str:
         "planned": count_of_planned(plan),
         "forfeit": plan.competition.forfeit,
         "replaced": plan.competition.faults.replaced,
-        "order": plan.competition.order,
+        "order": tables[0].by,
         "rounds": [{"round": found.number, "pairs": found.pairs, "byes": found.byes} for found in plan.rounds],
         "ratings": method_of(plan.competition),
         "tables": [
@@ -188,7 +188,7 @@ def json_text(plan: Plan, tables: list[Table]) -> str:
                 "game": table.game,
                 "matches": table.matches,
                 "lines": [fields(line) for line in table.standings()],
-                "crosstable": meetings(table),
+                "crosstable": crosstable(table),
                 "notes": list(notes(table)),
             }
             for table in tables
@@ -200,7 +200,7 @@ def json_text(plan: Plan, tables: list[Table]) -> str:
 def table_files(plan: Plan, tables: list[Table]) -> dict[str, bytes]:
     """Returns the files of the table by their names, each as bytes."""
     lines = ({"game": table.game, **fields(line)} for table in tables for line in table.standings())
-    met = ({"game": table.game, **row, "points": points_text(row["points"])} for table in tables for row in meetings(table))
-    crosstable = csv_text(("game", "player", "opponent", "meetings", "points"), met)
-    texts = table_text(plan, tables), csv_text(("game", *HEADS), lines), crosstable, json_text(plan, tables)
+    met = ({"game": table.game, **row, "points": points_text(row["points"])} for table in tables for row in crosstable(table))
+    pairs = csv_text(("game", "player", "opponent", "matches", "points"), met)
+    texts = table_text(plan, tables), csv_text(("game", *HEADS), lines), pairs, json_text(plan, tables)
     return {name: text.encode("ascii") for name, text in zip(TABLE_FILES, texts)}

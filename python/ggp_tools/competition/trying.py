@@ -48,9 +48,10 @@ async def checked(started: StartedPlayer, referee: Referee, game: Game, rules: R
         await started.end()
 
 
-def try_player(file: str, name: str, game_name: str | None, referee: Referee) -> int:
-    path, reporter = pathlib.Path(file), Reporter()
-    folder = Folder(path.parent)
+def try_player(folder_or_file: str, name: str, game_name: str | None, referee: Referee) -> int:
+    given, reporter = pathlib.Path(folder_or_file), Reporter()
+    folder = Folder(given if given.is_dir() else given.parent)
+    path = folder.competition if given.is_dir() else given
     competition = competition_of_file(path, read_file(path))
     player, game = found_in(competition, path, name, game_name)
     refuse_addresses(folder, replace(competition, players=(player,)))
