@@ -1,5 +1,7 @@
 -- The program's fault for a fault of one of its parts, and its status.
 use Rattle.std.specs.Prelude.{◌≡◌, ◌⊎◌, ℕ}
+use Rattle.std.specs.declared.io.ErrorKind.{ErrorKind}
+use Rattle.std.specs.declared.io.ErrorKind.TheVariants.{NotFound, OutOfMemory}
 use Rattle.match_plans.specs.declared.schedule_fault.ScheduleFault.{ScheduleFault}
 use Rattle.match_plans.specs.declared.schedule_fault.ScheduleFault.TheVariants.{BadLine, Memory as ScheduleMemory}
 use Rattle.record_reading.specs.declared.verify_fault.VerifyFault.{VerifyFault}
@@ -11,13 +13,19 @@ use Rattle.command_faults.specs.declared.fault.Fault.TheVariants.{WrongUse, Memo
 use Rattle.command_faults.specs.declared.files.NamedFile.{NamedFile}
 use Rattle.command_faults.specs.declared.files.NamedFile.TheVariants.{Input}
 use Rattle.command_faults.specs.declared.files.FileFault.{FileFault}
-use Rattle.command_faults.specs.declared.files.FileFault.TheVariants.{Unread, TooLong as FileTooLong}
+use Rattle.command_faults.specs.declared.files.FileFault.TheVariants.{NoFile, Unopened, Unread, TooLong as FileTooLong}
 
 -- an input that can't be read
 abbrev pub input_fault : InputFault → Fault
 input_fault InputReadFault = ReadFault
 input_fault TooLong = InputTooLong
 input_fault InputMemory = Memory
+
+-- a file that can't be opened, by the kind of the error
+abbrev pub opening_fault : NamedFile → ErrorKind → Fault
+opening_fault named OutOfMemory = Memory
+opening_fault named NotFound = File named NoFile
+opening_fault named kind = File named Unopened
 
 -- a file that can't be read
 abbrev pub reading_fault : NamedFile → InputFault → Fault

@@ -1,6 +1,7 @@
 //! The files that a command line names.
 ghost use Rattle.std.specs.Prelude.{◌≡◌, IfErr};
-ghost use Rattle.command_faults.specs.Faults.{IsFileFault, input_file_fault, reading_fault};
+ghost use Rattle.std.specs.IoError.{error_kind};
+ghost use Rattle.command_faults.specs.Faults.{IsFileFault, input_file_fault, opening_fault, reading_fault};
 
 use crate::fault::Fault;
 use crate::printable::Printable;
@@ -93,7 +94,8 @@ pub fn tell_of_file<E: Write>(errors: &mut E, path: &str, why: &str) {
 
 /// The fault for a file that can't be opened.
 fn opening_fault(named: NamedFile, error: io::Error) -> Fault
-    ensures { IsFileFault named result }
+    ensures exact { result ≡ opening_fault named (error_kind error) }
+    ensures file { IsFileFault named result }
 {
     match error.kind() {
         ErrorKind::OutOfMemory => Fault::Memory,
