@@ -1,6 +1,7 @@
 """Finds and calls the referee, the program `ggp_manager`."""
 
 import contextlib
+import itertools
 import json
 import os
 import pathlib
@@ -20,9 +21,8 @@ if TYPE_CHECKING:
 
 PROGRAM = "ggp_manager"
 LAWFUL = "lawful"
-# With this option the exit status 1 means no, and all errors have greater ones.
-WHY, NO = "--why", 1
-NO_NAME = "ggp_manager: not sent: no answer from the resolver"
+# With this option verdicts are JSON, the exit status 1 means no, and all errors have greater ones.
+JSON, NO = "--json", 1
 VERSION_LINE = re.compile(rb"ggp_manager [0-9]+\.[0-9]+\.[0-9]+\n")
 # The first version that writes logs in JSON.
 FIRST_WITH_EVENTS = 0, 3, 0
@@ -74,15 +74,16 @@ def last_line(said: subprocess.CompletedProcess) -> str:
     return (said_lines(said) or [""])[-1]
 
 
-def is_no_answer(status: int | None, line: str) -> bool:
-    """Returns whether `info` ended because the player did not answer or its name could not be resolved."""
-    return status == NO or bool(status) and line == NO_NAME
+def verdict_words(verdict: dict) -> str:
+    """Returns a verdict of `verify` as people read it."""
+    return LAWFUL if verdict["verdict"] == LAWFUL else f"not lawful: {verdict['fault']}"
 
 
 def records_replayed(output: bytes) -> list[bytes]:
-    """Returns the records that `replay` printed for each account. It may print the right line after a wrong one."""
-    parts = re.split(rb"^replayed .*\n", output, flags=re.MULTILINE)[1:]
-    return [b"".join(line for line in part.splitlines(True) if line.startswith(b"{")) for part in parts]
+    """Returns the records that `replay` printed for each account. A verdict has their number and is the line before them."""
+    lines = iter(output.splitlines(True))
+    verdicts = (json.loads(line) for line in lines)
+    return [b"".join(itertools.islice(lines, verdict["records"])) for verdict in verdicts if verdict["verdict"] == "replayed"]
 
 
 def unchecked(said: subprocess.CompletedProcess, name: object) -> Unchecked:
@@ -102,8 +103,8 @@ def rules_file(rules: bytes) -> Iterator[str]:
         yield file.name
 
 
-def read_records(said: subprocess.CompletedProcess) -> list[dict] | None:
-    """Returns the records that `desk` printed, or None if a line is not a record."""
+def read_objects(said: subprocess.CompletedProcess) -> list[dict] | None:
+    """Returns the records or verdicts that a run printed, or None if a line is not JSON."""
     try:
         return [json.loads(line) for line in said.stdout.splitlines() if line.startswith(b"{")]
     except (ValueError, RecursionError):
@@ -157,28 +158,22 @@ class Referee:
         return [self.path, "abort", "--", match, place]
 
     def info_words(self, place: str) -> list[str]:
-        return [self.path, "info", WHY, "--", place]
+        return [self.path, "info", JSON, "--", place]
 
     def desk_words(self, rules_path: pathlib.Path | str) -> list[str]:
         return [self.path, "desk", *self.rules_words(rules_path)]
 
-    def verify_words(self, rules_path: pathlib.Path | str) -> list[str]:
-        return [self.path, "verify", "--lines", WHY, *self.rules_words(rules_path)]
-
-    def replay_words(self, rules_path: pathlib.Path | str) -> list[str]:
-        return [self.path, "replay", WHY, *self.rules_words(rules_path)]
-
     def desk(self, rules_path: pathlib.Path | str, script: bytes) -> tuple[list[str], dict]:
         """Returns the replies of `desk` to a script of one match, and the record of the match so far."""
         run = self.call("desk", *self.rules_words(rules_path), data=script)
-        records = read_records(run)
+        records = read_objects(run)
         if run.returncode or not records:
             raise unchecked(run, rules_path)
         return [line.decode("ascii", "replace") for line in run.stdout.splitlines() if not line.startswith(b"{")], records[0]
 
     def check_rules(self, rules_path: pathlib.Path | str, name: object = None) -> None:
         """Refuses a file that is not a ground description. `name` is used in error messages if the path is temporary."""
-        run = self.call("verify", "--lines", WHY, *self.rules_words(rules_path))
+        run = self.call("verify", "--lines", JSON, *self.rules_words(rules_path))
         if last_line(run) == f"{BAD_RULES}: {TOO_LONG}":
             raise BadRules(TOO_LONG)
         if last_line(run) == BAD_RULES:
@@ -188,9 +183,9 @@ class Referee:
             raise unchecked(run, name or rules_path)
 
     def verdicts(self, rules_path: pathlib.Path | str, records: Sequence[bytes]) -> list[str]:
-        """Returns the verdict of `verify` for each record. Each record is one line, which begins with `{`."""
-        run = self.call("verify", "--lines", WHY, *self.rules_words(rules_path), data=b"".join(records))
-        verdicts = run.stdout.decode("ascii", "replace").splitlines()
+        """Returns the verdict of `verify` for each record, in words. Each record is one line, which begins with `{`."""
+        run = self.call("verify", "--lines", JSON, *self.rules_words(rules_path), data=b"".join(records))
+        verdicts = [verdict_words(verdict) for verdict in read_objects(run) or ()]
         if len(verdicts) != len(records) or run.returncode != (0 if verdicts.count(LAWFUL) == len(verdicts) else NO):
             raise unchecked(run, rules_path)
         return verdicts
@@ -201,9 +196,9 @@ class Referee:
         results = []
         while len(results) < len(accounts):
             done = len(results)
-            run = self.call("replay", WHY, *self.rules_words(rules_path), data=b"".join(b"{\n" + account for account in accounts[done:]))
-            replayed = records_replayed(run.stdout)
+            run = self.call("replay", JSON, *self.rules_words(rules_path), data=b"".join(b"{\n" + account for account in accounts[done:]))
             is_refused = run.returncode == NO
+            replayed = records_replayed(run.stdout) if run.returncode in (0, NO) else []
             if not is_refused and (run.returncode != 0 or len(replayed) != len(accounts) - done):
                 raise unchecked(run, rules_path)
             results += [reproduced == record for reproduced, record in zip(replayed, records[done:])]

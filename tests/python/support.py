@@ -37,6 +37,12 @@ ODD = """
 """
 
 
+def verdict_rows(*faults):
+    """Returns what `verify --json` prints for records with these faults; a lawful one has none."""
+    verdicts = ({"verdict": "not_lawful", "fault": fault} if fault else {"verdict": "lawful"} for fault in faults)
+    return "".join(json.dumps(verdict, separators=(",", ":")) + "\n" for verdict in verdicts).encode()
+
+
 def outside(name):
     """Loads a module from outside the package."""
     sys.path += [folder for folder in OUTSIDE if folder not in sys.path]

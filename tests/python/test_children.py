@@ -148,7 +148,12 @@ def test_a_job_that_is_ended_is_ended_with_what_it_has_started(hears):
 
 def test_a_process_gets_its_input_and_is_told_by_its_streams():
     done = asyncio.run(run(["sh", "-c", "cat; echo why >&2; exit 3"], b"one\ntwo"))
-    assert (done.status, done.printed, done.last_printed(), done.last_words(), done.seconds > 0) == (3, b"one\ntwo", "two", "why", True)
+    assert (done.status, done.printed, done.last_words(), done.seconds > 0) == (3, b"one\ntwo", "why", True)
+
+
+def test_a_verdict_is_the_object_that_is_printed():
+    done = [asyncio.run(run(["cat"], given)) for given in (b'{"verdict":"ready"}\n', b"")]
+    assert [each.verdict() for each in done] == [{"verdict": "ready"}, {}]
 
 
 def test_a_process_that_reads_no_input_is_no_error(caplog):
@@ -191,7 +196,6 @@ def test_a_process_that_is_cancelled_is_ended_with_what_it_has_started(tmp_path)
 
 def test_the_last_words_are_printable_and_short(tmp_path):
     (tmp_path / "said").write_bytes(b"first\n" + CLEAR.encode("latin-1") + b"y" * 5_000 + b"\n")
-    done = asyncio.run(run(["sh", "-c", f"cat {tmp_path}/said >&2; cat {tmp_path}/said"]))
-    for words in (done.last_words(), done.last_printed()):
-        assert words.startswith("bad ?]0;title? words ?31m" + "y" * 900)
-        assert len(words) == 1_002
+    words = asyncio.run(run(["sh", "-c", f"cat {tmp_path}/said >&2"])).last_words()
+    assert words.startswith("bad ?]0;title? words ?31m" + "y" * 900)
+    assert len(words) == 1_002

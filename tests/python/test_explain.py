@@ -19,7 +19,7 @@ from ggp_tools.records.countdown import countdown
 from ggp_tools.records.explain import explain_lines, explanation, judged, judged_lines, read, short
 from ggp_tools.records.record import json_lines
 from ggp_tools.streams import Ended
-from support import TOP, outside, program
+from support import TOP, outside, program, verdict_rows
 from test_referee import WithStandIn
 
 EXPLAIN = TOP / "python/ggp-explain-record"
@@ -207,10 +207,10 @@ class Verdicts(WithStandIn):
 
     def test_of_one_record(self):
         path = self.referee.path
-        self.answers(b"lawful\n")
+        self.answers(verdict_rows(None))
         self.assertIsNone(judged(path, ["--countdown=3"], b"{}"))
-        self.assertEqual(self.asked(), (["verify", "--countdown=3"], b"{}"))
-        self.answers(b"", b"more\nggp_manager: not lawful: state 1\n", 1)
+        self.assertEqual(self.asked(), (["verify", "--json", "--countdown=3"], b"{}"))
+        self.answers(verdict_rows("state 1"), b"more\nggp_manager: not lawful: state 1\n", 1)
         self.assertEqual(judged(path, [], b"{}"), "state 1")
 
     def test_without_a_verdict(self):
@@ -218,11 +218,10 @@ class Verdicts(WithStandIn):
             judged(self.referee.path, [], b"{}")
 
         path = self.referee.path
-        self.assertEqual(self.no_verdict(ask, b"lawful\n", b"", 1), (f"{path} gives no verdict, and its status is 1", 3))
-        self.assertEqual(self.no_verdict(ask, b"lawful", b"", 0), (f"{path} gives no verdict, and its status is 0", 3))
-        self.assertEqual(self.no_verdict(ask, b"", b"ggp_manager: not lawful: state 1\n", 2), ("ggp_manager: not lawful: state 1", 3))
-        self.assertEqual(self.no_verdict(ask, b"", b"a\nggp_manager: wrong use\n", 2), ("a\nggp_manager: wrong use", 2))
-        self.assertEqual(self.no_verdict(ask, b"", b"ggp_manager: wrong use\nggp_manager: want of memory\n", 3), ("ggp_manager: wrong use\nggp_manager: want of memory", 3))
+        self.assertEqual(self.no_verdict(ask, verdict_rows(None), b"", 1), (f"{path} gives no verdict, and its status is 1", 3))
+        self.assertEqual(self.no_verdict(ask, verdict_rows(None)[:-3], b"", 0), (f"{path} gives no verdict, and its status is 0", 3))
+        self.assertEqual(self.no_verdict(ask, verdict_rows("state 1"), b"ggp_manager: not lawful: state 1\n", 2), ("ggp_manager: not lawful: state 1", 3))
+        self.assertEqual(self.no_verdict(ask, b"", b"a\nggp_manager: wrong use\n", 2), ("a\nggp_manager: wrong use", 3))
 
     def test_a_program_that_can_not_be_run(self):
         for path, words in (("/none", "No such file or directory"), ("a\0b", "its name has a NUL byte")):
@@ -232,13 +231,14 @@ class Verdicts(WithStandIn):
 
     def test_of_lines(self):
         path = self.referee.path
-        self.answers(b"lawful\nnot lawful: goals\n", b"ggp_manager: records not lawful 1\n", 1)
+        self.answers(verdict_rows(None, "goals"), b"ggp_manager: records not lawful 1\n", 1)
         self.assertEqual(judged_lines(path, ["--countdown=3"], [b"{}", b"7\tx"]), [None, "goals"])
-        self.assertEqual(self.asked(), (["verify", "--lines", "--countdown=3"], b"{}\n7\tx\n"))
-        self.answers(b"lawful\n")
+        self.assertEqual(self.asked(), (["verify", "--json", "--lines", "--countdown=3"], b"{}\n7\tx\n"))
+        self.answers(verdict_rows(None))
         self.assertEqual(judged_lines(path, [], [b"{}"]), [None])
         wrong = "gives no verdict, and its status is"
-        for answer, status in (((b"lawful\n" * 2, b"", 0), 0), ((b"lawful\n", b"", 1), 1), ((b"not lawful: goals\n", b"", 0), 0), ((b"not lawful: goals\n", b"", 2), 2), ((b"lawfull\n", b"", 0), 0), ((b"", b"", 0), 0)):
+        lawful, wrongly = verdict_rows(None), verdict_rows("goals")
+        for answer, status in (((lawful * 2, b"", 0), 0), ((lawful, b"", 1), 1), ((wrongly, b"", 0), 0), ((wrongly, b"", 2), 2), ((lawful[:-3], b"", 0), 0), ((b"", b"", 0), 0)):
             said = self.no_verdict(lambda: judged_lines(path, [], [b"{}"]), *answer)
             self.assertEqual(said, (f"{path} {wrong} {status}", 3), answer)
 
@@ -247,12 +247,12 @@ class Verdicts(WithStandIn):
         file, out, said = self.folder / "records", io.StringIO(), io.StringIO()
         file.write_bytes(data)
         with contextlib.redirect_stdout(out), contextlib.redirect_stderr(said):
-            explain_lines(argparse.Namespace(program=self.referee.path, countdown="3", rules_file=None, record=str(file)))
+            explain_lines(argparse.Namespace(program=self.referee.path, countdown=3, rules_file=None, record=str(file)))
         return said.getvalue().removeprefix("ggp-explain-record: ").strip(), out.getvalue().splitlines()
 
     def test_only_what_is_not_lawful_is_named(self):
         record, account = RECORD.read_bytes(), b"0\tnext m 0\tover\n"
-        self.answers(b"lawful\nnot lawful: goals\nnot lawful: json\nnot lawful: shape cause\n", b"", 1)
+        self.answers(verdict_rows(None, "goals", "json", "shape cause"), b"", 1)
         count, said = self.lines_of(account + record + record.replace(b"[0,100]", b"[100,0]") + b"{\n" + account + b'{"matchId":7}\n')
         self.assertEqual([line for line in said if not line.startswith("\t")], ["line 3, match m1: not lawful: goals", "line 4: not lawful: json", "line 6: not lawful: shape cause"])
         self.assertEqual(said[1], "\tA record of the phase finished has the goals of the last state.")
@@ -261,14 +261,14 @@ class Verdicts(WithStandIn):
 
     def test_a_line_that_is_too_long_is_no_record(self):
         most = 16 << 20
-        self.answers(b"lawful\n")
+        self.answers(verdict_rows(None))
         for _ in range(2):
             self.answers()
         count, said = self.lines_of(b"{" + b" " * (most - 2) + b"}\n" + b"{" + b" " * (most - 1) + b"}\n")
         self.assertEqual((count, said), ("1 lawful, 1 not lawful", ["line 2: no record: it is longer than 16 MiB"]))
 
     def test_lines_behind_one_that_is_too_long_have_their_own_verdicts(self):
-        self.answers(b"lawful\nnot lawful: json\nlawful\n", b"", 1)
+        self.answers(verdict_rows(None, "json", None), b"", 1)
         with mock.patch("ggp_tools.records.collection.LONGEST_RECORD", 4):
             count, said = self.lines_of(b"{}\n{   }\n[]\n{   }\n{ }\n")
         named = ["line 2: no record: it is longer than 16 MiB", "line 3: not lawful: json", "line 4: no record: it is longer than 16 MiB"]
@@ -276,19 +276,19 @@ class Verdicts(WithStandIn):
         self.assertEqual((count, self.asked()[1]), ("2 lawful, 3 not lawful", b"{}\n[]\n{ }\n"))
 
     def test_lines_are_handed_over_some_megabytes_at_a_time(self):
-        self.answers(b"lawful\n" * 2)
-        self.answers(b"lawful\n" * 3)
+        self.answers(verdict_rows(*[None] * 2))
+        self.answers(verdict_rows(*[None] * 3))
         with mock.patch("ggp_tools.records.collection.BATCH", 7):
             count, said = self.lines_of(b"{}\n{ }  \n[]\n[  ]\n{}\n")
         self.assertEqual((said, count, self.asked(0)[1], self.asked(1)[1]), ([], "5 lawful, 0 not lawful", b"{}\n{ }  \n", b"[]\n[  ]\n{}\n"))
 
     def test_without_lines_the_words_are_looked_at(self):
         self.answers()
-        self.assertEqual((self.lines_of(b"")[1], self.asked()), ([], (["verify", "--lines", "--countdown=3"], b"")))
+        self.assertEqual((self.lines_of(b"")[1], self.asked()), ([], (["verify", "--json", "--lines", "--countdown=3"], b"")))
 
     def test_a_line_may_have_no_name(self):
         lines = (b'{"matchId":"a\\u0001"}', b"[]", b"{}", b"[" * 99_999, b"x", b'{"matchId":["m"]}')
-        self.answers(b"not lawful: goals\n" * len(lines), b"", 1)
+        self.answers(verdict_rows(*["goals"] * len(lines)), b"", 1)
         said = [line.partition(": ")[0] for line in self.lines_of(b"\n".join(lines))[1] if not line.startswith("\t")]
         self.assertEqual(said, ["line 1, match a\\u{1}", *(f"line {at}" for at in range(2, 7))])
 
@@ -309,20 +309,20 @@ class Commands(WithStandIn):
             for large, options in ((False, []), (True, ["--large"])):
                 with explain.rules_of(argparse.Namespace(program="p", countdown=None, rules_file="f", large=large)) as (words, game):
                     self.assertEqual((words[0].partition("=")[0], words[1:], game().roles, game() is game()), ("--rules-file", options, ["red"], True))
-            with explain.rules_of(argparse.Namespace(program="p", countdown="0", rules_file=None)) as (words, game):
-                self.assertEqual((words, len(game().roles)), (["--countdown=0"], 2))
+            with explain.rules_of(argparse.Namespace(program="p", countdown=1, rules_file=None)) as (words, game):
+                self.assertEqual((words, len(game().roles)), (["--countdown=1"], 2))
         self.assertEqual(read_up_to, [("f", 1 << 20), ("f", 4 << 20)])
 
     def test_standard_input_and_output(self):
         for words in ([], ["--lines"]):
             ran = subprocess.run([sys.executable, EXPLAIN, "/none", *words, "--countdown=3"], preexec_fn=lambda: os.close(0), capture_output=True, text=True)
             self.assertEqual((ran.returncode, ran.stdout, ran.stderr), (3, "", "ggp-explain-record: standard input: it is closed\n"))
-        self.answers(b"lawful\n")
+        self.answers(verdict_rows(None))
         words = sys.executable, EXPLAIN, self.referee.path, RECORD, "--countdown=3"
         self.assertEqual(subprocess.run(words, capture_output=True).stdout, b"lawful\n")
 
-    def run_main(self, *words: str, answer=(b"lawful\n",)) -> tuple[int, str, str]:
-        """Runs the command in this process. Returns the exit status, the output and the errors."""
+    def run_main(self, *words: str, answer=(verdict_rows(None),)) -> tuple[int, str, str]:
+        """Returns the status, what was printed and what was said of a run in this process."""
         self.begin_anew()
         self.answers(*answer)
         output, said = io.StringIO(), io.StringIO()
@@ -330,25 +330,25 @@ class Commands(WithStandIn):
             return explain.main(), output.getvalue().removesuffix("\n"), said.getvalue()
 
     def test_one_record_or_lines(self):
-        wrong = (b"", b"ggp_manager: not lawful: version\n", 1)
+        wrong = (verdict_rows("version"), b"ggp_manager: not lawful: version\n", 1)
         self.assertEqual(self.run_main(str(RECORD), "--countdown=3"), (0, "lawful", ""))
         status, out, said = self.run_main(str(RECORD), "--countdown=3", answer=wrong)
         self.assertEqual((status, out.splitlines(), said), (1, ["not lawful: version", "The interpreter finds no fault", REPORT], ""))
         self.assertEqual(self.run_main(str(RECORD), "--lines", "--countdown=3"), (0, "", "ggp-explain-record: 1 lawful, 0 not lawful\n"))
-        status, out, said = self.run_main(str(RECORD), "--lines", "--countdown=3", answer=(b"not lawful: goals\n", b"", 1))
+        status, out, said = self.run_main(str(RECORD), "--lines", "--countdown=3", answer=(verdict_rows("goals"), b"", 1))
         self.assertEqual((status, out.splitlines()[0], said), (1, "line 1, match m1: not lawful: goals", "ggp-explain-record: 0 lawful, 1 not lawful\n"))
 
     def test_rules_of_a_file(self):
         file = self.folder / "rules"
         file.write_bytes(b"(role red)")
         kept = []
-        with mock.patch.object(subprocess, "run", lambda words, **_: kept.append(pathlib.Path(words[2].partition("=")[2]).read_bytes()) or subprocess.CompletedProcess(words, 0, b"lawful\n", b"")):
+        with mock.patch.object(subprocess, "run", lambda words, **_: kept.append(pathlib.Path(words[3].partition("=")[2]).read_bytes()) or subprocess.CompletedProcess(words, 0, verdict_rows(None), b"")):
             self.assertEqual(self.run_main(str(RECORD), "--rules-file", str(file))[0], 0)
         self.assertEqual(kept, [b"(role red)"])
 
     def test_without_a_verdict_the_status_says_so(self):
         self.assertEqual(self.run_main("/none", "--countdown=3"), (3, "", "ggp-explain-record: /none: No such file or directory\n"))
-        self.assertEqual(self.run_main(str(RECORD), "--countdown=3", answer=(b"", b"ggp_manager: wrong use\n", 2)), (2, "", "ggp_manager: wrong use\n"))
+        self.assertEqual(self.run_main(str(RECORD), "--countdown=3", answer=(b"", b"ggp_manager: read fault\n", 2)), (3, "", "ggp_manager: read fault\n"))
         for fault, words in ((MemoryError(), "out of memory"), (OSError(28, "full"), "full"), (OSError(28, "full", "x"), "x: full")):
             with mock.patch.object(explain, "explain_one", side_effect=fault):
                 self.assertEqual(self.run_main(str(RECORD), "--countdown=3"), (3, "", f"ggp-explain-record: {words}\n"))
@@ -414,13 +414,12 @@ class Whole(unittest.TestCase):
 
     def test_without_a_verdict(self):
         for words, status, said in (
-            (("--countdown", "101"), 2, "ggp_manager: wrong use"),
-            (("--countdown", "x"), 2, "ggp_manager: wrong use"),
+            (("--countdown", "101"), 2, "ggp-explain-record: error: argument --countdown: expected a number from 1 to 100, found '101'"),
+            (("--countdown", "x"), 2, "ggp-explain-record: error: argument --countdown: expected a number from 1 to 100, found 'x'"),
             (("--rules-file", "none"), 3, "ggp-explain-record: none: No such file or directory"),
             (("--rules-file", str(RECORD)), 3, "ggp_manager: bad description"),
             (("--countdown", "3", "none"), 3, "ggp-explain-record: none: No such file or directory"),
             (("--lines", "--countdown", "3", "none"), 3, "ggp-explain-record: none: No such file or directory"),
-            (("--lines", "--countdown", "x"), 2, "ggp_manager: wrong use"),
             (("--lines", "--rules-file", str(RECORD)), 3, "ggp_manager: bad description"),
         ):
             found, out, told = self.explained(b"", *words)

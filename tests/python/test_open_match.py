@@ -20,8 +20,14 @@ from ggp_tools.competition.started_players import StartedPlayers
 from ggp_tools.referee import Referee, Unchecked
 from live_support import plan_in, record_of
 
-NO_ANSWER = (1, b"", "ggp_manager: no answer")
-READY = (0, b"available\n", "")
+
+def info_of(verdict, status=0, text="", **more):
+    """Returns what comes of a process of `info` that prints this verdict."""
+    return status, json.dumps({"player": "x", "verdict": verdict} | more).encode() + b"\n", text
+
+
+NO_ANSWER = info_of("no_answer", 1, "ggp_manager: no answer")
+READY = info_of("available")
 OPENED = '{"event":"open","match":"cup-001","time":1}\n'
 
 
@@ -133,7 +139,7 @@ class Whole(WithMatch):
         self.go()
         asking, playing = ("asking", ["asking", "log.jsonl"], 0), ("playing", ["asking", "log.jsonl", "players", "playing"], 0)
         self.assertEqual(seen, {"ann@h:1": asking, "bob@h:2": asking, "played": playing})
-        self.assertEqual(self.words_of("bob@h:2"), ["program", "info", "--why", "--", "bob@h:2"])
+        self.assertEqual(self.words_of("bob@h:2"), ["program", "info", "--json", "--", "bob@h:2"])
         rules = self.plan.folder.rules_of("heap")
         self.assertEqual(self.words_of("played"), [
             "program", "run", f"--rules-file={rules.absolute()}", f"--id={self.match.id}", "--start=10", "--play=10", "--strikes=0", "--history", f"--log={self.open.room.absolute()}/log.jsonl", "--", "ann@h:1", "bob@h:2",
@@ -214,19 +220,19 @@ class Asking(WithMatch):
         return "played" in self.names(), self.open.why, self.reporter.lines
 
     def test_who_is_there(self):
-        for said in (b"available\n", b"ready\n", b"unknown\n"):
+        for said in ("available", "ready", "unknown"):
             self.begin(self.HEAD)
-            self.assertEqual(self.asked((0, said, ""), READY), (True, None, []))
+            self.assertEqual(self.asked(info_of(said), READY), (True, None, []))
 
     def test_who_is_busy_is_asked_again_and_then_no_more(self):
-        self.assertEqual(self.asked((0, b"busy\n", ""), READY), (False, None, [f"back {self.match.id}: ann is busy"]))
+        self.assertEqual(self.asked(info_of("busy"), READY), (False, None, [f"back {self.match.id}: ann is busy"]))
         self.assertEqual((self.seats.failed, self.seats.rested["ann"] > 0, self.open.result), ({"ann": 1, "bob": 0}, True, None))
-        self.assertEqual(self.asked((0, b"busy\n", ""), NO_ANSWER, head="tries = 1\n"), (False, "ann is busy, bob is silent", []))
+        self.assertEqual(self.asked(info_of("busy"), NO_ANSWER, head="tries = 1\n"), (False, "ann is busy, bob is silent", []))
         self.begin("tries = 3\n")
         self.seats.failed["ann"] = 2
-        self.assertEqual(self.asked((0, b"busy\n", ""), NO_ANSWER), (False, "ann is busy", []))
+        self.assertEqual(self.asked(info_of("busy"), NO_ANSWER), (False, "ann is busy", []))
         self.begin("tries = 3\n")
-        self.assertEqual(self.asked(NO_ANSWER, (0, b"busy\n", "")), (False, None, [f"back {self.match.id}: ann is silent, bob is busy"]))
+        self.assertEqual(self.asked(NO_ANSWER, info_of("busy")), (False, None, [f"back {self.match.id}: ann is silent, bob is busy"]))
 
     def test_who_is_there_begins_anew(self):
         self.seats.failed.update(ann=1, bob=1)
@@ -243,7 +249,7 @@ class Asking(WithMatch):
         head = 'tries = 1\nabsent = "play"\n'
         self.assertEqual(self.asked(READY, NO_ANSWER, head=head), (True, None, [f"absent {self.match.id}: bob is silent, and the match is played"]))
         # Who is busy is there.
-        self.assertEqual(self.asked((0, b"busy\n", ""), NO_ANSWER, head=head), (False, "ann is busy", []))
+        self.assertEqual(self.asked(info_of("busy"), NO_ANSWER, head=head), (False, "ann is busy", []))
         self.assertEqual(self.asked(READY, NO_ANSWER, head='tries = 2\nabsent = "play"\n'), (False, None, [f"back {self.match.id}: bob is silent"]))
 
     def test_a_fault_of_this_computer_is_none_of_a_player(self):
@@ -260,10 +266,10 @@ class Asking(WithMatch):
             self.assertEqual(sorted(self.reporter.notes), [f"info {self.match.id} ann: silent, {seconds}.0 s", f"info {self.match.id} bob: available, 0.0 s"])
 
     def test_what_came_of_an_info(self):
-        no_name = (2, b"", "ggp_manager: not sent: no answer from the resolver")
+        no_name, no_network = info_of("not_sent", 2, lacks="resolver"), info_of("not_sent", 2, "a\nb", lacks="network")
         for answer, seconds, words in (
             (NO_ANSWER, 0, "refused, 0.0 s"), (NO_ANSWER, 9.96, "refused, 10.0 s"), (NO_ANSWER, 10, "silent, 10.0 s"), (NO_ANSWER, 11, "silent, 11.0 s"),
-            (READY, 1, "available, 1.0 s"), ((2, b"x", "a\nb"), 1.25, "b, 1.2 s"), ((None, b"", ""), 3, "silent, 3.0 s"), (no_name, 0, "its name is not known, 0.0 s"),
+            (READY, 1, "available, 1.0 s"), (no_network, 1.25, "b, 1.2 s"), ((None, b"", ""), 3, "silent, 3.0 s"), (no_name, 0, "its name is not known, 0.0 s"),
         ):
             self.begin(self.HEAD)
             self.asked((*answer, seconds), READY)

@@ -10,9 +10,10 @@ from unittest import mock
 
 from ggp_tools.competition.schedule import Match
 from ggp_tools.referee import (
-    BadRules, NoReferee, Referee, Unchecked, find_program, has_events, is_no_answer, last_line, read_records, records_replayed,
-    is_text_list, rules_file,
+    BadRules, NoReferee, Referee, Unchecked, find_program, has_events, is_text_list, last_line, read_objects, records_replayed,
+    rules_file,
 )
+from support import verdict_rows
 
 # It keeps the words and the input of each run, and gives the answer that is laid down for it.
 STAND_IN = """#!/bin/sh
@@ -66,22 +67,27 @@ class Verdicts(WithStandIn):
         return self.referee.verdicts("game.kif", records or (b'{"a":1}\n', b'{"b":2}\n'))
 
     def test_each_record_has_its_verdict(self):
-        self.answers(b"lawful\nlawful\n")
+        self.answers(verdict_rows(None, None))
         self.assertEqual(self.verdicts(), ["lawful"] * 2)
-        self.assertEqual(self.asked(), (["verify", "--lines", "--why", "--rules-file=game.kif"], b'{"a":1}\n{"b":2}\n'))
+        self.assertEqual(self.asked(), (["verify", "--lines", "--json", "--rules-file=game.kif"], b'{"a":1}\n{"b":2}\n'))
 
     def test_records_that_are_not_lawful_have_status_1_and_their_number(self):
-        self.answers(b"lawful\nnot lawful: goals\n", b"ggp_manager: records not lawful 1\n", 1)
+        self.answers(verdict_rows(None, "goals"), b"ggp_manager: records not lawful 1\n", 1)
         self.assertEqual(self.verdicts(), ["lawful", "not lawful: goals"])
 
     def test_an_answer_that_does_not_fit_is_no_verdict(self):
-        wrong = b"lawful\nnot lawful: goals\n"
+        lawful, wrong = verdict_rows(None), verdict_rows(None, "goals")
         for said, *answer in (
-            ("it said nothing, status 0", b"lawful\n"), ("it said nothing, status 0", b"lawful\n" * 3), ("it said nothing, status 1", b"lawful\n" * 2, b"", 1),
+            ("it said nothing, status 0", lawful), ("it said nothing, status 0", lawful * 3), ("it said nothing, status 1", lawful * 2, b"", 1),
             ("records not lawful 1, status 0", wrong, b"ggp_manager: records not lawful 1\n", 0), ("read fault, status 2", wrong, b"ggp_manager: read fault\n", 2),
-            ("want of memory, status 3", b"lawful\n", b"more\nggp_manager: want of memory\n", 3),
+            ("want of memory, status 3", lawful[:-3], b"more\nggp_manager: want of memory\n", 3),
         ):
             self.assert_unchecked(f"`ggp_manager verify` came to no verdict with game.kif: {said}", self.verdicts, *answer)
+
+
+def replayed(records: int) -> bytes:
+    """Returns the verdict on an account that gives so many records again."""
+    return b'{"verdict":"replayed","calls":1,"not_ended":0,"records":%d}\n' % records
 
 
 class Replays(WithStandIn):
@@ -91,35 +97,35 @@ class Replays(WithStandIn):
         return self.referee.replays("game.kif", self.ACCOUNTS, self.RECORDS)
 
     def test_accounts_that_give_their_records_again(self):
-        self.answers(b'replayed 1 calls\n{"a":1}\nreplayed 1 calls\n{"b":2}\nreplayed 1 calls\n{"c":3}\n')
+        self.answers(replayed(1) + b'{"a":1}\n' + replayed(1) + b'{"b":2}\n' + replayed(1) + b'{"c":3}\n')
         self.assertEqual(self.replays(), [True] * 3)
-        self.assertEqual(self.asked(), (["replay", "--why", "--rules-file=game.kif"], b"{\n0\topen a\n{\n0\topen b\n{\n0\topen c\n"))
+        self.assertEqual(self.asked(), (["replay", "--json", "--rules-file=game.kif"], b"{\n0\topen a\n{\n0\topen b\n{\n0\topen c\n"))
 
     def test_an_account_that_gives_another_record_is_none_of_its_record(self):
-        self.answers(b'replayed 1 calls\n{"a":1}\nreplayed 1 calls\n{"b":3}\nreplayed 1 calls\n')
+        self.answers(replayed(1) + b'{"a":1}\n' + replayed(1) + b'{"b":3}\n' + replayed(0))
         self.assertEqual(self.replays(), [True, False, False])
 
     def test_behind_one_that_is_not_replayed_the_others_are_looked_at(self):
-        self.answers(b'replayed 1 calls\n{"a":1}\n0\topen b\topened\n', b"ggp_manager: not replayed: line 4 differs\n", 1)
-        self.answers(b'replayed 1 calls\n{"c":3}\n')
+        self.answers(replayed(1) + b'{"a":1}\n{"verdict":"differs","line":4}\n', b"ggp_manager: not replayed: line 4 differs\n", 1)
+        self.answers(replayed(1) + b'{"c":3}\n')
         self.assertEqual(self.replays(), [True, False, True])
         self.assertEqual(self.asked(1)[1], b"{\n0\topen c\n")
 
     def test_the_last_one_may_be_the_one_that_is_not_replayed(self):
-        self.answers(b'replayed 1 calls\n{"a":1}\nreplayed 1 calls\n{"b":2}\n', b"ggp_manager: not replayed: line 6 is no entry\n", 1)
+        self.answers(replayed(1) + b'{"a":1}\n' + replayed(1) + b'{"b":2}\n{"verdict":"no_entry","line":6}\n', b"", 1)
         self.assertEqual(self.replays(), [True, True, False])
 
     def test_an_answer_that_does_not_fit_is_no_verdict(self):
-        whole = b'replayed 1 calls\n{"a":1}\nreplayed 1 calls\n{"b":2}\nreplayed 1 calls\n{"c":3}\n'
+        whole = replayed(1) + b'{"a":1}\n' + replayed(1) + b'{"b":2}\n' + replayed(1) + b'{"c":3}\n'
         for said, *answer in (
-            ("it said nothing, status 0", b'replayed 1 calls\n{"a":1}\n'), ("it said nothing, status 0", whole + b"replayed 1 calls\n"),
-            ("want of memory, status 3", whole, b"ggp_manager: want of memory\n", 3), ("read fault, status 2", b"", b"ggp_manager: read fault\n", 2),
+            ("it said nothing, status 0", replayed(1) + b'{"a":1}\n'), ("it said nothing, status 0", whole + replayed(0)),
+            ("want of memory, status 3", whole, b"ggp_manager: want of memory\n", 3), ("read fault, status 2", whole[:-9], b"ggp_manager: read fault\n", 2),
         ):
             self.assert_unchecked(f"`ggp_manager replay` came to no verdict with game.kif: {said}", self.replays, *answer)
 
-    def test_records_stand_behind_the_line_of_their_account(self):
-        self.assertEqual(records_replayed(b'replayed 1 calls\n{"a":1}\nreplayed 20 calls\nreplayed 3 calls\n{"b":2}\n{"c":3}\n3\tnext m 0\tover\n'),
-                         [b'{"a":1}\n', b"", b'{"b":2}\n{"c":3}\n'])
+    def test_records_stand_behind_the_verdict_on_their_account(self):
+        refused = b'{"verdict":"differs","line":3}\n'
+        self.assertEqual(records_replayed(replayed(1) + b'{"a":1}\n' + replayed(0) + replayed(2) + b'{"b":2}\n{"c":3}\n' + refused), [b'{"a":1}\n', b"", b'{"b":2}\n{"c":3}\n'])
         self.assertEqual(records_replayed(b""), [])
 
 
@@ -131,7 +137,7 @@ class Rules(WithStandIn):
         rules = b"(<= (init (role y)) (role o)) (role X) ; (role z)\n(roles a) role (<= (role (o 1))) (role o)"
         self.assertEqual(self.referee.roles(rules, "nim"), ("x", "(o 1)", "o"))
         words, handed = self.asked()
-        self.assertEqual((words[:3], words[3].partition("=")[0], len(words), handed), (["verify", "--lines", "--why"], "--rules-file", 4, b""))
+        self.assertEqual((words[:3], words[3].partition("=")[0], len(words), handed), (["verify", "--lines", "--json"], "--rules-file", 4, b""))
 
     def test_a_bad_description_has_its_place(self):
         for said, words in (
@@ -158,7 +164,7 @@ class Rules(WithStandIn):
         self.begin_anew()
         self.answers()
         self.assertIsNone(self.referee.check_rules("game.kif"))
-        self.assertEqual(self.asked()[0], ["verify", "--lines", "--why", "--rules-file=game.kif"])
+        self.assertEqual(self.asked()[0], ["verify", "--lines", "--json", "--rules-file=game.kif"])
 
     def test_a_file_of_rules_is_there_as_long_as_it_is_needed(self):
         with rules_file(b"(role x)") as path:
@@ -173,11 +179,6 @@ class Rules(WithStandIn):
 
 
 class Lines(unittest.TestCase):
-    def test_a_player_that_does_not_answer(self):
-        no_name = "ggp_manager: not sent: no answer from the resolver"
-        for status, line, wanted in ((1, "ggp_manager: no answer", True), (2, no_name, True), (0, no_name, False), (None, no_name, False), (2, f"x{no_name}", False), (3, "", False)):
-            self.assertEqual(is_no_answer(status, line), wanted, (status, line))
-
     def test_which_versions_write_events(self):
         versions = b"ggp_manager 0.2.9\n", b"ggp_manager 0.3.0\n", b"ggp_manager 0.10.0\n", b"ggp_manager 1.0.0\n"
         self.assertEqual(list(map(has_events, versions)), [False, True, True, True])
@@ -192,10 +193,10 @@ class Lines(unittest.TestCase):
         def said(out: bytes) -> subprocess.CompletedProcess:
             return subprocess.CompletedProcess(["x"], 0, out, b"")
 
-        self.assertEqual(read_records(said(b'opened\n{"a":1}\nrefused\n{}\n')), [{"a": 1}, {}])
-        self.assertEqual(read_records(said(b"")), [])
-        self.assertIsNone(read_records(said(b'{"a":1}\n{"b"\n')))
-        self.assertIsNone(read_records(said(b'{"a":' + b"[" * 100_000)))
+        self.assertEqual(read_objects(said(b'opened\n{"a":1}\nrefused\n{}\n')), [{"a": 1}, {}])
+        self.assertEqual(read_objects(said(b"")), [])
+        self.assertIsNone(read_objects(said(b'{"a":1}\n{"b"\n')))
+        self.assertIsNone(read_objects(said(b'{"a":' + b"[" * 100_000)))
 
 
     def test_lists_of_texts(self):
@@ -208,9 +209,7 @@ class Words(WithStandIn):
     def test_the_words_of_each_command(self):
         path = self.referee.path
         self.assertEqual(self.referee.abort_words("cup-1", "ann@h:1"), [path, "abort", "--", "cup-1", "ann@h:1"])
-        self.assertEqual(self.referee.info_words("ann@h:1"), [path, "info", "--why", "--", "ann@h:1"])
-        self.assertEqual(self.referee.verify_words("r"), [path, "verify", "--lines", "--why", "--rules-file=r"])
-        self.assertEqual(self.referee.replay_words("r"), [path, "replay", "--why", "--rules-file=r"])
+        self.assertEqual(self.referee.info_words("ann@h:1"), [path, "info", "--json", "--", "ann@h:1"])
         options = ["--id=cup-1", "--start=10", "--play=5", "--strikes=2", "--history", "--log=-", "--", "ann@h:1", "bob@h:2"]
         places = ["ann@h:1", "bob@h:2"]
         self.assertEqual(self.referee.run_words("r", None, self.MATCH, 2, places), [path, "run", "--rules-file=r", *options])
@@ -219,9 +218,8 @@ class Words(WithStandIn):
 
     def test_a_large_game_is_said_to_be_one(self):
         path, large = self.referee.path, self.referee.taking(True)
-        for words in ("desk_words", "verify_words", "replay_words"):
-            usual = getattr(large.taking(False), words)("r")
-            self.assertEqual((usual, getattr(large, words)("r")), (getattr(self.referee, words)("r"), [*usual, "--large"]))
+        usual = large.taking(False).desk_words("r")
+        self.assertEqual((usual, large.desk_words("r")), (self.referee.desk_words("r"), [*usual, "--large"]))
         self.assertEqual(large.run_words("r", "t", self.MATCH, 2, ["ann@h:1"])[:5], [path, "run", "--rules-file=r", "--large", "--player-rules=t"])
 
     def test_a_program_is_known_by_its_version(self):

@@ -17,18 +17,15 @@ from unittest import mock
 
 from ggp_tools.records import verify_many
 from ggp_tools.records.verify_many import Fault, arguments, check, check_all, pieces
-from support import TOP
+from support import TOP, verdict_rows
 
 WRITE_WORDS = 'echo "$@" >> "$(dirname "$0")/words"\n'
 CHECK = """exec awk '
-/^[0-9]/ { skipped++; next }
-/short/ { print "ggp_manager: want of memory" > "/dev/stderr"; exit 3 }
-/ok/ { print "lawful"; next }
-{ print "not lawful: goals"; wrong++ }
-END {
-    if (skipped) print "ggp_manager: lines of accounts skipped " skipped > "/dev/stderr"
-    if (wrong) { print "ggp_manager: records not lawful " wrong > "/dev/stderr"; exit 1 }
-}'
+/^[0-9]/ { print "{\\"verdict\\":\\"skipped\\"}"; next }
+/short/ { print "ggp_manager: want of memory" > "/dev/stderr"; status = 2; exit }
+/ok/ { print "{\\"verdict\\":\\"lawful\\"}"; next }
+{ print "{\\"verdict\\":\\"not_lawful\\",\\"fault\\":\\"goals\\"}"; status = 1 }
+END { exit status }'
 """
 
 
@@ -85,7 +82,7 @@ class Pieces(unittest.TestCase):
 
     def test_where_reading_fails_whole_lines_are_checked_first(self):
         *found, fault = self.pieces(99, b"a\nb", b"c", OSError(5, "bad"))
-        self.assertEqual((found, fault.said, fault.status), ([b"", b"a\n"], b"ggp_manager: read fault\n", 1))
+        self.assertEqual((found, fault.said, fault.status), ([b"", b"a\n"], b"ggp_manager: read fault\n", 2))
         self.assertEqual(self.pieces(2, b"a\nb", OSError(5, "bad"))[:-1], [b"", b"a\n", b""])
 
 
@@ -111,40 +108,35 @@ class Checks(WithProgram):
         self.assertEqual(self.checked(b"ok\nok\n"), (b"lawful\nlawful\n", 0, 0, None))
         self.assertEqual(self.checked(b"ok\nno\n7\n8\nno\n"), (b"lawful\nnot lawful: goals\nnot lawful: goals\n", 2, 2, None))
         self.assertEqual((self.checked(b"7\n"), self.checked(b"")), ((b"", 1, 0, None), (b"", 0, 0, None)))
+        found = check([self.program, "verify", "--json"], b"ok\nno\n7\n")
+        self.assertEqual((found.verdicts, found.skipped, found.unlawful), (verdict_rows(None, "goals") + b'{"verdict":"skipped"}\n', 1, 1))
+        self.assertEqual(set((self.folder / "words").read_text().splitlines()), {"verify --json"})
 
     def test_a_fault_of_the_program(self):
-        self.assertEqual(self.checked(b"ok\nshort\n")[3], (b"ggp_manager: want of memory\n", 3))
-        wrong = self.stand_in("wrong", "#!/bin/sh\ncat > /dev/null\necho 'ggp_manager: records not lawful 1' >&2\nexit 2\n")
-        self.assertEqual(self.checked(b"no\n", wrong)[3], (b"ggp_manager: records not lawful 1\n", 2))
-        silent = self.stand_in("silent", "#!/bin/sh\ncat > /dev/null\nexit 1\n")
-        self.assertEqual(self.checked(b"no\n", silent)[3], (b"", 1))
-        # What has counted faults has status 1, and else 0.
-        other = self.stand_in("other", "#!/bin/sh\ncat > /dev/null\necho 'ggp_manager: records not lawful 1' >&2\n")
-        self.assertEqual(self.checked(b"no\n", other)[1:], (0, 0, None))
+        self.assertEqual(self.checked(b"ok\nshort\n"), (b"lawful\n", 0, 0, (b"ggp_manager: want of memory\n", 2)))
+        # A record that is not lawful has status 1, and else it is 0.
+        for name, row, status in (("silent", "", 1), ("wrong", verdict_rows("goals").decode(), 0), ("fault", verdict_rows("goals").decode(), 2)):
+            program = self.stand_in(name, f"#!/bin/sh\ncat > /dev/null\necho said >&2\nprintf '%s' '{row}'\nexit {status}\n")
+            self.assertEqual(self.checked(b"no\n", program)[1:], (0, 0, (b"said\n", 2)), name)
+
+    def test_what_is_not_a_verdict(self):
+        for name, row in (("words", "lawful"), ("number", "7"), ("object", '{"verdict":"taken"}'), ("other", '{"a":1}')):
+            program = self.stand_in(name, f"#!/bin/sh\ncat > /dev/null\necho '{row}'\n")
+            said = f"ggp-verify-records: {program} did not print verdicts: is it ggp_manager?\n".encode()
+            self.assertEqual(self.checked(b"ok\n", program), (b"", 0, 0, (said, 2)), name)
 
     def test_a_signal(self):
-        killed = self.stand_in("killed", "#!/bin/sh\ncat > /dev/null\necho some >&2\nkill -9 $$\n")
-        self.assertEqual(self.checked(b"ok\n", killed)[3], (f"some\nggp-verify-records: {killed} was killed by signal 9\n".encode(), 137))
+        killed = self.stand_in("killed", "#!/bin/sh\ncat > /dev/null\necho some >&2\nprintf '%s\\n%s' '{\"verdict\":\"lawful\"}' '{\"ver'\nkill -9 $$\n")
+        said = f"some\nggp-verify-records: {killed} was killed by signal 9\n".encode()
+        self.assertEqual(self.checked(b"ok\nok\n", killed), (b"lawful\n", 0, 0, (said, 137)))
 
     def test_a_program_that_can_not_be_run(self):
         none = str(self.folder / "none")
         self.assertEqual(self.checked(b"ok\n", none), (b"", 0, 0, (f"ggp-verify-records: cannot run {none}: No such file or directory\n".encode(), 2)))
 
     def test_one_that_reads_no_further(self):
-        deaf = self.stand_in("deaf", "#!/bin/sh\necho 'ggp_manager: bad description' >&2\nexit 1\n")
-        self.assertEqual(self.checked(b"x" * (1 << 20), deaf)[3], (b"ggp_manager: bad description\n", 1))
-
-    def test_only_unlawful_records_have_1_with_why(self):
-        for said, status, wanted in (
-            (b"ggp_manager: records not lawful 2\n", 1, 1),
-            (b"ggp_manager: lines of accounts skipped 3\nggp_manager: records not lawful 2\n", 1, 1),
-            (b"ggp_manager: records not lawful \n", 1, 2),
-            (b"ggp_manager: read fault\n", 1, 2),
-            (b"ggp_manager: want of memory\n", 3, 2),
-            (b"ggp_manager: bad description\n", 2, 2),
-            (b"ggp-verify-records: x was killed by signal 9\n", 137, 137),
-        ):
-            self.assertEqual(Fault(said, status).status_with_why(), wanted, said)
+        deaf = self.stand_in("deaf", "#!/bin/sh\necho 'ggp_manager: bad description' >&2\nexit 2\n")
+        self.assertEqual(self.checked(b"x" * (1 << 20), deaf)[3], (b"ggp_manager: bad description\n", 2))
 
 
 class All(WithProgram):
@@ -169,7 +161,7 @@ class All(WithProgram):
             self.assertEqual(self.all(text, jobs, size), (verdicts, b"ggp_manager: lines of accounts skipped 9\n", (b"ggp_manager: records not lawful 10\n", 1)))
         self.assertEqual(self.all(b"ok\n" * 5), (b"lawful\n" * 5, b"", None))
         self.assertEqual(self.all(b""), (b"", b"", None))
-        self.assertEqual(set((self.folder / "words").read_text().splitlines()), {"verify --lines"})
+        self.assertEqual(set((self.folder / "words").read_text().splitlines()), {"verify --lines --json"})
 
     def test_behind_a_fault_nothing_is_written(self):
         text = b"ok\nno\n7\n" * 3 + b"ok\nshort\n" + b"ok\n" * 20
@@ -177,7 +169,7 @@ class All(WithProgram):
         program = self.stand_in("silent", f"#!/bin/sh\n{CHECK}")
         for size in (1, 4):
             written, said, fault = self.all(text, 3, size, program)
-            self.assertEqual((written, said, fault), (b"lawful\nnot lawful: goals\n" * 3 + b"lawful\n", b"", (b"ggp_manager: want of memory\n", 3)))
+            self.assertEqual((written, said, fault), (b"lawful\nnot lawful: goals\n" * 3 + b"lawful\n", b"", (b"ggp_manager: want of memory\n", 2)))
 
     def test_a_thread_that_can_not_be_made_is_want_of_memory(self):
         with mock.patch.object(verify_many.threading.Thread, "start", side_effect=RuntimeError), self.assertRaises(MemoryError):
@@ -192,7 +184,7 @@ class All(WithProgram):
     def test_verdicts_that_can_not_be_written(self):
         with reading(lambda *_: b""), mock.patch.object(verify_many, "write_whole", side_effect=OSError(28, "full")), self.assertRaises(Fault) as why:
             check_all([self.program], 1, 9)
-        self.assertEqual((why.exception.said, why.exception.status), (b"ggp_manager: write fault\n", 1))
+        self.assertEqual((why.exception.said, why.exception.status), (b"ggp_manager: write fault\n", 2))
 
     def test_no_more_processes_at_a_time_than_were_asked_for(self):
         counting = self.stand_in("counting", '#!/bin/sh\ncd "$(dirname "$0")"\nmkdir run.$$\nls -d run.* | wc -l >> counts\nsleep 0.05\nrmdir run.$$\ncat > /dev/null\n')
@@ -219,7 +211,8 @@ class Commands(WithProgram):
             arguments(["--help"])
         lines = out.getvalue().splitlines()
         self.assertEqual(lines[0], "usage: ggp-verify-records [--jobs N] [--piece BYTES] PROGRAM -- OPTIONS < records > verdicts")
-        self.assertEqual((lines[2], lines[-1][-32:]), (verify_many.__doc__.splitlines()[0], "needs only Python 3.11 or later."))
+        self.assertEqual(lines[2], verify_many.__doc__.splitlines()[0])
+        self.assertTrue(" ".join(out.getvalue().split()).endswith("It needs only Python 3.11 or later."))
 
     def test_words_that_are_none(self):
         for words in (["program"], ["--"], ["--jobs", "0", "p", "--"], ["--jobs", "1025", "p", "--"], ["--piece", "0", "p", "--"], ["--piece", str((1 << 30) + 1), "p", "--"], ["--jobs", "x", "p", "--"], ["--jobs", "-1", "p", "--"], ["--jobs", "1_0", "p", "--"]):
@@ -227,13 +220,13 @@ class Commands(WithProgram):
                 arguments(words)
             self.assertEqual(why.exception.code, 2, words)
 
-    def test_status_and_streams_are_those_of_the_program(self):
+    def test_status_and_streams_are_those_of_one_process(self):
         self.assertEqual(self.run_command(self.program, "--", "x", text=b"ok\nno\n7\n"), (
             1, b"lawful\nnot lawful: goals\n", b"ggp_manager: lines of accounts skipped 1\nggp_manager: records not lawful 1\n",
         ))
-        self.assertEqual((self.folder / "words").read_text().splitlines()[-1], "verify --lines x")
+        self.assertEqual((self.folder / "words").read_text().splitlines()[-1], "verify --lines x --json")
         self.assertEqual(self.run_command(self.program, "--", text=b"ok\n"), (0, b"lawful\n", b""))
-        self.assertEqual(self.run_command(self.program, "--", text=b"short\n"), (3, b"", b"ggp_manager: want of memory\n"))
+        self.assertEqual(self.run_command(self.program, "--", text=b"short\n"), (2, b"", b"ggp_manager: want of memory\n"))
 
     def ended(self, *words, fault=None, handler=None):
         """Returns the exit status of a run whose check raises this error, the arguments, the messages, and the signals that are set."""
@@ -252,14 +245,11 @@ class Commands(WithProgram):
         self.assertEqual(self.ended(*words), (0, more, b"", []))
         # Ctrl-C ends it as it ends the program, unless it is ignored.
         self.assertEqual(self.ended(*words, handler=signal.default_int_handler)[3], [(signal.SIGINT, signal.SIG_DFL)])
-        for fault, said, status, with_why in (
-            (Fault(b"ggp_manager: records not lawful 1\n"), b"ggp_manager: records not lawful 1\n", 1, 1), (Fault(b"bad\n", 3), b"bad\n", 3, 2),
-            (MemoryError(), b"ggp_manager: want of memory\n", 3, 2),
-        ):
-            self.assertEqual((self.ended(*words, fault=fault), self.ended(*words, "--why", fault=fault)[::2]), ((status, more, said, []), (with_why, said)))
+        for fault, said, status in ((Fault(b"no\n", 1), b"no\n", 1), (Fault(b"bad\n"), b"bad\n", 2), (MemoryError(), b"ggp_manager: want of memory\n", 2)):
+            self.assertEqual(self.ended(*words, fault=fault), (status, more, said, []))
 
     def test_streams_that_are_closed(self):
         words = f"{sys.executable} {TOP}/python/ggp-verify-records {self.program} --"
-        for closed, status, said in (("<&-", 1, "ggp_manager: read fault\n"), (">&- < /dev/null", 0, ""), ("2>&- < /dev/null", 0, "")):
+        for closed, status, said in (("<&-", 2, "ggp_manager: read fault\n"), (">&- < /dev/null", 0, ""), ("2>&- < /dev/null", 0, "")):
             ran = subprocess.run(["sh", "-c", f"{words} {closed}"], capture_output=True, text=True, stdin=subprocess.DEVNULL)
             self.assertEqual((ran.returncode, ran.stderr, ran.stdout), (status, said, ""), closed)

@@ -2,7 +2,9 @@
 ghost use Rattle.std.specs.Prelude.{◌≤◌, IfOk};
 
 use crate::program::program;
-use crate::tasks::{AbortPlan, GameOptions, MatchTask, RunPlan, SeasonPlan, Task};
+use crate::tasks::{
+    AbortPlan, GameOptions, GameRequest, InfoPlan, MatchTask, RunPlan, SeasonPlan, Task,
+};
 use clap::ArgMatches;
 use clap::error::ErrorKind;
 use game_core::Limits;
@@ -144,12 +146,17 @@ fn input_file<'a>(found: &ArgMatches<'a>) -> Option<&'a str> {
     }
 }
 
-fn game_task<'a>(command: GameCommand, found: &ArgMatches<'a>) -> Result<Task<'a>, WrongValue<'a>> {
-    Ok(Task::Game(GameTask {
+fn game_task<'a>(
+    command: GameCommand,
+    is_json: bool,
+    found: &ArgMatches<'a>,
+) -> Result<Task<'a>, WrongValue<'a>> {
+    let task = GameTask {
         command,
         game: game_source(found)?,
         file: input_file(found),
-    }))
+    };
+    Ok(Task::Game(GameRequest { task, is_json }))
 }
 
 fn verify_command(found: &ArgMatches<'_>) -> GameCommand {
@@ -228,6 +235,13 @@ fn run_plan<'a>(alloc: Global, found: &ArgMatches<'a>) -> Result<RunPlan<'a>, Ar
     })
 }
 
+fn info_plan<'a>(found: &ArgMatches<'a>) -> Result<InfoPlan<'a>, WrongValue<'a>> {
+    Ok(InfoPlan {
+        player: only_player(found)?,
+        is_json: found.get_flag("json"),
+    })
+}
+
 fn abort_plan<'a>(
     alloc: Global,
     found: &ArgMatches<'a>,
@@ -235,6 +249,7 @@ fn abort_plan<'a>(
     Ok(AbortPlan {
         id: found.get_str("id").unwrap_or(""),
         players: players(alloc, found)?,
+        is_json: found.get_flag("json"),
     })
 }
 
@@ -259,10 +274,10 @@ fn task<'a>(
     found: &ArgMatches<'a>,
 ) -> Result<Task<'a>, ArgumentFault<'a>> {
     match name {
-        "desk" => Ok(game_task(GameCommand::Desk, found)?),
-        "verify" => Ok(game_task(verify_command(found), found)?),
-        "replay" => Ok(game_task(GameCommand::Replay, found)?),
-        "info" => Ok(Task::Info(only_player(found)?)),
+        "desk" => Ok(game_task(GameCommand::Desk, false, found)?),
+        "verify" => Ok(game_task(verify_command(found), found.get_flag("json"), found)?),
+        "replay" => Ok(game_task(GameCommand::Replay, found.get_flag("json"), found)?),
+        "info" => Ok(Task::Info(info_plan(found)?)),
         "abort" => Ok(Task::Abort(abort_plan(alloc, found)?)),
         _ => {
             let hosting = game_options(found)?;

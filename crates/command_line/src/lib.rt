@@ -1,7 +1,7 @@
 //! The command line of `ggp_manager`: the task of its words, and the words about a refusal.
 //!
 //! `read_arguments` reads the words after the program's name as a `Task`. `refusal` explains why words are refused. `asks_why` says whether
-//! they have `--why`.
+//! they have `--why` or `--json`.
 //!
 //! Free functions take the allocator first.
 #![tactic(auto)]
@@ -14,4 +14,6 @@ mod tasks;
 pub use arguments::{ArgumentFault, WrongValue, read_arguments};
 pub use program::VERSION;
 pub use refusals::{asks_why, has_own_word, refusal};
-pub use tasks::{AbortPlan, GameOptions, MatchTask, RunPlan, SeasonPlan, Task};
+pub use tasks::{
+    AbortPlan, GameOptions, GameRequest, InfoPlan, MatchTask, RunPlan, SeasonPlan, Task,
+};

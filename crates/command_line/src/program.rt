@@ -125,6 +125,12 @@ const WHY: Argument = Argument {
     help: "Print the reason on standard error even if it is not a terminal; exit status 1: no, 2: no verdict",
 };
 
+const JSON: Argument = Argument {
+    name: "json",
+    form: Form::Flag,
+    help: "Print the verdict as a JSON object; this option includes --why",
+};
+
 const PLAYER: Argument = Argument {
     name: "player",
     form: Form::Player,
@@ -217,12 +223,13 @@ const SEASON: [Argument; 15] = [
     },
 ];
 
-const VERIFY: [Argument; 7] = [
+const VERIFY: [Argument; 8] = [
     COUNTDOWN,
     RULES,
     RULES_FILE,
     LARGE,
     WHY,
+    JSON,
     Argument {
         name: "lines",
         form: Form::Flag,
@@ -235,12 +242,13 @@ const VERIFY: [Argument; 7] = [
     },
 ];
 
-const REPLAY: [Argument; 6] = [
+const REPLAY: [Argument; 7] = [
     COUNTDOWN,
     RULES,
     RULES_FILE,
     LARGE,
     WHY,
+    JSON,
     Argument {
         name: "file",
         form: Form::File,
@@ -248,10 +256,11 @@ const REPLAY: [Argument; 6] = [
     },
 ];
 
-const INFO: [Argument; 2] = [WHY, PLAYER];
+const INFO: [Argument; 3] = [WHY, JSON, PLAYER];
 
-const ABORT: [Argument; 3] = [
+const ABORT: [Argument; 4] = [
     WHY,
+    JSON,
     Argument {
         name: "id",
         form: Form::Word("ID"),
@@ -341,7 +350,7 @@ static COMMANDS: [CommandForm; 8] = [
         notes: concat!(
             "Example: ggp_manager verify --rules-file game.kif --lines season.records\n\n",
             "status 0: every record is lawful. 1: a record is not, or another error. ",
-            "2: usage error. 3: out of memory. With --why 1: a record is not lawful. 2: any other error.",
+            "2: usage error. 3: out of memory. With --why or --json 1: a record is not lawful. 2: any other error.",
         ),
     },
     CommandForm {
@@ -351,7 +360,7 @@ static COMMANDS: [CommandForm; 8] = [
         notes: concat!(
             "Example: ggp_manager replay --rules-file game.kif match.account\n\n",
             "status 0: every call gets its reply again. 1: a call does not, or another error. ",
-            "2: usage error. 3: out of memory. With --why 1: a call gets another reply. 2: any other error.",
+            "2: usage error. 3: out of memory. With --why or --json 1: a call gets another reply. 2: any other error.",
         ),
     },
     CommandForm {
@@ -361,7 +370,7 @@ static COMMANDS: [CommandForm; 8] = [
         notes: concat!(
             "Example: ggp_manager info ann@127.0.0.1:9147\n\n",
             "status 0: the player answered. 1: it did not, or another error. ",
-            "2: usage error. 3: out of memory. With --why 1: the player did not answer. 2: any other error.",
+            "2: usage error. 3: out of memory. With --why or --json 1: the player did not answer. 2: any other error.",
         ),
     },
     CommandForm {
@@ -381,7 +390,7 @@ static COMMANDS: [CommandForm; 8] = [
         notes: concat!(
             "Example: ggp_manager abort m1 ann@127.0.0.1:9147 bob@127.0.0.1:9148\n\n",
             "status 0: every player answered. 1: a player did not, or another error. ",
-            "2: wrong use. 3: out of memory. With --why 1: one did not. 2: any other fault.",
+            "2: usage error. 3: out of memory. With --why or --json 1: a player did not. 2: any other error.",
         ),
     },
 ];

@@ -42,12 +42,12 @@ pub fn has_own_word(words: &[String]) -> bool {
     }
 }
 
-/// Whether a command line asks by `--why` for what a terminal is told, and for a status that says whether the answer is no. Words behind `--`
-/// are no options.
+/// Whether a command line asks by `--why` or `--json` for what a terminal is told, and for a status that says whether the answer is no. Words
+/// after `--` are not options.
 pub fn asks_why(words: &[String]) -> bool {
     for word in words {
         match word.as_str() {
-            "--why" => return true,
+            "--why" | "--json" => return true,
             "--" => return false,
             _ => {}
         }

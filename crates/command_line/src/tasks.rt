@@ -6,15 +6,29 @@ use match_plans::{CheckPlan, GameSource, GameTask, MatchPlan, PlayerAddress, Sea
 #[derive(Drop)]
 pub enum Task<'a> {
     /// Runs a command on one game.
-    Game(GameTask<'a>),
+    Game(GameRequest<'a>),
     /// Plays matches of a game.
     Host(GameOptions<'a>, MatchTask<'a>),
     /// Asks a player whether it is free.
-    Info(PlayerAddress<'a>),
+    Info(InfoPlan<'a>),
     /// Sends players ABORT.
     Abort(AbortPlan<'a>),
     /// Shows this text: the help or the version.
     Show(String),
+}
+
+/// A command on one game, and whether its verdict is printed as JSON.
+#[derive(Clone, Copy)]
+pub struct GameRequest<'a> {
+    pub task: GameTask<'a>,
+    pub is_json: bool,
+}
+
+/// The player to ask, and whether its answer is printed as JSON.
+#[derive(Clone, Copy)]
+pub struct InfoPlan<'a> {
+    pub player: PlayerAddress<'a>,
+    pub is_json: bool,
 }
 
 /// A task with matches of a game.
@@ -57,9 +71,10 @@ pub struct SeasonPlan<'a> {
     pub records: Option<&'a str>,
 }
 
-/// The players that wait for the next message of a match, and the match's id.
+/// The players that wait for the next message of a match, the match's id, and whether the output is JSON.
 #[derive(Drop)]
 pub struct AbortPlan<'a> {
     pub id: &'a str,
     pub players: Vec<PlayerAddress<'a>>,
+    pub is_json: bool,
 }

@@ -31,10 +31,10 @@ verdicts_push g [] (v ∷ vs) text verdict before here = absurd before
 verdicts_push g (t ∷ ts) [] text verdict before here = absurd before
 verdicts_push g (t ∷ ts) (v ∷ vs) text verdict before here = (before.0, verdicts_push g ts vs text verdict before.1 here)
 
-pub lines_push : (a b c : Option (List ℕ)) (verdicts : List Verdict) (verdict : Verdict) → Appends a b (verdict_lines verdicts) → Appends b c (verdict_line verdict)
-    → Appends a c (verdict_lines (verdicts ++ verdict ∷ []))
-lines_push a b c verdicts verdict before here =
-    subst (λ l. Appends a c l) (flat_map_more verdict_line [] verdicts verdict) (Appends-trans a b c _ _ before here)
+pub lines_push : (is_json : Bool) (a b c : Option (List ℕ)) (verdicts : List Verdict) (verdict : Verdict) → Appends a b (verdict_lines is_json verdicts) → Appends b c (verdict_line is_json verdict)
+    → Appends a c (verdict_lines is_json (verdicts ++ verdict ∷ []))
+lines_push is_json a b c verdicts verdict before here =
+    subst (λ l. Appends a c l) (flat_map_more (verdict_line is_json) [] verdicts verdict) (Appends-trans a b c _ _ before here)
 
 pub count_push : (counts : Verdict → Bool) (verdicts : List Verdict) (verdict : Verdict) → count_by counts (verdicts ++ verdict ∷ []) ≡ count_by counts verdicts + count_by counts (verdict ∷ [])
 count_push counts verdicts verdict = sum_by_push (λ v. cond (counts v) 1 0) verdicts verdict ∙ ap (λ n. count_by counts verdicts + n) (sym (zero-add (cond (counts verdict) 1 0)))
@@ -49,23 +49,23 @@ stops_reading given reader mid reader' same calls (inr ended) =
     inr (made, ended.1, ended.2 ∙ same)
 
 -- the meaning of a fault at reading a line
-pub read_stops : {S M R W : Type 0} (remaining : R → Option (List ℕ)) (contents : W → Option (List ℕ)) (g : Rules S M) (fault : InputFault) (verdicts : List Verdict) (bytes lost left : List ℕ)
+pub read_stops : {S M R W : Type 0} (remaining : R → Option (List ℕ)) (contents : W → Option (List ℕ)) (is_json : Bool) (g : Rules S M) (fault : InputFault) (verdicts : List Verdict) (bytes lost left : List ℕ)
     (reader mid reader' : Counting R) (writer writer' : Counting W)
-    → mid.faults ≡ reader.faults → CallsMade 0 reader.calls mid.calls → bytes ≡ lost ++ left → HasNoLineFeed lost → InputFails max_line fault lost mid reader' → TellsVerdicts contents verdicts writer writer'
-    → CheckStops remaining contents g (input_fault fault) verdicts bytes reader reader' writer writer'
-read_stops remaining contents g ReadFault verdicts bytes lost left reader mid reader' writer writer' same calls cut feedless fails tells =
+    → mid.faults ≡ reader.faults → CallsMade 0 reader.calls mid.calls → bytes ≡ lost ++ left → HasNoLineFeed lost → InputFails max_line fault lost mid reader' → TellsVerdicts contents is_json verdicts writer writer'
+    → CheckStops remaining contents is_json g (input_fault fault) verdicts bytes reader reader' writer writer'
+read_stops remaining contents is_json g ReadFault verdicts bytes lost left reader mid reader' writer writer' same calls cut feedless fails tells =
     ((lost, left, cut, feedless, (fails.0, stops_reading (length lost) reader mid reader' same calls fails.1)), tells)
-read_stops remaining contents g TooLong verdicts bytes lost left reader mid reader' writer writer' same calls cut feedless fails tells =
+read_stops remaining contents is_json g TooLong verdicts bytes lost left reader mid reader' writer writer' same calls cut feedless fails tells =
     (inl (lost, left, cut, feedless, fails.0), fails.1 ∙ same, tells)
-read_stops remaining contents g Memory verdicts bytes lost left reader mid reader' writer writer' same calls cut feedless fails tells =
+read_stops remaining contents is_json g Memory verdicts bytes lost left reader mid reader' writer writer' same calls cut feedless fails tells =
     (fails.1 ∙ same, tells)
 
 -- the meaning of a fault at writing a verdict
-pub tell_stops : {S M R W : Type 0} (remaining : R → Option (List ℕ)) (contents : W → Option (List ℕ)) (g : Rules S M) (fault : Fault) (verdicts : List Verdict) (bytes line : List ℕ)
+pub tell_stops : {S M R W : Type 0} (remaining : R → Option (List ℕ)) (contents : W → Option (List ℕ)) (is_json : Bool) (g : Rules S M) (fault : Fault) (verdicts : List Verdict) (bytes line : List ℕ)
     (reader reader' : Counting R) (writer mid writer' : Counting W)
-    → reader'.faults ≡ reader.faults → HasFirstLine (remaining reader'.stream) bytes line → TellsVerdicts contents verdicts writer mid → LineFails contents g fault line mid writer'
-    → CheckStops remaining contents g fault verdicts bytes reader reader' writer writer'
-tell_stops remaining contents g fault verdicts bytes line reader reader' writer mid writer' same next tells (inl (is, kept)) =
+    → reader'.faults ≡ reader.faults → HasFirstLine (remaining reader'.stream) bytes line → TellsVerdicts contents is_json verdicts writer mid → LineFails contents is_json g fault line mid writer'
+    → CheckStops remaining contents is_json g fault verdicts bytes reader reader' writer writer'
+tell_stops remaining contents is_json g fault verdicts bytes line reader reader' writer mid writer' same next tells (inl (is, kept)) =
     rw is (same, rw kept tells)
-tell_stops remaining contents g fault verdicts bytes line reader reader' writer mid writer' same next tells (inr (is, (failed, part))) =
+tell_stops remaining contents is_json g fault verdicts bytes line reader reader' writer mid writer' same next tells (inr (is, (failed, part))) =
     rw is (same, (line, next, (failed ∙ ap one_more tells.1, (part.0, part.1, part.2, part.3, Appends-trans _ _ _ _ _ tells.0 part.4))))

@@ -21,7 +21,7 @@ use Rattle.command_faults.specs.declared.fault.Fault.{Fault}
 use Rattle.command_faults.specs.Limits.{max_line}
 use Rattle.game_commands.specs.declared.replaying.OpenAccount.{OpenAccount}
 use Rattle.command_faults.specs.Faults.{input_fault}
-use Rattle.game_commands.specs.Replays.{accounts, begins_as_record, groups, line_text, is_none, is_skipped, with_lines, at_least_one, account_size, line_count, max_account, AreReplayed, IsEnded, IsReplayed, StopsInput, StopsLongAccount}
+use Rattle.game_commands.specs.Replays.{accounts, begins_as_record, groups, line_text, is_none, is_skipped, with_lines, at_least_one, account_size, line_count, max_account, AccountFails, AreReplayed, IsEnded, IsReplayed, StopsInput, StopsLongAccount}
 use Rattle.game_commands.proofs.CheckedLines.{begins_more, stops_reading}
 
 -- ---- groups of lines
@@ -70,11 +70,11 @@ line_is_feedless bytes line left begins = rw begins.3 (strips begins.0 begins.2)
 
 -- ---- what was replayed
 
-pub replayed_push : {G S M : Type 0} (rules : G → Rules S M) (games : List G) (all : List (List (List ℕ))) (account : List (List ℕ)) (output text : List ℕ)
-    → AreReplayed rules games all output → IsReplayed rules games account text → AreReplayed rules games (all ++ account ∷ []) (output ++ text)
-replayed_push rules games [] account output text before here = (text, [], rw before (sym (append-nil text)), here, refl)
-replayed_push rules games (first ∷ more) account output text before here =
-    (before.0, before.1 ++ text, ap (λ l. l ++ text) before.2 ∙ append_assoc before.0 before.1 text, before.3, replayed_push rules games more account before.1 text before.4 here)
+pub replayed_push : {G S M : Type 0} (is_json : Bool) (rules : G → Rules S M) (games : List G) (all : List (List (List ℕ))) (account : List (List ℕ)) (output text : List ℕ)
+    → AreReplayed is_json rules games all output → IsReplayed is_json rules games account text → AreReplayed is_json rules games (all ++ account ∷ []) (output ++ text)
+replayed_push is_json rules games [] account output text before here = (text, [], rw before (sym (append-nil text)), here, refl)
+replayed_push is_json rules games (first ∷ more) account output text before here =
+    (before.0, before.1 ++ text, ap (λ l. l ++ text) before.2 ∙ append_assoc before.0 before.1 text, before.3, replayed_push is_json rules games more account before.1 text before.4 here)
 
 some_text : (byte : ℕ) (text : List ℕ) (is_last : Bool) (before : ℕ) → is_skipped (byte ∷ text) is_last before ≡ false
 some_text byte text is_last before =
@@ -87,15 +87,15 @@ no_more before =
     ap (λ b. not b) some
 
 -- an account that ends is replayed, unless it has no lines
-pub replayed_more : {G S M : Type 0} (rules : G → Rules S M) (games : List G) (done : List (List (List ℕ))) (text : List ℕ) (account : List (List ℕ)) (before : ℕ) (output end : List ℕ)
-    → length text ≡ account_size account → AreReplayed rules games (with_lines done) output → IsEnded rules games (is_skipped text false before) account end
-    → AreReplayed rules games (with_lines (done ++ account ∷ [])) (output ++ end)
-replayed_more rules games done [] [] before output end size replayed ended =
-    subst (λ all. AreReplayed rules games all (output ++ end)) (sym (with_lines_none done)) (rw (ended, append-nil output) replayed)
-replayed_more rules games done (byte ∷ text) [] before output end size replayed ended = absurd (omega (arith, size))
-replayed_more rules games done [] (line ∷ rest) before output end size replayed ended = absurd (omega (arith, size, sum_by-cons (λ l. length l + 2) line rest))
-replayed_more rules games done (byte ∷ text) (line ∷ rest) before output end size replayed ended =
-    subst (λ all. AreReplayed rules games all (output ++ end)) (sym (with_lines_push done line rest)) (replayed_push rules games (with_lines done) (line ∷ rest) output end replayed (subst (λ b. IsEnded rules games b (line ∷ rest) end) (some_text byte text false before) ended))
+pub replayed_more : {G S M : Type 0} (is_json : Bool) (rules : G → Rules S M) (games : List G) (done : List (List (List ℕ))) (text : List ℕ) (account : List (List ℕ)) (before : ℕ) (output end : List ℕ)
+    → length text ≡ account_size account → AreReplayed is_json rules games (with_lines done) output → IsEnded is_json rules games (is_skipped text false before) account end
+    → AreReplayed is_json rules games (with_lines (done ++ account ∷ [])) (output ++ end)
+replayed_more is_json rules games done [] [] before output end size replayed ended =
+    subst (λ all. AreReplayed is_json rules games all (output ++ end)) (sym (with_lines_none done)) (rw (ended, append-nil output) replayed)
+replayed_more is_json rules games done (byte ∷ text) [] before output end size replayed ended = absurd (omega (arith, size))
+replayed_more is_json rules games done [] (line ∷ rest) before output end size replayed ended = absurd (omega (arith, size, sum_by-cons (λ l. length l + 2) line rest))
+replayed_more is_json rules games done (byte ∷ text) (line ∷ rest) before output end size replayed ended =
+    subst (λ all. AreReplayed is_json rules games all (output ++ end)) (sym (with_lines_push done line rest)) (replayed_push is_json rules games (with_lines done) (line ∷ rest) output end replayed (subst (λ b. IsEnded is_json rules games b (line ∷ rest) end) (some_text byte text false before) ended))
 
 none_counted : (done : List (List (List ℕ))) → line_count done ≡ 0 → with_lines done ≡ []
 none_counted [] none = refl
@@ -112,25 +112,34 @@ one_more_is_some [] account = refl
 one_more_is_some (first ∷ rest) account = refl
 
 -- the same at the end of the input, where an account is needed if there was none
-pub replayed_last : {G S M : Type 0} (rules : G → Rules S M) (games : List G) (done : List (List (List ℕ))) (text : List ℕ) (account : List (List ℕ)) (before : ℕ) (output end : List ℕ)
-    → length text ≡ account_size account → before ≡ line_count done → AreReplayed rules games (with_lines done) output → IsEnded rules games (is_skipped text true before) account end
-    → AreReplayed rules games (at_least_one (with_lines (done ++ account ∷ []))) (output ++ end)
-replayed_last rules games done [] [] zero output end size count replayed ended =
+pub replayed_last : {G S M : Type 0} (is_json : Bool) (rules : G → Rules S M) (games : List G) (done : List (List (List ℕ))) (text : List ℕ) (account : List (List ℕ)) (before : ℕ) (output end : List ℕ)
+    → length text ≡ account_size account → before ≡ line_count done → AreReplayed is_json rules games (with_lines done) output → IsEnded is_json rules games (is_skipped text true before) account end
+    → AreReplayed is_json rules games (at_least_one (with_lines (done ++ account ∷ []))) (output ++ end)
+replayed_last is_json rules games done [] [] zero output end size count replayed ended =
     let none = none_counted done (sym count) in
-    rw (with_lines_none done, none) (replayed_push rules games [] [] output end (rw none at replayed) ended)
-replayed_last rules games done [] [] (suc before) output end size count replayed ended =
-    let none : end ≡ [] = subst (λ b. IsEnded rules games b [] end) (no_more before) ended in
+    rw (with_lines_none done, none) (replayed_push is_json rules games [] [] output end (rw none at replayed) ended)
+replayed_last is_json rules games done [] [] (suc before) output end size count replayed ended =
+    let none : end ≡ [] = subst (λ b. IsEnded is_json rules games b [] end) (no_more before) ended in
     let same : output ≡ output ++ end = sym (ap (λ l. output ++ l) none ∙ append-nil output) in
-    rw (with_lines_none done, some_counted done (omega (arith, count))) (subst (AreReplayed rules games (with_lines done)) same replayed)
-replayed_last rules games done (byte ∷ text) [] before output end size count replayed ended = absurd (omega (arith, size))
-replayed_last rules games done [] (line ∷ rest) before output end size count replayed ended = absurd (omega (arith, size, sum_by-cons (λ l. length l + 2) line rest))
-replayed_last rules games done (byte ∷ text) (line ∷ rest) before output end size count replayed ended =
-    rw (with_lines_push done line rest, one_more_is_some (with_lines done) (line ∷ rest)) (replayed_push rules games (with_lines done) (line ∷ rest) output end replayed (subst (λ b. IsEnded rules games b (line ∷ rest) end) (some_text byte text true before) ended))
+    rw (with_lines_none done, some_counted done (omega (arith, count))) (subst (AreReplayed is_json rules games (with_lines done)) same replayed)
+replayed_last is_json rules games done (byte ∷ text) [] before output end size count replayed ended = absurd (omega (arith, size))
+replayed_last is_json rules games done [] (line ∷ rest) before output end size count replayed ended = absurd (omega (arith, size, sum_by-cons (λ l. length l + 2) line rest))
+replayed_last is_json rules games done (byte ∷ text) (line ∷ rest) before output end size count replayed ended =
+    rw (with_lines_push done line rest, one_more_is_some (with_lines done) (line ∷ rest)) (replayed_push is_json rules games (with_lines done) (line ∷ rest) output end replayed (subst (λ b. IsEnded is_json rules games b (line ∷ rest) end) (some_text byte text true before) ended))
+
+-- the output for an account, and why it fails, are in the form that was asked for
+pub ended_as : {G S M : Type 0} (is_json json : Bool) (rules : G → Rules S M) (games : List G) (skipped : Bool) (account : List (List ℕ)) (output : List ℕ)
+    → json ≡ is_json → IsEnded json rules games skipped account output → IsEnded is_json rules games skipped account output
+ended_as is_json json rules games skipped account output form ended = subst (λ (b : Bool). IsEnded b rules games skipped account output) form ended
+
+pub fails_as : {G S M W : Type 0} (contents : W → Option (List ℕ)) (is_json json : Bool) (rules : G → Rules S M) (games : List G) (before : ℕ) (account : List (List ℕ)) (writer writer' : Counting W) (fault : Fault)
+    → json ≡ is_json → AccountFails contents json rules games before account writer writer' fault → AccountFails contents is_json rules games before account writer writer' fault
+fails_as contents is_json json rules games before account writer writer' fault form fails = subst (λ (b : Bool). AccountFails contents b rules games before account writer writer' fault) form fails
 
 -- ---- between two lines
 
 -- What is known then: the lines so far, the accounts that were replayed with the output for them, and the lines of the open account.
-pub record Reads {G S M W : Type 0} (contents : W → Option (List ℕ)) (rules : G → Rules S M) (games : List G) (given buffer : List ℕ) (part : OpenAccount) (place : ℕ) (writer writer' : Counting W) : Type 0 where
+pub record Reads {G S M W : Type 0} (contents : W → Option (List ℕ)) (is_json : Bool) (rules : G → Rules S M) (games : List G) (given buffer : List ℕ) (part : OpenAccount) (place : ℕ) (writer writer' : Counting W) : Type 0 where
   pub seen : List (List ℕ)
   pub done : List (List (List ℕ))
   pub account : List (List ℕ)
@@ -139,12 +148,13 @@ pub record Reads {G S M W : Type 0} (contents : W → Option (List ℕ)) (rules 
   pub text : BeginsWithLines part.text.items account []
   pub no_record : HasNoRecord account
   pub grouped : (more : List (List ℕ)) → groups (seen ++ more) ≡ done ++ groups (account ++ more)
-  pub replayed : AreReplayed rules games (with_lines done) output
+  pub replayed : AreReplayed is_json rules games (with_lines done) output
   pub wrote : Appends (contents writer.stream) (contents writer'.stream) output
   pub no_fault : writer'.faults ≡ writer.faults
   pub size : length part.text.items ≡ account_size account
   pub within : length part.text.items ≤ max_account
   pub before : part.before ≡ line_count done
+  pub form : part.is_json ≡ is_json
   pub counted : length seen ≡ place
   pub few : line_count done + length account ≤ place
 
@@ -185,8 +195,8 @@ push_none : (account : List (List ℕ)) (line : List ℕ) → HasNoRecord accoun
 push_none [] line none is = (is, tt)
 push_none (first ∷ rest) line none is = (none.0, push_none rest line none.1 is)
 
-module _ {G S M W : Type 0} (contents : W → Option (List ℕ)) (rules : G → Rules S M) (games : List G) (given buffer : List ℕ) (part : OpenAccount) (place : ℕ) (writer writer' : Counting W)
-    (was : Reads contents rules games given buffer part place writer writer') where
+module _ {G S M W : Type 0} (contents : W → Option (List ℕ)) (is_json : Bool) (rules : G → Rules S M) (games : List G) (given buffer : List ℕ) (part : OpenAccount) (place : ℕ) (writer writer' : Counting W)
+    (was : Reads contents is_json rules games given buffer part place writer writer') where
   more_groups : (line : List ℕ) (more : List (List ℕ)) → groups ((was.seen ++ line ∷ []) ++ more) ≡ was.done ++ groups (was.account ++ line ∷ more)
   more_groups line more = ap groups (append_assoc was.seen (line ∷ []) more) ∙ was.grouped (line ∷ more)
 
@@ -206,9 +216,9 @@ module _ {G S M W : Type 0} (contents : W → Option (List ℕ)) (rules : G → 
   size_push line = ap (λ n. n + (length line + 2)) was.size ∙ sym (sum_by_push (λ l. length l + 2) was.account line)
 
   pub reads_line : NextLineIsTaken → (more line left : List ℕ) (part' : OpenAccount) → BeginsWithLine (buffer ++ more) line left → begins_as_record line ≡ false
-      → part'.text.items ≡ part.text.items ++ (line ++ 13 ∷ 10 ∷ []) → part'.before ≡ part.before → length part'.text.items ≤ max_account
-      → Reads contents rules games (given ++ more) left part' (place + 1) writer writer'
-  reads_line next_line more line left part' next is text before within =
+      → part'.text.items ≡ part.text.items ++ (line ++ 13 ∷ 10 ∷ []) → part'.before ≡ part.before → part'.is_json ≡ part.is_json → length part'.text.items ≤ max_account
+      → Reads contents is_json rules games (given ++ more) left part' (place + 1) writer writer'
+  reads_line next_line more line left part' next is text before form within =
       let long : length part'.text.items ≡ length part.text.items + (length line + 2) = text_size part.text.items part'.text.items line text in
       let counted : length (was.account ++ line ∷ []) ≡ length was.account + 1 = length_push was.account line in
       record {
@@ -226,19 +236,20 @@ module _ {G S M W : Type 0} (contents : W → Option (List ℕ)) (rules : G → 
         size = long ∙ size_push line;
         within = within;
         before = before ∙ was.before;
+        form = form ∙ was.form;
         counted = length_push was.seen line ∙ ap (λ n. n + 1) was.counted;
         few = omega (arith, was.few, counted);
       }
 
   pub reads_record : NextLineIsTaken → (more line left : List ℕ) (whole part' : OpenAccount) (mid : Counting W) (text : List ℕ) → BeginsWithLine (buffer ++ more) line left → begins_as_record line ≡ true
       → whole.text.items ≡ part.text.items → whole.before ≡ part.before → part'.text.items ≡ [] → part'.before ≡ whole.before + length (lines whole.text.items)
-      → IsEnded rules games (is_skipped whole.text.items false whole.before) (lines whole.text.items) text
+      → whole.is_json ≡ part.is_json → part'.is_json ≡ whole.is_json → IsEnded whole.is_json rules games (is_skipped whole.text.items false whole.before) (lines whole.text.items) text
       → Appends (contents writer'.stream) (contents mid.stream) text → mid.faults ≡ writer'.faults
-      → Reads contents rules games (given ++ more) left part' (place + 1) writer mid
-  reads_record next_line more line left whole part' mid text next is same_text same_before empty counts ends wrote kept =
+      → Reads contents is_json rules games (given ++ more) left part' (place + 1) writer mid
+  reads_record next_line more line left whole part' mid text next is same_text same_before empty counts same_form form ends wrote kept =
       let are = lines_of part.text.items was.account was.text in
       let before = rw (same_text, same_before) at counts in
-      let ended = rw same_text at ends in
+      let ended = rw (same_text, same_form ∙ was.form) at ends in
       let count : line_count (was.done ++ was.account ∷ []) ≡ line_count was.done + length was.account = sum_by_push length was.done was.account in
       record {
         seen = was.seen ++ line ∷ [];
@@ -249,11 +260,12 @@ module _ {G S M W : Type 0} (contents : W → Option (List ℕ)) (rules : G → 
         text = rw empty (λ after. refl);
         no_record = tt;
         grouped = λ after. more_groups line after ∙ ap (λ l. was.done ++ l) (groups_cut was.account line after was.no_record is) ∙ sym (append_assoc was.done (was.account ∷ []) (groups after));
-        replayed = replayed_more rules games was.done part.text.items was.account part.before was.output text was.size was.replayed (subst (λ a. IsEnded rules games (is_skipped part.text.items false part.before) a text) are ended);
+        replayed = replayed_more is_json rules games was.done part.text.items was.account part.before was.output text was.size was.replayed (subst (λ a. IsEnded is_json rules games (is_skipped part.text.items false part.before) a text) are ended);
         wrote = Appends-trans _ _ _ _ _ was.wrote wrote;
         no_fault = kept ∙ was.no_fault;
         size = ap length empty;
         within = rw empty (omega arith);
+        form = form ∙ same_form ∙ was.form;
         before = before ∙ ap (λ n. part.before + n) (ap length are) ∙ ap (λ n. n + length was.account) was.before ∙ sym count;
         counted = length_push was.seen line ∙ ap (λ n. n + 1) was.counted;
         few = omega (arith, was.few, count);

@@ -1,5 +1,5 @@
 -- A command on one game: its output for an input, and what its faults say.
-use Rattle.std.specs.Prelude.{◌≡◌, ◌≢◌, ℕ, ◌≤◌, List, [], ◌∷◌, length, MatchOption, Option, ◌⊎◌}
+use Rattle.std.specs.Prelude.{◌≡◌, ◌≢◌, ℕ, ◌≤◌, Bool, List, [], ◌∷◌, length, MatchOption, Option, ◌⊎◌}
 use Rattle.std.specs.Io.KnownBytes.{Consumes}
 use Rattle.std.specs.Str.Lines.{lines}
 use Rattle.game_core.specs.Counting.{Counting}
@@ -16,7 +16,7 @@ use Rattle.described_games.specs.Games.{IsDescribed, DescribesNone}
 use Rattle.record_reading.specs.LawfulRecord.{IsLawfulRecord}
 use Rattle.game_commands.specs.Script.{bad_lines, script_output}
 use Rattle.match_plans.specs.declared.game_source.GameCommand.{GameCommand}
-use Rattle.match_plans.specs.declared.game_source.GameTask.{GameTask}
+use Rattle.command_line.specs.declared.tasks.GameRequest.{GameRequest}
 use Rattle.match_plans.specs.declared.game_source.GameCommand.TheVariants.{Desk, Verify, VerifyLines, Replay}
 use Rattle.match_plans.specs.declared.game_source.GameSource.{GameSource}
 use Rattle.match_plans.specs.declared.game_source.GameSource.TheVariants.{Countdown as OfCountdown, Described}
@@ -29,26 +29,27 @@ use Rattle.game_commands.specs.declared.verdicts.Verdict.{Verdict}
 use Rattle.command_faults.specs.Faults.{IsFileFault, input_file_fault}
 use Rattle.whole_streams.specs.Lines.{BeginsWithLines}
 use Rattle.game_commands.specs.ScriptFaults.{ScriptFails}
-use Rattle.game_commands.specs.Verdicts.{AreVerdicts, verdict_lines, count_unlawful}
+use Rattle.game_commands.specs.declared.verdicts.Verdict.TheVariants.{Lawful}
+use Rattle.game_commands.specs.Verdicts.{AreVerdicts, verdict_line, verdict_lines, count_unlawful}
 use Rattle.game_commands.specs.Replays.{accounts, AreReplayed, ReplayFails}
 use Rattle.game_commands.specs.Whole.{ReadsAndWrites}
-use Rattle.game_commands.specs.Checks.{lawful_line, CheckFails, CheckStops}
+use Rattle.game_commands.specs.Checks.{CheckFails, CheckStops}
 
 -- ---- a command's output
 
 -- The output for an input, and the number of what is wrong in the input: the bad lines of a script, or the lines that are no lawful
 -- records.
-abbrev pub IsOutput : {G S M : Type 0} → (G → Rules S M) → G → GameCommand → List ℕ → List ℕ → ℕ → Type 0
-IsOutput rules game Desk input output wrong = (output ≡ script_output rules (game ∷ []) input) × (wrong ≡ bad_lines (lines input))
-IsOutput rules game Verify input output wrong = IsLawfulRecord (rules game) input × (output ≡ lawful_line) × (wrong ≡ 0)
-IsOutput rules game VerifyLines input output wrong =
-    (verdicts : List Verdict) × AreVerdicts (rules game) (lines input) verdicts × (output ≡ verdict_lines verdicts) × (wrong ≡ count_unlawful verdicts)
-IsOutput rules game Replay input output wrong = (wrong ≡ 0) × AreReplayed rules (game ∷ []) (accounts input) output
+abbrev pub IsOutput : {G S M : Type 0} → Bool → (G → Rules S M) → G → GameCommand → List ℕ → List ℕ → ℕ → Type 0
+IsOutput is_json rules game Desk input output wrong = (output ≡ script_output rules (game ∷ []) input) × (wrong ≡ bad_lines (lines input))
+IsOutput is_json rules game Verify input output wrong = IsLawfulRecord (rules game) input × (output ≡ verdict_line is_json Lawful) × (wrong ≡ 0)
+IsOutput is_json rules game VerifyLines input output wrong =
+    (verdicts : List Verdict) × AreVerdicts (rules game) (lines input) verdicts × (output ≡ verdict_lines is_json verdicts) × (wrong ≡ count_unlawful verdicts)
+IsOutput is_json rules game Replay input output wrong = (wrong ≡ 0) × AreReplayed is_json rules (game ∷ []) (accounts input) output
 
 -- all of an input was read, and the command's output for it was written; this many things are wrong in the input
-abbrev pub Answers : {G S M R W : Type 0} → (R → Option (List ℕ)) → (W → Option (List ℕ)) → (G → Rules S M) → G → GameCommand → ℕ → Counting R → Counting R → Counting W → Counting W → Type 0
-Answers remaining contents rules game command wrong reader reader' writer writer' =
-    (input output : List ℕ) × ReadsAndWrites remaining contents input output reader reader' writer writer' × IsOutput rules game command input output wrong
+abbrev pub Answers : {G S M R W : Type 0} → (R → Option (List ℕ)) → (W → Option (List ℕ)) → Bool → (G → Rules S M) → G → GameCommand → ℕ → Counting R → Counting R → Counting W → Counting W → Type 0
+Answers remaining contents is_json rules game command wrong reader reader' writer writer' =
+    (input output : List ℕ) × ReadsAndWrites remaining contents input output reader reader' writer writer' × IsOutput is_json rules game command input output wrong
 
 -- ---- a command's faults
 
@@ -59,38 +60,38 @@ TellsNumber VerifyLines wrong fault = fault ≡ UnlawfulRecords wrong
 TellsNumber _ wrong fault = ⊥
 
 -- what a fault says that stopped the command
-abbrev pub Stops : {G S M R W : Type 0} → (R → Option (List ℕ)) → (W → Option (List ℕ)) → (G → Rules S M) → G → GameCommand → List ℕ → Fault → Counting R → Counting R → Counting W → Counting W → Type 0
-Stops remaining contents rules game Desk given fault reader reader' writer writer' =
+abbrev pub Stops : {G S M R W : Type 0} → (R → Option (List ℕ)) → (W → Option (List ℕ)) → Bool → (G → Rules S M) → G → GameCommand → List ℕ → Fault → Counting R → Counting R → Counting W → Counting W → Type 0
+Stops remaining contents is_json rules game Desk given fault reader reader' writer writer' =
     ScriptFails remaining contents (script_output rules (game ∷ []) given) fault (length given) reader reader' writer writer'
-Stops remaining contents rules game Verify given fault reader reader' writer writer' = CheckFails remaining contents (rules game) fault given reader reader' writer writer'
-Stops remaining contents rules game VerifyLines given fault reader reader' writer writer' =
+Stops remaining contents is_json rules game Verify given fault reader reader' writer writer' = CheckFails remaining contents is_json (rules game) fault given reader reader' writer writer'
+Stops remaining contents is_json rules game VerifyLines given fault reader reader' writer writer' =
     (first : List (List ℕ)) × (left : List ℕ) × (verdicts : List Verdict) × BeginsWithLines given first left × AreVerdicts (rules game) first verdicts
-    × CheckStops remaining contents (rules game) fault verdicts left reader reader' writer writer'
-Stops remaining contents rules game Replay given fault reader reader' writer writer' = ReplayFails contents rules (game ∷ []) given fault reader reader' writer writer'
+    × CheckStops remaining contents is_json (rules game) fault verdicts left reader reader' writer writer'
+Stops remaining contents is_json rules game Replay given fault reader reader' writer writer' = ReplayFails contents is_json rules (game ∷ []) given fault reader reader' writer writer'
 
 -- A fault either tells how much is wrong in the input, after the whole output, or it stopped the command.
-abbrev pub Fails : {G S M R W : Type 0} → (R → Option (List ℕ)) → (W → Option (List ℕ)) → (G → Rules S M) → G → GameCommand → Fault → Counting R → Counting R → Counting W → Counting W → Type 0
-Fails remaining contents rules game command fault reader reader' writer writer' =
-    ((wrong : ℕ) × (wrong ≢ 0) × TellsNumber command wrong fault × Answers remaining contents rules game command wrong reader reader' writer writer')
-    ⊎ ((given : List ℕ) × Consumes (remaining reader.stream) (remaining reader'.stream) given × Stops remaining contents rules game command given fault reader reader' writer writer')
+abbrev pub Fails : {G S M R W : Type 0} → (R → Option (List ℕ)) → (W → Option (List ℕ)) → Bool → (G → Rules S M) → G → GameCommand → Fault → Counting R → Counting R → Counting W → Counting W → Type 0
+Fails remaining contents is_json rules game command fault reader reader' writer writer' =
+    ((wrong : ℕ) × (wrong ≢ 0) × TellsNumber command wrong fault × Answers remaining contents is_json rules game command wrong reader reader' writer writer')
+    ⊎ ((given : List ℕ) × Consumes (remaining reader.stream) (remaining reader'.stream) given × Stops remaining contents is_json rules game command given fault reader reader' writer writer')
 
 -- ---- the input of a command
 
 -- All of the input was read, and the command's output for it was written. If a file is named, the input is the file's, which may have any
 -- bytes, and the reader stays as it is.
-abbrev pub AnswersInput : {G S M R F W : Type 0} → (R → Option (List ℕ)) → (F → Option (List ℕ)) → (W → Option (List ℕ)) → (G → Rules S M) → G → GameTask → Counting R → Counting R → Counting W → Counting W → Type 0
-AnswersInput remaining file_remaining contents rules game task reader reader' writer writer' =
-    MatchOption task.file (Answers remaining contents rules game task.command 0 reader reader' writer writer')
-    (λ path. (reader' ≡ reader) × ((opened : Counting _) × (read : Counting _) × Answers file_remaining contents rules game task.command 0 opened read writer writer'))
+abbrev pub AnswersInput : {G S M R F W : Type 0} → (R → Option (List ℕ)) → (F → Option (List ℕ)) → (W → Option (List ℕ)) → (G → Rules S M) → G → GameRequest → Counting R → Counting R → Counting W → Counting W → Type 0
+AnswersInput remaining file_remaining contents rules game request reader reader' writer writer' =
+    MatchOption request.task.file (Answers remaining contents request.is_json rules game request.task.command 0 reader reader' writer writer')
+    (λ path. (reader' ≡ reader) × ((opened : Counting _) × (read : Counting _) × Answers file_remaining contents request.is_json rules game request.task.command 0 opened read writer writer'))
 
 -- What a fault says about the input. If a file is named, it can't be opened, and nothing was written; or the fault is that of the command on
 -- the file's bytes, in the words for a file.
-abbrev pub FailsInput : {G S M R F W : Type 0} → (R → Option (List ℕ)) → (F → Option (List ℕ)) → (W → Option (List ℕ)) → (G → Rules S M) → G → GameTask → Fault → Counting R → Counting R → Counting W → Counting W → Type 0
-FailsInput remaining file_remaining contents rules game task fault reader reader' writer writer' =
-    MatchOption task.file (Fails remaining contents rules game task.command fault reader reader' writer writer')
+abbrev pub FailsInput : {G S M R F W : Type 0} → (R → Option (List ℕ)) → (F → Option (List ℕ)) → (W → Option (List ℕ)) → (G → Rules S M) → G → GameRequest → Fault → Counting R → Counting R → Counting W → Counting W → Type 0
+FailsInput remaining file_remaining contents rules game request fault reader reader' writer writer' =
+    MatchOption request.task.file (Fails remaining contents request.is_json rules game request.task.command fault reader reader' writer writer')
     (λ path. (reader' ≡ reader) × ((IsFileFault Input fault × (writer' ≡ writer))
     ⊎ ((why : Fault) × (fault ≡ input_file_fault why)
-    × ((opened : Counting _) × (read : Counting _) × Fails file_remaining contents rules game task.command why opened read writer writer'))))
+    × ((opened : Counting _) × (read : Counting _) × Fails file_remaining contents request.is_json rules game request.task.command why opened read writer writer'))))
 
 -- ---- the game of a source
 

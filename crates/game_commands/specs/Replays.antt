@@ -36,13 +36,15 @@ open_words zero = []
 open_words (suc zero) = codes ", match not ended"
 open_words (suc (suc more)) = codes ", " ++ (decimal (suc (suc more)) ++ codes " matches not ended")
 
--- the line for so many calls that left so many matches that are not over
-abbrev pub replayed_line : ℕ → ℕ → List ℕ
-replayed_line calls count = codes "replayed " ++ (decimal calls ++ (codes " calls" ++ (open_words count ++ line_feed ∷ [])))
+-- the line, as JSON or in words, for so many calls that left so many matches that are not over, and so many in all
+abbrev pub replayed_line : Bool → ℕ → ℕ → ℕ → List ℕ
+replayed_line false calls count matches = codes "replayed " ++ (decimal calls ++ (codes " calls" ++ (open_words count ++ line_feed ∷ [])))
+replayed_line true calls count matches =
+    codes "{\"verdict\":\"replayed\",\"calls\":" ++ (decimal calls ++ (codes ",\"not_ended\":" ++ (decimal count ++ (codes ",\"records\":" ++ (decimal matches ++ codes "}\n")))))
 
 -- the output for so many calls that left this desk: their line, and the records of its matches
-abbrev pub replayed_text : {G S M : Type 0} → (G → Rules S M) → ManagerValue G M → ℕ → List ℕ
-replayed_text rules desk calls = replayed_line calls (open_matches rules desk) ++ records rules desk desk.matches
+abbrev pub replayed_text : {G S M : Type 0} → Bool → (G → Rules S M) → ManagerValue G M → ℕ → List ℕ
+replayed_text is_json rules desk calls = replayed_line is_json calls (open_matches rules desk) (length desk.matches) ++ records rules desk desk.matches
 
 -- ---- what is read
 
@@ -87,23 +89,23 @@ abbrev pub accounts : List ℕ → List (List (List ℕ))
 accounts input = at_least_one (with_lines (groups (lines input)))
 
 -- the lines are an account on a desk of these games, and this is the output for it
-abbrev pub IsReplayed : {G S M : Type 0} → (G → Rules S M) → List G → List (List ℕ) → List ℕ → Type 0
-IsReplayed {G} {S} {M} rules games account output =
-    (desk : ManagerValue G M) × (calls : ℕ) × IsAccount (reply rules) (after rules) (no_matches games) account desk calls × (output ≡ replayed_text rules desk calls)
+abbrev pub IsReplayed : {G S M : Type 0} → Bool → (G → Rules S M) → List G → List (List ℕ) → List ℕ → Type 0
+IsReplayed {G} {S} {M} is_json rules games account output =
+    (desk : ManagerValue G M) × (calls : ℕ) × IsAccount (reply rules) (after rules) (no_matches games) account desk calls × (output ≡ replayed_text is_json rules desk calls)
 
 -- each of these is an account on a desk of its own, and this is the output for all
-abbrev pub AreReplayed : {G S M : Type 0} → (G → Rules S M) → List G → List (List (List ℕ)) → List ℕ → Type 0
-AreReplayed rules games [] output = output ≡ []
-AreReplayed rules games (account ∷ more) output = (first rest : List ℕ) × (output ≡ first ++ rest) × IsReplayed rules games account first × AreReplayed rules games more rest
+abbrev pub AreReplayed : {G S M : Type 0} → Bool → (G → Rules S M) → List G → List (List (List ℕ)) → List ℕ → Type 0
+AreReplayed is_json rules games [] output = output ≡ []
+AreReplayed is_json rules games (account ∷ more) output = (first rest : List ℕ) × (output ≡ first ++ rest) × IsReplayed is_json rules games account first × AreReplayed is_json rules games more rest
 
 -- a text without lines is no account, unless an input that had none ends there
 abbrev pub is_skipped : List ℕ → Bool → ℕ → Bool
 is_skipped text is_last before = length text == 0 && not (is_last && before == 0)
 
 -- the output for lines up to a record, or up to the end
-abbrev pub IsEnded : {G S M : Type 0} → (G → Rules S M) → List G → Bool → List (List ℕ) → List ℕ → Type 0
-IsEnded rules games true account output = output ≡ []
-IsEnded rules games false account output = IsReplayed rules games account output
+abbrev pub IsEnded : {G S M : Type 0} → Bool → (G → Rules S M) → List G → Bool → List (List ℕ) → List ℕ → Type 0
+IsEnded is_json rules games true account output = output ≡ []
+IsEnded is_json rules games false account output = IsReplayed is_json rules games account output
 
 -- ---- what is refused
 
@@ -127,27 +129,35 @@ IsNumbered before ReplayMemory = Unit {0}
 IsNumbered before (ReplayNoEntry place why) = before + place ≤ last_count
 IsNumbered before (ReplayDiffers place right) = before + place ≤ last_count
 
--- the output for lines that are refused: the right line in place of the first wrong one, if that holds a call
-abbrev pub refused_output : ReplayFault → List ℕ
-refused_output (ReplayDiffers place right) = right.items ++ line_feed ∷ []
-refused_output _ = []
+-- the object for a line of this number that is refused
+abbrev pub refused_line : List ℕ → ℕ → List ℕ
+refused_line verdict line = codes "{\"verdict\":\"" ++ (verdict ++ (codes "\",\"line\":" ++ (decimal line ++ codes "}\n")))
+
+-- The output for lines that are refused, behind so many lines of other accounts: the verdict as JSON, or the right line in place of the
+-- first wrong one, if that holds a call.
+abbrev pub refused_output : Bool → ℕ → ReplayFault → List ℕ
+refused_output is_json before ReplayMemory = []
+refused_output true before (ReplayNoEntry place why) = refused_line (codes "no_entry") (before + place)
+refused_output false before (ReplayNoEntry place why) = []
+refused_output true before (ReplayDiffers place right) = refused_line (codes "differs") (before + place)
+refused_output false before (ReplayDiffers place right) = right.items ++ line_feed ∷ []
 
 -- the lines are refused for the first wrong one, if there is memory, and this is the output for them
-abbrev pub IsRefusedAccount : {G S M : Type 0} → (G → Rules S M) → List G → ℕ → List (List ℕ) → Fault → List ℕ → Type 0
-IsRefusedAccount rules games before account fault output =
-    (why : ReplayFault) × (fault ≡ replay_fault before why) × (output ≡ refused_output why) × (why ≢ ReplayMemory → IsFirstFault (reply rules) (after rules) (no_matches games) account why)
+abbrev pub IsRefusedAccount : {G S M : Type 0} → Bool → (G → Rules S M) → List G → ℕ → List (List ℕ) → Fault → List ℕ → Type 0
+IsRefusedAccount is_json rules games before account fault output =
+    (why : ReplayFault) × (fault ≡ replay_fault before why) × (output ≡ refused_output is_json before why) × (why ≢ ReplayMemory → IsFirstFault (reply rules) (after rules) (no_matches games) account why)
 
 -- the output for these lines, whether they are an account or are refused
-abbrev pub IsReplayOutput : {G S M : Type 0} → (G → Rules S M) → List G → ℕ → List (List ℕ) → List ℕ → Type 0
-IsReplayOutput rules games before account output = IsReplayed rules games account output ⊎ ((fault : Fault) × IsRefusedAccount rules games before account fault output)
+abbrev pub IsReplayOutput : {G S M : Type 0} → Bool → (G → Rules S M) → List G → ℕ → List (List ℕ) → List ℕ → Type 0
+IsReplayOutput is_json rules games before account output = IsReplayed is_json rules games account output ⊎ ((fault : Fault) × IsRefusedAccount is_json rules games before account fault output)
 
 -- Why these lines give no account, by the writer before and after: they are refused, and the output for that was written; or a write
 -- failed, and a part of the output was written.
-abbrev pub AccountFails : {G S M W : Type 0} → (W → Option (List ℕ)) → (G → Rules S M) → List G → ℕ → List (List ℕ) → Counting W → Counting W → Fault → Type 0
-AccountFails contents rules games before account writer writer' fault =
-    ((output : List ℕ) × IsRefusedAccount rules games before account fault output × Appends (contents writer.stream) (contents writer'.stream) output × (writer'.faults ≡ writer.faults))
+abbrev pub AccountFails : {G S M W : Type 0} → (W → Option (List ℕ)) → Bool → (G → Rules S M) → List G → ℕ → List (List ℕ) → Counting W → Counting W → Fault → Type 0
+AccountFails contents is_json rules games before account writer writer' fault =
+    ((output : List ℕ) × IsRefusedAccount is_json rules games before account fault output × Appends (contents writer.stream) (contents writer'.stream) output × (writer'.faults ≡ writer.faults))
     ⊎ ((fault ≡ WriteFault) × (writer'.faults ≡ one_more writer.faults)
-    × ((output : List ℕ) × (taken : ℕ) × IsReplayOutput rules games before account output × (taken ≤ length output) × Appends (contents writer.stream) (contents writer'.stream) (take taken output)))
+    × ((output : List ℕ) × (taken : ℕ) × IsReplayOutput is_json rules games before account output × (taken ≤ length output) × Appends (contents writer.stream) (contents writer'.stream) (take taken output)))
 
 -- why an account does not grow to so many bytes
 abbrev pub StopsLongAccount : Fault → ℕ → Type 0
@@ -167,13 +177,13 @@ HasLines text seen left = BeginsWithLines text seen left ⊎ ((lines text ≡ se
 
 -- Why the accounts of an input were not all replayed, by the bytes that were given and the streams before and after. The output for the
 -- accounts before one was written. Then the input was read no further, or this account failed.
-abbrev pub ReplayFails : {G S M R W : Type 0} → (W → Option (List ℕ)) → (G → Rules S M) → List G → List ℕ → Fault → Counting R → Counting R → Counting W → Counting W → Type 0
-ReplayFails {W = W} contents rules games given fault reader reader' writer writer' =
+abbrev pub ReplayFails : {G S M R W : Type 0} → (W → Option (List ℕ)) → Bool → (G → Rules S M) → List G → List ℕ → Fault → Counting R → Counting R → Counting W → Counting W → Type 0
+ReplayFails {W = W} contents is_json rules games given fault reader reader' writer writer' =
     (seen : List (List ℕ)) × (left : List ℕ) × (done : List (List (List ℕ))) × (account : List (List ℕ)) × (rest : List (List (List ℕ))) × (output : List ℕ) × (mid : Counting W)
     × HasLines given seen left
     × (groups seen ≡ done ++ account ∷ rest)
-    × AreReplayed rules games (with_lines done) output
+    × AreReplayed is_json rules games (with_lines done) output
     × Appends (contents writer.stream) (contents mid.stream) output
     × (mid.faults ≡ writer.faults)
     × ((StopsInput fault seen account left reader reader' × (writer' ≡ mid))
-    ⊎ ((reader'.faults ≡ reader.faults) × AccountFails contents rules games (line_count done) account mid writer' fault))
+    ⊎ ((reader'.faults ≡ reader.faults) × AccountFails contents is_json rules games (line_count done) account mid writer' fault))

@@ -23,14 +23,17 @@ AreVerdicts g [] (verdict ∷ verdicts) = ⊥
 AreVerdicts g (text ∷ texts) [] = ⊥
 AreVerdicts g (text ∷ texts) (verdict ∷ verdicts) = IsVerdict g text verdict × AreVerdicts g texts verdicts
 
--- the output for a verdict. It is empty for a line of an account.
-abbrev pub verdict_line : Verdict → List ℕ
-verdict_line Lawful = codes "lawful" ++ line_feed ∷ []
-verdict_line (Unlawful fault) = codes "not lawful: " ++ fault_text fault ++ line_feed ∷ []
-verdict_line Account = []
+-- The output for a verdict, as JSON or in words. In words it is empty for a line of an account.
+abbrev pub verdict_line : Bool → Verdict → List ℕ
+verdict_line false Lawful = codes "lawful" ++ line_feed ∷ []
+verdict_line false (Unlawful fault) = codes "not lawful: " ++ fault_text fault ++ line_feed ∷ []
+verdict_line false Account = []
+verdict_line true Lawful = codes "{\"verdict\":\"lawful\"}\n"
+verdict_line true (Unlawful fault) = codes "{\"verdict\":\"not_lawful\",\"fault\":\"" ++ (fault_text fault ++ codes "\"}\n")
+verdict_line true Account = codes "{\"verdict\":\"skipped\"}\n"
 
-abbrev pub verdict_lines : List Verdict → List ℕ
-verdict_lines verdicts = flat_map verdict_line verdicts
+abbrev pub verdict_lines : Bool → List Verdict → List ℕ
+verdict_lines is_json verdicts = flat_map (verdict_line is_json) verdicts
 
 abbrev pub is_unlawful : Verdict → Bool
 is_unlawful (Unlawful fault) = true

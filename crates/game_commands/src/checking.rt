@@ -6,7 +6,7 @@ ghost use Rattle.match_record.specs.LawfulRecord.{IsLawfulRecord};
 ghost use Rattle.game_commands.specs.declared.verdicts.Verdict.{Verdict as LineVerdict};
 ghost use Rattle.game_commands.specs.Verdicts.{IsVerdict, AreVerdicts, verdict_line, verdict_lines, count_skipped, count_unlawful};
 ghost use Rattle.whole_streams.specs.Lines.{BeginsWithLines};
-ghost use Rattle.game_commands.specs.Checks.{lawful_line, CheckFails, LineFails, CheckStops};
+ghost use Rattle.game_commands.specs.Checks.{CheckFails, CheckStops, IsNotWritten, LineFails, TellsFault};
 
 use crate::evidence::Evidence;
 use crate::verdicts::{Verdict, count_skipped, count_unlawful, verdict_line, verdict_on};
@@ -22,10 +22,44 @@ use whole_streams::{LineBuffer, NextLine, read_to_end, write_all};
 /// The limit of a record's bytes, if the input is one record: 16 MiB.
 const MAX_RECORD: usize = 16_777_216;
 
-/// Reads a record, checks it by the game, and writes `lawful`. For an unlawful record the fault is the first test that it fails. A text
-/// that is no JSON is kept as evidence.
+/// Writes a verdict.
+fn write_verdict<W: Write>(
+    alloc: Global,
+    is_json: bool,
+    verdict: Verdict,
+    writer: &mut Counted<W>,
+) -> Result<(), Fault>
+    ensures whole { OnOk result (Appends (W.contents writer.old.stream) (W.contents writer.new.stream) (verdict_line is_json verdict)) }
+    ensures no_fault { OnOk result (writer.new.faults ≡ writer.old.faults) }
+    ensures fails { IfErr result (λ fault. IsNotWritten W.contents is_json verdict fault writer.old writer.new) }
+{
+    let line = verdict_line(alloc, is_json, verdict)?;
+    Ok(write_all(writer, line.as_bytes())?)
+}
+
+/// The fault for a record that is not lawful. As JSON the verdict is written before.
+fn tell_unlawful<W: Write>(
+    alloc: Global,
+    is_json: bool,
+    fault: VerifyFault,
+    writer: &mut Counted<W>,
+) -> Fault
+    ensures { TellsFault W.contents is_json fault result writer.old writer.new }
+{
+    if !is_json {
+        return Fault::NotLawful(fault);
+    }
+    match write_verdict(alloc, true, Verdict::Unlawful(fault), writer) {
+        Ok(()) => Fault::NotLawful(fault),
+        Err(other) => other,
+    }
+}
+
+/// Reads a record, checks it by the game, and writes that it is lawful. For an unlawful record the fault is the first test that it fails, and
+/// only JSON is written. A text that is not JSON is kept as evidence.
 pub fn check_record<G: Game, R: Read, W: Write>(
     alloc: Global,
+    is_json: bool,
     game: &G,
     reader: &mut Counted<R>,
     writer: &mut Counted<W>,
@@ -35,37 +69,41 @@ pub fn check_record<G: Game, R: Read, W: Write>(
         × Consumes (R.remaining reader.old.stream) (R.remaining reader.new.stream) text
         × IsAtEnd (R.remaining reader.new.stream)
         × IsLawfulRecord (G.rules game.now) text
-        × Appends (W.contents writer.old.stream) (W.contents writer.new.stream) lawful_line) }
+        × Appends (W.contents writer.old.stream) (W.contents writer.new.stream) (verdict_line is_json LineVerdict.Lawful)) }
     ensures no_fault { OnOk result ((reader.new.faults ≡ reader.old.faults) × (writer.new.faults ≡ writer.old.faults)) }
     ensures fails { IfErr result (λ fault. (text : List ℕ)
         × Consumes (R.remaining reader.old.stream) (R.remaining reader.new.stream) text
-        × CheckFails R.remaining W.contents (G.rules game.now) fault text reader.old reader.new writer.old writer.new) }
+        × CheckFails R.remaining W.contents is_json (G.rules game.now) fault text reader.old reader.new writer.old writer.new) }
 {
     let record = read_to_end(alloc, reader, MAX_RECORD)?;
-    if let Err(fault) = verify(alloc, game, &record) {
-        if let VerifyFault::NotJson = fault {
-            *evidence = Evidence::Record(record);
+    match verify(alloc, game, &record) {
+        Ok(()) => write_verdict(alloc, is_json, Verdict::Lawful, writer),
+        Err(VerifyFault::Memory) => Err(Fault::Memory),
+        Err(fault) => {
+            let told = tell_unlawful(alloc, is_json, fault, writer);
+            if let VerifyFault::NotJson = fault {
+                *evidence = Evidence::Record(record);
+            }
+            Err(told)
         }
-        return Err(Fault::from(fault));
     }
-    Ok(write_all(writer, b"lawful\n")?)
 }
 
-/// Writes the verdict on a line, and returns it. For a line of an account nothing is written.
+/// Writes the verdict on a line, and returns it. In words nothing is written for a line of an account.
 fn check_line<G: Game, W: Write>(
     alloc: Global,
+    is_json: bool,
     game: &G,
     line: &[u8],
     writer: &mut Counted<W>,
 ) -> Result<Verdict, Fault>
     ensures verdict { IfOk result (λ verdict. IsVerdict (G.rules game.now) line.now verdict
-        × Appends (W.contents writer.old.stream) (W.contents writer.new.stream) (verdict_line verdict)) }
+        × Appends (W.contents writer.old.stream) (W.contents writer.new.stream) (verdict_line is_json verdict)) }
     ensures no_fault { OnOk result (writer.new.faults ≡ writer.old.faults) }
-    ensures fails { IfErr result (λ fault. LineFails W.contents (G.rules game.now) fault line.now writer.old writer.new) }
+    ensures fails { IfErr result (λ fault. LineFails W.contents is_json (G.rules game.now) fault line.now writer.old writer.new) }
 {
     let verdict = verdict_on(alloc, game, line)?;
-    let told = verdict_line(alloc, verdict)?;
-    write_all(writer, told.as_bytes())?;
+    write_verdict(alloc, is_json, verdict, writer)?;
     Ok(verdict)
 }
 
@@ -82,6 +120,7 @@ pub struct LineCounts {
 /// skipped. One line is in memory at a time.
 pub fn check_records<G: Game, R: Read, W: Write>(
     alloc: Global,
+    is_json: bool,
     game: &G,
     reader: &mut Counted<R>,
     writer: &mut Counted<W>,
@@ -90,7 +129,7 @@ pub fn check_records<G: Game, R: Read, W: Write>(
         × Consumes (R.remaining reader.old.stream) (R.remaining reader.new.stream) input
         × IsAtEnd (R.remaining reader.new.stream)
         × AreVerdicts (G.rules game.now) (lines input) verdicts
-        × Appends (W.contents writer.old.stream) (W.contents writer.new.stream) (verdict_lines verdicts)
+        × Appends (W.contents writer.old.stream) (W.contents writer.new.stream) (verdict_lines is_json verdicts)
         × (counts.unlawful ≡ count_unlawful verdicts)
         × (counts.skipped ≡ count_skipped verdicts)) }
     ensures no_fault { OnOk result ((reader.new.faults ≡ reader.old.faults) × (writer.new.faults ≡ writer.old.faults)) }
@@ -98,7 +137,7 @@ pub fn check_records<G: Game, R: Read, W: Write>(
         × Consumes (R.remaining reader.old.stream) (R.remaining reader.new.stream) given
         × BeginsWithLines given first left
         × AreVerdicts (G.rules game.now) first verdicts
-        × CheckStops R.remaining W.contents (G.rules game.now) fault verdicts left reader.old reader.new writer.old writer.new) }
+        × CheckStops R.remaining W.contents is_json (G.rules game.now) fault verdicts left reader.old reader.new writer.old writer.new) }
 {
     lines_are_taken();
     let mut buffer = LineBuffer::new();
@@ -106,14 +145,14 @@ pub fn check_records<G: Game, R: Read, W: Write>(
     let mut skipped = 0;
     for place in 0..u64::MAX {
         match buffer.next_line(alloc, reader, MAX_LINE) {
-            Ok(NextLine::Ended(line)) => match check_line(alloc, game, &line, writer) {
+            Ok(NextLine::Ended(line)) => match check_line(alloc, is_json, game, &line, writer) {
                 Ok(verdict) => {
                     unlawful += count_unlawful(verdict);
                     skipped += count_skipped(verdict);
                 }
                 Err(fault) => return Err(fault),
             },
-            Ok(NextLine::Last(line)) => match check_line(alloc, game, &line, writer) {
+            Ok(NextLine::Last(line)) => match check_line(alloc, is_json, game, &line, writer) {
                 Ok(verdict) => {
                     return Ok(LineCounts {
                         unlawful: unlawful + count_unlawful(verdict),

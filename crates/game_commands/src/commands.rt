@@ -8,8 +8,9 @@ use crate::replaying::replay_accounts;
 use crate::rules::{game_of, rules_text};
 use crate::script::run_script;
 use command_faults::{Fault, NamedFile, input_file_fault, opened};
+use command_line::GameRequest;
 use game_core::{Countdown, Counted, Game};
-use match_plans::{GameCommand, GameSource, GameTask};
+use match_plans::{GameCommand, GameSource};
 use std::alloc::{AllocError, Global};
 use std::io::{Read, Write};
 use std::rt::Files;
@@ -37,29 +38,30 @@ fn alone<G: Drop>(alloc: Global, game: G) -> Result<Vec<G>, AllocError>
 /// Performs a command for this game.
 fn perform<G: Game + Drop, R: Read, W: Write>(
     alloc: Global,
-    command: GameCommand,
+    request: GameRequest<'_>,
     game: G,
     reader: &mut Counted<R>,
     writer: &mut Counted<W>,
     evidence: &mut Evidence,
 ) -> Result<(), Fault>
-    ensures answers { OnOk result (Answers R.remaining W.contents G.rules game command 0 reader.old reader.new writer.old writer.new) }
-    ensures fails { IfErr result (λ fault. Fails R.remaining W.contents G.rules game command fault reader.old reader.new writer.old writer.new) }
+    ensures answers { OnOk result (Answers R.remaining W.contents request.entry.is_json G.rules game request.entry.task.command 0 reader.old reader.new writer.old writer.new) }
+    ensures fails { IfErr result (λ fault. Fails R.remaining W.contents request.entry.is_json G.rules game request.entry.task.command fault reader.old reader.new writer.old writer.new) }
 {
-    match command {
+    let GameRequest { task, is_json } = request;
+    match task.command {
         GameCommand::Desk => {
             let count = run_script(alloc, reader, writer, alone(alloc, game)?, evidence)?;
             fail_if_any(count, Fault::BadLines(count))
         }
-        GameCommand::Verify => check_record(alloc, &game, reader, writer, evidence),
-        GameCommand::VerifyLines => match check_records(alloc, &game, reader, writer) {
+        GameCommand::Verify => check_record(alloc, is_json, &game, reader, writer, evidence),
+        GameCommand::VerifyLines => match check_records(alloc, is_json, &game, reader, writer) {
             Ok(counts) => {
                 *evidence = Evidence::SkippedLines(counts.skipped);
                 fail_if_any(counts.unlawful, Fault::UnlawfulRecords(counts.unlawful))
             }
             Err(fault) => Err(fault),
         },
-        GameCommand::Replay => replay_accounts(alloc, reader, writer, &game, evidence),
+        GameCommand::Replay => replay_accounts(alloc, is_json, reader, writer, &game, evidence),
     }
 }
 
@@ -67,20 +69,20 @@ fn perform<G: Game + Drop, R: Read, W: Write>(
 fn perform_on<F: Files, G: Game + Drop, R: Read, W: Write>(
     files: &F,
     alloc: Global,
-    task: GameTask<'_>,
+    request: GameRequest<'_>,
     game: G,
     reader: &mut Counted<R>,
     writer: &mut Counted<W>,
     evidence: &mut Evidence,
 ) -> Result<(), Fault>
-    ensures answers { OnOk result (AnswersInput R.remaining F.File.remaining W.contents G.rules game task.entry reader.old reader.new writer.old writer.new) }
-    ensures fails { IfErr result (λ fault. FailsInput R.remaining F.File.remaining W.contents G.rules game task.entry fault reader.old reader.new writer.old writer.new) }
+    ensures answers { OnOk result (AnswersInput R.remaining F.File.remaining W.contents G.rules game request.entry reader.old reader.new writer.old writer.new) }
+    ensures fails { IfErr result (λ fault. FailsInput R.remaining F.File.remaining W.contents G.rules game request.entry fault reader.old reader.new writer.old writer.new) }
 {
-    let Some(path) = task.file else {
-        return perform(alloc, task.command, game, reader, writer, evidence);
+    let Some(path) = request.task.file else {
+        return perform(alloc, request, game, reader, writer, evidence);
     };
     let mut input = opened(files, NamedFile::Input, path)?;
-    match perform(alloc, task.command, game, &mut input, writer, evidence) {
+    match perform(alloc, request, game, &mut input, writer, evidence) {
         Ok(()) => Ok(()),
         Err(fault) => Err(input_file_fault(fault)),
     }
@@ -90,26 +92,26 @@ fn perform_on<F: Files, G: Game + Drop, R: Read, W: Write>(
 pub fn for_game<F: Files, R: Read, W: Write>(
     files: &F,
     alloc: Global,
-    task: GameTask<'_>,
+    request: GameRequest<'_>,
     reader: &mut Counted<R>,
     writer: &mut Counted<W>,
     evidence: &mut Evidence,
 ) -> Result<(), Fault>
-    ensures answers { OnOk result (HoldsOfGame task.entry.game (λ _ _ _ rules game. AnswersInput R.remaining F.File.remaining W.contents rules game task.entry reader.old reader.new writer.old writer.new)) }
-    ensures fails { IfErr result (λ fault. (HasNoGame task.entry.game fault × (reader.new ≡ reader.old) × (writer.new ≡ writer.old))
-        ⊎ HoldsOfGame task.entry.game (λ _ _ _ rules game. FailsInput R.remaining F.File.remaining W.contents rules game task.entry fault reader.old reader.new writer.old writer.new)) }
+    ensures answers { OnOk result (HoldsOfGame request.entry.task.game (λ _ _ _ rules game. AnswersInput R.remaining F.File.remaining W.contents rules game request.entry reader.old reader.new writer.old writer.new)) }
+    ensures fails { IfErr result (λ fault. (HasNoGame request.entry.task.game fault × (reader.new ≡ reader.old) × (writer.new ≡ writer.old))
+        ⊎ HoldsOfGame request.entry.task.game (λ _ _ _ rules game. FailsInput R.remaining F.File.remaining W.contents rules game request.entry fault reader.old reader.new writer.old writer.new)) }
 {
-    match task.game {
+    match request.task.game {
         GameSource::Countdown(size) => {
             let Some(game) = Countdown::new(size) else {
                 return Err(Fault::WrongUse);
             };
-            perform_on(files, alloc, task, game, reader, writer, evidence)
+            perform_on(files, alloc, request, game, reader, writer, evidence)
         }
         GameSource::Described(rules, limits) => {
             let text = rules_text(files, alloc, limits, rules)?;
             match game_of(alloc, limits, &text, evidence) {
-                Ok(game) => perform_on(files, alloc, task, game, reader, writer, evidence),
+                Ok(game) => perform_on(files, alloc, request, game, reader, writer, evidence),
                 Err(fault) => Err(fault),
             }
         }

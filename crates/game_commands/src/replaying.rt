@@ -3,7 +3,7 @@ ghost use Rattle.std.specs.Prelude.{◌≡◌, ◌≢◌, ◌≤◌, ◌+◌, �
 ghost use Rattle.std.specs.Io.KnownBytes.{Consumes, Appends};
 ghost use Rattle.std.specs.Str.Lines.{lines};
 ghost use Rattle.game_core.specs.Counting.{last_count};
-ghost use Rattle.game_commands.specs.Replays.{accounts, begins_as_record, is_skipped, line_text, max_account, open_matches, refused_output, replay_fault, replayed_line, replayed_text, AccountFails, AreReplayed, IsEnded, IsNumbered, IsRefusedAccount, IsReplayed, ReplayFails, StopsLongAccount};
+ghost use Rattle.game_commands.specs.Replays.{accounts, begins_as_record, is_skipped, line_text, max_account, open_matches, refused_line, refused_output, replay_fault, replayed_line, replayed_text, AccountFails, AreReplayed, IsEnded, IsNumbered, IsRefusedAccount, IsReplayed, ReplayFails, StopsLongAccount};
 ghost use Rattle.game_commands.specs.Whole.{ReadsAndWrites};
 
 use crate::answers::push_records;
@@ -35,10 +35,21 @@ fn open_matches<G: Game>(manager: &Manager<G>) -> usize
     count
 }
 
-/// The line with the number of calls that were made, and of the matches that are not over.
-fn replayed_line(alloc: Global, calls: u64, unended: usize) -> Result<String, AllocError>
-    ensures { IfOk result (λ line. string_bytes line ≡ replayed_line calls unended) }
+/// The line with the number of calls that were made, of the matches that are not over, and, as JSON, of all matches.
+fn replayed_line(
+    alloc: Global,
+    is_json: bool,
+    calls: u64,
+    unended: usize,
+    matches: usize,
+) -> Result<String, AllocError>
+    ensures { IfOk result (λ line. string_bytes line ≡ replayed_line is_json calls unended matches) }
 {
+    if is_json {
+        return format!(in alloc;
+            "{{\"verdict\":\"replayed\",\"calls\":{calls},\"not_ended\":{unended},\"records\":{matches}}}\n"
+        );
+    }
     match unended {
         0 => format!(in alloc; "replayed {calls} calls\n"),
         1 => format!(in alloc; "replayed {calls} calls, match not ended\n"),
@@ -49,71 +60,62 @@ fn replayed_line(alloc: Global, calls: u64, unended: usize) -> Result<String, Al
 /// The number of calls that were made, whether a match is not over, and the records of the matches.
 fn replayed_text<G: Game + Drop>(
     alloc: Global,
+    is_json: bool,
     replayed: &Replayed<G>,
 ) -> Result<Vec<u8>, AllocError>
-    ensures { IfOk result (λ text. text.items ≡ replayed_text G.rules replayed.now.manager replayed.now.calls) }
+    ensures { IfOk result (λ text. text.items ≡ replayed_text is_json G.rules replayed.now.manager replayed.now.calls) }
 {
     let unended = open_matches(&replayed.manager);
-    let mut text = replayed_line(alloc, replayed.calls, unended)?.into_bytes();
+    let matches = replayed.manager.matches();
+    let line = replayed_line(alloc, is_json, replayed.calls, unended, matches)?;
+    let mut text = line.into_bytes();
     push_records(alloc, &replayed.manager, &mut text)?;
     Ok(text)
 }
 
-/// Keeps a refused account as evidence, and returns the fault. The right line is the output, if there is one. `before` lines were read
-/// before the account.
-fn refuse(
-    account: Vec<u8>,
+/// The object for a line of this number that is refused.
+fn refused_line(alloc: Global, verdict: &str, line: u64) -> Result<String, AllocError>
+    ensures { IfOk result (λ text. string_bytes text ≡ refused_line verdict.now line) }
+{
+    format!(in alloc; "{{\"verdict\":\"{verdict}\",\"line\":{line}}}\n")
+}
+
+/// The output for lines that are refused, after so many lines of other accounts: the verdict as JSON, or else the right line, if there is
+/// one.
+fn refused_output(
+    alloc: Global,
+    is_json: bool,
     before: u64,
-    fault: ReplayFault,
-    output: &mut Vec<u8>,
-    evidence: &mut Evidence,
-) -> Result<u64, Fault>
-    requires { IsNumbered before fault }
-    ensures refused { IsErr result }
-    ensures fault { IfErr result (λ given. (why : ReplayFault) × (given ≡ replay_fault before why) × (output.old.items ≡ [] → output.new.items ≡ refused_output why)
-        × (why ≢ ReplayFault.Memory → why ≡ fault)) }
+    fault: &ReplayFault,
+) -> Result<Vec<u8>, AllocError>
+    requires { IsNumbered before fault.now }
+    ensures { IfOk result (λ output. output.items ≡ refused_output is_json before fault.now) }
 {
     match fault {
-        ReplayFault::Memory => Err(Fault::Memory),
-        ReplayFault::NoEntry(place, _) => {
-            *evidence = Evidence::Account(account, before, fault);
-            Err(Fault::NoEntry(before + place))
+        ReplayFault::NoEntry(place, _) if is_json => {
+            Ok(refused_line(alloc, "no_entry", before + *place)?.into_bytes())
         }
-        ReplayFault::Differs(place, mut right) => {
-            if let Ok(kept) = right.clone() {
-                *evidence = Evidence::Account(account, before, ReplayFault::Differs(place, kept));
-            }
-            right.push(b'\n')?;
-            *output = right;
-            Err(Fault::Differs(before + place))
+        ReplayFault::Differs(place, _) if is_json => {
+            Ok(refused_line(alloc, "differs", before + *place)?.into_bytes())
         }
+        ReplayFault::Differs(_, right) => {
+            let mut line = right.clone()?;
+            line.push(b'\n')?;
+            Ok(line)
+        }
+        _ => Ok(Vec::new(alloc)),
     }
 }
 
-/// Makes the calls of an account again on a manager of these games, and returns their number. The output is that number and the records of
-/// the matches, or the right line in place of the first wrong one. There is none if it is out of memory.
-fn answer<G: Game + Drop>(
-    alloc: Global,
-    games: Vec<G>,
-    account: Vec<u8>,
-    before: u64,
-    output: &mut Vec<u8>,
-    evidence: &mut Evidence,
-) -> Result<u64, Fault>
-    requires { before + length (lines account.items) ≤ last_count }
-    ensures replayed { OnOk result (IsReplayed G.rules games.items (lines account.items) output.new.items) }
-    ensures counted { IfOk result (λ calls. calls ≡ length (lines account.items)) }
-    ensures refused { IfErr result (λ fault. output.old.items ≡ [] → IsRefusedAccount G.rules games.items before (lines account.items) fault output.new.items) }
+/// The program's fault for lines that are refused, after so many lines of other accounts.
+fn replay_fault(before: u64, fault: &ReplayFault) -> Fault
+    requires { IsNumbered before fault.now }
+    ensures { result ≡ replay_fault before fault.now }
 {
-    match replay(alloc, games, &account) {
-        Ok(replayed) => match replayed_text(alloc, &replayed) {
-            Ok(text) => {
-                *output = text;
-                Ok(replayed.calls)
-            }
-            Err(fault) => Err(Fault::from(fault)),
-        },
-        Err(fault) => refuse(account, before, fault, output, evidence),
+    match fault {
+        ReplayFault::Memory => Fault::Memory,
+        ReplayFault::NoEntry(place, _) => Fault::NoEntry(before + *place),
+        ReplayFault::Differs(place, _) => Fault::Differs(before + *place),
     }
 }
 
@@ -124,6 +126,61 @@ struct OpenAccount {
     text: Vec<u8>,
     /// The number of lines of the accounts before it.
     before: u64,
+    /// Whether the verdict on it is written as JSON.
+    is_json: bool,
+}
+
+/// Keeps a refused account as evidence, unless it is refused for memory, and returns the fault.
+fn refuse(
+    alloc: Global,
+    account: OpenAccount,
+    fault: ReplayFault,
+    output: &mut Vec<u8>,
+    evidence: &mut Evidence,
+) -> Result<u64, Fault>
+    requires { IsNumbered account.before fault }
+    ensures refused { IsErr result }
+    ensures fault { IfErr result (λ given. (why : ReplayFault) × (given ≡ replay_fault account.before why) × (output.old.items ≡ [] → output.new.items ≡ refused_output account.is_json account.before why)
+        × (why ≢ ReplayFault.Memory → why ≡ fault)) }
+{
+    if let ReplayFault::Memory = fault {
+        return Err(Fault::Memory);
+    }
+    let OpenAccount {
+        text,
+        before,
+        is_json,
+    } = account;
+    let refused = replay_fault(before, &fault);
+    *output = refused_output(alloc, is_json, before, &fault)?;
+    *evidence = Evidence::Account(text, before, fault);
+    Err(refused)
+}
+
+/// Makes the calls of an account again on a manager of these games, and returns their number. The output is that number and the records of
+/// the matches, or what `refuse` writes. There is none if it is out of memory.
+fn answer<G: Game + Drop>(
+    alloc: Global,
+    games: Vec<G>,
+    account: OpenAccount,
+    output: &mut Vec<u8>,
+    evidence: &mut Evidence,
+) -> Result<u64, Fault>
+    requires { account.before + length (lines account.text.items) ≤ last_count }
+    ensures replayed { OnOk result (IsReplayed account.is_json G.rules games.items (lines account.text.items) output.new.items) }
+    ensures counted { IfOk result (λ calls. calls ≡ length (lines account.text.items)) }
+    ensures refused { IfErr result (λ fault. output.old.items ≡ [] → IsRefusedAccount account.is_json G.rules games.items account.before (lines account.text.items) fault output.new.items) }
+{
+    match replay(alloc, games, &account.text) {
+        Ok(replayed) => match replayed_text(alloc, account.is_json, &replayed) {
+            Ok(text) => {
+                *output = text;
+                Ok(replayed.calls)
+            }
+            Err(fault) => Err(Fault::from(fault)),
+        },
+        Err(fault) => refuse(alloc, account, fault, output, evidence),
+    }
 }
 
 impl OpenAccount {
@@ -135,6 +192,7 @@ impl OpenAccount {
         ensures pushed { OnOk result (self.new.text.items ≡ self.old.text.items ++ line_text line.now) }
         ensures within { OnOk result (length self.new.text.items ≤ max_account) }
         ensures same { self.new.before ≡ self.old.before }
+        ensures form { self.new.is_json ≡ self.old.is_json }
         ensures fails { IfErr result (λ fault. (begins_as_record line.now ≡ false) × StopsLongAccount fault (length self.old.text.items + (length line.now + 2))) }
     {
         if line.first() == Some(&b'{') {
@@ -161,19 +219,25 @@ impl OpenAccount {
     ) -> Result<(), Fault>
         requires { self.old.before + length (lines self.old.text.items) ≤ last_count }
         ensures ended { OnOk result ((self.new.text.items ≡ []) × (self.new.before ≡ self.old.before + length (lines self.old.text.items))) }
-        ensures replayed { OnOk result ((output : List ℕ) × IsEnded G.rules (game.now ∷ []) (is_skipped self.old.text.items is_last self.old.before) (lines self.old.text.items) output
+        ensures form { OnOk result (self.new.is_json ≡ self.old.is_json) }
+        ensures replayed { OnOk result ((output : List ℕ) × IsEnded self.old.is_json G.rules (game.now ∷ []) (is_skipped self.old.text.items is_last self.old.before) (lines self.old.text.items) output
             × Appends (W.contents writer.old.stream) (W.contents writer.new.stream) output) }
         ensures no_fault { OnOk result (writer.new.faults ≡ writer.old.faults) }
-        ensures fails { IfErr result (AccountFails W.contents G.rules (game.now ∷ []) self.old.before (lines self.old.text.items) writer.old writer.new) }
+        ensures fails { IfErr result (AccountFails W.contents self.old.is_json G.rules (game.now ∷ []) self.old.before (lines self.old.text.items) writer.old writer.new) }
     {
         if self.text.is_empty() && !(is_last && self.before == 0) {
             return Ok(());
         }
         let mut games = Vec::new(alloc);
         games.push(Lent::new(game))?;
-        let account = mem::replace(&mut self.text, Vec::new(alloc));
+        let next = OpenAccount {
+            text: Vec::new(alloc),
+            before: self.before,
+            is_json: self.is_json,
+        };
+        let account = mem::replace(self, next);
         let mut output = Vec::new(alloc);
-        let answered = answer(alloc, games, account, self.before, &mut output, evidence);
+        let answered = answer(alloc, games, account, &mut output, evidence);
         write_all(writer, &output)?;
         self.before += answered?;
         Ok(())
@@ -184,22 +248,24 @@ impl OpenAccount {
 /// own, and writes what they give before more is read.
 pub fn replay_accounts<R: Read, W: Write, G: Game>(
     alloc: Global,
+    is_json: bool,
     reader: &mut Counted<R>,
     writer: &mut Counted<W>,
     game: &G,
     evidence: &mut Evidence,
 ) -> Result<(), Fault>
     ensures replayed { OnOk result ((input output : List ℕ) × ReadsAndWrites R.remaining W.contents input output reader.old reader.new writer.old writer.new
-        × AreReplayed G.rules (game.now ∷ []) (accounts input) output) }
+        × AreReplayed is_json G.rules (game.now ∷ []) (accounts input) output) }
     ensures fails { IfErr result (λ fault. (given : List ℕ)
         × Consumes (R.remaining reader.old.stream) (R.remaining reader.new.stream) given
-        × ReplayFails W.contents G.rules (game.now ∷ []) given fault reader.old reader.new writer.old writer.new) }
+        × ReplayFails W.contents is_json G.rules (game.now ∷ []) given fault reader.old reader.new writer.old writer.new) }
 {
     lines_are_taken();
     let mut buffer = LineBuffer::new();
     let mut account = OpenAccount {
         text: Vec::new(alloc),
         before: 0,
+        is_json,
     };
     for place in 0..u64::MAX {
         match buffer.next_line(alloc, reader, MAX_LINE) {

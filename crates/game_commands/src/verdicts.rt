@@ -33,10 +33,19 @@ pub fn verdict_on<G: Game>(alloc: Global, game: &G, text: &[u8]) -> Result<Verdi
     }
 }
 
-/// The line of output for a verdict. It is empty for a line of an account.
-pub fn verdict_line(alloc: Global, verdict: Verdict) -> Result<String, AllocError>
-    ensures { IfOk result (λ line. string_bytes line ≡ verdict_line verdict) }
+/// The output for a verdict. In words it is empty for a line of an account.
+pub fn verdict_line(alloc: Global, is_json: bool, verdict: Verdict) -> Result<String, AllocError>
+    ensures { IfOk result (λ line. string_bytes line ≡ verdict_line is_json verdict) }
 {
+    if is_json {
+        return match verdict {
+            Verdict::Lawful => String::from_str(alloc, "{\"verdict\":\"lawful\"}\n"),
+            Verdict::Account => String::from_str(alloc, "{\"verdict\":\"skipped\"}\n"),
+            Verdict::Unlawful(fault) => format!(in alloc;
+                "{{\"verdict\":\"not_lawful\",\"fault\":\"{fault}\"}}\n"
+            ),
+        };
+    }
     match verdict {
         Verdict::Lawful => String::from_str(alloc, "lawful\n"),
         Verdict::Account => String::from_str(alloc, ""),

@@ -1,10 +1,11 @@
--- The end of a task, by that of its matches.
+-- The end of a task, by that of its matches or of its messages.
 use Rattle.std.proofs.Common.{◌≡◌, ◌≢◌, ◌⊎◌, ◌∙◌, ℕ, inl, inr, ap, refl, subst, sym, IfErr, IfOk}
-use Rattle.std.specs.Prelude.{OnErr, OnOk, Result, Ok, Err}
+use Rattle.std.specs.Prelude.{IsOk, MatchResult, OnErr, OnOk, Result, Ok, Err}
 use Rattle.command_line.specs.declared.tasks.MatchTask.{MatchTask}
 use Rattle.command_line.specs.declared.tasks.MatchTask.TheVariants.{Run, Season, Check}
 use Rattle.command_faults.specs.declared.fault.Fault.{Fault}
-use Rattle.ggp_commands.specs.Faults.{task_fault}
+use Rattle.player_commands.specs.declared.fault.CommandFault.{CommandFault}
+use Rattle.ggp_commands.specs.Faults.{command_fault, task_fault}
 
 same_fault : (task : MatchTask) (fault : Fault) → task_fault task (Err fault) ≡ fault
 same_fault (Run plan) fault = refl
@@ -23,3 +24,11 @@ ends_or_fails Q R task (Err why) (Err fault) some is ok err = inr (subst R (sym 
 pub ends_well : {E : Type 0} (Q : ℕ → Type 0) (held : Result ℕ Fault) (ended : Result E Fault) → OnOk ended (held ≡ Ok 0) → IfOk held Q → OnOk ended (Q 0)
 ends_well Q held (Ok e) is ok = subst (λ r. IfOk r Q) is ok
 ends_well Q held (Err why) is ok = tt
+
+-- A command to players that ends with a fault of its own has the program's fault for it.
+pub ends_command : {A E : Type 0} (Q : CommandFault → Type 0) (performed : Result A CommandFault) (ended : Result E Fault)
+    → MatchResult performed (λ _. IsOk ended) (λ why. ended ≡ Err (command_fault why)) → IfErr performed Q
+    → IfErr ended (λ fault. (why : CommandFault) × (fault ≡ command_fault why) × Q why)
+ends_command Q (Ok x) (Ok e) is err = tt
+ends_command Q (Ok x) (Err fault) is err = absurd cc
+ends_command Q (Err why) ended is err = rw is (why, refl, err)

@@ -22,8 +22,9 @@ use Rattle.whole_streams.specs.Streams.{InputFails}
 use Rattle.whole_streams.specs.declared.whole.InputFault.{InputFault}
 use Rattle.player_check.specs.Checks.{EndsEarly, WritesCheck}
 use Rattle.player_check.specs.declared.check.CheckFault.{CheckFault}
-use Rattle.player_commands.specs.Lines.{TellsAnswers, aborted_lines, info_line}
-use Rattle.ggp_commands.specs.Faults.{check_fault, task_fault}
+use Rattle.player_commands.specs.declared.fault.CommandFault.{CommandFault}
+use Rattle.player_commands.specs.Lines.{InfoFails, TellsAnswers, aborted_lines, info_line}
+use Rattle.ggp_commands.specs.Faults.{check_fault, command_fault, task_fault}
 use Rattle.ggp_commands.specs.LoadedGame.{IsNotLoadedGame, IsLoadedGame}
 use Rattle.ggp_commands.specs.Runs.{WritesRun, WritesRunUpTo}
 use Rattle.ggp_commands.specs.Schedules.{WritesSeason, WritesSeasonUpTo}
@@ -90,23 +91,23 @@ FailsToPlay H is_reached handed remaining contents plan task reader reader' writ
 -- What a task that ended well has read and written.
 abbrev pub Performs : (H : Type 0) → {P R F W : Type 0} → (RolePlace → PlayerAddress → P → Type 0) → (P → Option (List Handed)) → (R → Option (List ℕ)) → (F → Option (List ℕ)) → (W → Option (List ℕ)) → Task → Counting R → Counting R → Counting W → Counting W → Type 0
 Performs H is_reached handed remaining file_remaining contents (Show text) reader reader' writer writer' = (reader' ≡ reader) × Appends (contents writer.stream) (contents writer'.stream) (string_bytes text)
-Performs H is_reached handed remaining file_remaining contents (Game task) reader reader' writer writer' =
-    HoldsOfGame task.game (λ _ _ _ rules game. AnswersInput remaining file_remaining contents rules game task reader reader' writer writer')
-Performs H is_reached handed remaining file_remaining contents (Info player) reader reader' writer writer' =
-    (reader' ≡ reader) × ((answer : List ℕ) × Appends (contents writer.stream) (contents writer'.stream) (info_line (info_reading answer)))
+Performs H is_reached handed remaining file_remaining contents (Game request) reader reader' writer writer' =
+    HoldsOfGame request.task.game (λ _ _ _ rules game. AnswersInput remaining file_remaining contents rules game request reader reader' writer writer')
+Performs H is_reached handed remaining file_remaining contents (Info plan) reader reader' writer writer' =
+    (reader' ≡ reader) × ((answer : List ℕ) × Appends (contents writer.stream) (contents writer'.stream) (info_line plan.is_json plan.player.name.now (info_reading answer)))
 Performs H is_reached handed remaining file_remaining contents (Abort plan) reader reader' writer writer' =
-    (reader' ≡ reader) × Appends (contents writer.stream) (contents writer'.stream) (aborted_lines plan.players.items)
+    (reader' ≡ reader) × Appends (contents writer.stream) (contents writer'.stream) (aborted_lines plan.is_json plan.players.items)
 Performs H is_reached handed remaining file_remaining contents (Host plan task) reader reader' writer writer' = Plays H is_reached handed remaining contents plan task reader reader' writer writer' 0
 
 -- What a task that ended with this fault has read and written.
 abbrev pub Fails : (H : Type 0) → {P R F W : Type 0} → (RolePlace → PlayerAddress → P → Type 0) → (P → Option (List Handed)) → (R → Option (List ℕ)) → (F → Option (List ℕ)) → (W → Option (List ℕ)) → Task → Counting R → Counting R → Counting W → Counting W → Fault → Type 0
 Fails H is_reached handed remaining file_remaining contents (Show text) reader reader' writer writer' fault =
     (reader' ≡ reader) × (fault ≡ WriteFault) × AppendsPart (contents writer.stream) (contents writer'.stream) (string_bytes text)
-Fails H is_reached handed remaining file_remaining contents (Game task) reader reader' writer writer' fault =
-    (HasNoGame task.game fault × (reader' ≡ reader) × (writer' ≡ writer))
-    ⊎ HoldsOfGame task.game (λ _ _ _ rules game. FailsInput remaining file_remaining contents rules game task fault reader reader' writer writer')
-Fails H is_reached handed remaining file_remaining contents (Info player) reader reader' writer writer' fault = (reader' ≡ reader)
-    × ((writer' ≡ writer) ⊎ ((fault ≡ WriteFault) × ((answer : List ℕ) × AppendsPart (contents writer.stream) (contents writer'.stream) (info_line (info_reading answer)))))
+Fails H is_reached handed remaining file_remaining contents (Game request) reader reader' writer writer' fault =
+    (HasNoGame request.task.game fault × (reader' ≡ reader) × (writer' ≡ writer))
+    ⊎ HoldsOfGame request.task.game (λ _ _ _ rules game. FailsInput remaining file_remaining contents rules game request fault reader reader' writer writer')
+Fails H is_reached handed remaining file_remaining contents (Info plan) reader reader' writer writer' fault = (reader' ≡ reader)
+    × ((why : CommandFault) × (fault ≡ command_fault why) × InfoFails contents plan.is_json plan.player.name.now why writer writer')
 Fails H is_reached handed remaining file_remaining contents (Abort plan) reader reader' writer writer' fault =
-    (reader' ≡ reader) × (fault ≡ NoAnswer → TellsAnswers plan.players.items false (contents writer.stream) (contents writer'.stream))
+    (reader' ≡ reader) × (fault ≡ NoAnswer → TellsAnswers plan.is_json plan.players.items false (contents writer.stream) (contents writer'.stream))
 Fails H is_reached handed remaining file_remaining contents (Host plan task) reader reader' writer writer' fault = FailsToPlay H is_reached handed remaining contents plan task reader reader' writer writer' fault

@@ -16,9 +16,7 @@ use crate::matches::{ReadyTask, input_of, play_with_reports};
 use crate::shared_files::{refuse_shared, tell_file};
 use crate::surroundings::Surroundings;
 use command_faults::Fault;
-use command_line::{
-    AbortPlan, GameOptions, MatchTask, Task, has_own_word, read_arguments, refusal,
-};
+use command_line::{GameOptions, MatchTask, Task, has_own_word, read_arguments, refusal};
 use game_commands::{Evidence, for_game};
 use game_core::Counted;
 use match_log::WriterBrand;
@@ -240,27 +238,32 @@ where
     let Surroundings { rt, alloc, .. } = *around;
     match task {
         Task::Show(text) => (show(text.as_str(), writer), writer),
-        Task::Game(task) => {
+        Task::Game(request) => {
             let evidence = &mut reports.evidence;
-            let performed = for_game(rt, alloc, *task, reader, writer, evidence);
+            let performed = for_game(rt, alloc, *request, reader, writer, evidence);
             (performed, writer)
         }
-        Task::Info(player) => {
+        Task::Info(plan) => {
             let reasons = Reasons {
                 errors: &mut reports.errors,
                 are_wanted: around.terminals.explain(),
             };
-            let performed = info(rt, alloc, player, writer, reasons);
+            let performed = info(rt, alloc, plan, writer, reasons);
             (command_end(performed), writer)
         }
-        Task::Abort(AbortPlan { id, players }) => {
+        Task::Abort(plan) => {
             let are_wanted = around.terminals.explain();
-            explain(alloc, are_wanted, &Subject::Id(id), &mut reports.errors);
+            explain(
+                alloc,
+                are_wanted,
+                &Subject::Id(plan.id),
+                &mut reports.errors,
+            );
             let reasons = Reasons {
                 errors: &mut reports.errors,
                 are_wanted,
             };
-            let performed = abort(rt, alloc, id, players, writer, reasons);
+            let performed = abort(rt, alloc, plan, writer, reasons);
             (command_end(performed), writer)
         }
         Task::Host(plan, task) => {

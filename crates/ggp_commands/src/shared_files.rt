@@ -119,12 +119,12 @@ fn used_by<'a>(alloc: Global, task: &Task<'a>) -> Result<Vec<Used<'a>>, AllocErr
                 push_season(&mut used, plan)?;
             }
         }
-        Task::Game(task) => {
+        Task::Game(request) => {
             let GameTask {
                 command,
                 game,
                 file,
-            } = *task;
+            } = request.task;
             push(&mut used, Role::Rules, rules_file(game))?;
             push(&mut used, Role::NamedInput, file)?;
             if let (GameCommand::Replay, None) = (command, file) {

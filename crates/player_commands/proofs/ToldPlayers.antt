@@ -14,31 +14,31 @@ and_true : (b : Bool) → (b && true) ≡ b
 and_true true = refl
 and_true false = refl
 
-abbrev line : PlayerAddress × Bool → List ℕ
-line it = abort_line it.0.name.now it.1
+abbrev line : Bool → PlayerAddress × Bool → List ℕ
+line is_json it = abort_line is_json it.0.name.now it.1
 
-pub told_none : (old : Option (List ℕ)) → TellsAnswers [] true old old
-told_none old = record { told = []; are_told = refl; answered = refl; written = Appends-nil old }
+pub told_none : (is_json : Bool) (old : Option (List ℕ)) → TellsAnswers is_json [] true old old
+told_none is_json old = record { told = []; are_told = refl; answered = refl; written = Appends-nil old }
 
-told_more : (players : List PlayerAddress) (player : PlayerAddress) (before answered : Bool) (a b c : Option (List ℕ))
-    → TellsAnswers players before a b → Appends b c (abort_line player.name.now answered) → TellsAnswers (players ++ player ∷ []) (before && answered) a c
-told_more players player before answered a b c first more = record {
+told_more : (is_json : Bool) (players : List PlayerAddress) (player : PlayerAddress) (before answered : Bool) (a b c : Option (List ℕ))
+    → TellsAnswers is_json players before a b → Appends b c (abort_line is_json player.name.now answered) → TellsAnswers is_json (players ++ player ∷ []) (before && answered) a c
+told_more is_json players player before answered a b c first more = record {
   told = first.told ++ (player, answered) ∷ [];
   are_told = map-append (λ it. it.0) first.told ((player, answered) ∷ []) ∙ ap (λ l. l ++ player ∷ []) first.are_told;
   answered = list_all-append (λ it. it.1) first.told ((player, answered) ∷ []) ∙ (ap (λ b. b && (answered && true)) first.answered ∙ ap (λ b. before && b) (and_true answered));
-  written = subst (Appends a c) (sym (flat_map-append line first.told ((player, answered) ∷ []) ∙ ap (λ l. flat_map line first.told ++ l) (append-nil (line (player, answered)))))
-      (Appends-trans a b c (flat_map line first.told) (line (player, answered)) first.written more);
+  written = subst (Appends a c) (sym (flat_map-append (line is_json) first.told ((player, answered) ∷ []) ∙ ap (λ l. flat_map (line is_json) first.told ++ l) (append-nil (line is_json (player, answered)))))
+      (Appends-trans a b c (flat_map (line is_json) first.told) (line is_json (player, answered)) first.written more);
 }
 
-pub told_next : (players : List PlayerAddress) (at : ℕ) (d : PlayerAddress) (before answered : Bool) (a b c : Option (List ℕ)) → at < length players
-    → TellsAnswers (take at players) before a b → Appends b c (abort_line (get_or players at d).name.now answered) → TellsAnswers (take (at + 1) players) (before && answered) a c
-told_next players at d before answered a b c within first more =
-    subst (λ them. TellsAnswers them (before && answered) a c) (sym (take_more players at d within)) (told_more (take at players) (get_or players at d) before answered a b c first more)
+pub told_next : (is_json : Bool) (players : List PlayerAddress) (at : ℕ) (d : PlayerAddress) (before answered : Bool) (a b c : Option (List ℕ)) → at < length players
+    → TellsAnswers is_json (take at players) before a b → Appends b c (abort_line is_json (get_or players at d).name.now answered) → TellsAnswers is_json (take (at + 1) players) (before && answered) a c
+told_next is_json players at d before answered a b c within first more =
+    subst (λ them. TellsAnswers is_json them (before && answered) a c) (sym (take_more players at d within)) (told_more is_json (take at players) (get_or players at d) before answered a b c first more)
 
-all_lines : (told : List (PlayerAddress × Bool)) → list_all (λ it. it.1) told ≡ true → flat_map line told ≡ aborted_lines (map (λ it. it.0) told)
-all_lines [] all = refl
-all_lines ((player, true) ∷ told) all = ap (λ l. abort_line player.name.now true ++ l) (all_lines told all)
-all_lines ((player, false) ∷ told) all = absurd (false≢true all)
+all_lines : (is_json : Bool) (told : List (PlayerAddress × Bool)) → list_all (λ it. it.1) told ≡ true → flat_map (line is_json) told ≡ aborted_lines is_json (map (λ it. it.0) told)
+all_lines is_json [] all = refl
+all_lines is_json ((player, true) ∷ told) all = ap (λ l. abort_line is_json player.name.now true ++ l) (all_lines is_json told all)
+all_lines is_json ((player, false) ∷ told) all = absurd (false≢true all)
 
-pub told_all : (players : List PlayerAddress) (a b : Option (List ℕ)) → TellsAnswers players true a b → Appends a b (aborted_lines players)
-told_all players a b each = subst (Appends a b) (all_lines each.told each.answered ∙ ap aborted_lines each.are_told) each.written
+pub told_all : (is_json : Bool) (players : List PlayerAddress) (a b : Option (List ℕ)) → TellsAnswers is_json players true a b → Appends a b (aborted_lines is_json players)
+told_all is_json players a b each = subst (Appends a b) (all_lines is_json each.told each.answered ∙ ap (aborted_lines is_json) each.are_told) each.written

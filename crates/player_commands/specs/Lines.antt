@@ -1,37 +1,88 @@
 -- Single messages to players, and the lines of output about them.
-use Rattle.std.specs.Prelude.{◌≡◌, ℕ, Bool, true, false, List, [], ◌∷◌, ◌++◌, Option, codes, flat_map, map}
+use Rattle.std.specs.Prelude.{◌≡◌, ◌⊎◌, ℕ, Bool, true, false, List, [], ◌∷◌, ◌++◌, Option, codes, flat_map, map}
 use Rattle.std.specs.List.{list_all}
 use Rattle.std.specs.Io.KnownBytes.{Appends}
 use Rattle.game_core.specs.Bytes.{line_feed}
 use Rattle.game_core.specs.Canonical.{canonical}
+use Rattle.game_core.specs.Counting.{Counting}
+use Rattle.match_messages.specs.InfoReading.{info_reading}
 use Rattle.match_messages.specs.MessageValue.{abort, message_form}
 use Rattle.match_messages.specs.declared.info.Info.{Info}
 use Rattle.match_messages.specs.declared.info.Info.TheVariants.{Available, Ready, Busy, Unknown}
 use Rattle.match_plans.specs.declared.addresses.PlayerAddress.{PlayerAddress}
+use Rattle.match_plans.specs.declared.shortages.Shortage.{Shortage}
+use Rattle.match_plans.specs.declared.shortages.Shortage.TheVariants.{Descriptors, Ports, Memory, Clock, Resolver, Network, NotRunning}
+use Rattle.whole_streams.specs.Streams.{AppendsPart}
+use Rattle.player_commands.specs.declared.fault.CommandFault.{CommandFault}
+use Rattle.player_commands.specs.declared.fault.CommandFault.TheVariants.{NoAnswer, NotSent, WriteFault}
 
-abbrev pub info_line : Info → List ℕ
-info_line Available = codes "available" ++ line_feed ∷ []
-info_line Ready = codes "ready" ++ line_feed ∷ []
-info_line Busy = codes "busy" ++ line_feed ∷ []
-info_line Unknown = codes "unknown" ++ line_feed ∷ []
+abbrev pub info_word : Info → List ℕ
+info_word Available = codes "available"
+info_word Ready = codes "ready"
+info_word Busy = codes "busy"
+info_word Unknown = codes "unknown"
+
+-- the object for a player of this name
+abbrev pub verdict_line : List ℕ → List ℕ → List ℕ
+verdict_line name verdict = codes "{\"player\":\"" ++ (name ++ (codes "\",\"verdict\":\"" ++ (verdict ++ codes "\"}\n")))
+
+-- the line for the answer of a player of this name to INFO, as JSON or in words
+abbrev pub info_line : Bool → List ℕ → Info → List ℕ
+info_line true name info = verdict_line name (info_word info)
+info_line false name info = info_word info ++ line_feed ∷ []
+
+-- what the referee is short of
+abbrev pub shortage_word : Shortage → List ℕ
+shortage_word Descriptors = codes "descriptors"
+shortage_word Ports = codes "ports"
+shortage_word Memory = codes "memory"
+shortage_word Clock = codes "clock"
+shortage_word Resolver = codes "resolver"
+shortage_word Network = codes "network"
+shortage_word NotRunning = codes "not_running"
+
+-- the object for a player that gave no answer, or to which nothing was sent
+abbrev pub unanswered_line : List ℕ → CommandFault → List ℕ
+unanswered_line name NoAnswer = verdict_line name (codes "no_answer")
+unanswered_line name (NotSent shortage) =
+    codes "{\"player\":\"" ++ (name ++ (codes "\",\"verdict\":\"not_sent\",\"lacks\":\"" ++ (shortage_word shortage ++ codes "\"}\n")))
+unanswered_line name fault = []
+
+-- what was written of such a player: only JSON
+abbrev pub TellsUnanswered : {W : Type 0} → (W → Option (List ℕ)) → Bool → List ℕ → CommandFault → Counting W → Counting W → Type 0
+TellsUnanswered contents true name NoAnswer writer writer' = Appends (contents writer.stream) (contents writer'.stream) (unanswered_line name NoAnswer)
+TellsUnanswered contents true name (NotSent shortage) writer writer' = Appends (contents writer.stream) (contents writer'.stream) (unanswered_line name (NotSent shortage))
+TellsUnanswered contents is_json name fault writer writer' = writer' ≡ writer
+
+-- a line that `info` writes for a player of this name
+abbrev pub IsInfoOutput : Bool → List ℕ → List ℕ → Type 0
+IsInfoOutput is_json name line = ((answer : List ℕ) × (line ≡ info_line is_json name (info_reading answer)))
+    ⊎ ((is_json ≡ true) × ((fault : CommandFault) × (line ≡ unanswered_line name fault)))
+
+-- what `info` wrote if it ended with this fault
+abbrev pub InfoFails : {W : Type 0} → (W → Option (List ℕ)) → Bool → List ℕ → CommandFault → Counting W → Counting W → Type 0
+InfoFails contents is_json name fault writer writer' = TellsUnanswered contents is_json name fault writer writer'
+    ⊎ ((fault ≡ WriteFault) × ((line : List ℕ) × IsInfoOutput is_json name line × AppendsPart (contents writer.stream) (contents writer'.stream) line))
 
 -- the text of ABORT for the match of this id
 abbrev pub abort_text : List ℕ → List ℕ
 abort_text id = canonical (message_form (abort id))
 
--- the line for a player of this name
-abbrev pub abort_line : List ℕ → Bool → List ℕ
-abort_line name true = name ++ (codes " aborted" ++ line_feed ∷ [])
-abort_line name false = name ++ (codes " no answer" ++ line_feed ∷ [])
+-- the line for a player of this name that answered or did not, as JSON or in words
+abbrev pub abort_line : Bool → List ℕ → Bool → List ℕ
+abort_line false name true = name ++ (codes " aborted" ++ line_feed ∷ [])
+abort_line false name false = name ++ (codes " no answer" ++ line_feed ∷ [])
+abort_line true name true = verdict_line name (codes "aborted")
+abort_line true name false = verdict_line name (codes "no_answer")
 
 -- the lines for players that have all answered
-abbrev pub aborted_lines : List PlayerAddress → List ℕ
-aborted_lines players = flat_map (λ p. abort_line p.name.now true) players
+abbrev pub aborted_lines : Bool → List PlayerAddress → List ℕ
+aborted_lines is_json players = flat_map (λ p. abort_line is_json p.name.now true) players
 
 -- From one content of a stream to the other a line was written for each of these players, in their order: whether it answered. The Bool says
 -- whether all did.
-pub record TellsAnswers (players : List PlayerAddress) (have_answered : Bool) (old new : Option (List ℕ)) : Type 0 where
+pub record TellsAnswers (is_json : Bool) (players : List PlayerAddress) (have_answered : Bool) (old new : Option (List ℕ)) : Type 0 where
   pub told : List (PlayerAddress × Bool)
   pub are_told : map (λ it. it.0) told ≡ players
   pub answered : list_all (λ it. it.1) told ≡ have_answered
-  pub written : Appends old new (flat_map (λ it. abort_line it.0.name.now it.1) told)
+  pub written : Appends old new (flat_map (λ it. abort_line is_json it.0.name.now it.1) told)

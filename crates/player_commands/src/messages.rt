@@ -1,18 +1,19 @@
 //! Single messages to players: a question whether one is free, and ABORT for a match whose referee is gone.
-ghost use Rattle.std.specs.Prelude.{◌≡◌, ◌≢◌, ◌⊎◌, ◌↔◌, ℕ, List, false, Err, IfErr, IfOk, OnOk, string_bytes};
+ghost use Rattle.std.specs.Prelude.{◌≡◌, ◌≢◌, ◌⊎◌, ◌↔◌, ℕ, List, false, true, Err, IfErr, IfOk, OnOk, string_bytes};
 ghost use Rattle.std.specs.Io.KnownBytes.{Appends};
 ghost use Rattle.desk_calls.specs.Names.{is_name};
 ghost use Rattle.match_messages.specs.InfoReading.{info_reading};
 ghost use Rattle.whole_streams.specs.Streams.{AppendsPart};
-ghost use Rattle.player_commands.specs.Lines.{TellsAnswers, abort_line, abort_text, aborted_lines, info_line};
-ghost use Rattle.player_commands.specs.declared.fault.CommandFault.TheVariants.{BadId, NoAnswer, WriteFault};
+ghost use Rattle.player_commands.specs.Lines.{InfoFails, TellsAnswers, TellsUnanswered, abort_line, abort_text, aborted_lines, info_line, info_word, shortage_word, unanswered_line, verdict_line};
+ghost use Rattle.player_commands.specs.declared.fault.CommandFault.TheVariants.{BadId, Memory, NoAnswer, WriteFault};
 
 use crate::fault::{CommandFault, contact_fault};
 use crate::reasons::Reasons;
+use command_line::{AbortPlan, InfoPlan};
 use desk_calls::{Owed, is_name};
 use game_core::{Counted, Text, Texts};
 use match_messages::{Brief, Info, info_message, message, read_info};
-use match_plans::PlayerAddress;
+use match_plans::{PlayerAddress, Shortage};
 use network_players::{Resolves, contact};
 use std::alloc::{AllocError, Global};
 use std::io::Write;
@@ -41,34 +42,113 @@ fn answer_to<N: Resolves + Clock, E: Write>(
     }
 }
 
-/// The line of output for an answer to INFO.
-fn info_line(info: Info) -> &'static str
-    ensures { result.now ≡ info_line info }
+fn info_word(info: Info) -> &'static str
+    ensures { result.now ≡ info_word info }
 {
     match info {
-        Info::Available => "available\n",
-        Info::Ready => "ready\n",
-        Info::Busy => "busy\n",
-        Info::Unknown => "unknown\n",
+        Info::Available => "available",
+        Info::Ready => "ready",
+        Info::Busy => "busy",
+        Info::Unknown => "unknown",
     }
 }
 
-/// Asks a player whether it is free, and writes its answer.
+/// The object for a player of this name.
+fn verdict_line(alloc: Global, name: &str, verdict: &str) -> Result<String, AllocError>
+    ensures { IfOk result (λ line. string_bytes line ≡ verdict_line name.now verdict.now) }
+{
+    format!(in alloc; "{{\"player\":\"{name}\",\"verdict\":\"{verdict}\"}}\n")
+}
+
+/// The line of output for the answer of a player of this name to INFO.
+fn info_line(alloc: Global, is_json: bool, name: &str, info: Info) -> Result<String, AllocError>
+    ensures { IfOk result (λ line. string_bytes line ≡ info_line is_json name.now info) }
+{
+    let word = info_word(info);
+    if is_json {
+        verdict_line(alloc, name, word)
+    } else {
+        format!(in alloc; "{word}\n")
+    }
+}
+
+/// What the referee is short of.
+fn shortage_word(shortage: Shortage) -> &'static str
+    ensures { result.now ≡ shortage_word shortage }
+{
+    match shortage {
+        Shortage::Descriptors => "descriptors",
+        Shortage::Ports => "ports",
+        Shortage::Memory => "memory",
+        Shortage::Clock => "clock",
+        Shortage::Resolver => "resolver",
+        Shortage::Network => "network",
+        Shortage::NotRunning => "not_running",
+    }
+}
+
+/// The object for a player that gave no answer, or to which nothing was sent.
+fn unanswered_line(alloc: Global, name: &str, fault: CommandFault) -> Result<String, AllocError>
+    ensures { IfOk result (λ line. string_bytes line ≡ unanswered_line name.now fault) }
+{
+    match fault {
+        CommandFault::NoAnswer => verdict_line(alloc, name, "no_answer"),
+        CommandFault::NotSent(shortage) => {
+            let lacks = shortage_word(shortage);
+            format!(in alloc;
+                "{{\"player\":\"{name}\",\"verdict\":\"not_sent\",\"lacks\":\"{lacks}\"}}\n"
+            )
+        }
+        _ => String::from_str(alloc, ""),
+    }
+}
+
+/// Writes as JSON that a player gave no answer, or that nothing was sent to it.
+fn tell_unanswered<W: Write>(
+    alloc: Global,
+    name: &str,
+    fault: CommandFault,
+    writer: &mut Counted<W>,
+) -> Result<(), CommandFault>
+    ensures told { OnOk result (TellsUnanswered W.contents true name.now fault writer.old writer.new) }
+    ensures at_fault { IfErr result (λ given. ((given ≡ Memory) × (writer.new ≡ writer.old))
+        ⊎ ((given ≡ WriteFault) × AppendsPart (W.contents writer.old.stream) (W.contents writer.new.stream) (unanswered_line name.now fault))) }
+{
+    match fault {
+        CommandFault::NoAnswer | CommandFault::NotSent(_) => {
+            let line = unanswered_line(alloc, name, fault)?;
+            Ok(write_all(writer, line.as_bytes())?)
+        }
+        _ => Ok(()),
+    }
+}
+
+/// Asks a player whether it is free, and writes its answer. As JSON it is also written that there is none.
 pub fn info<N: Resolves + Clock, W: Write, E: Write + Drop>(
     rt: &N,
     alloc: Global,
-    player: &PlayerAddress<'_>,
+    plan: &InfoPlan<'_>,
     writer: &mut Counted<W>,
     reasons: Reasons<E>,
 ) -> Result<(), CommandFault>
-    ensures written { OnOk result ((answer : List ℕ) × Appends (W.contents writer.old.stream) (W.contents writer.new.stream) (info_line (info_reading answer))) }
-    ensures at_fault { IfErr result (λ fault. (writer.new ≡ writer.old)
-        ⊎ ((fault ≡ WriteFault) × ((answer : List ℕ) × AppendsPart (W.contents writer.old.stream) (W.contents writer.new.stream) (info_line (info_reading answer))))) }
+    ensures written { OnOk result ((answer : List ℕ) × Appends (W.contents writer.old.stream) (W.contents writer.new.stream) (info_line plan.now.is_json plan.now.player.name.now (info_reading answer))) }
+    ensures at_fault { IfErr result (λ fault. InfoFails W.contents plan.now.is_json plan.now.player.name.now fault writer.old writer.new) }
 {
     let mut reasons = reasons;
-    let answer = answer_to(rt, alloc, player, &info_message(), &mut reasons)?;
-    let info = read_info(alloc, answer.as_slice())?;
-    Ok(write_all(writer, info_line(info).as_bytes())?)
+    let name = plan.player.name;
+    match answer_to(rt, alloc, &plan.player, &info_message(), &mut reasons) {
+        Ok(answer) => {
+            let info = read_info(alloc, answer.as_slice())?;
+            let line = info_line(alloc, plan.is_json, name, info)?;
+            Ok(write_all(writer, line.as_bytes())?)
+        }
+        Err(fault) => {
+            if plan.is_json {
+                tell_unanswered(alloc, name, fault, writer)?;
+            }
+            Err(fault)
+        }
+    }
 }
 
 /// The text of ABORT for the match of this id.
@@ -88,68 +168,89 @@ fn abort_message(alloc: Global, id: &str) -> Result<Text, AllocError>
 }
 
 /// The line of output for a player.
-fn abort_line(alloc: Global, name: &str, is_answered: bool) -> Result<String, AllocError>
-    ensures { IfOk result (λ line. string_bytes line ≡ abort_line name.now is_answered) }
+fn abort_line(
+    alloc: Global,
+    is_json: bool,
+    name: &str,
+    is_answered: bool,
+) -> Result<String, AllocError>
+    ensures { IfOk result (λ line. string_bytes line ≡ abort_line is_json name.now is_answered) }
 {
-    if is_answered {
-        format!(in alloc; "{name} aborted\n")
-    } else {
-        format!(in alloc; "{name} no answer\n")
+    match (is_json, is_answered) {
+        (false, true) => format!(in alloc; "{name} aborted\n"),
+        (false, false) => format!(in alloc; "{name} no answer\n"),
+        (true, true) => verdict_line(alloc, name, "aborted"),
+        (true, false) => verdict_line(alloc, name, "no_answer"),
     }
 }
 
-/// Sends ABORT to a player, and writes whether it answered. Where the referee is short of something, nothing is written.
-fn abort_player<N: Resolves + Clock, W: Write, E: Write>(
+/// Sends ABORT to a player. Returns whether it answered.
+fn has_answered<N: Resolves + Clock, E: Write>(
     rt: &N,
     alloc: Global,
     player: &PlayerAddress<'_>,
     message: &Text,
-    writer: &mut Counted<W>,
     reasons: &mut Reasons<E>,
 ) -> Result<bool, CommandFault>
-    ensures told { IfOk result (λ is_answered. Appends (W.contents writer.old.stream) (W.contents writer.new.stream) (abort_line player.now.name.now is_answered)) }
+    ensures { IfErr result (λ fault. (fault ≢ NoAnswer) × (fault ≢ BadId)) }
+{
+    match answer_to(rt, alloc, player, message.as_slice(), reasons) {
+        Ok(_) => Ok(true),
+        Err(CommandFault::NoAnswer) => Ok(false),
+        Err(fault) => Err(fault),
+    }
+}
+
+/// Writes whether a player answered ABORT.
+fn tell_abort<W: Write>(
+    alloc: Global,
+    is_json: bool,
+    name: &str,
+    is_answered: bool,
+    writer: &mut Counted<W>,
+) -> Result<(), CommandFault>
+    ensures told { OnOk result (Appends (W.contents writer.old.stream) (W.contents writer.new.stream) (abort_line is_json name.now is_answered)) }
     ensures others { IfErr result (λ fault. (fault ≢ NoAnswer) × (fault ≢ BadId)) }
 {
-    let is_answered = match answer_to(rt, alloc, player, message.as_slice(), reasons) {
-        Ok(_) => true,
-        Err(CommandFault::NoAnswer) => false,
-        Err(fault) => return Err(fault),
-    };
-    let line = abort_line(alloc, player.name, is_answered)?;
-    write_all(writer, line.as_bytes())?;
-    Ok(is_answered)
+    let line = abort_line(alloc, is_json, name, is_answered)?;
+    Ok(write_all(writer, line.as_bytes())?)
 }
 
 /// Sends ABORT to the players of a match, one after another, and writes for each whether it answered. A player for which the referee is
-/// short of something has no line, and the others are sent ABORT all the same.
+/// short of something has a line only as JSON, and the others are sent ABORT all the same.
 pub fn abort<N: Resolves + Clock, W: Write, E: Write + Drop>(
     rt: &N,
     alloc: Global,
-    id: &str,
-    players: &[PlayerAddress<'_>],
+    plan: &AbortPlan<'_>,
     writer: &mut Counted<W>,
     reasons: Reasons<E>,
 ) -> Result<(), CommandFault>
-    ensures bad_id { (result ≡ Err BadId) ↔ (is_name id.now ≡ false) }
-    ensures all { OnOk result (Appends (W.contents writer.old.stream) (W.contents writer.new.stream) (aborted_lines players.now)) }
-    ensures some { result ≡ Err NoAnswer → TellsAnswers players.now false (W.contents writer.old.stream) (W.contents writer.new.stream) }
+    ensures bad_id { (result ≡ Err BadId) ↔ (is_name plan.now.id.now ≡ false) }
+    ensures all { OnOk result (Appends (W.contents writer.old.stream) (W.contents writer.new.stream) (aborted_lines plan.now.is_json plan.now.players.items)) }
+    ensures some { result ≡ Err NoAnswer → TellsAnswers plan.now.is_json plan.now.players.items false (W.contents writer.old.stream) (W.contents writer.new.stream) }
 {
-    if !is_name(id.as_bytes()) {
+    if !is_name(plan.id.as_bytes()) {
         return Err(CommandFault::BadId);
     }
-    let message = abort_message(alloc, id)?;
+    let message = abort_message(alloc, plan.id)?;
     let mut reasons = reasons;
     let mut have_answered = true;
     let mut short = None;
-    for player in players {
-        let is_answered = match abort_player(rt, alloc, player, &message, writer, &mut reasons) {
+    for player in &plan.players {
+        let is_answered = match has_answered(rt, alloc, player, &message, &mut reasons) {
             Ok(is_answered) => is_answered,
-            Err(CommandFault::NotSent(shortage)) => {
+            Err(fault) => {
+                let CommandFault::NotSent(shortage) = fault else {
+                    return Err(fault);
+                };
+                if plan.is_json {
+                    tell_unanswered(alloc, player.name, fault, writer)?;
+                }
                 short = Some(shortage);
                 continue;
             }
-            Err(fault) => return Err(fault),
         };
+        tell_abort(alloc, plan.is_json, player.name, is_answered, writer)?;
         have_answered = have_answered && is_answered;
     }
     match short {

@@ -3,6 +3,7 @@
 import asyncio
 import contextlib
 import errno
+import json
 import os
 import shutil
 import signal
@@ -62,8 +63,9 @@ class Done:
     said: bytes
     seconds: float
 
-    def last_printed(self) -> str:
-        return (message_lines(self.printed) or [""])[-1]
+    def verdict(self) -> dict:
+        """Returns the JSON object that the process printed. It is empty if there is none."""
+        return json.loads(self.printed or b"{}")
 
     def last_words(self) -> str:
         """Returns the last line that the process said on standard error. If there is none: how it ended."""

@@ -17,7 +17,6 @@ from ggp_tools.competition.schedule import Match
 from ggp_tools.match_log import Event, Host, Other, line_of
 from ggp_tools.printable import MOST_READ
 from ggp_tools.records.lengths import LONGEST_ACCOUNT, MOST_TURNS, longest_record
-from ggp_tools.referee import NO_NAME, is_no_answer
 
 if TYPE_CHECKING:
     from ggp_tools.competition.playing import Playing
@@ -115,11 +114,13 @@ class OpenMatch:
         """Returns what a player answers to INFO. If there is no answer it is silent."""
         seconds = self.plan.competition.info
         done = await run(self.referee.info_words(place), seconds=seconds if seconds < WHOLE else WHOLE + SOON)
-        word, is_silent = done.last_printed(), done.status is None or is_no_answer(done.status, done.last_words())
+        verdict = done.verdict()
+        word, is_unknown = verdict.get("verdict", ""), verdict.get("lacks") == "resolver"
+        is_silent = done.status is None or word == "no_answer" or is_unknown
         if is_silent:
             # Only the time distinguishes a refused or lost connection from a player that let the seconds pass.
             is_refused = done.status is not None and done.seconds < WHOLE
-            word = "its name is not known" if done.last_words() == NO_NAME else "refused" if is_refused else "silent"
+            word = "its name is not known" if is_unknown else "refused" if is_refused else "silent"
         elif done.status:
             word = done.last_words()
             self.why = self.why or f"{player} could not be asked: {word}"

@@ -13,7 +13,7 @@ from ggp_tools.holding.game import MOST_CALLS, Game
 from ggp_tools.holding.match import Match, texts_of
 from ggp_tools.kif import Expression, spelled
 from ggp_tools.printable import counted
-from ggp_tools.referee import Referee, is_text_list, read_records, rules_file, unchecked
+from ggp_tools.referee import Referee, is_text_list, read_objects, rules_file, unchecked
 from ggp_tools.reporting import REDRAWN, Reporter
 
 # The bytes of a script and the number of matches for one run of `desk`, below its limits.
@@ -159,7 +159,7 @@ class RandomMatches:
             except subprocess.TimeoutExpired:
                 self.uncompared += len(waiting)
                 return
-        records = read_records(run)
+        records = read_objects(run)
         if run.returncode or records is None or len(records) != len(waiting):
             raise unchecked(run, self.name)
         for (seed, _, expected), actual in zip(waiting, records):

@@ -5,7 +5,6 @@ import contextlib
 import functools
 import itertools
 import json
-import re
 import subprocess
 import sys
 from collections.abc import Callable, Iterator, Sequence
@@ -17,8 +16,8 @@ from ggp_tools.printable import counted, shown
 from ggp_tools.records.collection import Pile
 from ggp_tools.records.countdown import countdown
 from ggp_tools.records.record import LONGEST_RECORD, MOST_OF_VALUE, json_lines, shape_lines
-from ggp_tools.referee import Referee, rules_file
-from ggp_tools.streams import STANDARD_INPUT, Ended, opened, report, say, status_of
+from ggp_tools.referee import JSON, Referee, read_objects, rules_file
+from ggp_tools.streams import STANDARD_INPUT, Ended, opened, report, say, status_of, whole
 
 COMMAND = "ggp-explain-record"
 ABOUT = (
@@ -30,8 +29,6 @@ ABOUT = (
 STATUS = "status 0: all records are lawful. 1: a record is not. 2: usage error. 3: there is no verdict."
 LONGEST_RULES, LONGEST_OF_LARGE = 1 << 20, 4 << 20
 MOST_LISTED, MOST_OF_TEXT = 20, 400
-NOT_LAWFUL = re.compile(r"ggp_manager: not lawful: (.+)")
-LINE_VERDICT = re.compile(r"lawful|not lawful: (.+)")
 
 
 def short(text: str) -> str:
@@ -193,36 +190,32 @@ def explanation(word: str, game: Game, data: bytes) -> list[str]:
 def asked(program: str, words: list[str], data: bytes) -> subprocess.CompletedProcess:
     """Runs `verify` on records."""
     try:
-        return subprocess.run([program, "verify", *words], input=data, capture_output=True)
+        return subprocess.run([program, "verify", JSON, *words], input=data, capture_output=True)
     except (OSError, ValueError) as why:
         raise Ended(f"cannot run {program}: {getattr(why, 'strerror', None) or 'its name has a NUL byte'}", 3) from None
 
 
-def no_verdict(program: str, said: subprocess.CompletedProcess) -> Ended:
-    lines = said.stderr.decode("ascii", "replace").splitlines()
-    return Ended("\n".join(lines) or f"{program} gives no verdict, and its status is {said.returncode}", 2 if lines and lines[-1] == "ggp_manager: wrong use" else 3)
+def no_verdict(program: str, run: subprocess.CompletedProcess) -> Ended:
+    lines = run.stderr.decode("ascii", "replace").splitlines()
+    return Ended("\n".join(lines) or f"{program} gives no verdict, and its status is {run.returncode}", 3)
+
+
+def faults_in(program: str, run: subprocess.CompletedProcess, count: int) -> list[str | None]:
+    """Returns the referee's fault of each record, or None if the record is lawful."""
+    faults = [verdict.get("fault") for verdict in read_objects(run) or ()]
+    if len(faults) != count or run.returncode != int(any(faults)):
+        raise no_verdict(program, run)
+    return faults
 
 
 def judged(program: str, words: list[str], data: bytes) -> str | None:
     """Returns the referee's fault, or None if the record is lawful."""
-    run = asked(program, words, data)
-    if (run.returncode, run.stdout) == (0, b"lawful\n"):
-        return None
-    lines = run.stderr.decode("ascii", "replace").splitlines()
-    named = NOT_LAWFUL.fullmatch(lines[-1]) if lines and run.returncode == 1 else None
-    if not named:
-        raise no_verdict(program, run)
-    return named[1]
+    return faults_in(program, asked(program, words, data), 1)[0]
 
 
 def judged_lines(program: str, words: list[str], lines: list[bytes]) -> list[str | None]:
     """Returns the fault of each line, or None. No line is one of an account."""
-    run = asked(program, ["--lines", *words], b"".join(line + b"\n" for line in lines))
-    verdicts = [LINE_VERDICT.fullmatch(line) for line in run.stdout.decode("ascii", "replace").splitlines()]
-    wrong = sum(bool(verdict and verdict[1]) for verdict in verdicts)
-    if len(verdicts) != len(lines) or not all(verdicts) or run.returncode != bool(wrong):
-        raise no_verdict(program, run)
-    return [verdict[1] for verdict in verdicts]
+    return faults_in(program, asked(program, ["--lines", *words], b"".join(line + b"\n" for line in lines)), len(lines))
 
 
 def read(name: str, most: int) -> bytes:
@@ -235,7 +228,7 @@ def read(name: str, most: int) -> bytes:
 def rules_of(asked_for: argparse.Namespace) -> Iterator[tuple[list[str], Callable[[], Game]]]:
     """Yields the option that names the game to the referee, and a function that makes the game once the referee has accepted it."""
     if asked_for.countdown is not None:
-        yield [f"--countdown={asked_for.countdown}"], functools.cache(lambda: Game(countdown(int(asked_for.countdown))))
+        yield [f"--countdown={asked_for.countdown}"], functools.cache(lambda: Game(countdown(asked_for.countdown)))
         return
     rules = read(asked_for.rules_file, LONGEST_OF_LARGE if asked_for.large else LONGEST_RULES)
     with rules_file(rules) as path:
@@ -281,7 +274,7 @@ def parser() -> argparse.ArgumentParser:
     reader.add_argument("--large", action="store_true", help="allow a large description")
     game = reader.add_mutually_exclusive_group(required=True)
     game.add_argument("--rules-file", metavar="FILE", help="the ground description of the game")
-    game.add_argument("--countdown", metavar="N", help="the game is Countdown, from a heap of N")
+    game.add_argument("--countdown", metavar="N", type=whole(1, 100), help="the game is Countdown, from a heap of N (1 to 100)")
     return reader
 
 

@@ -8,19 +8,20 @@ messages on standard error and the exit status are the same as those of one proc
 three differences: verdicts are written piece by piece, reads are not counted, and the file of rules cannot be a pipe, because each process
 reads it.
 
-N is at most 1,024. At most N + 2 pieces with their verdicts are in memory. Errors of this command begin with `ggp-verify-records: `. The exit
-status is 2 for a usage error and if PROGRAM cannot be run, and 128 plus the number of the signal if a signal kills a process. If OPTIONS include
-`--why`, exit status 1 means that a record is not lawful, and all errors have 2.
+N is at most 1,024. At most N + 2 pieces with their verdicts are in memory. Errors of this command begin with `ggp-verify-records: `. As with
+`--why`, exit status 1 means that a record is not lawful, and every other error has 2. If a signal kills a process, the status is 128 plus the
+number of the signal. With `--json` among OPTIONS the verdicts are JSON.
 
 The command needs only Python 3.11 or later.
 """
 
 import argparse
+import collections
 import concurrent.futures
 import contextlib
+import json
 import os
 import queue
-import re
 import signal
 import subprocess
 import sys
@@ -34,21 +35,17 @@ MOST_PIECE = 1 << 30
 MOST_JOBS = 1_024
 # The number of bytes of one read.
 CHUNK = 1 << 20
-# The standard error of the referee for a piece that it has read to its end.
-COUNTS = re.compile(rb"(?:ggp_manager: lines of accounts skipped ([0-9]+)\n)?(?:ggp_manager: records not lawful ([0-9]+)\n)?")
-UNLAWFUL = re.compile(rb"^ggp_manager: records not lawful [0-9]+\n\Z", re.M)
+# The referee, its option for verdicts as JSON, and the row of each verdict as text.
+REFEREE, JSON = "ggp_manager", "--json"
+IN_WORDS = {"lawful": "lawful\n", "not_lawful": "not lawful: {fault}\n", "skipped": ""}
 
 
 class Fault(Exception):
     """Ends the check with a message and an exit status."""
 
-    def __init__(self, said: bytes, status: int = 1) -> None:
+    def __init__(self, said: bytes, status: int = 2) -> None:
         super().__init__(said)
         self.said, self.status = said, status
-
-    def status_with_why(self) -> int:
-        """Returns the exit status with `--why`: only unlawful records are an answer."""
-        return 2 if self.status in (1, 3) and not UNLAWFUL.search(self.said) else self.status
 
 
 @dataclass
@@ -103,17 +100,24 @@ def own_words(text: str) -> bytes:
 
 
 def check(words: list[str], piece: bytes) -> Checked:
-    """Runs the referee on a piece."""
+    """Runs the referee on a piece. The verdicts are text, or JSON if `--json` is among the words."""
+    is_json = JSON in words
     try:
-        ran = subprocess.run(words, input=piece, capture_output=True)
+        ran = subprocess.run([*words, *[JSON] * (not is_json)], input=piece, capture_output=True)
     except OSError as error:
-        return Checked(fault=Fault(own_words(f"cannot run {words[0]}: {error.strerror}"), 2))
-    counts = COUNTS.fullmatch(ran.stderr)
+        return Checked(fault=Fault(own_words(f"cannot run {words[0]}: {error.strerror}")))
+    try:
+        objects = [json.loads(line) for line in ran.stdout.splitlines(True) if line.endswith(b"\n")]
+        text = "".join(IN_WORDS[verdict["verdict"]].format(**verdict) for verdict in objects)
+    except (KeyError, TypeError, ValueError):
+        return Checked(fault=Fault(own_words(f"{words[0]} did not print verdicts: is it {REFEREE}?")))
+    counts = collections.Counter(verdict["verdict"] for verdict in objects)
+    verdicts = ran.stdout if is_json else text.encode()
     if ran.returncode < 0:
-        return Checked(ran.stdout, fault=Fault(ran.stderr + own_words(f"{words[0]} was killed by signal {-ran.returncode}"), 128 - ran.returncode))
-    if counts and ran.returncode == (1 if counts[2] else 0):
-        return Checked(ran.stdout, int(counts[1] or 0), int(counts[2] or 0))
-    return Checked(ran.stdout, fault=Fault(ran.stderr, ran.returncode) if ran.returncode else None)
+        return Checked(verdicts, fault=Fault(ran.stderr + own_words(f"{words[0]} was killed by signal {-ran.returncode}"), 128 - ran.returncode))
+    if ran.returncode == (1 if counts["not_lawful"] else 0):
+        return Checked(verdicts, counts["skipped"], counts["not_lawful"])
+    return Checked(verdicts, fault=Fault(ran.stderr))
 
 
 def feed(words: list[str], jobs: int, size: int, checks: queue.Queue) -> None:
@@ -153,7 +157,7 @@ def check_all(words: list[str], jobs: int, size: int) -> None:
     if skipped:
         say(f"ggp_manager: lines of accounts skipped {skipped}\n".encode())
     if unlawful:
-        raise Fault(f"ggp_manager: records not lawful {unlawful}\n".encode())
+        raise Fault(f"ggp_manager: records not lawful {unlawful}\n".encode(), 1)
 
 
 def hold_closed_streams() -> None:
@@ -197,15 +201,15 @@ def main() -> int:
     if signal.getsignal(signal.SIGINT) is signal.default_int_handler:
         # Ctrl-C ends this command and its processes alike. Any that remain end with their input.
         signal.signal(signal.SIGINT, signal.SIG_DFL)
-    status, has_why = 0, "--why" in options
+    status = 0
     try:
         check_all([parsed.program, "verify", "--lines", *options], parsed.jobs, parsed.piece)
     except Fault as fault:
         say(fault.said)
-        status = fault.status_with_why() if has_why else fault.status
+        status = fault.status
     except MemoryError:
         say(b"ggp_manager: want of memory\n")
-        status = 2 if has_why else 3
-    # A thread may still be waiting for input, but everything is written.
+        status = 2
+    # A thread may still wait for input, and all is written.
     os._exit(status)
 

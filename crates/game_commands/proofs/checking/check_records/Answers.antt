@@ -44,7 +44,7 @@ loop-place-preserved g c =
         Consumes-trans _ _ _ _ _ was.3 next.1,
         c.lines_are_taken.ensures.next was.0 was.1 c.loop-place.buffer next.0 c.deref.result.now left was.4 line,
         verdicts_push _ was.1 was.2 c.deref.result.now verdict was.5 told.0,
-        lines_push _ _ _ was.2 verdict was.6 told.1,
+        lines_push _ _ _ _ was.2 verdict was.6 told.1,
         unlawful,
         skipped,
         size,
@@ -75,7 +75,7 @@ returns-in-Ok-check_line-clause-verdicts g c =
       Consumes-trans _ _ _ _ _ was.3 next.1,
       last.4,
       subst (λ ls. AreVerdicts (g.G.Game.rules c.args.game.now) ls all) (sym cut) verdicts,
-      lines_push _ _ _ was.2 verdict was.6 told.1,
+      lines_push _ _ _ _ was.2 verdict was.6 told.1,
       unlawful,
       skipped,
     )
@@ -89,7 +89,7 @@ returns-in-Err-check_line-clause-stops g c =
     let begins = subst (λ n. IsNextLine (g.R.Read.remaining c.next_line.new.reader.stream) bytes n left) c.in-Ok-Ended.field-0-is next.2 in
     let same : c.deref.result.now ≡ c.in-Ok-Ended.line.items = search rules in
     let line = subst (λ l. BeginsWithLine bytes l left) (sym same) begins in
-    let why = tell_stops g.R.Read.remaining g.W.Write.contents (g.G.Game.rules c.args.game.now) c.in-Err-check_line.fault was.2 bytes c.deref.result.now c.args.reader.now c.next_line.new.reader c.args.writer.now c.loop-place.writer c.check_line.new.writer
+    let why = tell_stops g.R.Read.remaining g.W.Write.contents c.args.is_json (g.G.Game.rules c.args.game.now) c.in-Err-check_line.fault was.2 bytes c.deref.result.now c.args.reader.now c.next_line.new.reader c.args.writer.now c.loop-place.writer c.check_line.new.writer
     (c.in-Ok-Ended.ensures.no_fault ∙ c.loop-place.invariant.read) (inl (left, line)) (was.6, c.loop-place.invariant.wrote) c.in-Err-check_line.ensures.fails in
     (was.0 ++ next.0, was.1, bytes, was.2, Consumes-trans _ _ _ _ _ was.3 next.1, begins_more was.0 was.1 c.loop-place.buffer next.0 was.4, was.5, why)
 
@@ -100,7 +100,7 @@ returns-in-Err-check_line-2-clause-stops g c =
     let bytes = c.loop-place.buffer ++ next.0 in
     let last = subst (λ n. IsNextLine (g.R.Read.remaining c.next_line.new.reader.stream) bytes n c.next_line.new.self) c.in-Ok-Last.field-0-is next.2 in
     let same : c.deref-in-Ok-Last.result.now ≡ c.in-Ok-Last.line.items = search rules in
-    let why = tell_stops g.R.Read.remaining g.W.Write.contents (g.G.Game.rules c.args.game.now) c.in-Err-check_line-2.fault was.2 bytes c.deref-in-Ok-Last.result.now c.args.reader.now c.next_line.new.reader c.args.writer.now c.loop-place.writer c.check_line-in-Ok-Last.new.writer
+    let why = tell_stops g.R.Read.remaining g.W.Write.contents c.args.is_json (g.G.Game.rules c.args.game.now) c.in-Err-check_line-2.fault was.2 bytes c.deref-in-Ok-Last.result.now c.args.reader.now c.next_line.new.reader c.args.writer.now c.loop-place.writer c.check_line-in-Ok-Last.new.writer
     (c.in-Ok-Last.ensures.no_fault ∙ c.loop-place.invariant.read) (inr (last.0, last.2, same ∙ last.1, last.4)) (was.6, c.loop-place.invariant.wrote) c.in-Err-check_line-2.ensures.fails in
     (was.0 ++ next.0, was.1, bytes, was.2, Consumes-trans _ _ _ _ _ was.3 next.1, begins_more was.0 was.1 c.loop-place.buffer next.0 was.4, was.5, why)
 
@@ -109,7 +109,7 @@ returns-in-Err-clause-stops g c =
     let was = c.loop-place.invariant.checked in
     let fails = c.in-Err.ensures.fails in
     let bytes = c.loop-place.buffer ++ fails.0 in
-    let why = read_stops g.R.Read.remaining g.W.Write.contents (g.G.Game.rules c.args.game.now) c.in-Err.fault was.2 bytes fails.1 c.next_line.new.self c.args.reader.now c.loop-place.reader c.next_line.new.reader c.args.writer.now c.loop-place.writer
+    let why = read_stops g.R.Read.remaining g.W.Write.contents c.args.is_json (g.G.Game.rules c.args.game.now) c.in-Err.fault was.2 bytes fails.1 c.next_line.new.self c.args.reader.now c.loop-place.reader c.next_line.new.reader c.args.writer.now c.loop-place.writer
     c.loop-place.invariant.read c.loop-place.invariant.calls fails.3 fails.4 fails.5 (was.6, c.loop-place.invariant.wrote) in (
       was.0 ++ fails.0,
       was.1,
@@ -118,5 +118,5 @@ returns-in-Err-clause-stops g c =
       Consumes-trans _ _ _ _ _ was.3 fails.2,
       begins_more was.0 was.1 c.loop-place.buffer fails.0 was.4,
       was.5,
-      subst (λ fault. CheckStops g.R.Read.remaining g.W.Write.contents (g.G.Game.rules c.args.game.now) fault was.2 bytes c.args.reader.now c.next_line.new.reader c.args.writer.now c.loop-place.writer) (sym c.from.ensures) why,
+      subst (λ fault. CheckStops g.R.Read.remaining g.W.Write.contents c.args.is_json (g.G.Game.rules c.args.game.now) fault was.2 bytes c.args.reader.now c.next_line.new.reader c.args.writer.now c.loop-place.writer) (sym c.from.ensures) why,
     )

@@ -12,7 +12,7 @@ invariant-loop-place g l = record {
       × Consumes (g.R.Read.remaining l.initial.reader.stream) (g.R.Read.remaining l.reader.stream) given
       × BeginsWithLines given first l.buffer
       × AreVerdicts (g.G.Game.rules l.game) first verdicts
-      × Appends (g.W.Write.contents l.initial.writer.stream) (g.W.Write.contents l.writer.stream) (verdict_lines verdicts)
+      × Appends (g.W.Write.contents l.initial.writer.stream) (g.W.Write.contents l.writer.stream) (verdict_lines l.is_json verdicts)
       × (l.unlawful ≡ count_unlawful verdicts)
       × (l.skipped ≡ count_skipped verdicts)
       × (length verdicts ≡ l.place);

@@ -24,7 +24,7 @@ returns-in-Ok-clause-fails g c =
       it.1,
       (
         checked.0,
-        verdict_lines checked.1,
+        verdict_lines c.args.request.is_json checked.1,
         record {
           read = checked.2;
           ended = checked.3;

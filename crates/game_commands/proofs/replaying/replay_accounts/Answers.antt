@@ -5,7 +5,7 @@ use Rattle.std.specs.Str.Lines.{lines}
 use Rattle.whole_streams.specs.Lines.{HasNoLineFeed, BeginsWithLine, IsNextLine, BeginsWithLines}
 use Rattle.game_commands.specs.Replays.{begins_as_record, AreReplayed, StopsInput}
 use Rattle.game_commands.proofs.CheckedLines.{begins_more, calls_on}
-use Rattle.game_commands.proofs.ReadAccounts.{accounts_are, last_line, lines_of, no_line, text_of_line, text_of_record, reads_line, reads_record, grouped_line, grouped_record, grouped_all, size_push, replayed_last, stops_push, stops_line}
+use Rattle.game_commands.proofs.ReadAccounts.{accounts_are, last_line, lines_of, no_line, text_of_line, text_of_record, reads_line, reads_record, grouped_line, grouped_record, grouped_all, size_push, replayed_last, ended_as, fails_as, stops_push, stops_line}
 use Rattle.game_commands.proofs.replaying.replay_accounts.Goals as goal
 use Rattle.game_commands.proofs.replaying.replay_accounts.Goals.{then-branch+in_ok-end-in-Ok-Ended, else-branch}
 
@@ -33,6 +33,7 @@ loop-place-init g c = record {
       size = ap length c.new.ensures.items;
       within = rw c.new.ensures.items (search rules);
       before = refl;
+      form = refl;
       counted = refl;
       few = search rules;
     },
@@ -75,11 +76,11 @@ returns-in_err-push-in-Ok-Ended-clause-fails g c =
         was.output,
         c.loop-place.writer,
         inl taken,
-        grouped_line _ _ _ _ _ _ _ _ _ was c.deref.result.now fails.0,
+        grouped_line _ _ _ _ _ _ _ _ _ _ was c.deref.result.now fails.0,
         was.replayed,
         was.wrote,
         was.no_fault,
-        inl (stops_push c.in_err-push-in-Ok-Ended.field-0.0 seen account left (length c.loop-place.account.text.items + (length c.deref.result.now + 2)) c.args.reader.now c.next_line.new.reader fails.1 (size_push _ _ _ _ _ _ _ _ _ was c.deref.result.now) read, refl),
+        inl (stops_push c.in_err-push-in-Ok-Ended.field-0.0 seen account left (length c.loop-place.account.text.items + (length c.deref.result.now + 2)) c.args.reader.now c.next_line.new.reader fails.1 (size_push _ _ _ _ _ _ _ _ _ _ was c.deref.result.now) read, refl),
       ),
     )
 
@@ -122,11 +123,11 @@ returns-in_err-end-in-Ok-Ended-clause-fails g c =
         was.output,
         c.loop-place.writer,
         inl taken,
-        grouped_record _ _ _ _ _ _ _ _ _ was c.deref.result.now is,
+        grouped_record _ _ _ _ _ _ _ _ _ _ was c.deref.result.now is,
         was.replayed,
         was.wrote,
         was.no_fault,
-        inr (read, rw (before, are) at fails),
+        inr (read, rw (before, are, c.in_ok-push-in-Ok-Ended.ensures.form ∙ was.form) at fails),
       ),
     )
 
@@ -158,11 +159,11 @@ returns-in_err-push-in-Ok-Last-clause-fails g c =
         was.output,
         c.loop-place.writer,
         inr (cut, last.3),
-        grouped_line _ _ _ _ _ _ _ _ _ was c.deref-in-Ok-Last.result.now fails.0,
+        grouped_line _ _ _ _ _ _ _ _ _ _ was c.deref-in-Ok-Last.result.now fails.0,
         was.replayed,
         was.wrote,
         was.no_fault,
-        inl (stops_push c.in_err-push-in-Ok-Last.field-0.0 seen account c.next_line.new.self (length c.loop-place.account.text.items + (length c.deref-in-Ok-Last.result.now + 2)) c.args.reader.now c.next_line.new.reader fails.1 (size_push _ _ _ _ _ _ _ _ _ was c.deref-in-Ok-Last.result.now) read, refl),
+        inl (stops_push c.in_err-push-in-Ok-Last.field-0.0 seen account c.next_line.new.self (length c.loop-place.account.text.items + (length c.deref-in-Ok-Last.result.now + 2)) c.args.reader.now c.next_line.new.reader fails.1 (size_push _ _ _ _ _ _ _ _ _ _ was c.deref-in-Ok-Last.result.now) read, refl),
       ),
     )
 
@@ -177,7 +178,7 @@ end-requires-in-Ok-Last g c =
     let whole = same ∙ last.1 in
     let cut = c.lines_are_taken.ensures.last reads.0 was.seen c.loop-place.buffer next.0 c.deref-in-Ok-Last.result.now was.begins last.0 whole last.2 in
     let feedless = subst HasNoLineFeed (sym whole) last.2 in
-    let end = last_line _ _ _ _ _ _ _ _ _ was c.lines_are_taken.ensures.next c.deref-in-Ok-Last.result.now c.push-in-Ok-Last.new.self feedless c.in_ok-push-in-Ok-Last.ensures.pushed in
+    let end = last_line _ _ _ _ _ _ _ _ _ _ was c.lines_are_taken.ensures.next c.deref-in-Ok-Last.result.now c.push-in-Ok-Last.new.self feedless c.in_ok-push-in-Ok-Last.ensures.pushed in
     let kept = c.in_ok-push-in-Ok-Last.ensures.same in
     omega (arith, ap length end.lines, end.few, kept, was.before, was.few, c.loop-place-test.true)
 
@@ -192,7 +193,7 @@ returns-in-Ok-Last-clause-replayed g c =
     let whole = same ∙ last.1 in
     let cut = c.lines_are_taken.ensures.last reads.0 was.seen c.loop-place.buffer next.0 c.deref-in-Ok-Last.result.now was.begins last.0 whole last.2 in
     let feedless = subst HasNoLineFeed (sym whole) last.2 in
-    let end = last_line _ _ _ _ _ _ _ _ _ was c.lines_are_taken.ensures.next c.deref-in-Ok-Last.result.now c.push-in-Ok-Last.new.self feedless c.in_ok-push-in-Ok-Last.ensures.pushed in
+    let end = last_line _ _ _ _ _ _ _ _ _ _ was c.lines_are_taken.ensures.next c.deref-in-Ok-Last.result.now c.push-in-Ok-Last.new.self feedless c.in_ok-push-in-Ok-Last.ensures.pushed in
     let given = reads.0 ++ next.0 in
     let are = accounts_are given (was.seen ++ c.deref-in-Ok-Last.result.now ∷ []) was.done end.account end.rest cut end.grouped end.none in
     on_ok_weaker c.end-in-Ok-Last.result (λ ended. (
@@ -205,8 +206,8 @@ returns-in-Ok-Last-clause-replayed g c =
         no_read_fault = c.in-Ok-Last.ensures.no_fault ∙ c.loop-place.invariant.read;
         no_write_fault = ended.1 ∙ was.no_fault;
       },
-      subst (λ all. AreReplayed g.G.Game.rules (c.args.game.now ∷ []) all (was.output ++ ended.0.0)) (sym are)
-          (replayed_last g.G.Game.rules (c.args.game.now ∷ []) was.done c.push-in-Ok-Last.new.self.text.items end.account c.push-in-Ok-Last.new.self.before was.output ended.0.0 end.size (c.in_ok-push-in-Ok-Last.ensures.same ∙ was.before) was.replayed (rw end.lines at ended.0.1)),
+      subst (λ all. AreReplayed c.args.is_json g.G.Game.rules (c.args.game.now ∷ []) all (was.output ++ ended.0.0)) (sym are)
+          (replayed_last c.args.is_json g.G.Game.rules (c.args.game.now ∷ []) was.done c.push-in-Ok-Last.new.self.text.items end.account c.push-in-Ok-Last.new.self.before was.output ended.0.0 end.size (c.in_ok-push-in-Ok-Last.ensures.same ∙ was.before) was.replayed (ended_as _ _ _ _ _ _ _ (c.in_ok-push-in-Ok-Last.ensures.form ∙ was.form) (rw end.lines at ended.0.1))),
     )) (both_ok _ _ c.end-in-Ok-Last.result c.end-in-Ok-Last.ensures.replayed c.end-in-Ok-Last.ensures.no_fault)
 
 pub returns-in-Ok-Last-clause-fails : goal.returns-in-Ok-Last-clause-fails
@@ -220,7 +221,7 @@ returns-in-Ok-Last-clause-fails g c =
     let whole = same ∙ last.1 in
     let cut = c.lines_are_taken.ensures.last reads.0 was.seen c.loop-place.buffer next.0 c.deref-in-Ok-Last.result.now was.begins last.0 whole last.2 in
     let feedless = subst HasNoLineFeed (sym whole) last.2 in
-    let end = last_line _ _ _ _ _ _ _ _ _ was c.lines_are_taken.ensures.next c.deref-in-Ok-Last.result.now c.push-in-Ok-Last.new.self feedless c.in_ok-push-in-Ok-Last.ensures.pushed in
+    let end = last_line _ _ _ _ _ _ _ _ _ _ was c.lines_are_taken.ensures.next c.deref-in-Ok-Last.result.now c.push-in-Ok-Last.new.self feedless c.in_ok-push-in-Ok-Last.ensures.pushed in
     let given = reads.0 ++ next.0 in
     IfErr-weaker c.end-in-Ok-Last.result _ _ (λ fault fails. (
       given,
@@ -238,7 +239,7 @@ returns-in-Ok-Last-clause-fails g c =
         was.replayed,
         was.wrote,
         was.no_fault,
-        inr (c.in-Ok-Last.ensures.no_fault ∙ c.loop-place.invariant.read, rw (c.in_ok-push-in-Ok-Last.ensures.same ∙ was.before, end.lines) at fails),
+        inr (c.in-Ok-Last.ensures.no_fault ∙ c.loop-place.invariant.read, fails_as g.W.Write.contents _ _ _ _ _ _ c.loop-place.writer c.end-in-Ok-Last.new.writer _ (c.in_ok-push-in-Ok-Last.ensures.form ∙ was.form) (rw (c.in_ok-push-in-Ok-Last.ensures.same ∙ was.before, end.lines) at fails)),
       ),
     )) c.end-in-Ok-Last.ensures.fails
 
@@ -255,7 +256,7 @@ returns-in-Ok-Nothing-clause-replayed g c =
     let next = c.in-Ok-Nothing.ensures.next in
     let nothing = subst (λ n. IsNextLine (g.R.Read.remaining c.next_line.new.reader.stream) (c.loop-place.buffer ++ next.0) n c.next_line.new.self) c.in-Ok-Nothing.field-0-is next.2 in
     let cut = lines_of (reads.0 ++ next.0) was.seen (subst (BeginsWithLines (reads.0 ++ next.0) was.seen) nothing.0 (begins_more reads.0 was.seen c.loop-place.buffer next.0 was.begins)) in
-    let end = no_line _ _ _ _ _ _ _ _ _ was in
+    let end = no_line _ _ _ _ _ _ _ _ _ _ was in
     let given = reads.0 ++ next.0 in
     let are = accounts_are given was.seen was.done end.account end.rest cut end.grouped end.none in
     on_ok_weaker c.end-in-Ok-Nothing.result (λ ended. (
@@ -268,8 +269,8 @@ returns-in-Ok-Nothing-clause-replayed g c =
         no_read_fault = c.in-Ok-Nothing.ensures.no_fault ∙ c.loop-place.invariant.read;
         no_write_fault = ended.1 ∙ was.no_fault;
       },
-      subst (λ all. AreReplayed g.G.Game.rules (c.args.game.now ∷ []) all (was.output ++ ended.0.0)) (sym are)
-          (replayed_last g.G.Game.rules (c.args.game.now ∷ []) was.done c.loop-place.account.text.items end.account c.loop-place.account.before was.output ended.0.0 end.size (was.before) was.replayed (rw end.lines at ended.0.1)),
+      subst (λ all. AreReplayed c.args.is_json g.G.Game.rules (c.args.game.now ∷ []) all (was.output ++ ended.0.0)) (sym are)
+          (replayed_last c.args.is_json g.G.Game.rules (c.args.game.now ∷ []) was.done c.loop-place.account.text.items end.account c.loop-place.account.before was.output ended.0.0 end.size (was.before) was.replayed (ended_as _ _ _ _ _ _ _ was.form (rw end.lines at ended.0.1))),
     )) (both_ok _ _ c.end-in-Ok-Nothing.result c.end-in-Ok-Nothing.ensures.replayed c.end-in-Ok-Nothing.ensures.no_fault)
 
 pub returns-in-Ok-Nothing-clause-fails : goal.returns-in-Ok-Nothing-clause-fails
@@ -279,7 +280,7 @@ returns-in-Ok-Nothing-clause-fails g c =
     let next = c.in-Ok-Nothing.ensures.next in
     let nothing = subst (λ n. IsNextLine (g.R.Read.remaining c.next_line.new.reader.stream) (c.loop-place.buffer ++ next.0) n c.next_line.new.self) c.in-Ok-Nothing.field-0-is next.2 in
     let cut = lines_of (reads.0 ++ next.0) was.seen (subst (BeginsWithLines (reads.0 ++ next.0) was.seen) nothing.0 (begins_more reads.0 was.seen c.loop-place.buffer next.0 was.begins)) in
-    let end = no_line _ _ _ _ _ _ _ _ _ was in
+    let end = no_line _ _ _ _ _ _ _ _ _ _ was in
     let given = reads.0 ++ next.0 in
     IfErr-weaker c.end-in-Ok-Nothing.result _ _ (λ fault fails. (
       given,
@@ -297,7 +298,7 @@ returns-in-Ok-Nothing-clause-fails g c =
         was.replayed,
         was.wrote,
         was.no_fault,
-        inr (c.in-Ok-Nothing.ensures.no_fault ∙ c.loop-place.invariant.read, rw (was.before, end.lines) at fails),
+        inr (c.in-Ok-Nothing.ensures.no_fault ∙ c.loop-place.invariant.read, fails_as g.W.Write.contents _ _ _ _ _ _ c.loop-place.writer c.end-in-Ok-Nothing.new.writer _ was.form (rw (was.before, end.lines) at fails)),
       ),
     )) c.end-in-Ok-Nothing.ensures.fails
 
@@ -320,7 +321,7 @@ returns-in-Err-clause-fails g c =
         was.output,
         c.loop-place.writer,
         inl (begins_more reads.0 was.seen c.loop-place.buffer fails.0 was.begins),
-        grouped_all _ _ _ _ _ _ _ _ _ was,
+        grouped_all _ _ _ _ _ _ _ _ _ _ was,
         was.replayed,
         was.wrote,
         was.no_fault,
@@ -353,8 +354,8 @@ loop-place-preserved g c =
             reads = (
               given,
               consumed,
-              rw (w.account-is, w.writer-is) (reads_record _ _ _ _ _ _ _ _ _ was c.lines_are_taken.ensures.next next.0 c.deref.result.now left c.push.new.self w.end.new.self w.end.new.writer replayed.0 line is
-                  text c.in_ok-push-in-Ok-Ended.ensures.same ended.0 ended.1 replayed.1 replayed.2 w.in_ok-end-in-Ok-Ended.ensures.no_fault),
+              rw (w.account-is, w.writer-is) (reads_record _ _ _ _ _ _ _ _ _ _ was c.lines_are_taken.ensures.next next.0 c.deref.result.now left c.push.new.self w.end.new.self w.end.new.writer replayed.0 line is
+                  text c.in_ok-push-in-Ok-Ended.ensures.same ended.0 ended.1 c.in_ok-push-in-Ok-Ended.ensures.form w.in_ok-end-in-Ok-Ended.ensures.form replayed.1 replayed.2 w.in_ok-end-in-Ok-Ended.ensures.no_fault),
             );
             calls = calls;
             read = read;
@@ -366,8 +367,8 @@ loop-place-preserved g c =
             reads = (
               given,
               consumed,
-              rw (w.account-is, w.writer-is) (reads_line _ _ _ _ _ _ _ _ _ was c.lines_are_taken.ensures.next next.0 c.deref.result.now left c.push.new.self line is
-                  text c.in_ok-push-in-Ok-Ended.ensures.same c.in_ok-push-in-Ok-Ended.ensures.within),
+              rw (w.account-is, w.writer-is) (reads_line _ _ _ _ _ _ _ _ _ _ was c.lines_are_taken.ensures.next next.0 c.deref.result.now left c.push.new.self line is
+                  text c.in_ok-push-in-Ok-Ended.ensures.same c.in_ok-push-in-Ok-Ended.ensures.form c.in_ok-push-in-Ok-Ended.ensures.within),
             );
             calls = calls;
             read = read;
@@ -389,7 +390,7 @@ returns-clause-fails g c =
         was.output,
         c.loop-place.writer,
         inl was.begins,
-        grouped_all _ _ _ _ _ _ _ _ _ was,
+        grouped_all _ _ _ _ _ _ _ _ _ _ was,
         was.replayed,
         was.wrote,
         was.no_fault,

@@ -6,7 +6,7 @@ use Rattle.player_commands.proofs.messages.abort.Goals as goal
 use Rattle.player_commands.proofs.messages.abort.Goals.{then-have_answered, else-have_answered}
 
 pub loop-player-init : goal.loop-player-init
-loop-player-init g c = λ _. told_none _
+loop-player-init g c = λ _. told_none _ _
 
 pub loop-player-preserved : goal.loop-player-preserved
 loop-player-preserved g c = λ none.
@@ -15,13 +15,13 @@ loop-player-preserved g c = λ none.
       | then-have_answered w ↦ w.have_answered-is ∙ sym (ap (λ (b : Bool). b && answered) w.if-have_answered.true)
       | else-have_answered w ↦ w.have_answered-is ∙ (w.if-have_answered.false ∙ sym (ap (λ (b : Bool). b && answered) w.if-have_answered.false))
     ] in
-    let next = told_next c.args.players.now c.loop-player.player-index _ c.loop-player.have_answered answered _ _ _ c.loop-player-test.true (c.loop-player.invariant none) c.in-Ok.ensures.told in
-    subst (λ (all : Bool). TellsAnswers (take (c.loop-player.player-index + 1) c.args.players.now) all (g.W.Write.contents c.args.writer.now.stream) (g.W.Write.contents c.abort_player.new.writer.stream)) (sym both) next
+    let next = told_next c.args.plan.now.is_json c.args.plan.now.players.items c.loop-player.player-index _ c.loop-player.have_answered answered _ _ _ (rw c.deref-player-items.ensures.value at c.loop-player-test.true) (c.loop-player.invariant none) (rw c.deref-player-items.ensures.value at c.in_ok-tell_abort.ensures.told) in
+    subst (λ (all : Bool). TellsAnswers c.args.plan.now.is_json (take (c.loop-player.player-index + 1) c.args.plan.now.players.items) all (g.W.Write.contents c.args.writer.now.stream) (g.W.Write.contents c.tell_abort.new.writer.stream)) (sym both) next
 
 pub returns-in-None-clause-all : goal.returns-in-None-clause-all
 returns-in-None-clause-all g c =
-    let each : TellsAnswers c.args.players.now true (g.W.Write.contents c.args.writer.now.stream) (g.W.Write.contents c.loop-player.writer.stream) =
-    subst (λ (all : Bool). TellsAnswers c.args.players.now all (g.W.Write.contents c.args.writer.now.stream) (g.W.Write.contents c.loop-player.writer.stream)) c.if-have_answered-2.true
-    (subst (λ (them : List _). TellsAnswers them c.loop-player.have_answered (g.W.Write.contents c.args.writer.now.stream) (g.W.Write.contents c.loop-player.writer.stream))
-    (take_all c.loop-player.player-index c.args.players.now (omega (arith, c.loop-player-test.false))) (c.loop-player.invariant c.in-None.is)) in
-    told_all c.args.players.now _ _ each
+    let each : TellsAnswers c.args.plan.now.is_json c.args.plan.now.players.items true (g.W.Write.contents c.args.writer.now.stream) (g.W.Write.contents c.loop-player.writer.stream) =
+    subst (λ (all : Bool). TellsAnswers c.args.plan.now.is_json c.args.plan.now.players.items all (g.W.Write.contents c.args.writer.now.stream) (g.W.Write.contents c.loop-player.writer.stream)) c.if-have_answered-2.true
+    (subst (λ (them : List _). TellsAnswers c.args.plan.now.is_json them c.loop-player.have_answered (g.W.Write.contents c.args.writer.now.stream) (g.W.Write.contents c.loop-player.writer.stream))
+    (take_all c.loop-player.player-index c.args.plan.now.players.items (omega (arith, rw c.deref-player-items.ensures.value at c.loop-player-test.false))) (c.loop-player.invariant c.in-None.is)) in
+    told_all c.args.plan.now.is_json c.args.plan.now.players.items _ _ each

@@ -4,4 +4,4 @@ use Rattle.player_commands.proofs.messages.abort.Given as goal
 
 abbrev pub invariant-loop-player : goal.invariant-loop-player
 invariant-loop-player g l =
-    l.short ≡ None → TellsAnswers (take l.player-index l.players) l.have_answered (g.W.Write.contents l.initial.writer.stream) (g.W.Write.contents l.writer.stream)
+    l.short ≡ None → TellsAnswers l.plan.is_json (take l.player-index l.plan.players.items) l.have_answered (g.W.Write.contents l.initial.writer.stream) (g.W.Write.contents l.writer.stream)
