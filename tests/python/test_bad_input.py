@@ -24,7 +24,7 @@ DESCRIPTIONS = [
     ("", "line 1, column 1: there is no sentence"),
     (FACTS + "(init (x 1)", "line 3, column 1: a list that is not closed"),
     (FACTS + "  (init (x 1)))", "line 3, column 15: a `)` with no open list"),
-    (FACTS + "(init caf\N{LATIN SMALL LETTER E WITH ACUTE})", "line 3, column 10: a byte that is no character"),
+    (FACTS + "(init caf\N{LATIN SMALL LETTER E WITH ACUTE})", "line 3, column 10: a byte that is not a character of KIF"),
     (FACTS + "; a comment (\n(<= (next (x 1)) (init (x 1)))", "line 4, column 1: true or does as a head, init or next as a condition, or a role with conditions: (<= (next (x 1)) (init (x 1)))"),
     (FACTS + "(<= (legal a ?m) (not (move ?m)))", "line 3, column 1: ?m is unsafe"),
     (FACTS + "(<= p q)\n(<= q p)\n(<= terminal p)", "line 4, column 1: an atom that depends on itself: (<= q p)"),
