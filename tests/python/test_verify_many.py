@@ -212,7 +212,7 @@ class Commands(WithProgram):
         lines = out.getvalue().splitlines()
         self.assertEqual(lines[0], "usage: ggp-verify-records [--jobs N] [--piece BYTES] PROGRAM -- OPTIONS < records > verdicts")
         self.assertEqual(lines[2], verify_many.__doc__.splitlines()[0])
-        self.assertTrue(" ".join(out.getvalue().split()).endswith("It needs only Python 3.11 or later."))
+        self.assertTrue(" ".join(out.getvalue().split()).endswith("The command needs only Python 3.11 or later."))
 
     def test_words_that_are_none(self):
         for words in (["program"], ["--"], ["--jobs", "0", "p", "--"], ["--jobs", "1025", "p", "--"], ["--piece", "0", "p", "--"], ["--piece", str((1 << 30) + 1), "p", "--"], ["--jobs", "x", "p", "--"], ["--jobs", "-1", "p", "--"], ["--jobs", "1_0", "p", "--"]):
