@@ -350,17 +350,19 @@ class Pages(Served):
         commands = (Mock(restart=WHEN_DEAD), Mock(restart=EACH_MATCH), None)
         players = tuple(dataclasses.replace(player, command=command) for player, command in zip(self.plan.competition.players, commands))
         self.plan.competition = dataclasses.replace(self.plan.competition, players=players)
+        match = self.plan.matches[0]
+        log = begin(self.plan, match, started(match) + self.play(match, 2, "NIL", ["(take 1)", "noop"]))
+        lines = [f"restart {other.id} {name}: process 7, port 8" for other, name in zip(self.plan.matches[1:], ("ann", "ann", "bob"))]
+        self.plan.folder.journal.write_text("".join(f"2026-01-02T03:04:05.000Z {text}\n" for text in lines))
+        # Neither does it say so if `serve` begins within the turn, or if the end of the turn before is read in the same look.
+        moment = itertools.count()
+        self.enterContext(patch.object(live, "clock", lambda: next(moment) / 1_000))
         self.site = self.server.site = LiveSite(self.plan, Referee(program()), lambda: self.plan)
-        match, moment = self.plan.matches[0], itertools.count()
-        log = begin(self.plan, match, started(match))
-        with patch.object(live, "clock", lambda: next(moment) / 1_000):
-            self.look()
-            lines = [f"restart {other.id} {name}: process 7, port 8" for other, name in zip(self.plan.matches[1:], ("ann", "ann", "bob"))]
-            self.plan.folder.journal.write_text("".join(f"2026-01-02T03:04:05.000Z {text}\n" for text in lines))
+        for _ in range(2):
             self.look()
             self.assertNotIn("was restarted", self.page("/"))
-            self.say(log, self.play(match, 2, "NIL", ["(take 1)", "noop"]))
-            self.look()
+        self.say(log, self.play(match, 3, "((take 1) noop)", ["noop", "(take 1)"]))
+        self.look()
         self.assertIn(f"ann was restarted 2 times, the last time, for {self.plan.matches[2].id}<", self.page("/"))
         self.assertNotIn("bob was restarted", self.page("/"))
 

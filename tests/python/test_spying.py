@@ -2,6 +2,7 @@
 answered."""
 
 import contextlib
+import dataclasses
 import itertools
 import os
 import re
@@ -10,9 +11,10 @@ import tempfile
 import threading
 from collections import Counter
 from dataclasses import dataclass
-from unittest.mock import patch
+from unittest.mock import Mock, patch
 
 from ggp_tools.competition import live, live_api, live_board, live_site
+from ggp_tools.competition.competition_file import WHEN_DEAD
 from ggp_tools.competition.files import STAGES
 from ggp_tools.competition.live_site import LiveSite
 from ggp_tools.match_log import Host, line_of
@@ -123,13 +125,15 @@ class Spying(Served):
 
 @dataclass(frozen=True)
 class Step:
-    """The line that the log gets when a role answers, empty if it is lost; its round and the number of answers to the round; and the events until the
-    next step: time passes, and the directory is read, with or without asking the referee."""
+    """The line that the log gets when a role answers, empty if it is lost; its run, its round, and the number of answers to the round; and the events
+    until the next step: time passes, `serve` may start again, and the directory is read, with or without asking the referee."""
 
+    run: int
     round: int
     needed: int
     text: str
     seconds: float
+    is_served_anew: bool
     looks: tuple[bool, ...]
 
 
@@ -147,8 +151,9 @@ def steps(draw, match, strikes):
         for needed, lines in (*rounds, *draw(rounds_of(match, strikes))):
             at = next(number)
             for text in lines:
-                looks = draw(st.lists(st.booleans(), min_size=1, max_size=2))
-                found.append(Step(at, needed, text if draw(st.integers(0, 11)) else "", draw(st.sampled_from((0.0, 1.0, 7.0))), tuple(looks)))
+                text, seconds = text if draw(st.integers(0, 11)) else "", draw(st.sampled_from((0.0, 1.0, 7.0)))
+                looks = tuple(draw(st.lists(st.booleans(), max_size=2)))
+                found.append(Step(run, at, needed, text, seconds, draw(st.integers(0, 5)) == 5, looks))
     return found
 
 
@@ -182,9 +187,9 @@ class Desk:
     """A fake desk for the game in which all roles may always say something, because the real one would be too slow for many tests."""
 
     def desk(self, _, script):
-        first, *calls = (row.split(" ", 4) for row in script.decode("latin-1").splitlines())
+        first, *calls = (row.split(" ", 4) for row in script.decode("latin-1").splitlines() if not row.startswith("next "))
         strikes, roles = int(first[4].split()[1]), len(first[4].split()) - 2
-        answers = {(int(at), int(role)): word == "submit" and (at == "0" or bool(re.fullmatch(r"\(say \w+\) *", rest[0]))) for word, _, role, at, *rest in calls if word != "next"}
+        answers = {(int(at), int(role)): word == "submit" and (at == "0" or bool(re.fullmatch(r"\(say \w+\) *", rest[0]))) for word, _, role, at, *rest in calls}
         errors, missed, at = [], Counter(), 0
         playing = set(range(roles))
         while playing and all((at, role) in answers for role in playing):
@@ -195,7 +200,7 @@ class Desk:
             at += 1
         phase = "starting" if not at else "playing" if playing else "aborting"
         record = {"phase": phase, "errors": errors, "moves": [[f"(say zq{turn}x{role})" for role in range(roles)] for turn in range(1, len(errors) + 1)]}
-        replies = ["opened", *("taken" for word, *_ in calls if word != "next"), *("owe x" if role in playing or not playing else "hold" for role in range(roles))]
+        replies = ["opened", *("taken" for _ in calls), *("owe x" if role in playing or not playing else "hold" for role in range(roles))]
         # Every other state says whose turn it is, though all may say something.
         states = [[f"(step {turn})", f"(control r{turn // 2 % roles})"][: 1 + turn % 2] for turn in range(len(errors) + 1)]
         return replies, record | {"states": states, "roles": [f"r{role}" for role in range(roles)]}
@@ -208,17 +213,29 @@ class Watched:
     """A match in a directory, and all that is served of it."""
 
     def __init__(self, room, head, roles, delay):
-        self.plan = plan_in(room, NAMES, head=head, rules=rules_of(roles), roles=roles)
+        self.plan, self.delay = plan_in(room, NAMES, head=head, rules=rules_of(roles), roles=roles), delay
+        players = tuple(dataclasses.replace(player, command=Mock(restart=WHEN_DEAD)) for player in self.plan.competition.players)
+        self.plan.competition = dataclasses.replace(self.plan.competition, players=players)
         self.log = begin(self.plan, self.plan.matches[0])
-        self.site = LiveSite(self.plan, Desk(), lambda: self.plan, delay=delay)
-        self.site.versions = itertools.count()
+        self.serve()
         first = self.plan.matches[0]
         self.paths = ["/index.html", f"/matches/{first.id}.html", f"/players/player-{first.players[0]}.html"]
         self.data = ["/api/table", "/api/matches", f"/api/matches/{first.id}", "/metrics"]
 
+    def serve(self):
+        """Begins to serve, as if by another process."""
+        self.site = LiveSite(self.plan, Desk(), lambda: self.plan, delay=self.delay)
+        self.site.versions = itertools.count()
+
+    def restart(self):
+        """Notes in the journal that a player of the match was started again, for another match."""
+        with open(self.plan.folder.journal, "a") as journal:
+            journal.write(f"2026-01-02T03:04:05.000Z restart {self.plan.matches[1].id} {self.plan.matches[0].players[0]}: process 7, port 8\n")
+
     def look(self, is_judged):
         self.site.reader.next_judging = 0.0 if is_judged else float("inf")
         self.site.look()
+        assert not self.site.reader.troubles_of_matches()
 
     def served(self):
         """Returns all pages and what programs get, and what those who have them open are told of."""
@@ -230,23 +247,34 @@ class Watched:
 
 
 class Whatever(InFolder):
-    """Two sites that differ only in the answers of unfinished rounds: one does not have them in its log."""
+    """Two sites that differ only in what happened in unfinished rounds: one does not have these answers in its log, and not in its journal that a
+    player died and was restarted."""
 
-    @settings(max_examples=25)
-    @given(st.data(), st.integers(2, 3), st.sampled_from((0, 2)), st.sampled_from((0, 0, 5)), st.sampled_from((1 << 20, 1 << 20, 700)))
+    @settings(max_examples=40)
+    @given(st.data(), st.integers(2, 3), st.sampled_from((0, 2)), st.sampled_from((0, 0, 5.5)), st.sampled_from((1 << 20, 1 << 20, 700)))
     def test_what_is_served_follows_from_finished_rounds(self, data, roles, strikes, delay, most_of_script):
         names = tuple(f"r{at}" for at in range(roles))
         head = f"start = 600\nplay = 600\n{f'strikes = {strikes}' if strikes else ''}"
-        self.moment = 1_000_000.0
+        self.moment, self.ticks = 1_000_000.0, itertools.count()
+
+        def clock():
+            """Also within the time that reading the directory takes, time passes."""
+            return self.moment + next(self.ticks) * 1e-6
+
         with contextlib.ExitStack() as patches:
             for module, name, value in (
-                (live, "clock", lambda: self.moment), (live, "SHARE", 0), (live, "JUDGING_SHARE", 0), (live_site, "FOLLOW", 1e9),
+                (live, "clock", clock), (live, "SHARE", 0), (live, "JUDGING_SHARE", 0), (live_site, "FOLLOW", 1e9),
                 (live_board, "MOST_OF_SCRIPT", most_of_script), (live.time, "time", lambda: self.moment),
             ):
                 patches.enter_context(patch.object(module, name, value))
             one, other = (Watched(patches.enter_context(tempfile.TemporaryDirectory()), head, names, delay) for _ in range(2))
             counts, held = Counter(), {}
-            for step in data.draw(steps(one.plan.matches[0], strikes)):
+            taken = data.draw(steps(one.plan.matches[0], strikes))
+            begins = [at for at, step in enumerate(taken) if step.needed > 1 and step.round != taken[at - 1].round]
+            restart = data.draw(st.sampled_from([len(taken), *begins]))
+            for at, step in enumerate(taken):
+                if at == restart:
+                    one.restart()
                 counts[step.round] += 1
                 held.setdefault(step.round, []).append(step.text)
                 with open(one.log, "a") as log:
@@ -254,10 +282,17 @@ class Whatever(InFolder):
                 if counts[step.round] == step.needed:
                     with open(other.log, "a") as log:
                         log.write("".join(held.pop(step.round)))
+                if at >= restart and (step.run > taken[restart].run or counts[taken[restart].round] == taken[restart].needed):
+                    # The round of the restart is over, so one site may show it.
+                    break
+                if step.is_served_anew or at == restart and data.draw(st.booleans()):
+                    one.serve()
+                    other.serve()
                 self.moment += step.seconds
-                for is_judged in step.looks:
-                    one.look(is_judged)
-                    other.look(is_judged)
+                for is_judged in (*step.looks, True, True) if at == restart else step.looks:
+                    for site in (one, other):
+                        self.ticks = itertools.count()
+                        site.look(is_judged)
                     self.assertEqual(one.served(), other.served())
 
 

@@ -162,6 +162,10 @@ class Seen:
         """Returns the turn that is asked for: 0 is START."""
         return self.board.position.round()
 
+    def open_round(self) -> int | None:
+        """Returns the round that was open when the log was read last, or None if more of the log or of its answers is still to be judged."""
+        return None if self.tail.is_behind or self.board.is_known_further() else self.turn()
+
     def is_over(self) -> bool:
         """Returns whether all have answered STOP or ABORT."""
         return len(self.ends) == len(self.match.players)
@@ -257,6 +261,16 @@ class Seen:
         self.shown = shown
 
 
+@dataclass
+class Restart:
+    """A player that was started again for a match. `rounds` has the matches of the player that were open when this was read, each with the round
+    that was open then, or None until that is known."""
+
+    player: str
+    match: str
+    rounds: dict[str, int | None]
+
+
 def stage_of(names: set[str]) -> str:
     """Returns what happens to a match, by the files of its room. It waits where only the players of a run before are named."""
     return next((stage for stage in reversed(STAGES) if stage in names), WAITING)
@@ -323,16 +337,17 @@ class Reader:
         self.journal, self.given_up = Tail(str(plan.folder.journal), note_of), {}
         commands = {player.name: player.command for player in plan.competition.players}
         self.restarting = {name for name, command in commands.items() if command and command.restart != EACH_MATCH}
-        # Players that were started again, for which matches and when that was read; and what is shown of it.
-        self.restarts: list[tuple[str, str, float]] = []
+        # The restarts that are not shown yet; and what is shown of the others.
+        self.restarts: list[Restart] = []
         self.restarted: dict[str, tuple[int, str]] = {}
 
     def look(self) -> None:
         """Reads what has come since the last look."""
-        sight = self.delay.sight(self.rooms_there(), size_of(self.plan.folder.journal), is_held(self.plan.folder.path))
+        # What the journal says happened before the logs were as long as they are found to be.
+        journal = size_of(self.plan.folder.journal)
+        sight = self.delay.sight(self.rooms_there(), journal, is_held(self.plan.folder.path))
         gone = self.look_at_rooms(sight.rooms)
         self.look_at_journal(sight)
-        self.show_restarts()
         for name in gone:
             self.look_at_record(name)
         self.look_at_records()
@@ -374,7 +389,10 @@ class Reader:
             self.given_up.clear()
             self.restarted.clear()
         while notes := self.journal.added(sight.journal)[0]:
-            self.restarts += [(found[2], found[1], clock()) for found in map(RESTARTED.fullmatch, notes) if found and found[2] in self.restarting]
+            for found in map(RESTARTED.fullmatch, notes):
+                if found and found[2] in self.restarting:
+                    rounds = {name: None for name, seen in self.open.items() if found[2] in seen.match.players}
+                    self.restarts.append(Restart(found[2], found[1], rounds))
             for found in filter(None, map(GIVEN_UP.fullmatch, notes)):
                 if found[2] is None:
                     self.given_up.pop(found[3], None)
@@ -384,14 +402,13 @@ class Reader:
 
     def show_restarts(self) -> None:
         """Shows which players were started again. A player that has died answers nothing, so the rounds that were open then come first."""
-        held = []
-        for player, match, moment in self.restarts:
-            if any(player in seen.match.players and seen.began <= moment for seen in self.open.values()):
-                held.append((player, match, moment))
-            else:
-                self.restarted[player] = self.restarted.get(player, (0,))[0] + 1, match
-        self.version += held != self.restarts
-        self.restarts = held
+        for restart in self.restarts:
+            found = ((self.open[name], name, at) for name, at in restart.rounds.items() if name in self.open)
+            restart.rounds = {name: seen.open_round() if at is None else at for seen, name, at in found if at is None or seen.turn() <= at}
+            if not restart.rounds:
+                self.restarted[restart.player] = self.restarted.get(restart.player, (0,))[0] + 1, restart.match
+                self.version += 1
+        self.restarts = [restart for restart in self.restarts if restart.rounds]
 
     def look_at_room(self, name: str, seen: Seen, room: Room) -> int:
         """Reads what has come of an open match. Returns how much has changed; a fault of these pages is told, and stops no other match."""
@@ -407,17 +424,20 @@ class Reader:
         return seen.version - before + is_other
 
     def judge(self, until: float, first: Container[str] = ()) -> None:
-        """Asks the referee what came of the answers of open matches, until a moment: first of some of them."""
+        """Asks the referee what came of the answers of open matches, until a moment: first of some of them. Then it shows restarts."""
         began = time.monotonic()
-        if began < self.next_judging:
-            return
+        if began >= self.next_judging:
+            self.judge_due(until, first)
+            ended = time.monotonic()
+            self.next_judging = ended + JUDGING_SHARE * (ended - began)
+        self.show_restarts()
+
+    def judge_due(self, until: float, first: Container[str]) -> None:
         due = [seen for seen in self.open.values() if seen.board.is_due()]
         for seen in sorted(due, key=lambda seen: (seen.match.id not in first, seen.judged)):
             if time.monotonic() >= until:
                 break
             self.version += self.judge_match(seen)
-        ended = time.monotonic()
-        self.next_judging = ended + JUDGING_SHARE * (ended - began)
 
     def judge_match(self, seen: Seen) -> int:
         """Asks the referee what came of the answers of a match. Returns how much has changed; a fault here stops no other match."""

@@ -21,6 +21,8 @@ class Tail(Generic[T]):
     def __init__(self, path: str, parse: Callable[[bytes], T | None], later: str = "") -> None:
         self.path, self.parse, self.later = path, parse, later
         self.place, self.number, self.head = 0, None, b""
+        # Whether lines up to the last size that was asked for are still to be read.
+        self.is_behind = False
 
     def added(self, until: int) -> tuple[list[T], bool]:
         """Returns what was added until the file had so many bytes, and whether it is another one than before. Nothing is added to a file that
@@ -32,6 +34,7 @@ class Tail(Generic[T]):
                 is_other = self.begin(file)
                 return self.read_on(file, until), is_other
         except OSError:
+            self.is_behind = self.place < until
             return [], False
 
     def begin(self, file: BinaryIO) -> bool:
@@ -44,7 +47,7 @@ class Tail(Generic[T]):
         return is_other
 
     def read_on(self, file: BinaryIO, until: int) -> list[T]:
-        found, begin = [], file.seek(self.place)
+        found, begin, self.is_behind = [], file.seek(self.place), False
         for line in whole_lines(file):
             if file.tell() > until:
                 break
@@ -52,5 +55,6 @@ class Tail(Generic[T]):
             if (said := self.parse(line)) is not None:
                 found.append(said)
             if self.place - begin >= MOST_READ:
+                self.is_behind = True
                 break
         return found
