@@ -11,6 +11,7 @@ import json
 import os
 import queue
 import re
+import resource
 import signal
 import socket
 import struct
@@ -713,6 +714,10 @@ class Command(InFolder):
                 self.assertIn(b"0 of 2 matches are over.", answer.read())
             serving_it.send_signal(number)
             self.assertEqual((serving_it.communicate(timeout=60), serving_it.returncode), (("", ""), 0))
+
+    def test_connections_that_the_limit_of_open_files_cannot_take(self):
+        few = {"preexec_fn": lambda: resource.setrlimit(resource.RLIMIT_NOFILE, (256, 256))}
+        self.assertIn("--connections 256 needs 320 open files, and the system allows 256", run(self.folder, "serve", "--port", "0", **few)[2])
 
     def test_what_is_asked_wrong(self):
         for words in (("--port", "65536"), ("--port", "x"), ("--bind", "localhost"), ("--connections", "0"), ("--delay", "3601")):

@@ -1,5 +1,6 @@
 """What `serve` says to other programs: JSON, events and numbers; and who may show its pages, also behind a proxy."""
 
+import errno
 import json
 import os
 import pathlib
@@ -56,6 +57,22 @@ class Data(Served):
         wanted = {'ggp_matches{state="over"}': "1", 'ggp_matches{state="given up"}': "1", 'ggp_matches{state="waiting"}': "4", "ggp_serve_viewers": "1"}
         wanted |= {'ggp_player_replaced{player="ann"}': "1", "ggp_play_running": "0", "ggp_records_unread": "0"}
         self.assertEqual({name: numbers[name] for name in wanted}, wanted)
+
+    def test_what_is_known_stays_if_a_directory_cannot_be_listed(self):
+        over, opened = self.plan.matches[:2]
+        begin(self.plan, opened, started(opened))
+        end(self.plan, over, record_of(over, [["(take 1)", "noop"]], [["", ""]], [0, 100]))
+        self.look()
+        before = self.json("/api/matches")
+        self.assertEqual([row["state"] for row in before["matches"][:2]], ["over", "open"])
+        with patch("os.listdir", side_effect=OSError(errno.EMFILE, os.strerror(errno.EMFILE))):
+            self.look()
+            said = self.json("/api/matches")
+            self.assertEqual((said["matches"], self.json("/api/table")["matches"]), (before["matches"], 1))
+            self.assertIn("The directory records can't be read (Too many open files)", said["trouble"])
+            self.assertIn("The directory records", self.page("/"))
+        self.look()
+        self.assertEqual(self.json("/api/matches")["trouble"], "")
 
     def test_a_list_of_many_matches_comes_in_pages_and_many_changes_at_once_are_not_told(self):
         feed = self.feed()

@@ -6,6 +6,7 @@ import fcntl
 import io
 import os
 import pathlib
+import resource
 import stat
 from collections.abc import Iterator
 from typing import TYPE_CHECKING, BinaryIO
@@ -20,6 +21,8 @@ UNFINISHED = ".unfinished-"
 PLAYERS = "players"
 # What happens to an open match: an empty file of this name in its room says it to others.
 STAGES = ASKING, PLAYING, CHECKING = "asking", "playing", "checking"
+# So many open files are enough for as many matches at once, or connections, as there may be.
+DESCRIPTORS = 16_384
 
 
 class Refused(Exception):
@@ -28,6 +31,14 @@ class Refused(Exception):
     def __init__(self, words: str, advice: str | None = None) -> None:
         super().__init__(f"{words}: {advice}" if advice else words)
         self.words = words
+
+
+def allow_files() -> int:
+    """Lets this process open as many files as the system allows it, up to those that are enough. Returns how many."""
+    soft, hard = resource.getrlimit(resource.RLIMIT_NOFILE)
+    most = max(soft, min(hard, DESCRIPTORS))
+    resource.setrlimit(resource.RLIMIT_NOFILE, (most, hard))
+    return most
 
 
 @contextlib.contextmanager

@@ -4,7 +4,7 @@ starts nothing but the referee's desk, and reads each file on from where it was.
 A player of an open match can read the pages too. So what is shown of it follows from finished rounds alone, and from the clock of this
 computer. A round is START, a turn, or the end. It is finished once all of its roles have answered, or were passed over."""
 
-import contextlib
+import errno
 import os
 import pathlib
 import re
@@ -45,6 +45,8 @@ RESTARTED = re.compile(r"restart (\S+) (\S+): .*")
 GIVEN_UP = re.compile(rf"(?:no record|missing) (\S+): (?!{NOT_BEGUN}$)(.*)|(?:info|begin) (\S+) .*")
 # The referee is asked what came of answers for at most so small a part of the time.
 JUDGING_SHARE = 3
+# These errors are of this process, and say nothing about a file.
+OUT_OF_FILES = errno.EMFILE, errno.ENFILE
 # What stands before the name of a file that is named by its whole path.
 WHOLE_PATH = re.compile(r"(?<![\w./-])/(?:[^\s/]+/)*(?=[^\s/])")
 
@@ -326,6 +328,9 @@ class Reader:
         # What each record was when it was read, and those that are to be read.
         self.identities: dict[str, Identity] = {}
         self.unread: deque[str] = deque()
+        # Why directories can't be read now, and the rooms when theirs was read last.
+        self.unlisted: dict[str, str] = {}
+        self.rooms: dict[str, Room] = {}
         # What went wrong with an open match.
         self.troubles: dict[str, str] = {}
         # The last replaced moves of matches that are over, and of these matches how many there were.
@@ -356,15 +361,37 @@ class Reader:
         self.ended = staying
         self.is_held = sight.is_held
 
+    def listed(self, folder: pathlib.Path) -> list[str] | None:
+        """Returns the names in a directory, or None if it can't be read now: that says nothing about what is in it."""
+        self.unlisted.pop(folder.name, None)
+        try:
+            return os.listdir(folder)
+        except FileNotFoundError:
+            return []
+        except OSError as why:
+            self.unlisted[folder.name] = why.strerror
+            return None
+
     def rooms_there(self) -> dict[str, Room]:
-        """Returns the rooms of open matches."""
-        found = {}
-        with contextlib.suppress(OSError):
-            for entry in os.scandir(self.plan.folder.open):
-                if entry.name in self.known:
-                    with contextlib.suppress(OSError):
-                        found[entry.name] = Room(stage_of(set(os.listdir(entry.path))), size_of(self.plan.folder.room_log(entry.name)))
-        return {name: room for name, room in found.items() if room.stage != WAITING}
+        """Returns the rooms of open matches, as they were if the directory can't be read now."""
+        names = self.listed(self.plan.folder.open)
+        if names is not None:
+            found = {name: self.room_there(name) for name in names if name in self.known}
+            self.rooms = {name: room for name, room in found.items() if room and room.stage != WAITING}
+        return self.rooms
+
+    def room_there(self, name: str) -> Room | None:
+        """Returns the room of a match, as it was if it can't be read now."""
+        try:
+            return Room(stage_of(set(os.listdir(self.plan.folder.open / name))), size_of(self.plan.folder.room_log(name)))
+        except (FileNotFoundError, NotADirectoryError):
+            return None
+        except OSError:
+            return self.rooms.get(name)
+
+    def trouble(self) -> str:
+        """Returns which directories can't be read now."""
+        return " ".join(f"The directory {name} can't be read ({why}), so these pages may be behind." for name, why in self.unlisted.items())
 
     def look_at_rooms(self, rooms: dict[str, Room]) -> list[str]:
         """Reads the logs of the open matches. Returns the matches that are open no more."""
@@ -468,10 +495,10 @@ class Reader:
         began = time.monotonic()
         if began < self.next:
             return
-        try:
-            there = {name.removesuffix(".json") for name in os.listdir(self.plan.folder.records) if name.endswith(".json")}
-        except OSError:
-            there = set()
+        names = self.listed(self.plan.folder.records)
+        if names is None:
+            return
+        there = {name.removesuffix(".json") for name in names if name.endswith(".json")}
         for name in self.results.keys() - there:
             self.forget(name)
         self.faults = {name: why for name, why in self.faults.items() if name in there}
@@ -517,6 +544,10 @@ class Reader:
         except FileNotFoundError:
             return
         except (OSError, NoRecord) as why:
+            if isinstance(why, OSError) and why.errno in OUT_OF_FILES:
+                # It is read again at the next look.
+                self.unlisted[self.plan.folder.records.name] = why.strerror
+                return
             self.refuse(name, why)
             self.identities[name] = own
             return

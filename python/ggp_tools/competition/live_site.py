@@ -198,10 +198,14 @@ class LiveSite:
 
     # ---- pages
 
+    def shown_trouble(self) -> str:
+        """Returns why what is shown may not be what is so now."""
+        return self.trouble or self.fault or self.reader.trouble()
+
     def stamp(self, path: str) -> tuple | None:
         """Returns what a page is made of: none where there is no such page. Where this is the same the page is the same."""
         own = self.own_stamp(path)
-        return None if own is None else (*own, self.trouble or self.fault)
+        return None if own is None else (*own, self.shown_trouble())
 
     def own_stamp(self, path: str) -> tuple | None:
         """Returns what a page is made of beside what each of them has."""
@@ -231,7 +235,7 @@ class LiveSite:
             now, boards, opened, given_up, *more = live_pages.live_parts(self.reader, self.board_items())
             parts = [head, now, boards, bracket, rounds, standings, opened, given_up, *rest, *more]
         title = MATCH.fullmatch(path)[1] if found is None else found.title
-        return titled(self.plan, title), [live_pages.trouble_part(self.trouble or self.fault), *parts]
+        return titled(self.plan, title), [live_pages.trouble_part(self.shown_trouble()), *parts]
 
     def match_parts(self, name: str) -> PageParts:
         """Returns the page of a match that is not over."""
@@ -311,7 +315,7 @@ class LiveSite:
             result, make = self.reader.results.get(match.id), lambda: live_api.json_bytes(live_api.own_keys(self.reader, match))
             return self.kept_data(path, result, make) if result else make()
         said = None if found[3] else live_api.list_keys(self.reader, int(found[2] or 1))
-        return said and live_api.json_bytes({**said, "now": self.delay.now(), "trouble": self.trouble or self.fault})
+        return said and live_api.json_bytes({**said, "now": self.delay.now(), "trouble": self.shown_trouble()})
 
     def kept_data(self, path: str, made_of: object, make: Callable[[], bytes]) -> bytes | None:
         """Returns what is made of a result or of tables, and keeps it for a while; none where the record is not there any more."""

@@ -6,7 +6,6 @@ import contextlib
 import errno
 import math
 import os
-import resource
 import shutil
 import signal
 import sys
@@ -14,7 +13,7 @@ import time
 from collections.abc import Callable, Container
 
 from ggp_tools.competition.aborts import send_aborts
-from ggp_tools.competition.files import ASKING, PLAYING
+from ggp_tools.competition.files import ASKING, PLAYING, allow_files
 from ggp_tools.competition.open_match import OpenMatch, leave_players
 from ggp_tools.competition.plan import Plan, plan_next_round, round_words
 from ggp_tools.competition.resuming import prepare
@@ -27,8 +26,6 @@ from ggp_tools.reporting import REDRAWN, Reporter
 
 # The players of matches that are ended have so many seconds to answer ABORT.
 ABORT_SECONDS = 3
-# So many open files are enough for as many matches at once as there may be.
-DESCRIPTORS = 16_384
 NOT_BEGUN, ENDED = "it was not begun", "it was ended before its end"
 # How many interrupts a signal counts as: after the first no more matches begin, the second ends those that are open.
 INTERRUPTS = {signal.SIGINT: 1, signal.SIGTERM: 2, signal.SIGHUP: 2}
@@ -214,8 +211,7 @@ class Playing:
 def play(playing: Playing) -> dict[str, str]:
     """Plays, in a folder that is held. Returns for each match that has no lawful record why."""
     # A shell mostly lets a process open fewer files: an open match takes several.
-    soft, hard = resource.getrlimit(resource.RLIMIT_NOFILE)
-    resource.setrlimit(resource.RLIMIT_NOFILE, (max(soft, min(hard, DESCRIPTORS)), hard))
+    allow_files()
     if sys.version_info < (3, 12):
         # The default is a thread for each process.
         asyncio.set_child_watcher(asyncio.PidfdChildWatcher())

@@ -7,7 +7,7 @@ import re
 import signal
 from collections.abc import Callable
 
-from ggp_tools.competition.files import Folder, Refused
+from ggp_tools.competition.files import Folder, Refused, allow_files
 from ggp_tools.competition.live_site import LiveSite, plan_stamp
 from ggp_tools.competition.plan import read_plan
 from ggp_tools.referee import Referee
@@ -15,6 +15,8 @@ from ggp_tools.streams import address, say, whole
 from ggp_tools.templating import end_without
 
 MOST_CONNECTIONS, MOST_DELAY = 4_096, 3_600
+# So many files may be open beside the connections.
+OTHER_FILES = 64
 NAME = "[A-Za-z0-9]([A-Za-z0-9.-]{0,251}[A-Za-z0-9])?"
 
 
@@ -51,6 +53,8 @@ def add_serve(command: argparse.ArgumentParser) -> None:
 
 
 def run_serve(asked: argparse.Namespace, referee: Referee) -> int:
+    if (most := allow_files()) < asked.connections + OTHER_FILES:
+        raise Refused(f"--connections {asked.connections} needs {asked.connections + OTHER_FILES} open files, and the system allows {most} (ulimit -n)")
     stamp = plan_stamp(Folder(asked.folder))
     site = LiveSite(read_plan(asked.folder, referee), referee, lambda: read_plan(asked.folder, referee), stamp, asked.delay)
     site.look()
