@@ -179,15 +179,22 @@ def test_a_process_whose_time_is_over_is_ended():
     assert (done.status, done.seconds >= 0.2) == (None, True)
 
 
-def test_a_process_that_is_cancelled_is_ended_with_what_it_has_started(tmp_path):
+@pytest.mark.parametrize("is_starting", [False, True])
+def test_a_process_that_is_cancelled_is_ended_with_what_it_has_started(tmp_path, is_starting):
     async def go():
         os.mkfifo(tmp_path / "started")
         running = asyncio.create_task(run(["bash", "-c", f"sleep 600 & echo $! > {tmp_path}/started; wait"]))
-        found = await asyncio.to_thread((tmp_path / "started").read_text)
+        if is_starting:
+            # The process runs after so many steps of the loop, and its pipes are not connected yet.
+            for _ in range(3):
+                await asyncio.sleep(0)
+            process = (tmp_path / "started").read_text()
+        else:
+            process = await asyncio.to_thread((tmp_path / "started").read_text)
         running.cancel()
         with pytest.raises(asyncio.CancelledError):
             await running
-        return int(found)
+        return int(process)
 
     process = asyncio.run(go())
     while is_alive(process):

@@ -43,10 +43,13 @@ async def started(words: list[str], ends_itself: bool = False) -> AsyncIterator[
     loop, before = asyncio.get_running_loop(), () if ends_itself else (*WITH_PARENT, str(os.getpid()))
     if not shutil.which(words[0]):
         raise FileNotFoundError(errno.ENOENT, os.strerror(errno.ENOENT), words[0])
-    transport, watched = await loop.subprocess_exec(Watched, *before, *words, start_new_session=True)
+    starting = asyncio.create_task(loop.subprocess_exec(Watched, *before, *words, start_new_session=True))
     try:
+        # If this is cancelled meanwhile, asyncio itself would kill the process alone, and wait for what it has started.
+        transport, watched = await asyncio.shield(starting)
         yield asyncio.subprocess.Process(transport, watched, loop), watched.ended
     finally:
+        transport, watched = await starting
         if not watched.ended.is_set():
             with contextlib.suppress(ProcessLookupError):
                 os.killpg(transport.get_pid(), signal.SIGKILL)
