@@ -94,6 +94,13 @@ class Growing(unittest.TestCase):
         os.mkfifo(self.file)
         self.assertEqual((self.added(), self.tail.place), (([], False), 0))
 
+    def test_nothing_comes_from_another_file_than_is_expected(self):
+        self.file.write_text("100 one\n")
+        tail, number = Tail(str(self.file), parsed, "later"), self.file.stat().st_ino
+        for at, head, found in ((number + 1, b"100", []), (number, b"101", []), (number, b"100", ["100 one"])):
+            self.assertEqual([text.text for text in tail.added(8, at, head)[0]], found)
+            self.assertEqual(tail.is_behind, not found)
+
     def test_lines_past_the_given_bytes_come_later_also_from_a_later_file(self):
         later = self.file.with_name("later")
         tail = Tail(str(self.file), parsed, str(later))

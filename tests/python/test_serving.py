@@ -398,6 +398,21 @@ class Delayed(Served):
                 self.begin_late()
                 self.look_at_a_match(time_of_day)
 
+    def test_a_match_that_begins_again_is_shown_late_too(self):
+        match = self.plan.matches[0]
+        log = begin(self.plan, match, started(match) + self.play(match, 2, "NIL", ["(bad)", "noop"]) + self.play(match, 3, "x", ["(bad)" * 99, "noop"]))
+        self.look_at(1)
+        self.look_at(61)
+        other = log.with_name("other")
+        other.write_text(started(match) + self.play(match, 2, "NIL", ["(take 2)", "noop"]))
+        other.replace(log)
+        shown = []
+        for seconds in (1, 58, 62):
+            self.look_at(seconds)
+            self.look()
+            shown.append("(take 2)" in self.page(f"/api/matches/{match.id}"))
+        self.assertEqual(shown, [False, False, True])
+
     def look_at_a_match(self, time_of_day):
         match = self.plan.matches[0]
         log = begin(self.plan, match, started(match, time_of_day) + self.play(match, 2, "NIL", ["(take 2)", "noop"], time_of_day))

@@ -16,14 +16,14 @@ from typing import NamedTuple
 
 from ggp_tools.competition.choices import counted_result
 from ggp_tools.competition.competition_file import EACH_MATCH
-from ggp_tools.competition.files import STAGES, Folder, lock_place
+from ggp_tools.competition.files import STAGES, Folder, lock_place, opened_file
 from ggp_tools.competition.live_board import Answers, LiveBoard
 from ggp_tools.competition.plan import Plan
 from ggp_tools.competition.playing import NOT_BEGUN
 from ggp_tools.competition.replaced import MOST_OF_MATCH, Replaced, newest, replaced_moves
 from ggp_tools.competition.results import Result, fault_of_record
 from ggp_tools.competition.schedule import Match
-from ggp_tools.competition.tail import Tail
+from ggp_tools.competition.tail import HEAD, Tail
 from ggp_tools.match_log import ENDS, SHORTAGE, START, Event, Host, Message, Open, Other, Runs, event_of
 from ggp_tools.moments import MOMENT
 from ggp_tools.records.match_logs import logged
@@ -62,10 +62,13 @@ def clock() -> float:
 
 
 class Room(NamedTuple):
-    """How far an open match is by the files of its room: its stage, and the bytes of its log."""
+    """How far an open match is by the files of its room: its stage, and the bytes of its log. With a delay also the number and the first bytes of
+    that file: a match that begins again has another log."""
 
     stage: str
     size: int
+    number: int = 0
+    head: bytes = b""
 
 
 class Sight(NamedTuple):
@@ -243,7 +246,7 @@ class Seen:
     def look(self, room: Room, now: float) -> None:
         """Reads what has come."""
         self.stage, self.now = room.stage, now
-        found, is_other = self.tail.added(room.size)
+        found, is_other = self.tail.added(room.size, room.number, room.head)
         if is_other:
             self.runs, self.coming = Runs(), None
             self.forget()
@@ -284,6 +287,17 @@ def size_of(path: pathlib.Path) -> int:
         return os.stat(path).st_size
     except OSError:
         return 0
+
+
+def beginning_of(path: pathlib.Path) -> tuple[int, bytes]:
+    """Returns the number of a file and its first bytes, none where it is not there."""
+    try:
+        with opened_file(path) as file:
+            return os.fstat(file.fileno()).st_ino, file.read(HEAD)
+    except OSError as why:
+        if why.errno in OUT_OF_FILES:
+            raise
+        return 0, b""
 
 
 def identity(found: os.stat_result) -> Identity:
@@ -383,7 +397,9 @@ class Reader:
     def room_there(self, name: str) -> Room | None:
         """Returns the room of a match, as it was if it can't be read now."""
         try:
-            return Room(stage_of(set(os.listdir(self.plan.folder.open / name))), size_of(self.plan.folder.room_log(name)))
+            stage, log = stage_of(set(os.listdir(self.plan.folder.open / name))), self.plan.folder.room_log(name)
+            beginning = beginning_of(log) if self.delay.seconds else ()
+            return Room(stage, size_of(log), *beginning)
         except (FileNotFoundError, NotADirectoryError):
             return None
         except OSError:

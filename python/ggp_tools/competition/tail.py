@@ -24,18 +24,26 @@ class Tail(Generic[T]):
         # Whether lines up to the last size that was asked for are still to be read.
         self.is_behind = False
 
-    def added(self, until: int) -> tuple[list[T], bool]:
+    def added(self, until: int, number: int = 0, head: bytes = b"") -> tuple[list[T], bool]:
         """Returns what was added until the file had so many bytes, and whether it is another one than before. Nothing is added to a file that
-        can't be read."""
+        can't be read, or is not the one with this number and these first bytes."""
         if self.later and not os.path.exists(self.path):
             self.path, self.later, self.number = self.later, "", None
         try:
             with opened_file(self.path) as file:
+                if not self.is_expected(file, number, head):
+                    self.is_behind = True
+                    return [], False
                 is_other = self.begin(file)
                 return self.read_on(file, until), is_other
         except OSError:
             self.is_behind = self.place < until
             return [], False
+
+    def is_expected(self, file: BinaryIO, number: int, head: bytes) -> bool:
+        """Returns whether a file has this number and these first bytes. A later file has another number."""
+        is_file = not number or not self.later or os.fstat(file.fileno()).st_ino == number
+        return is_file and os.pread(file.fileno(), HEAD, 0).startswith(head)
 
     def begin(self, file: BinaryIO) -> bool:
         """Returns whether a file is another one than before. Then it is read from its beginning."""
