@@ -17,8 +17,8 @@ COUNTED = re.compile(r"\b(\d+) (passed|failed|errors?|skipped)\b")
 
 @dataclass
 class Job:
-    """A command, and the name under which its lines are printed. If it is needed, the jobs after it do not begin once it has failed; it is no
-    test itself."""
+    """A command, and the name that is printed before its lines. If a needed job fails, the jobs after it do not start. A needed job is not
+    a test."""
 
     name: str
     command: Sequence[str]
@@ -52,8 +52,8 @@ def counts_in(last_line: str, is_well: bool) -> Counts:
 
 @dataclass
 class Jobs:
-    """Commands that run. Each leads a session, so that it can be ended with all that it started. With `ends_early` all end once one has
-    failed."""
+    """The running commands. Each leads a session, so that it can be ended with everything that it started. With `ends_early` all end when
+    one has failed."""
 
     ends_early: bool = False
     counts: Counts = field(default_factory=Counts)
@@ -109,7 +109,7 @@ class Jobs:
         print(f"== {job.name}: {'done' if job.is_needed and is_well else counts}, in {spell(time.monotonic() - began)}", flush=True)
 
     def run_all(self, chain: Sequence[Job]) -> bool:
-        """Runs commands one after another, also after one that failed, unless that one is needed. Returns whether all succeeded."""
+        """Runs commands in order. After a failure it continues, unless the failed command is needed. Returns whether all succeeded."""
         well = True
         for job in chain:
             passed = self.run(job)
@@ -128,7 +128,7 @@ class Jobs:
                 raise
 
     def end(self) -> None:
-        """Ends all commands, and begins no other."""
+        """Ends all commands, and starts no more."""
         with self.lock:
             self.is_ended = True
             for leader in self.running:

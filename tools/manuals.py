@@ -1,6 +1,15 @@
 """Makes manual pages and completions for bash and zsh from the --help of commands, which use clap or argparse."""
+import contextlib
+import io
+import os
+import pathlib
 import re
+import runpy
+import subprocess
+import sys
+from collections.abc import Mapping
 from dataclasses import dataclass, field
+from unittest import mock
 
 ENTRY = re.compile(r" {2,}(\S(?:.*?\S)?)(?: {2,}(\S.*))?")
 HEAD = re.compile(r"[A-Za-z][a-z ]*:")
@@ -112,7 +121,7 @@ def bash(help_of: Help) -> str:
     chosen = ["    case ${COMP_WORDS[1]} in", *arms, "    esac", "    ((COMP_CWORD == 1)) && words=$first"] if arms else []
     start = "$cur == -* || $COMP_CWORD == 1" if arms else "$cur == -*"
     return "\n".join([
-        f"# Completes the words of {name} in bash. Written by tools/manual.",
+        f"# Completes the words of {name} in bash. Written by tools/install.",
         f"{function}() {{",
         "    local cur=${COMP_WORDS[COMP_CWORD]}",
         f"    local first='{first_words(help_of)}'",
@@ -140,7 +149,7 @@ def described(words: dict[str, str]) -> str:
 
 def zsh(help_of: Help) -> str:
     """Returns the completions of a command for zsh."""
-    lines = [f"#compdef {help_of.name}", "# Completes the words of a command in zsh. Written by tools/manual.", "local -a commands options"]
+    lines = [f"#compdef {help_of.name}", "# Completes the words of a command in zsh. Written by tools/install.", "local -a commands options"]
     lines += [f"options=({described(help_of.options())})"]
     if help_of.commands:
         commands = {command.name.split()[-1]: command.about[0].rstrip(".") for command in help_of.commands}
@@ -149,3 +158,40 @@ def zsh(help_of: Help) -> str:
         lines += [f"    {command.name.split()[-1]}) options=({described(command.options())}) ;;" for command in help_of.commands]
         lines += ["esac"]
     return "\n".join([*lines, "if [[ $PREFIX == -* ]]; then", "    _describe option options", "else", "    _files", "fi"]) + "\n"
+
+
+# ---- The files that `make install` installs
+
+
+def help_text(file: pathlib.Path, *command: str) -> str:
+    """Returns the --help of a command, with each entry in one line. A command in Python runs in this process, which imports its modules only
+    once."""
+    words = [str(file), *command, "--help"]
+    with mock.patch.dict(os.environ, COLUMNS="10000"), mock.patch.object(sys, "argv", words), mock.patch.object(sys, "path", [str(file.parent), *sys.path]):
+        if not file.read_bytes().startswith(b"#!"):
+            return subprocess.run(words, stdin=subprocess.DEVNULL, stdout=subprocess.PIPE, text=True, check=True).stdout
+        output = io.StringIO()
+        with contextlib.redirect_stdout(output), contextlib.suppress(SystemExit):
+            runpy.run_path(str(file), run_name="__main__")
+        return output.getvalue()
+
+
+def full_help(name: str, file: pathlib.Path) -> Help:
+    """Returns the help of a command and of its subcommands."""
+    command_help, within = read_help(name, help_text(file))
+    command_help.commands = [read_help(f"{name} {command}", help_text(file, command))[0] for command in within]
+    return command_help
+
+
+def manual_files(commands: Mapping[str, pathlib.Path], version: str) -> dict[pathlib.Path, str]:
+    """Returns the manual page and the completions of each command, by their paths below the prefix of an installation."""
+    files = {}
+    for name, file in commands.items():
+        command_help = full_help(name, file)
+        files |= dict(zip(manual_paths(name), (page(command_help, version, [*commands]), bash(command_help), zsh(command_help))))
+    return files
+
+
+def manual_paths(name: str) -> tuple[pathlib.Path, ...]:
+    """Returns the paths of the manual page, the completions for bash and those for zsh of a command."""
+    return tuple(map(pathlib.Path, (f"share/man/man1/{name}.1", f"share/bash-completion/completions/{name}", f"share/zsh/site-functions/_{name}")))

@@ -20,16 +20,15 @@ from concurrent.futures import Future
 from dataclasses import dataclass
 from http.server import BaseHTTPRequestHandler, ThreadingHTTPServer
 
-# The maximum length and nesting of messages. START is the longest: the rules of a large game have at most 4,194,304 bytes, and printing them may
+# The maximum length and nesting of messages. START is the longest: the rules of a large game have at most 16,777,216 bytes, and printing them may
 # add a space for each atom and each list.
-MOST_BYTES, MOST_LISTS = 16_777_216, 66
+MOST_BYTES, MOST_LISTS = 33_554_432, 66
 # The longest answer that is a move.
 MOST_ANSWER = 4_096
 # A pipe that is ready for writing takes this many bytes at once.
 MOST_SAID = 4_000
-# Rules are evaluated by recursion. Each of 65,536 sentences may use the next one, inside some lists. This is deeper than Python's default limit,
-# and older Pythons also need a larger stack.
-DEEPEST, STACK = 1_000_000, 1 << 29
+# Rules are evaluated by recursion. Each of 262,144 sentences may use the next one, inside some lists. This is deeper than Python's default limit.
+DEEPEST = 4_000_000
 
 
 def tokens(text):
@@ -173,8 +172,8 @@ def is_waiting(stream):
 
 
 def say(text):
-    """Prints a line on standard error, at once, since other players may print there too. Only visible characters are printed, because anybody may
-    send a message. If nobody reads the output, it is dropped, and the player goes on."""
+    """Prints a line on standard error at once, because other players may print there too. It prints only visible characters, because anyone
+    can send a message. If the output is not read, it is dropped, and the player continues."""
     seen = "".join(character if " " <= character <= "~" or character == "\n" else "?" for character in text[-MOST_SAID:])
     try:
         if sys.stderr and not is_waiting(sys.stderr):
@@ -216,9 +215,7 @@ class Server(ThreadingHTTPServer):
         super().__init__(address, Handler)
         self.player, self.asked = player, queue.SimpleQueue()
         sys.setrecursionlimit(DEEPEST)
-        usual = threading.stack_size(STACK)
         threading.Thread(target=self.work, daemon=True).start()
-        threading.stack_size(usual)
 
     def work(self):
         for message, receiver, answered in iter(self.asked.get, None):
@@ -233,7 +230,7 @@ class Server(ThreadingHTTPServer):
         return answered.result()
 
     def handle_error(self, request, client_address):
-        """Prints an error. The next message is served all the same."""
+        """Prints an error. The server continues with the next message."""
         say(traceback.format_exc())
 
 

@@ -7,9 +7,9 @@ from collections.abc import Callable, Sequence
 from ggp_tools.holding.game import MOST_CALLS, Game
 from ggp_tools.holding.positions import Position
 from ggp_tools.kif import KifFault, Refused, expressions, spelled, starts
+from ggp_tools.match_log import SHOWN
+from ggp_tools.printable import MORE
 
-# A log shows at most this many bytes of an answer, followed by two dots if there are more.
-SHOWN, MORE = 200, ".."
 # Legal moves are listed up to this many bytes.
 MOST_BYTES = 400
 # The number of games in the cache.

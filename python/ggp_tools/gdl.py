@@ -5,7 +5,8 @@ import math
 from collections.abc import Callable, Iterable, Iterator, Mapping, Sequence
 from typing import NamedTuple
 
-from ggp_tools.kif import MOST_SHOWN, Expression, Refused, Relation, atoms, fresh_before_digits, head_of, relation, spelled, starts, variables
+from ggp_tools.kif import Expression, Refused, Relation, atoms, fresh_before_digits, head_of, quoted, relation, starts, variables
+from ggp_tools.printable import shown
 
 # A sentence may expand into at most MOST_WAYS rules, one for each way to satisfy its `or`s. Above FEW_WAYS each `or` becomes an auxiliary
 # relation, if possible.
@@ -14,6 +15,8 @@ FEW_WAYS, MOST_WAYS = 100, 10000
 ARITIES = {"role": 1, "init": 1, "true": 1, "next": 1, "does": 2, "legal": 2, "goal": 2, "terminal": None}
 # The relations that define the game: their heads are written even if no body uses them.
 GAME = ("role", "init", "next", "legal", "goal", "terminal")
+# A message shows at most this many characters of the relations by which one depends on another.
+MOST_OF_WAY = 400
 NO_RELATIONS = ("<=", "not", "or", "distinct", "and")
 SECRET = "is of GDL-II, games with chance or with what some can't see; here each role sees every move"
 
@@ -51,7 +54,7 @@ def as_read(expression: Expression) -> Expression:
 def must_be_term(expression: Expression) -> None:
     if isinstance(expression, tuple):
         if not expression or not isinstance(expression[0], str) or expression[0].startswith("?"):
-            raise Refused(f"{spelled(expression)} is not a term")
+            raise Refused(f"{quoted(expression)} is not a term")
         for member in expression[1:]:
             must_be_term(member)
 
@@ -66,7 +69,7 @@ def form_of(name: str) -> str:
 def must_be_atomic(atom: Expression, is_head: bool) -> None:
     """Refuses an atom that is not an atomic sentence, or that is not allowed in a head or in a body."""
     if isinstance(atom, str) and atom.startswith("?"):
-        raise Refused(f"{atom} is not a sentence", advice="a variable stands only in the arguments of a sentence")
+        raise Refused(f"{quoted(atom)} is not a sentence", advice="a variable stands only in the arguments of a sentence")
     must_be_term(atom)
     name, arity = relation(atom)
     if is_head and (name, arity) in (("sees", 2), ("sees", 3)):
@@ -75,12 +78,12 @@ def must_be_atomic(atom: Expression, is_head: bool) -> None:
         raise Refused(f"the role `random` {SECRET}")
     if name in NO_RELATIONS or ARITIES.get(name, arity) != arity:
         form = form_of(name)
-        raise Refused(f"{spelled(atom)} is not a sentence", advice=f"write {form}" if form else "")
+        raise Refused(f"{quoted(atom)} is not a sentence", advice=f"write {form}" if form else "")
     if is_head and name in ("true", "does"):
         advice = "`next` and `init` say what is true in a state" if name == "true" else "`legal` says which moves there are"
-        raise Refused(f"{spelled(atom)} is a head", advice=advice)
+        raise Refused(f"{quoted(atom)} is a head", advice=advice)
     if not is_head and name in ("init", "next"):
-        raise Refused(f"{spelled(atom)} is in a body", advice="ask for what is true in the state by `true`")
+        raise Refused(f"{quoted(atom)} is in a body", advice="ask for what is true in the state by `true`")
 
 
 def must_be_literal(literal: Expression) -> None:
@@ -120,16 +123,18 @@ def ways_of(literal: Expression, positive: bool = True) -> list[Body]:
     return [(Literal(positive, literal),)]
 
 
-def is_bound(name: str, body: Body) -> bool:
-    return any(name in variables(literal.atom) for literal in body if literal.positive and not literal.same)
+def bound_by(body: Body) -> set[str]:
+    """Returns the variables in the sentences of a body that are not negated."""
+    return {name for literal in body if literal.positive and not literal.same for name in variables(literal.atom)}
 
 
 def must_be_safe(rule: Rule) -> None:
     """Refuses a rule with a variable that no sentence of its body binds."""
+    bound = bound_by(rule.body)
     for name in variables((rule.head, *(literal.atom for literal in rule.body))):
-        if not is_bound(name, rule.body):
-            advice = f"add a condition with {name} that is not negated"
-            raise Refused(f"{name} is unsafe: no sentence of the body that is not negated has it", advice=advice)
+        if name not in bound:
+            advice = f"add a condition with {quoted(name)} that is not negated"
+            raise Refused(f"{quoted(name)} is unsafe: no sentence of the body that is not negated has it", advice=advice)
 
 
 def parted(sentence: Expression) -> tuple[Expression, Expression]:
@@ -150,7 +155,7 @@ def rules_of(number: int, sentence: Expression, names: Iterator[str]) -> list[Ru
     if math.prod(map(len, ways)) > FEW_WAYS:
         for place, alternatives in enumerate(ways):
             bound = dict.fromkeys(name for way in alternatives for literal in way for name in variables(literal.atom))
-            if len(alternatives) > 1 and all(is_bound(name, way) for way in alternatives for name in bound):
+            if len(alternatives) > 1 and all(bound.keys() <= bound_by(way) for way in alternatives):
                 word = next(names)
                 part = (word, *bound) if bound else word
                 rules += [Rule(number, part, way) for way in alternatives]
@@ -173,8 +178,8 @@ def lines_of(text: str) -> list[int]:
 
 def cited(number: int, sentences: Sequence[Expression], lines: Sequence[int] = ()) -> str:
     """Returns a sentence as error messages cite it, with its line if `lines` are given."""
-    text, where = spelled(sentences[number]), f", line {lines[number]}: " if lines else ", "
-    return f"sentence {number}{where}{text[:MOST_SHOWN]}" + (".." if len(text) > MOST_SHOWN else "")
+    where = f", line {lines[number]}: " if lines else ", "
+    return f"sentence {number}{where}{quoted(sentences[number])}"
 
 
 def all_rules(sentences: Sequence[Expression], of_one: Callable = rules_of) -> list:
@@ -197,7 +202,7 @@ def refuse_dependence(asks: Mapping[Relation, Iterable[Relation]], source: Calla
     for name, others, advice in [("legal", ["does"], moving), ("goal", ["does"], moving), ("terminal", ["does"], moving), *first]:
         for other in others:
             if way := way_to((name, ARITIES[name]), (other, ARITIES[other]), asks):
-                by = f", by {', '.join(spelled(key[0]) for key in way[1:-1])}" if len(way) > 2 else ""
+                by = f", by {shown(', '.join(quoted(key[0]) for key in way[1:-1]), MOST_OF_WAY)}" if len(way) > 2 else ""
                 raise Refused(f"{name} depends on {other}{by}", source(way[-2], way[-1]), advice)
 
 
@@ -220,6 +225,58 @@ def way_to(head: Relation, last: Relation, asks: Mapping[Relation, Iterable[Rela
     return []
 
 
+def reached(asks: Mapping[Relation, Iterable[Relation]], relations: Iterable[Relation]) -> set[Relation]:
+    """Returns the relations that these depend on."""
+    found, left = set(), list(relations)
+    while left:
+        for asked in asks.get(left.pop(), ()):
+            if asked not in found:
+                found.add(asked)
+                left.append(asked)
+    return found
+
+
+def components(graph: Mapping[Expression, Iterable[Expression]]) -> list[list[Expression]]:
+    """Returns the strongly connected components of a graph, each as a list, in topological order from below."""
+    indices, lows, stack, on_stack, components_found = {}, {}, [], set(), []
+    for start in graph:
+        open_nodes = [] if start in indices else [(start, iter(graph[start]))]
+        if open_nodes:
+            indices[start] = lows[start] = len(indices)
+            stack.append(start)
+            on_stack.add(start)
+        while open_nodes:
+            node, others = open_nodes[-1]
+            for other in others:
+                if other not in graph:
+                    continue
+                if other not in indices:
+                    indices[other] = lows[other] = len(indices)
+                    stack.append(other)
+                    on_stack.add(other)
+                    open_nodes.append((other, iter(graph[other])))
+                    break
+                if other in on_stack:
+                    lows[node] = min(lows[node], indices[other])
+            else:
+                open_nodes.pop()
+                if open_nodes:
+                    above = open_nodes[-1][0]
+                    lows[above] = min(lows[above], lows[node])
+                if lows[node] == indices[node]:
+                    components_found.append(popped_until(node, stack))
+                    on_stack.difference_update(components_found[-1])
+    return components_found
+
+
+def popped_until(last: Expression, stack: list[Expression]) -> list[Expression]:
+    """Pops the elements of a stack down to `last`, and returns them in their order."""
+    popped = [stack.pop()]
+    while popped[-1] != last:
+        popped.append(stack.pop())
+    return popped[::-1]
+
+
 class Relations:
     """Which relations of a description use which others. A relation is a name and a number of arguments."""
 
@@ -233,23 +290,24 @@ class Relations:
                     self.sources.setdefault((head, asked), rule.sentence)
                     if not literal.positive:
                         self.denies.setdefault(head, set()).add(asked)
-        self.below = {head: self.reached([head]) for head in self.asks}
+        groups = components(self.asks)
+        # The relations that depend on each other have the same number here.
+        self.group = {relation: number for number, group in enumerate(groups) for relation in group}
+        self.circular = {relation for group in groups for relation in group if len(group) > 1 or relation in self.asks[relation]}
 
     def reached(self, relations: Iterable[Relation]) -> set[Relation]:
         """Returns the relations that these depend on."""
-        reached, left = set(), list(relations)
-        while left:
-            for asked in self.asks.get(left.pop(), ()):
-                if asked not in reached:
-                    reached.add(asked)
-                    left.append(asked)
-        return reached
+        return reached(self.asks, relations)
 
     def unsettled(self) -> set[Relation]:
         """Returns the relations that the grounder cannot evaluate: they depend on the state, on moves, or on their own negation."""
         first = {("true", 1), ("does", 2)}
-        first |= {head for head, denied in self.denies.items() for other in denied if head in self.below.get(other, ())}
-        return first | {head for head, others in self.below.items() if others & first}
+        first |= {head for head, denied in self.denies.items() for other in denied if self.group.get(other) == self.group[head]}
+        asked_by = {}
+        for head, others in self.asks.items():
+            for other in others:
+                asked_by.setdefault(other, []).append(head)
+        return first | reached(asked_by, first)
 
     def bearing(self) -> set[Relation]:
         """Returns the relations that define the game, and those that these depend on."""

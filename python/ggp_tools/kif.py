@@ -3,6 +3,8 @@
 import re
 from collections.abc import Iterable, Iterator
 
+from ggp_tools.printable import shown
+
 Expression = str | tuple
 # The name of a relation, and the number of its arguments. It is None for an atom.
 Relation = tuple[str, int | None]
@@ -102,8 +104,7 @@ def told(text: str, why: Refused) -> str:
     """Formats a refusal: the place, the reason, the sentence and the advice."""
     words, index = str(why), why.index if isinstance(why, KifFault) else None
     if why.sentence is not None:
-        sentence = spelled(expressions(text)[why.sentence])
-        index, words = starts(text)[why.sentence], f"{words}: {sentence[:MOST_SHOWN]}" + (".." if len(sentence) > MOST_SHOWN else "")
+        index, words = starts(text)[why.sentence], f"{words}: {quoted(expressions(text)[why.sentence])}"
     advice = f"; {why.advice}" if why.advice else ""
     return (f"{place_of(text, index)}: " if index is not None else "") + words + advice
 
@@ -113,6 +114,11 @@ def spelled(expression: Expression) -> str:
     if isinstance(expression, str):
         return expression
     return "(" + " ".join(map(spelled, expression)) + ")"
+
+
+def quoted(expression: Expression, most: int = MOST_SHOWN) -> str:
+    """Returns the canonical text of an expression for a message, shortened if it is long."""
+    return shown(spelled(expression), most)
 
 
 def atoms(expression: Expression) -> Iterator[str]:
@@ -160,6 +166,10 @@ def place(expression: Expression) -> tuple:
 def relation(atom: Expression) -> Relation:
     """Returns the relation of an atomic sentence."""
     return (atom, None) if isinstance(atom, str) else (atom[0], len(atom) - 1)
+
+
+def arguments_of(atom: Expression) -> tuple[Expression, ...]:
+    return () if isinstance(atom, str) else atom[1:]
 
 
 def head_of(sentence: Expression) -> Expression:

@@ -223,7 +223,7 @@ def messages(run: Iterable[Event]) -> list[Message]:
 
 
 def shown(text: str) -> str:
-    return printable(text[:SHOWN]) + ".." * (len(text) > SHOWN)
+    return printable(text, SHOWN)
 
 
 def text_of(event: Event) -> str:

@@ -3,19 +3,19 @@
 import re
 
 NOT_PRINTABLE = re.compile(r"[^\x20-\x7e]")
-# At most this many characters of another program's message are shown, and this many bytes are read to find its last lines.
-MOST_SHOWN, MOST_READ = 1_000, 1 << 16
+# The most characters of a line of output, and of a line of another program's message. This many bytes are read to find its last lines.
+MOST_OF_LINE, MOST_SHOWN, MOST_READ = 10_000, 1_000, 1 << 16
 MORE = ".."
 
 
-def printable(text: str) -> str:
-    """Replaces each character that is not printable ASCII by a question mark."""
-    return NOT_PRINTABLE.sub("?", text)
+def printable(text: str, most: int = MOST_OF_LINE) -> str:
+    """Returns at most this many characters of a text, with a question mark for each one that is not printable ASCII."""
+    return NOT_PRINTABLE.sub("?", text[:most]) + MORE * (len(text) > most)
 
 
 def message_of(text: str) -> str:
     """Returns at most 1,000 characters of another program's line."""
-    return printable(text[:MOST_SHOWN]) + MORE * (len(text) > MOST_SHOWN)
+    return printable(text, MOST_SHOWN)
 
 
 def message_lines(data: bytes) -> list[str]:
@@ -30,8 +30,8 @@ def visible(text: str) -> str:
     return "".join(letter if " " <= letter <= "~" else f"\\u{{{ord(letter):x}}}" for letter in text)
 
 
-def shown(text: str, most: int) -> str:
-    """Returns at most this many characters of a text, in printable ASCII."""
+def shown(text: str, most: int = MOST_OF_LINE) -> str:
+    """Returns at most this many characters of a text, with a code for each one that is not printable ASCII."""
     return visible(text[:most]) + MORE * (len(text) > most)
 
 

@@ -13,7 +13,7 @@ import tempfile
 from collections.abc import Iterator, Sequence
 from typing import TYPE_CHECKING
 
-from ggp_tools.kif import expressions, spelled
+from ggp_tools.kif import expressions, head_of, spelled
 from ggp_tools.printable import message_lines
 
 if TYPE_CHECKING:
@@ -27,7 +27,7 @@ VERSION_LINE = re.compile(rb"ggp_manager [0-9]+\.[0-9]+\.[0-9]+\n")
 # The first version that writes logs in JSON.
 FIRST_WITH_EVENTS = 0, 3, 0
 BAD_RULES = "ggp_manager: bad description"
-TOO_LONG = "the file is too long"
+TOO_LONG = f"{BAD_RULES}: it has "
 # The maximum length of a script of `desk`, and of an answer that is a move.
 MOST_OF_SCRIPT, MOST_OF_MOVE = 1 << 20, 4_096
 
@@ -80,7 +80,7 @@ def verdict_words(verdict: dict) -> str:
 
 
 def records_replayed(output: bytes) -> list[bytes]:
-    """Returns the records that `replay` printed for each account. A verdict has their number and is the line before them."""
+    """Returns the records that `replay` printed for each call log. A verdict has their number and is the line before them."""
     lines = iter(output.splitlines(True))
     verdicts = (json.loads(line) for line in lines)
     return [b"".join(itertools.islice(lines, verdict["records"])) for verdict in verdicts if verdict["verdict"] == "replayed"]
@@ -143,7 +143,7 @@ class Referee:
         """Returns the names of the roles of a ground description. Refuses an invalid one. `name` is used in error messages."""
         with rules_file(rules) as path:
             self.check_rules(path, name)
-        facts = (sentence[1] if sentence[0] == "<=" else sentence for sentence in expressions(rules.decode("latin-1")))
+        facts = map(head_of, expressions(rules.decode("latin-1")))
         return tuple(spelled(fact[1]) for fact in facts if fact[0] == "role")
 
     def run_words(
@@ -174,9 +174,10 @@ class Referee:
     def check_rules(self, rules_path: pathlib.Path | str, name: object = None) -> None:
         """Refuses a file that is not a ground description. `name` is used in error messages if the path is temporary."""
         run = self.call("verify", "--lines", JSON, *self.rules_words(rules_path))
-        if last_line(run) == f"{BAD_RULES}: {TOO_LONG}":
-            raise BadRules(TOO_LONG)
-        if last_line(run) == BAD_RULES:
+        last = last_line(run)
+        if last.startswith(TOO_LONG):
+            raise BadRules(last.removeprefix(f"{BAD_RULES}: "))
+        if last == BAD_RULES:
             # The line before has the place and the reason.
             raise BadRules(said_lines(run)[-2:][0].removeprefix("ggp_manager: "))
         if run.returncode:
@@ -191,8 +192,8 @@ class Referee:
         return verdicts
 
     def replays(self, rules_path: pathlib.Path | str, accounts: Sequence[bytes], records: Sequence[bytes]) -> list[bool]:
-        """Returns for each account whether its calls reproduce its record. `replay` stops at the first account that does not, so it is run again for
-        those after it. A brace before each account ends the previous one."""
+        """Returns for each call log whether its calls reproduce its record. `replay` stops at the first one that does not, so it is run
+        again for those after it. A brace before each call log ends the previous one."""
         results = []
         while len(results) < len(accounts):
             done = len(results)

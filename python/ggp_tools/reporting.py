@@ -5,6 +5,7 @@ import os
 import pathlib
 import sys
 
+from ggp_tools.competition.files import PRIVATE
 from ggp_tools.competition.results import Result, forfeit_words
 from ggp_tools.competition.schedule import Match
 from ggp_tools.moments import moment
@@ -31,7 +32,7 @@ class Journal:
         return self.file >= 0
 
     def open(self) -> None:
-        self.file = os.open(self.path, os.O_RDWR | os.O_APPEND | os.O_CREAT | os.O_CLOEXEC, 0o666)
+        self.file = os.open(self.path, os.O_RDWR | os.O_APPEND | os.O_CREAT | os.O_CLOEXEC, PRIVATE)
         size = os.fstat(self.file).st_size
         if size and os.pread(self.file, 1, size - 1) != b"\n":
             os.write(self.file, b"\n")

@@ -12,7 +12,7 @@ import zlib
 from collections.abc import Callable, Iterator
 from typing import BinaryIO, TextIO
 
-from ggp_tools.printable import visible
+from ggp_tools.printable import MORE, shown
 
 STANDARD_INPUT, STANDARD_OUTPUT = "standard input", "standard output"
 PACKED = b"\x1f\x8b"
@@ -85,10 +85,10 @@ def put_bytes(data: bytes) -> None:
 
 
 def report(text: str) -> None:
-    """Writes to standard error if it is open. `print` would use standard output otherwise."""
+    """Writes lines to standard error if it is open. `print` would use standard output otherwise."""
     if sys.stderr:
         with contextlib.suppress(OSError):
-            print(text.encode("ascii", "backslashreplace").decode(), file=sys.stderr)
+            print("\n".join(map(shown, text.splitlines())), file=sys.stderr)
 
 
 def error_words(why: OSError) -> str:
@@ -115,7 +115,7 @@ def status_of(command: str, perform: Callable[[], int], failed: int, known: tupl
         words = str(why)
     if words:
         # The referee's own messages keep its name.
-        report("\n".join(visible(line if line.startswith("ggp_manager: ") else f"{command}: {line}") for line in words.splitlines()))
+        report("\n".join(line if line.startswith("ggp_manager: ") else f"{command}: {line}" for line in words.splitlines()))
     return failed
 
 
@@ -125,8 +125,7 @@ def whole(least: int, most: int) -> Callable[[str], int]:
     def parse(text: str) -> int:
         if text.isascii() and text.isdigit() and len(text) <= MOST_DIGITS and least <= int(text) <= most:
             return int(text)
-        shown = ascii(text if len(text) <= MOST_DIGITS else f"{text[:MOST_DIGITS]}..")
-        raise argparse.ArgumentTypeError(f"expected a number from {least:,} to {most:,}, found {shown}")
+        raise argparse.ArgumentTypeError(f"expected a number from {least:,} to {most:,}, found {ascii(text[:MOST_DIGITS] + MORE * (len(text) > MOST_DIGITS))}")
 
     return parse
 
@@ -144,4 +143,4 @@ def seconds(text: str) -> float:
     with contextlib.suppress(ValueError):
         if 0 < (parsed := float(text)) <= MOST_SECONDS:
             return parsed
-    raise argparse.ArgumentTypeError(f"{text} is not a number above 0 and up to {MOST_SECONDS:,}")
+    raise argparse.ArgumentTypeError(f"{shown(text, MOST_DIGITS)} is not a number above 0 and up to {MOST_SECONDS:,}")

@@ -5,6 +5,7 @@ import socket
 import threading
 import time
 
+from driving.asking import body_of as message_of
 from support import outside
 
 # What these read of START and of the rules is read by the example players, and not by the package.
@@ -151,22 +152,3 @@ class TestPlayer(threading.Thread):
 
 def has_variables(expression):
     return expression.startswith("?") if isinstance(expression, str) else any(map(has_variables, expression))
-
-
-def message_of(connection):
-    """Returns the body of a request."""
-    text = b""
-    while b"\r\n\r\n" not in text:
-        text += received(connection)
-    head, _, body = text.partition(b"\r\n\r\n")
-    size = int(head.partition(b"Content-Length: ")[2].split()[0])
-    while len(body) < size:
-        body += received(connection)
-    return body.decode("ascii")
-
-
-def received(connection):
-    more = connection.recv(65536)
-    if not more:
-        raise ConnectionError
-    return more

@@ -119,6 +119,16 @@ def call(*words, data=b""):
     return subprocess.run([program(), *map(str, words)], input=data, capture_output=True).stdout
 
 
+def assert_spoilt(test, files, spoilings):
+    """Checks that `check` refuses an archive of these files that is spoilt in each of these ways, with its words."""
+    for name, (spoil, words) in spoilings.items():
+        with test.subTest(name):
+            (test.folder / "spoilt.tar.gz").write_bytes(spoil(dict(files)))
+            status, out, said = run(test.folder, "check", "spoilt.tar.gz")
+            test.assertEqual((status, out), (1, ""))
+            test.assertIn(words, said)
+
+
 class InFolder(unittest.TestCase):
     """A test with its own directory."""
 

@@ -9,8 +9,8 @@ import time
 import unittest
 import unittest.mock
 
-from ggp_tools.competition import aborts
-from ggp_tools.competition.aborts import send_aborts
+from ggp_tools.competition import children
+from ggp_tools.competition.children import send_aborts
 from ggp_tools.referee import Referee
 from support import command_of, program
 
@@ -48,7 +48,7 @@ class Aborts(unittest.TestCase):
 
     def test_more_players_than_are_asked_at_a_time(self):
         answering = self.player(b"HTTP/1.0 200 OK\r\nContent-Length: 4\r\n\r\ndone")
-        with unittest.mock.patch.object(aborts, "AT_ONCE", 2):
+        with unittest.mock.patch.object(children, "MOST_ABORTS", 2):
             self.assertEqual(self.silent({f"cup-{number:03}": [answering, "bob@a..b:80"] for number in range(3)}), {
                 f"cup-{number:03}": ["bob@a..b:80"] for number in range(3)
             })
@@ -96,14 +96,14 @@ class Processes(unittest.TestCase):
 
     def test_a_process_that_can_not_be_started_is_no_answer_and_the_others_are_sent(self):
         begun = iter([OSError(11, "none")])
-        plain = aborts.run
+        plain = children.run
 
         def start(words):
             for error in begun:
                 raise error
             return plain(words)
 
-        with unittest.mock.patch.object(aborts, "run", start):
+        with unittest.mock.patch.object(children, "run", start):
             self.assertEqual(sent(Words(), {"a": ["exit 0", "exit 0;"], "b": ["exit 0"]}), {"a": ["exit 0"]})
 
     def test_with_no_time_none_has_answered(self):
@@ -112,7 +112,7 @@ class Processes(unittest.TestCase):
 
     def test_only_so_many_at_a_time_and_those_that_are_left_at_the_end_are_ended(self):
         referee, script = Words(), f"echo $$ > {self.room}/%s; exec sleep 600"
-        with unittest.mock.patch.object(aborts, "AT_ONCE", 2):
+        with unittest.mock.patch.object(children, "MOST_ABORTS", 2):
             self.assertEqual(sent(referee, {"a": [script % 1], "b": [script % 2], "c": ["exit 0"]}, 0.5), {"a": [script % 1], "b": [script % 2], "c": ["exit 0"]})
         self.assertEqual([match for match, _ in referee.begun], ["a", "b"])
         for file in self.room.iterdir():

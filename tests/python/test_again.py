@@ -7,11 +7,10 @@ import types
 import unittest
 from unittest import mock
 
-from ggp_tools.competition.again import order_again, refuse_match
 from ggp_tools.competition.competition_file import read_competition
 from ggp_tools.competition.files import Folder, Refused, held
 from ggp_tools.competition.growth import Again, History
-from ggp_tools.competition.plan import Plan, schedule_of
+from ggp_tools.competition.plan import Plan, order_again, replaceable_match, schedule_of
 from support import toml
 
 RULES = {"nim": types.SimpleNamespace(text=b"(role first) (role second)", roles=("first", "second"), is_large=False)}
@@ -49,14 +48,14 @@ class OrderedAgain(unittest.TestCase):
 
     def order(self, match, reason="the network was down"):
         referee = Lawful()
-        with mock.patch("ggp_tools.competition.again.read_plan", return_value=self.plan) as read:
+        with mock.patch("ggp_tools.competition.plan.read_plan", return_value=self.plan) as read:
             found = order_again(str(self.folder.path), referee, match, reason)
         read.assert_called_once_with(str(self.folder.path), referee)
         return found
 
     def assert_refused(self, words, match):
         with self.assertRaises(Refused) as why:
-            refuse_match(self.plan, Lawful(), match)
+            replaceable_match(self.plan, Lawful(), match)
         self.assertEqual(str(why.exception), words)
 
     def test_a_match_that_counts_gets_another_in_its_place(self):
@@ -74,7 +73,7 @@ class OrderedAgain(unittest.TestCase):
 
     def test_the_schedule_is_written_last(self):
         written = []
-        with mock.patch("ggp_tools.competition.again.write_whole", lambda file, _: written.append(file)):
+        with mock.patch("ggp_tools.competition.plan.write_whole", lambda file, _: written.append(file)):
             self.order("cup-001")
         self.assertEqual(written, [self.folder.again, self.folder.schedule])
 
@@ -84,7 +83,7 @@ class OrderedAgain(unittest.TestCase):
                 pass
             return self.plan
 
-        with mock.patch("ggp_tools.competition.again.read_plan", read):
+        with mock.patch("ggp_tools.competition.plan.read_plan", read):
             self.assertEqual(order_again(str(self.folder.path), Lawful(), "cup-001", "late").id, "cup-003")
 
     def test_a_reason_is_printable_and_of_some_length(self):
@@ -97,7 +96,7 @@ class OrderedAgain(unittest.TestCase):
             self.assertEqual(self.order("cup-001", reason).id, "cup-003")
 
     def test_what_can_not_be_ordered_again(self):
-        self.assertEqual(refuse_match(self.plan, Lawful(), "cup-001").id, "cup-001")
+        self.assertEqual(replaceable_match(self.plan, Lawful(), "cup-001").id, "cup-001")
         self.assert_refused(f"{self.folder.schedule} has no match cup-009", "cup-009")
         self.assert_refused("cup-002 has no record, so `ggp_competition play` plays it", "cup-002")
         self.folder.account("cup-001").unlink()
@@ -109,6 +108,6 @@ class OrderedAgain(unittest.TestCase):
         self.plan.matches[0], self.plan.rounds = dataclasses.replace(self.plan.matches[0], round=1), [object(), object()]
         self.assert_refused("cup-001 is of round 1, by which the next one was paired, so it can't be played again", "cup-001")
         self.plan.rounds.pop()
-        self.assertEqual(refuse_match(self.plan, Lawful(), "cup-001").id, "cup-001")
+        self.assertEqual(replaceable_match(self.plan, Lawful(), "cup-001").id, "cup-001")
         self.plan.matches[0] = dataclasses.replace(self.plan.matches[0], again="cup-003", reason="late")
         self.assert_refused("cup-001 was ordered again already, as cup-003: late", "cup-001")

@@ -2,7 +2,6 @@
 
 import dataclasses
 import errno
-import gzip
 import hashlib
 import io
 import json
@@ -16,7 +15,7 @@ from unittest import mock
 from ggp_tools.competition import archive, command, packing
 from ggp_tools.competition.archive import SUMS, check_archive, files_below, publish
 from ggp_tools.competition.files import Refused
-from ggp_tools.competition.kept import look_at_records
+from ggp_tools.competition.match_files import check_records
 from ggp_tools.competition.known import Known
 from ggp_tools.competition.packing import Spoilt, TooLarge
 from ggp_tools.competition.plan import make_plan, read_plan
@@ -84,7 +83,7 @@ class Made(unittest.TestCase):
         folder.log(match.id).write_bytes(started(match, BEGAN).encode() + line_of(End(match.id, ENDED, "STOP")))
 
     def results(self):
-        found, faults, misfits = look_at_records(self.plan, self.referee)
+        found, faults, misfits = check_records(self.plan, self.referee)
         self.assertEqual((faults, misfits), ({}, {}))
         return in_order(self.plan, found)
 
@@ -189,26 +188,15 @@ class Checked(Made):
         self.assertEqual(self.check(changed("cup/GAPS.tsv", lambda data: data.replace(b"-002", b"-001"))(dict(files)))[0], ["GAPS.tsv does not follow from the records"])
 
     def test_the_archive_is_the_same_for_the_same_files(self):
-        def published():
-            known = Known(self.folder)
-            digest = self.publish(known)
-            known.write()
-            return digest, self.path.read_bytes()
-
-        digest, data = published()
+        digest, data = self.publish(), self.path.read_bytes()
         with tarfile.open(self.path) as members:
             self.assertEqual({(member.mode, member.mtime, member.uid, member.uname) for member in members}, {(0o644, 0, 0, "")})
             names = [member.name for member in members]
             self.assertEqual((names[0], names[1], names[-1]), ("cup/competition.toml", "cup/schedule.tsv", f"cup/{SUMS}"))
-        # What is known to be right is not written again, and what is not there any more is.
-        before = self.path.stat().st_ino
-        self.assertEqual((published(), self.path.stat().st_ino), ((digest, data), before))
         self.path.write_bytes(b"another")
-        self.assertEqual(published(), (digest, data))
-        self.path.unlink()
-        self.assertEqual(published(), (digest, data))
+        self.assertEqual((self.publish(), self.path.read_bytes()), (digest, data))
         self.plan.folder.journal.write_text("2026\n")
-        self.assertNotEqual(published(), (digest, data))
+        self.assertNotEqual(self.publish(), digest)
         self.assertEqual(files_of(self.path)["cup/play.log"], b"2026\n")
 
     def test_what_is_of_its_history_is_in_the_archive(self):
@@ -223,28 +211,14 @@ class Checked(Made):
     def test_beside_ground_rules_the_description_is_in_the_archive(self):
         competition = self.plan.competition
         self.plan.competition = dataclasses.replace(competition, games=(dataclasses.replace(competition.games[0], described="general.kif"),))
-        files = dict(archive.contents(self.plan, self.referee, [], None, []))
+        files = dict(archive.contents(self.plan, self.referee, [], []))
         self.assertEqual(files["games/heap.kif"], self.plan.folder.path / "general.kif")
 
-    def test_a_line_of_a_match_is_made_once(self):
-        known, results = Known(self.folder), self.results()
-        text = archive.matches_text(self.plan, results, known)
-        known.write()
-        with mock.patch.object(archive, "line_of") as made:
-            self.assertEqual((archive.matches_text(self.plan, results, Known(self.folder)), made.called), (text, False))
-        # A line is known of the same log alone: an archive with that of another one would be refused.
-        file = self.plan.folder.log(self.plan.matches[0].id)
-        file.write_bytes(b"".join(file.read_bytes().splitlines(keepends=True)[:-1]))
-        text = archive.matches_text(self.plan, results)
-        self.assertEqual((archive.matches_text(self.plan, results, Known(self.folder)), json.loads(text.splitlines()[0])["end"]), (text, None))
+    def test_the_line_of_a_match_has_the_checksums(self):
         digest = "0" * 64
         self.plan.folder.description_sums().write_text(f"{digest}  heap.kif\n")
-        sums = {(line["rules"], line["description"]) for line in map(json.loads, archive.matches_text(self.plan, results, Known(self.folder)).splitlines())}
+        sums = {(line["rules"], line["description"]) for line in map(json.loads, archive.matches_text(self.plan, self.results()).splitlines())}
         self.assertEqual(sums, {(hashlib.sha256((self.folder / "rules/heap.kif").read_bytes()).hexdigest(), digest)})
-
-    def test_files_that_no_archive_may_stand_in_the_place_of(self):
-        names = "competition.toml", "schedule.tsv", "again.tsv", "matches.jsonl", "table.txt", "SHA256SUMS", "VERSION", "CHECK.txt", "GAPS.tsv", "heap.kif"
-        self.assertLessEqual({str(self.plan.folder.path / name) for name in names}, set(map(str, archive.own_files(self.plan))))
 
     def test_other_files_among_the_pages_are_not_published(self):
         self.publish()
@@ -283,6 +257,24 @@ class Checked(Made):
                 with patches[0], patches[1], patches[2], patches[3], mock.patch("sys.stderr", said):
                     self.assertEqual((command.main(), said.getvalue()), (status, f"ggp_competition: {words}\n"), name)
 
+    def test_of_many_and_long_errors_the_first_ones_are_reported(self):
+        lines = [f"error {number}" for number in range(5_000)]
+        with mock.patch.object(archive, "unpack", side_effect=Spoilt("\n".join(["x" * 3_000_000, *lines]))):
+            self.assertEqual(self.check(), (["x" * 1_000 + "..", *lines[:99], "there are 4,901 more errors"], ""))
+
+    def test_a_huge_file_is_not_read(self):
+        self.publish()
+        files, read = files_of(self.path), pathlib.Path.read_bytes
+
+        def small(file):
+            self.assertLess(file.stat().st_size, 1 << 20, file)
+            return read(file)
+
+        for name, fault in (("VERSION", "VERSION is not one line `ggp_manager N.N.N`"), ("table.txt", "table.txt does not follow from the records"), ("pages/index.html", "pages/index.html does not follow from the records")):
+            data = packed({**files, f"cup/{name}": bytes(1 << 20)})
+            with mock.patch("pathlib.Path.read_bytes", small):
+                self.assertEqual(self.check(data)[0], [fault])
+
     def test_what_is_said_reaches_no_terminal_as_it_is(self):
         with mock.patch.object(archive, "unpack", side_effect=Spoilt("a\x1b[1m\u00e9\nb ~")):
             self.assertEqual(self.check(), (["a?[1m?", "b ~"], ""))
@@ -309,8 +301,8 @@ class Held(Made):
             (description / f"{name}.kif").write_bytes(text)
         results = self.results()
         left = iter(words)
-        with mock.patch.object(archive, "held_records", lambda file, records: [next(left) for _ in records]), mock.patch.object(archive, "PROCESSORS", 1):
-            return archive.held_matches(plan, results, self.room)
+        with mock.patch.object(archive, "comparisons", lambda file, records: [next(left) for _ in records]), mock.patch.object(archive, "PROCESSORS", 1):
+            return archive.compared_matches(plan, results, self.room)
 
     def test_what_is_said_of_them(self):
         same = "the same: 2 turns"
@@ -324,9 +316,9 @@ class Held(Made):
 
     def test_a_match_that_differs_is_a_fault_of_the_archive(self):
         self.publish()
-        with mock.patch.object(archive, "has_variables", lambda _: True), mock.patch.object(archive, "held_records", lambda _, records: ["differs: y" for _ in records]):
+        with mock.patch.object(archive, "has_variables", lambda _: True), mock.patch.object(archive, "comparisons", lambda _, records: ["differs: y" for _ in records]):
             self.assertEqual(self.check(), ([f"cup-00{at}: by games/heap.kif it differs: y" for at in (1, 2, 3)], ""))
-        with mock.patch.object(archive, "has_variables", lambda _: True), mock.patch.object(archive, "held_records", lambda _, records: ["the same: 2 turns" for _ in records]):
+        with mock.patch.object(archive, "has_variables", lambda _: True), mock.patch.object(archive, "comparisons", lambda _, records: ["the same: 2 turns" for _ in records]):
             self.assertIn("the pages are right; 3 matches are those of descriptions with variables; published with", self.check()[1])
 
 
@@ -354,11 +346,9 @@ class Parts(InFolder):
 
     def test_bytes_and_files_with_their_sums(self):
         self.write(b=b"two")
-        contents, sums = [("a", b"one"), ("b", self.folder / "b")], {}
-        found = list(archive.with_sums(contents, sums))
-        wanted = {"a": hashlib.sha256(b"one").hexdigest(), "b": hashlib.sha256(b"two").hexdigest()}
-        self.assertEqual((found[:2], sums), ([("a", b"one"), ("b", b"two")], wanted))
-        self.assertEqual(found[2:], [(SUMS, f"{wanted['a']}  a\n{wanted['b']}  b\n".encode())])
+        files = list(archive.with_sums([("a", b"one"), ("b", self.folder / "b"), ("c", lambda: b"three")]))
+        sums = "".join(f"{hashlib.sha256(data).hexdigest()}  {name}\n" for name, data in (("a", b"one"), ("b", b"two"), ("c", b"three")))
+        self.assertEqual(files, [("a", b"one"), ("b", b"two"), ("c", b"three"), (SUMS, sums.encode())])
 
     def test_records_are_held_in_parts_of_one_size(self):
         parts = []
@@ -367,6 +357,6 @@ class Parts(InFolder):
             parts.append(list(records))
             return list(map(str, records))
 
-        with mock.patch.object(archive, "PROCESSORS", 3), mock.patch.object(archive, "held_records", held):
-            self.assertEqual(archive.held_side_by_side("f", list(range(7))), list("0123456"))
+        with mock.patch.object(archive, "PROCESSORS", 3), mock.patch.object(archive, "comparisons", held):
+            self.assertEqual(archive.compared_side_by_side("f", list(range(7))), list("0123456"))
         self.assertEqual(sorted(parts), [[0, 1, 2], [3, 4, 5], [6]])

@@ -9,10 +9,10 @@ import unittest
 from unittest import mock
 
 from ggp_tools.competition.command import COMMANDS
-from ggp_tools.competition.trial import trial
 from ggp_tools.descriptions.loading import NoDescription, instantiated
 from ggp_tools.descriptions.random_matches import TimeIsOver
 from ggp_tools.competition.files import Refused, write_whole
+from ggp_tools.competition.game import trial
 from ggp_tools.competition.plan import faults_of_descriptions, make_plan, read_plan
 from ggp_tools.referee import NoReferee, find_program
 from support import COMMAND, GAMES, TOP, InFolder, call, program, program_but, run, run_into_full, stand_in, toml
@@ -32,7 +32,7 @@ DESCRIPTIONS = [
     (FACTS + "(role a)", "line 3, column 1: a role that is named twice: (role a)"),
     (FACTS + "(legal a go) (init s)\n(goal a 101)", "line 4, column 1: neither a fact nor a rule: (goal a 101)"),
     (FACTS + "(" * 70 + "a" + ")" * 70, "line 3, column 65: a list inside 64 others, but 64 are the limit"),
-    ("".join(f"(role r{number})" for number in range(17)), "line 1, column 151: more than 65536 sentences, 65536 different atomic sentences, 16 roles or 4096 moves of one role: (role r16)"),
+    ("".join(f"(role r{number})" for number in range(17)), "line 1, column 151: more than 262144 sentences, 262144 different atomic sentences, 16 roles or 4096 moves of one role: (role r16)"),
 ]
 
 
@@ -70,7 +70,7 @@ class BadInput(InFolder):
             self.assertEqual(run(self.folder, "plan")[0], 0, name)
         (self.folder / "records/cup-1.json").touch()
         self.write(PLAYERS, [("game", "game.kif")], head="play = 4\n")
-        self.assert_refused("competition.toml: the clocks of game were 10 and 3, and are 10 and 4: put back what was changed", "plan")
+        self.assert_refused("competition.toml:5: the clocks of game were 10 and 3, and are 10 and 4: put back what was changed", "plan")
 
     def test_a_plan_that_is_broken_off_is_none(self):
         game, written = self.folder / "game.kif", []
@@ -81,11 +81,11 @@ class BadInput(InFolder):
             make_plan(self.folder, referee)
             game.write_text(f"{FACTS}; other ones\n")
 
-            def write(path, data):
+            def write(path, data, **more):
                 written.append(path)
                 if len(written) > stop:
                     raise KeyboardInterrupt
-                write_whole(path, data)
+                write_whole(path, data, **more)
 
             written.clear()
             with mock.patch("ggp_tools.competition.plan.write_whole", write), contextlib.suppress(KeyboardInterrupt):
@@ -172,6 +172,10 @@ class BadInput(InFolder):
         self.assertEqual(run(self.folder, "plan")[::2], (0, ""))
         file.write_text(text)
         self.assert_refused("schedule.tsv is not what competition.toml says: `ggp_competition plan` writes it anew\n", "play")
+        self.assertEqual(run(self.folder, "plan")[::2], (0, ""))
+        schedule = self.folder / "schedule.tsv"
+        schedule.write_text(schedule.read_text().replace("ann bob", "bob ann"))
+        self.assert_refused("schedule.tsv is not what competition.toml says", "play")
 
     def test_descriptions(self):
         for text, words in DESCRIPTIONS:
@@ -209,7 +213,8 @@ class BadInput(InFolder):
         (self.folder / "game.kif").write_text("(role a) (<= (legal a ?x) (n ?x)) (n 1)")
         killed = self.folder / "killed"
         killed.write_text("import os\nos.kill(os.getpid(), 9)\n")
-        with mock.patch("ggp_tools.descriptions.loading.INSTANTIATE", [sys.executable, killed]), self.assertRaises(NoDescription) as why:
+        ended = subprocess.run([sys.executable, killed], capture_output=True)
+        with mock.patch("ggp_tools.descriptions.loading.run_module", lambda *_: ended), self.assertRaises(NoDescription) as why:
             instantiated(self.folder / "game.kif", b"", False, 60)
         self.assertEqual(str(why.exception), "ggp-instantiate ended with status -9")
 
@@ -247,29 +252,15 @@ class BadInput(InFolder):
             f'competition.toml:15: games.player_rules: {GAMES}/countdown.kif has no variables: "ground" is wanted',
         ])
 
-    def test_a_number_of_players_that_does_not_fit(self):
-        self.write(PLAYERS[:1], [("tictactoe", GAMES / "tictactoe.kif")])
-        self.assert_refused("competition.toml:4: games.file: tictactoe has 2 roles, and there are 1 players")
-
     def test_mistakes_have_line_and_key(self):
         self.write([*PLAYERS, ("ann", "nowhere")], [("tictactoe", GAMES / "tictactoe.kif")])
-        self.assert_refused(["competition.toml:14: players.name: 'ann' stands in line 8 already", "competition.toml:15: players.address: 'nowhere' is no HOST:PORT"])
+        self.assert_refused(["competition.toml:14: players.name: line 8 has 'ann' already", "competition.toml:15: players.address: expected HOST:PORT, with a port from 1 to 65,535, found 'nowhere'"])
 
     def test_what_is_missing(self):
         self.assert_refused("competition.toml can't be read: No such file")
         self.write(PLAYERS, [("tictactoe", GAMES / "tictactoe.kif")])
         for command in ("play", "table", "pages", "publish"):
             self.assert_refused("schedule.tsv is not there: `ggp_competition plan` writes it", command)
-
-    def test_what_is_not_as_it_was_planned(self):
-        self.plan(PLAYERS, [("tictactoe", GAMES / "tictactoe.kif")])
-        rules, text = self.folder / "rules/tictactoe.kif", (GAMES / "tictactoe.kif").read_text()
-        rules.write_text(text.replace("100", "99"))
-        self.assert_refused("rules/tictactoe.kif is not what `ggp_competition plan` wrote", "play")
-        rules.write_text(text)
-        schedule = self.folder / "schedule.tsv"
-        schedule.write_text(schedule.read_text().replace("ann bob", "bob ann"))
-        self.assert_refused("schedule.tsv is not what competition.toml says", "play")
 
     def test_wrong_use(self):
         for words in ([], ["plan", "one", "two"], ["play", "--at-once", "0"], ["check"], ["look"]):
@@ -289,7 +280,7 @@ class BadInput(InFolder):
             self.assertRegex(whole, rf"\n +{name} +{told}\n")
             of_command = said(name, "--help")
             self.assertIn(f"\n{told[0].upper()}{told[1:]}.\n", of_command)
-            self.assertRegex(of_command, r"\n +(FOLDER +the folder of the competition|ARCHIVE +the file of the archive|FILE +competition.toml)")
+            self.assertRegex(of_command, r"\n +((FOLDER|DIRECTORY) +the (folder|directory) of the competition|ARCHIVE +the file of the archive|FILE +competition.toml)")
             self.assertRegex(of_command, r"\n +--program FILE +the referee, ggp_manager \(")
 
     def test_no_referee_is_found(self):
@@ -316,9 +307,9 @@ class BadInput(InFolder):
     def test_a_path_with_a_control_character(self):
         self.write(PLAYERS, [("one", "a\\u0000b"), ("two", "\\u001b[2J"), ("three", "")])
         self.assert_refused([
-            "competition.toml:6: games.file: 'a\\x00b' is no path of a file",
-            "competition.toml:9: games.file: '\\x1b[2J' is no path of a file",
-            "competition.toml:12: games.file: '' is no path of a file",
+            "competition.toml:6: games.file: expected the path of a file, found 'a\\x00b'",
+            "competition.toml:9: games.file: expected the path of a file, found '\\x1b[2J'",
+            "competition.toml:12: games.file: expected the path of a file, found ''",
         ])
 
     def test_a_folder_that_is_a_file(self):

@@ -90,7 +90,7 @@ def test_a_job_is_ended_when_it_is_given_up(stream):
     async def give_up_later(data):
         give_up(data)
 
-    job.printed, job.said = give_up_later, give_up
+    job.take_output, job.take_line = give_up_later, give_up
     ran(f"import sys\nwhile True: sys.{stream}.write('x' * 999 + '\\n')", job)
     assert (job.why, job.process.returncode is None) == ("it is enough", False)
 
@@ -101,7 +101,7 @@ def test_the_error_of_a_file_is_raised():
     def fail(line):
         raise OSError(28, "full")
 
-    job.said = fail
+    job.take_line = fail
     with pytest.raises(ExceptionGroup, match="unhandled errors"):
         ran("import sys; print('one', file=sys.stderr)", job)
 
@@ -131,7 +131,7 @@ def test_what_a_process_leaves_behind_is_not_waited_for():
 def test_a_job_that_is_ended_is_ended_with_what_it_has_started(hears):
     async def go():
         job = Kept()
-        job.has_begun, job.hang_up_seconds = True, 600 if hears else 0.2
+        job.has_begun, job.end_seconds = True, 600 if hears else 0.2
         script = f"sleep 600 & echo ggp_competition: node $! >&2; {'cat; kill $!' if hears else 'wait'}"
         job.start(["bash", "-c", script])
         assert await job.came_up()
@@ -148,7 +148,7 @@ def test_a_job_that_is_ended_is_ended_with_what_it_has_started(hears):
 
 def test_a_process_gets_its_input_and_is_told_by_its_streams():
     done = asyncio.run(run(["sh", "-c", "cat; echo why >&2; exit 3"], b"one\ntwo"))
-    assert (done.status, done.printed, done.last_words(), done.seconds > 0) == (3, b"one\ntwo", "why", True)
+    assert (done.status, done.output, done.message(), done.seconds > 0) == (3, b"one\ntwo", "why", True)
 
 
 def test_a_verdict_is_the_object_that_is_printed():
@@ -158,14 +158,14 @@ def test_a_verdict_is_the_object_that_is_printed():
 
 def test_a_process_that_reads_no_input_is_no_error(caplog):
     done = asyncio.run(run(["sleep", "0.1"], b"x" * (1 << 20)))
-    assert (done.status, done.last_words()) == (0, "it ended with status 0 and no message")
+    assert (done.status, done.message()) == (0, "it ended with status 0 and no message")
     gc.collect()
     assert caplog.records == []
 
 
 def test_a_process_begun_as_this_one_ends_does_not_run(monkeypatch):
     monkeypatch.setattr(os, "getpid", lambda: 0)
-    assert asyncio.run(run(["echo", "one"])).printed == b""
+    assert asyncio.run(run(["echo", "one"])).output == b""
 
 
 def test_a_command_that_is_not_there_is_an_error_of_its_file():
@@ -203,6 +203,6 @@ def test_a_process_that_is_cancelled_is_ended_with_what_it_has_started(tmp_path,
 
 def test_the_last_words_are_printable_and_short(tmp_path):
     (tmp_path / "said").write_bytes(b"first\n" + CLEAR.encode("latin-1") + b"y" * 5_000 + b"\n")
-    words = asyncio.run(run(["sh", "-c", f"cat {tmp_path}/said >&2"])).last_words()
+    words = asyncio.run(run(["sh", "-c", f"cat {tmp_path}/said >&2"])).message()
     assert words.startswith("bad ?]0;title? words ?31m" + "y" * 900)
     assert len(words) == 1_002

@@ -15,8 +15,7 @@ import tempfile
 import unittest
 from unittest import mock
 
-from ggp_tools.kif import Refused
-from ggp_tools.records.collection import Pile, candidates, game_of, judged_batch, judged_lines, known_games, line_of
+from ggp_tools.records.collection import Pile, candidates, judged_batch, judged_lines, known_games, line_of
 from ggp_tools.records.record import ACCOUNT_LINE, LONGEST_RECORD, numbered_lines
 from ggp_tools.referee import BadRules
 from support import GAMES, TOP, InFolder, program
@@ -35,21 +34,6 @@ def record(name: str) -> str:
 
 
 class Sorting(unittest.TestCase):
-    def test_a_game_is_known_by_its_roles_and_its_first_state(self):
-        with tempfile.TemporaryDirectory() as folder:
-            rules = (GAMES / "countdown.kif").read_text(encoding="ascii")
-            other = pathlib.Path(folder, "other.kif")
-            other.write_text(rules.replace("(init (heap 3))", "(init (heap 2))"), encoding="ascii")
-            games = [game_of(other), game_of(GAMES / "countdown.kif"), game_of(GAMES / "tictactoe.kif")]
-        found = candidates(json.loads(record(LAWFUL[0])), games)
-        self.assertEqual([game.name for game in found], ["countdown", "other"])
-
-    def test_a_description_with_variables_is_refused(self):
-        with tempfile.TemporaryDirectory() as folder:
-            path = pathlib.Path(folder, "open.kif")
-            path.write_text("(role a) (<= (legal a ?x) (true ?x))", encoding="ascii")
-            self.assertRaisesRegex(Refused, "variables", game_of, path)
-
     def test_only_lines_of_an_account_by_their_form_are_skipped(self):
         for line in (b"0\topen m 0 1 1 a b\topened", b"12\tnext m 0\tover", b'1\tnext m 0\towe 2 play ({"cause":} })', b"1\tsubmit m} 0 1 }\trefused stale 2", b"1\tquery\tstatus"):
             self.assertTrue(ACCOUNT_LINE.fullmatch(line), line)
@@ -186,10 +170,6 @@ class Commands(unittest.TestCase):
         self.assertEqual([row[2] for row in rows], ["countdown"] * 3 + ["-"] * 2)
         self.assertEqual(said.returncode, 1)
         self.assertEqual(said.stderr, "ggp-records: 2 lawful, 1 not lawful, 1 no record, 1 no game has its roles, 1 line of accounts skipped\n")
-
-    def test_lawful_piles_have_status_0(self):
-        self.pile.write_text(record(LAWFUL[1]), encoding="ascii")
-        self.assertEqual(self.run_records("check", str(self.pile)).returncode, 0)
 
     def test_why_is_said_below_a_record_that_is_not_lawful(self):
         for words in (["--explain", "check", self.pile], ["check", self.pile, "--explain"], ["check", "--explain", self.pile]):

@@ -163,17 +163,8 @@ class ByDice(unittest.TestCase):
             with self.subTest(seed):
                 self.look(seed)
 
-    def test_the_first_games(self):
-        self.look_at(range(4))
-
-    def test_four_other_games(self):
-        self.look_at(range(4, 8))
-
-    def test_four_more_games(self):
-        self.look_at(range(8, 12))
-
-    def test_the_last_games(self):
-        self.look_at(range(12, 16))
+    def test_sixteen_games(self):
+        self.look_at(range(16))
 
     def test_conditions_that_are_met_in_functions_of_their_own(self):
         with mock.patch.object(compiling, "MOST_DEPTH", 1):

@@ -1,10 +1,15 @@
 """Records are checked against a description only if `plan` made the rules of the game from it."""
 
+import os
+import shutil
+import subprocess
+import sys
+
 from ggp_tools.competition.described import description_of
 from ggp_tools.competition.plan import not_planned
 from ggp_tools.descriptions.loading import sum_of
 from live_support import plan_in
-from support import InFolder
+from support import GAMES, TOP, InFolder
 
 GENERAL, GROUND = b"(role ?x)", b"(role x)"
 
@@ -25,3 +30,9 @@ class Descriptions(InFolder):
                 if text:
                     file.write_bytes(text)
                 self.assertEqual(description_of(plan, game), wanted)
+
+    def test_records_are_compared_without_the_commands_next_to_the_package(self):
+        shutil.copytree(TOP / "python/ggp_tools", self.folder / "ggp_tools")
+        call = f"from ggp_tools.competition.described import *; print(comparisons(pathlib.Path({str(GAMES / 'countdown.kif')!r}), [b'{{}}\\n'])[0][:14])"
+        done = subprocess.run([sys.executable, "-B", "-c", call], cwd="/", env={**os.environ, "PYTHONPATH": str(self.folder)}, capture_output=True, text=True)
+        self.assertEqual((done.stdout, done.stderr), ("not followed: \n", ""))

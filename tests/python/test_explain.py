@@ -208,10 +208,10 @@ class Verdicts(WithStandIn):
     def test_of_one_record(self):
         path = self.referee.path
         self.answers(verdict_rows(None))
-        self.assertIsNone(judged(path, ["--countdown=3"], b"{}"))
+        self.assertEqual(judged(path, ["--countdown=3"], b"{}"), [None])
         self.assertEqual(self.asked(), (["verify", "--json", "--countdown=3"], b"{}"))
         self.answers(verdict_rows("state 1"), b"more\nggp_manager: not lawful: state 1\n", 1)
-        self.assertEqual(judged(path, [], b"{}"), "state 1")
+        self.assertEqual(judged(path, [], b"{}"), ["state 1"])
 
     def test_without_a_verdict(self):
         def ask():
@@ -311,7 +311,7 @@ class Commands(WithStandIn):
                     self.assertEqual((words[0].partition("=")[0], words[1:], game().roles, game() is game()), ("--rules-file", options, ["red"], True))
             with explain.rules_of(argparse.Namespace(program="p", countdown=1, rules_file=None)) as (words, game):
                 self.assertEqual((words, len(game().roles)), (["--countdown=1"], 2))
-        self.assertEqual(read_up_to, [("f", 1 << 20), ("f", 4 << 20)])
+        self.assertEqual(read_up_to, [("f", 1 << 20), ("f", 16 << 20)])
 
     def test_standard_input_and_output(self):
         for words in ([], ["--lines"]):
@@ -373,7 +373,7 @@ class Whole(unittest.TestCase):
 
     def test_random_records(self):
         for heap, text in outside("records").random_records(3, 8, 7):
-            word = explain.judged(program(), [f"--countdown={heap}"], text.encode())
+            word, = explain.judged(program(), [f"--countdown={heap}"], text.encode())
             if word:
                 self.assertNotIn("One of the two is wrong", explain.explanation(word, Game(countdown(heap)), text.encode())[-1], text)
 

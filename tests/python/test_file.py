@@ -4,7 +4,7 @@ import random
 import unittest
 
 from ggp_tools.competition.command import MOST_AT_ONCE
-from ggp_tools.competition.competition_file import Command, Launcher, MOST_PLAYERS, MOST_ROUNDS, MOST_SECONDS, MOST_STRIKES, Mistaken, read_competition
+from ggp_tools.competition.competition_file import Command, Launcher, MOST_PLAYERS, MOST_ROUNDS, MOST_SECONDS, MOST_STRIKES, Mistaken, mistake_lines, read_competition
 from ggp_tools.competition.schedule import MOST_MATCHES
 from planning import planned
 from support import TOP, toml
@@ -16,77 +16,77 @@ GOOD = toml(PLAYERS, GAMES, 'kind = "round_robin"\nrounds = 2', "start = 30\nstr
 MISTAKES = [
     ('name = "cup"', "", [(1, "name", "missing")]),
     ('name = "cup"', "name = 7", [(1, "name", "a text in quotes")]),
-    ('name = "cup"', 'name = "a cup"', [(1, "name", "is no name")]),
-    ('name = "cup"', 'name = ".."', [(1, "name", "a letter or a digit first")]),
-    ('name = "cup"', f'name = "{"c" * 41}"', [(1, "name", "is no name")]),
-    ("start = 30", f"start = 0x{'f' * 5_000}", [(2, "start", "the number is not from 1 to 86,400")]),
+    ('name = "cup"', 'name = "a cup"', [(1, "name", "expected a name")]),
+    ('name = "cup"', 'name = ".."', [(1, "name", "beginning with a letter or a digit")]),
+    ('name = "cup"', f'name = "{"c" * 41}"', [(1, "name", "expected a name")]),
+    ("start = 30", f"start = 0x{'f' * 5_000}", [(2, "start", "from 1 to 86,400, found a number of many digits")]),
     ("start = 30", "start = true", [(2, "start", "a whole number")]),
     ("start = 30", 'start = "1:75:00"', [(2, "start", "a whole number")]),
     ("strikes = 3", "striks = 3", [(3, "striks", "no such key")]),
     ("strikes = 3", "strikes 3", [(3, "strikes", "Expected '=' after a key")]),
     ("strikes = 3", 'forfeit = "yes"', [(3, "forfeit", "true or false")]),
-    ("strikes = 3", 'order = "wins"', [(3, "order", "'wins' is none of goals, points")]),
-    ("strikes = 3", 'absent = "wait"', [(3, "absent", "none of leave, play")]),
+    ("strikes = 3", 'order = "wins"', [(3, "order", "expected one of goals, points, found 'wins'")]),
+    ("strikes = 3", 'absent = "wait"', [(3, "absent", "expected one of leave, play, found 'wait'")]),
     ("strikes = 3", "pause = true", [(3, "pause", "only the kinds swiss and knockout have this key")]),
-    ("strikes = 3", "anchor = {ann = 1.5, eve = 1_500}", [(3, "anchor", "ann: a whole number from -10,000 to 10,000"), (3, "anchor", "no player 'eve'")]),
+    ("strikes = 3", "anchor = {ann = 1.5, eve = 1_500}", [(3, "anchor", "expected for ann a whole number from -10,000 to 10,000, found 1.5"), (3, "anchor", "no player 'eve'")]),
     ("strikes = 3", "seeds = 7", [(3, "seeds", "a text in quotes")]),
     ('"round_robin"\nrounds = 2', '"swiss"\nrounds = 2\nfinal = 4', [(8, "form.final", "there are 3 players")]),
     ("rounds = 2", "final = 2", [(7, "form.final", "the kind round_robin has no such key")]),
     ("strikes = 3", "absent_rounds = 1", [(3, "absent_rounds", "only the kinds swiss and knockout have this key")]),
-    ("strikes = 3", 'withdrawn_results = "drop"', [(3, "withdrawn_results", "none of keep, void")]),
-    ("concurrent = 3", 'withdrawn = " a reason"', [(23, "players.withdrawn", "true or a reason is expected")]),
-    ("strikes = 3", "faults = {replaced = 0}", [(3, "faults.replaced", "0 is not from 1 to 10,000")]),
+    ("strikes = 3", 'withdrawn_results = "drop"', [(3, "withdrawn_results", "one of keep, void")]),
+    ("concurrent = 3", 'withdrawn = " a reason"', [(23, "players.withdrawn", "expected true or a reason")]),
+    ("strikes = 3", "faults = {replaced = 0}", [(3, "faults.replaced", "from 1 to 10,000, found 0")]),
     ("strikes = 3", "faults = {replace = 1}", [(3, "faults.replace", "no such key; there are replaced"), (3, "faults.replaced", "missing")]),
-    ('["srun", "-N1"]', "[]", [(4, "launcher.command", "at least one text is expected")]),
+    ('["srun", "-N1"]', "[]", [(4, "launcher.command", "expected at least one text")]),
     ('["srun", "-N1"]', '["srun", 1]', [(4, "launcher.command", "a text in quotes")]),
     ('["srun", "-N1"]', '"srun"', [(4, "launcher.command", "an array of texts"), (4, "launcher.command", "at least one text")]),
     (", slots = 9", "", [(4, "launcher.slots", "missing")]),
     ("slots = 9", "slots = 9, nodes = 2", [(4, "launcher.nodes", "no such key; there are command, slots")]),
     ("launcher = {", "hosts = {", [(4, "hosts", "this key is now launcher")]),
-    ("[form]", "[from]", [(1, "form", "one [form]"), (5, "from", "no such key")]),
-    ('"round_robin"', '"league"', [(6, "form.kind", "none of round_robin, gauntlet, schedule, swiss, knockout")]),
+    ("[form]", "[from]", [(1, "form", "expected one table [form]"), (5, "from", "no such key")]),
+    ('"round_robin"', '"league"', [(6, "form.kind", "one of round_robin, gauntlet, schedule, swiss, knockout")]),
     ('"round_robin"', '"knockout"', [(7, "form.rounds", "the kind knockout has no such key")]),
     ('"round_robin"\nrounds = 2', '"swiss"', [(5, "form.rounds", "missing")]),
     ('"round_robin"\nrounds = 2', '"swiss"\nrounds = 2\none = "ann"', [(8, "form.one", "the kind swiss has no such key")]),
     ('"round_robin"', '"gauntlet"', [(5, "form.one", "missing")]),
     ("rounds = 2", 'one = "ann"', [(7, "form.one", "has no such key")]),
-    ('name = "go"', 'name = "chess"', [(12, "games.name", "line 9 already")]),
-    ('name = "go"', 'name = "-go"', [(12, "games.name", "is no name")]),
-    ('name = "go"', 'name = "g/o"', [(12, "games.name", "is no name")]),
+    ('name = "go"', 'name = "chess"', [(12, "games.name", "line 9 has 'chess' already")]),
+    ('name = "go"', 'name = "-go"', [(12, "games.name", "expected a name")]),
+    ('name = "go"', 'name = "g/o"', [(12, "games.name", "expected a name")]),
     ('file = "go.kif"', "", [(11, "games.file", "missing")]),
-    ('file = "go.kif"', 'file = "go.kif"\nplayer_rules = "both"', [(14, "games.player_rules", "none of ground, variables")]),
-    ('file = "go.kif"', 'file = "go.kif"\naborts = 1', [(14, "games.aborts", "true or false is wanted")]),
+    ('file = "go.kif"', 'file = "go.kif"\nplayer_rules = "both"', [(14, "games.player_rules", "one of ground, variables")]),
+    ('file = "go.kif"', 'file = "go.kif"\naborts = 1', [(14, "games.aborts", "expected true or false, found 1")]),
     ('file = "go.kif"', 'file = "go.kif"\ntold = "variables"', [(14, "games.told", "this key is now player_rules")]),
     ('file = "go.kif"', 'file = "go.kif"\nseconds = 9', [(14, "games.seconds", "this key is now instantiate")]),
-    ('file = "go.kif"', 'file = "go.kif"\nlarge = 1', [(14, "games.large", "true or false is wanted")]),
+    ('file = "go.kif"', 'file = "go.kif"\nlarge = 1', [(14, "games.large", "expected true or false, found 1")]),
     ('file = "go.kif"', 'file = "go.kif"\nplayer_rules = true', [(14, "games.player_rules", "a text in quotes")]),
     ('file = "go.kif"', 'file = "go.kif"\n\ntell = "ground"', [(15, "games.tell", "no such key; there are name, file, described, instantiate, start, play, player_rules, aborts, large")]),
-    ('name = "bob"', 'name = "ann"', [(18, "players.name", "'ann' stands in line 15 already")]),
-    ('name = "bob"', 'name = "b b"', [(18, "players.name", "is no name")]),
-    ('"[::1]:9148"', '"10.0.0.1:9147"', [(19, "players.address", "line 16 already")]),
-    ('"[::1]:9148"', '"10.0.0.1"', [(19, "players.address", "is no HOST:PORT")]),
-    ('"[::1]:9148"', '"::1:9148"', [(19, "players.address", "is no HOST:PORT")]),
-    ('"[::1]:9148"', '"bob@host:9148"', [(19, "players.address", "is no HOST:PORT")]),
-    ('"[::1]:9148"', '"[fe80::1%]:9148"', [(19, "players.address", "is no HOST:PORT")]),
-    ('"[::1]:9148"', '"[fe80::1%a b]:9148"', [(19, "players.address", "is no HOST:PORT")]),
-    ('"[::1]:9148"', '"fe80%eth0:9148"', [(19, "players.address", "is no HOST:PORT")]),
-    ('"[::1]:9148"', '"host:65536"', [(19, "players.address", "the port 65536")]),
-    ('"[::1]:9148"', '"host:0"', [(19, "players.address", "the port 0")]),
+    ('name = "bob"', 'name = "ann"', [(18, "players.name", "line 15 has 'ann' already")]),
+    ('name = "bob"', 'name = "b b"', [(18, "players.name", "expected a name")]),
+    ('"[::1]:9148"', '"10.0.0.1:9147"', [(19, "players.address", "line 16 has")]),
+    ('"[::1]:9148"', '"10.0.0.1"', [(19, "players.address", "expected HOST:PORT")]),
+    ('"[::1]:9148"', '"::1:9148"', [(19, "players.address", "expected HOST:PORT")]),
+    ('"[::1]:9148"', '"bob@host:9148"', [(19, "players.address", "expected HOST:PORT")]),
+    ('"[::1]:9148"', '"[fe80::1%]:9148"', [(19, "players.address", "expected HOST:PORT")]),
+    ('"[::1]:9148"', '"[fe80::1%a b]:9148"', [(19, "players.address", "expected HOST:PORT")]),
+    ('"[::1]:9148"', '"fe80%eth0:9148"', [(19, "players.address", "expected HOST:PORT")]),
+    ('"[::1]:9148"', '"host:65536"', [(19, "players.address", "from 1 to 65,535, found 'host:65536'")]),
+    ('"[::1]:9148"', '"host:0"', [(19, "players.address", "found 'host:0'")]),
     ('address = "[::1]:9148"', 'address = "[::1]:9148"\nmem = "1G"', [(20, "players.mem", "no such key; there are name, address, concurrent, command, withdrawn, launcher, directory, environment, memory")]),
     ('address = "[::1]:9148"', 'address = "[::1]:9148"\nlauncher = ["srun"]', [(20, "players.launcher", "only a player with a `command` has this key")]),
-    ('address = "[::1]:9148"', 'command = ["x", "{port}"]\nlauncher = []', [(20, "players.launcher", "at least one text is expected"), (17, "players.command", "launcher")]),
+    ('address = "[::1]:9148"', 'command = ["x", "{port}"]\nlauncher = []', [(20, "players.launcher", "expected at least one text"), (17, "players.command", "launcher")]),
     ('address = "[::1]:9148"', 'address = "[::1]:9148"\nmemory = "1G"', [(20, "players.memory", "only a player with a `command` has this key")]),
-    ('address = "[::1]:9148"', 'address = "[::1]:9148"\ncommand = ["x", "{port}"]', [(19, "players.address", "is started here"), (17, "players.command", "can't be reached by the matches of a launcher")]),
+    ('address = "[::1]:9148"', 'address = "[::1]:9148"\ncommand = ["x", "{port}"]', [(19, "players.address", "gets its address when it is started"), (17, "players.command", "the matches of a launcher can't reach")]),
     *(('address = "[::1]:9148"', new, [(line, f"players.{key}", words), (17, "players.command", "launcher")]) for new, line, key, words in (
-        ('command = []', 19, "command", "at least one text is expected"), ('command = [""]', 19, "command", "at least one text is expected"),
-        ('command = ["x"]', 19, "command", "{port} is expected in the command or in the environment"), ('command = ["x", 5, "{port}"]', 19, "command", "a text in quotes"),
+        ('command = []', 19, "command", "expected at least one text"), ('command = [""]', 19, "command", "expected at least one text"),
+        ('command = ["x"]', 19, "command", "expected {port} in the command or in the environment"), ('command = ["x", 5, "{port}"]', 19, "command", "a text in quotes"),
         *((f'command = ["x", "{{port}}"]\n{more}', 20, more.split()[0], words) for more, words in (
-            ('memory = "4X"', "'4X' is not a size"), ('memory = 5', "a text in quotes"), ('restart = "always"', "none of when_dead, each_match, never"),
-            ("environment = 5", "a table of texts"), ('environment = {"A=" = "x"}', "is not a variable"), ("environment = {A = 5}", "is not a variable"),
-            ('directory = ""', "is no path of a file"),
+            ('memory = "4X"', "found '4X'"), ('memory = 5', "a text in quotes"), ('restart = "always"', "one of when_dead, each_match, never"),
+            ("environment = 5", "a table of texts"), ('environment = {"A=" = "x"}', "expected a variable"), ("environment = {A = 5}", "expected a variable"),
+            ('directory = ""', "expected the path of a file"),
         )),
     )),
-    ('"cup"', '"c p"\nplay = 0', [(1, "name", "is no name"), (2, "play", "is not from")]),
+    ('"cup"', '"c p"\nplay = 0', [(1, "name", "expected a name"), (2, "play", "from 1 to 86,400, found 0")]),
     ("strikes = 3", "# \N{GREEK SMALL LETTER ALPHA}\nstrikes = x", [(4, "strikes", "Invalid value")]),
 ]
 # What is changed in GOOD to a number, its line and its key, and its limits.
@@ -106,7 +106,7 @@ NUMBERS = [
 SCHEDULES = [
     ("lines = []", [(4, "form.lines", "at least one line")]),
     ('lines = ["chess ann bob",\n"chess ann dan", "checkers ann bob"]', [(5, "form.lines", "no player 'dan'"), (5, "form.lines", "no game 'checkers'")]),
-    ('lines = ["chess ann bob",\n"chess ann ann"]', [(5, "form.lines", "'ann' stands there twice")]),
+    ('lines = ["chess ann bob",\n"chess ann ann"]', [(5, "form.lines", "the line has the player 'ann' twice")]),
     ('lines = ["chess ann bob",\n""]', [(5, "form.lines", "no game ''")]),
     ("lines = [1]", [(4, "form.lines", "at least one line"), (4, "form.lines", "a text in quotes")]),
 ]
@@ -150,9 +150,9 @@ class CompetitionFile(unittest.TestCase):
         for kind in ('"swiss"\nrounds = 3', '"knockout"'):
             self.assertEqual(mistakes_of(toml(PLAYERS, GAMES, f"kind = {kind}").encode()), [])
             found = mistakes_of(toml(PLAYERS, GAMES, f"kind = {kind}", 'order = "goals"').encode())
-            self.assertEqual(found, [(2, "order", f"the kind {kind.split(chr(34))[1]} has an order of its own")])
+            self.assertEqual(found, [(2, "order", f"the kind {kind.split(chr(34))[1]} has its own order")])
         found = mistakes_of(toml(PLAYERS, GAMES, 'kind = "knockout"', 'withdrawn_results = "void"').encode())
-        self.assertEqual(found, [(2, "withdrawn_results", "what was played in a knockout counts, since others have left by it")])
+        self.assertEqual(found, [(2, "withdrawn_results", "the matches of a knockout count, since other players have lost them")])
 
     def test_what_players_are_told(self):
         found = read_competition(GOOD.replace('file = "go.kif"', 'file = "go.kif"\nplayer_rules = "variables"').encode())
@@ -169,7 +169,7 @@ class CompetitionFile(unittest.TestCase):
             with self.subTest(key):
                 self.assertEqual([mistakes_of(GOOD.replace(old, new.format(number)).encode()) for number in (least, most)], [[], []])
                 for number in (least - 1, most + 1):
-                    self.assert_told(GOOD.replace(old, new.format(number)), [(line, key, f"{number} is not from {least:,} to {most:,}")])
+                    self.assert_told(GOOD.replace(old, new.format(number)), [(line, key, f"from {least:,} to {most:,}, found {number}")])
 
     def test_an_address_with_its_zone(self):
         found = read_competition(GOOD.replace("[::1]", "[fe80::1%eth0.7]").encode())
@@ -185,7 +185,7 @@ class CompetitionFile(unittest.TestCase):
         self.assertEqual([limit for limit in limits if limit not in text], [])
 
     def test_a_byte_order_mark(self):
-        self.assertEqual(mistakes_of(b"\xef\xbb\xbf" + GOOD.encode()), [(1, "", "the file begins with a byte order mark, the bytes EF BB BF: leave them out")])
+        self.assertEqual(mistakes_of(b"\xef\xbb\xbf" + GOOD.encode()), [(1, "", "the file begins with a byte order mark, the bytes EF BB BF: remove them")])
 
     def test_lines_of_a_schedule(self):
         for lines, wanted in SCHEDULES:
@@ -196,6 +196,16 @@ class CompetitionFile(unittest.TestCase):
         self.assertEqual([mistake[:2] for mistake in mistakes_of(b"name = 1\n\xff")], [(2, "")])
         self.assertEqual({mistake[1] for mistake in mistakes_of(b"")}, {"name", "form", "games", "players"})
         self.assertEqual({mistake[1] for mistake in mistakes_of(b'name = "c"\ngames = 1\nplayers = []\nform = 2')}, {"form", "games", "players"})
+
+    def test_a_message_has_a_greatest_length(self):
+        long = "x" * 1_000_000
+        texts = [f'name = "{long}"', f'name = "cup"\n{long} = 1', "".join(f"{at}x = 1\n" for at in range(1_000)), f"anchor = {{{long} = 1}}", f'[form]\nkind = "schedule"\nlines = ["{long} {long} {long}"]']
+        texts += [f'[[games]]\nname = "{long}"\n' * 2, f'start = {"9" * 4_000}', f'[[players]]\nname = "a"\ncommand = ["{{port}}"]\nenvironment = {{"{long}=" = 1}}']
+        for text in texts:
+            with self.assertRaises(Mistaken) as why:
+                read_competition(text.encode())
+            lines = mistake_lines("cup.toml", why.exception.mistakes).splitlines()
+            self.assertLess((len(lines), max(map(len, lines))), (102, 1_000))
 
     def test_whatever_comes_is_read_or_told(self):
         chance = random.Random(1)

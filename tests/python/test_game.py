@@ -211,8 +211,8 @@ class Game(InFolder):
         for text, words in [("", "line 1, column 1: there is no sentence"), ("(role a", "line 1, column 1: a list that is not closed; add a `)`")]:
             self.assertEqual(self.look(text), (1, [f"game.kif is not accepted: {words}", "the rest was not checked"]))
         self.assertEqual(self.look("(" * 70 + "a" + ")" * 70)[1][-1], "the rest was not checked")
-        said = ["game.kif is not accepted: it has 4,194,305 bytes; at most 1,048,576 are accepted, or 4,194,304 with --large", "the rest was not checked"]
-        self.assertEqual(self.look(" x" * (1 << 21) + "x"), (1, said))
+        said = ["game.kif is not accepted: it has 16,777,217 bytes; at most 1,048,576 are accepted, or 16,777,216 with --large", "the rest was not checked"]
+        self.assertEqual(self.look(" x" * (1 << 23) + "x"), (1, said))
         # Past the usual limit of bytes the limits for large games are taken.
         status, lines = self.look(SOUND + ";" * (1 << 20), "--matches", "0")
         self.assertEqual((status, lines[0].startswith("game.kif is accepted: ")), (0, True), lines)

@@ -8,6 +8,7 @@ from unittest import mock
 from ggp_tools.instantiating import rounds
 from ggp_tools.instantiating.grounding import ground, in_order, needed, possible, sentence_of, shortened
 from ggp_tools.gdl import Literal, Relations, Rule, all_rules
+from ggp_tools.holding.reading import rules_of as interpreted
 from ggp_tools.instantiating.splitting import FEW_VARIABLES, MOST_LITERALS, split
 from ggp_tools.instantiating.for_players import text_for_players
 from ggp_tools.kif import Refused, expressions, put, spelled, variables
@@ -57,8 +58,20 @@ class Grounding(unittest.TestCase):
 class Dependence(unittest.TestCase):
     def test_what_depends_on_what(self):
         found = Relations(rules("(<= p q (not (r a))) (<= q (s a b)) (<= (t ?x) (u ?x) (distinct ?x a))"))
-        self.assertEqual(found.below, {("p", None): {("q", None), ("r", 1), ("s", 2)}, ("q", None): {("s", 2)}, ("t", 1): {("u", 1)}})
-        self.assertEqual((found.reached([("p", None)]), found.reached([("s", 2)])), (found.below["p", None], set()))
+        self.assertEqual(found.asks, {("p", None): {("q", None), ("r", 1)}, ("q", None): {("s", 2)}, ("t", 1): {("u", 1)}})
+        self.assertEqual((found.reached([("p", None)]), found.reached([("s", 2)])), ({("q", None), ("r", 1), ("s", 2)}, set()))
+        self.assertEqual(found.circular, set())
+        self.assertEqual(Relations(rules("(<= p q) (<= q p) (<= r (not r)) (<= s p)")).circular, {("p", None), ("q", None), ("r", None)})
+
+    def test_the_work_grows_with_the_text_only(self):
+        # Each of these would take hours, or more memory than there is, if it grew with the square.
+        chain = "".join(f"(<= (p{number} ?x) (p{number + 1} ?x))" for number in range(100_000))
+        self.assertEqual(len(Relations(rules(chain + "(<= (p100000 ?x) (true ?x))")).unsettled()), 100_003)
+        names = [f"?x{number}" for number in range(50_000)]
+        wide = f"(<= (p {' '.join(names)}) {' '.join(f'(q {name})' for name in names)})"
+        self.assertEqual([len(rule.body) for rule in rules(wide)], [50_000])
+        literals = " ".join(f"(not (q {number}))" for number in range(50_000))
+        self.assertEqual([len(rule.body) for rule in all_rules(expressions(f"(<= p {literals})"), of_one=interpreted)], [50_000])
 
     def test_what_the_grounder_can_not_settle(self):
         found = Relations(rules("(<= p (true a)) (<= q p) (<= m (does r x)) (<= n (not o)) (<= o n) (<= w v) (<= k (not l)) l (<= z (not n))"))
@@ -214,7 +227,7 @@ class Told(unittest.TestCase):
             ("(<= p (and q (and r s)) t)", ["(<= p q r s t)"]), ("(<= p (or q r) t)", ["(<= p (or q r) t)"]),
             ("(<= p (or (and q r) s) t)", ["(<= p q r t)", "(<= p s t)"]), ("(<= p (not (and q (distinct ?x a))))", ["(<= p (not q))", "(<= p (not (distinct ?x a)))"]),
             ("(<= p (or (and q (distinct a b)) r) (or s t))", ["(<= p q (distinct a b) (or s t))", "(<= p r (or s t))"]),
-            ("(<= p (not (or q (and r s))))", ["(<= p (not q) (not r))", "(<= p (not q) (not s))"]),
+            ("(<= p (not (or q (and r s))))", ["(<= p (not q) (not r))", "(<= p (not q) (not s))"]), ("(<= p (and (e (and)) q))", ["(<= p (e (and)) q)"]),
         ):
             self.assertEqual(self.told(f"(base a) (input a b) {text}")[4:], wanted, text)
 
@@ -239,6 +252,9 @@ class Splitting(unittest.TestCase):
                 return true
             true |= new
 
+    def width(self, found):
+        return max(len(variables((rule.head, *(literal.atom for literal in rule.body)))) for rule in found)
+
     def is_so(self, literal, by, true):
         atom = put(literal.atom, by)
         return ((atom[0] == atom[1]) if literal.same else atom in true) == literal.positive
@@ -246,7 +262,7 @@ class Splitting(unittest.TestCase):
     def test_a_chain_is_split_where_it_says_the_same_with_fewer_variables(self):
         before = rules("(<= (p ?a ?d) (e ?a ?b) (e ?b ?c) (e ?c ?d))")
         after = split(before)
-        self.assertEqual(max(len(variables((rule.head, *(literal.atom for literal in rule.body)))) for rule in after), 3)
+        self.assertEqual(self.width(after), 3)
         self.assertEqual({head for head in self.heads(after) if head[0] in "pe"}, self.heads(before))
 
     def test_parts_that_say_the_same_have_one_relation(self):
@@ -288,5 +304,6 @@ class Splitting(unittest.TestCase):
             before = rules(f"(<= (p {head}) {' '.join(body)} {more})")
             after = split(before)
             splits += after != before
+            self.assertLessEqual(self.width(after), self.width(before))
             self.assertEqual({head for head in self.heads(after) if head[0] in "pe"}, self.heads(before), before)
         self.assertGreater(splits, 5)

@@ -8,7 +8,7 @@ import tempfile
 import unittest
 
 from players import TestPlayer
-from support import GAMES, run, toml
+from support import GAMES, assert_spoilt, run, toml
 from test_archive import changed, files_of, packed, without
 
 COUNTDOWN = [("countdown", GAMES / "countdown.kif")]
@@ -72,15 +72,6 @@ class InArchive(unittest.TestCase):
         self.assertEqual((found, said), (status, ""), out)
         return out.splitlines()
 
-    def assert_spoilt(self, spoilings):
-        files = files_of(self.folder / "cup.tar.gz")
-        for name, (spoil, words) in spoilings.items():
-            with self.subTest(name):
-                (self.folder / "spoilt.tar.gz").write_bytes(spoil(dict(files)))
-                status, out, said = run(self.folder, "check", "spoilt.tar.gz")
-                self.assertEqual((status, out), (1, ""))
-                self.assertIn(words, said)
-
 
 class Spoilt(InArchive):
     def folder_of(self, players, **more):
@@ -115,7 +106,7 @@ class Spoilt(InArchive):
         self.assertEqual([(lines[name]["won_by_forfeit"], lines[name]["lost_by_forfeit"]) for name in ("ann", "bob", "cid")], [(2, 0), (2, 0), (0, 4)])
         self.assertEqual([lines["cid"]["goals"], lines["ann"]["goals"] + lines["bob"]["goals"]], [0, 150])
         self.assertIn(b"cup-001 does not count: cup-003 was ordered in its place: the power of ann", files["cup/pages/index.html"])
-        self.assert_spoilt(GROWN)
+        assert_spoilt(self, files, GROWN)
 
     def test_a_swiss_competition(self):
         self.folder_of([TestPlayer(name) for name in ("ann", "bob", "cid")], form='kind = "swiss"\nrounds = 2', head="start = 5\nplay = 5\n")
@@ -125,9 +116,9 @@ class Spoilt(InArchive):
         self.assertEqual(out[-1], "4 of 4 matches have a lawful record")
         self.ran("publish")
         self.assertIn("4 records and accounts, the table and the pages are right; published", self.ran("check", "cup.tar.gz")[0])
-        self.assert_spoilt(SWISS)
-        # As where `play` was stopped after the first round.
         files = files_of(self.folder / "cup.tar.gz")
+        assert_spoilt(self, files, SWISS)
+        # As where `play` was stopped after the first round.
         text = files["cup/schedule.tsv"]
         (self.folder / "schedule.tsv").write_bytes(b"".join(text.splitlines(keepends=True)[:3]))
         kept = {file: file.read_bytes() for match in ("cup-003", "cup-004") for file in self.folder.glob(f"*/{match}.*")}

@@ -6,10 +6,10 @@ from collections import Counter
 from dataclasses import replace
 from unittest import mock
 
-from ggp_tools.competition.competition_file import Mistaken, read_competition
-from ggp_tools.competition.files import Folder, Refused
-from ggp_tools.competition.growth import Again, History, Misfit, grown, refuse_changes, refuse_unchanged, shape
-from ggp_tools.competition.history import again_text, read_history
+import pytest
+
+from ggp_tools.competition.competition_file import Command, Competition, Faults, Form, Game, Launcher, Mistaken, Player, keys_of, read_competition
+from ggp_tools.competition.growth import Again, History, Misfit, fixed, grown, refuse_changes, refuse_unchanged, shape
 from ggp_tools.competition.results import Result
 from ggp_tools.competition.schedule import asked
 from planning import nothing_known, planned
@@ -189,6 +189,78 @@ class Growth(unittest.TestCase):
             self.assertIn(words, str(why.exception))
 
 
+# A file with all kinds of tables, by their names and keys.
+FILE = {
+    "": {"name": '"cup"', "start": "10", "play": "10"},
+    "launcher": {"command": '["srun"]', "slots": "2"},
+    "faults": {"replaced": "3"},
+    "form": {"kind": '"round_robin"', "rounds": "1"},
+    "games": {"name": '"two"', "file": '"f"'},
+    "players": {"name": '"p0"', "address": '"h:1"'},
+    "started": {"name": '"p1"', "command": '["x", "{port}"]', "launcher": '["ssh"]'},
+}
+HEADS = {"games": "[[games]]", "players": "[[players]]", "started": "[[players]]"}
+SWISS = {"form": {"kind": '"swiss"', "rounds": "2"}}
+# What comes of a key that is changed once matches were played. It is refused by its name and line; or the archive shows it, since the file before
+# goes to `earlier`; or no result of a match that was played follows from it. The rules of a game are compared by their sums.
+REFUSED, SHOWN, FREE = "refused", "shown", "free"
+CHANGES = (
+    ("", "name", '"cup"', '"cop"', REFUSED, {}), ("", "start", "10", "9", REFUSED, {}), ("", "play", "10", "9", REFUSED, {}),
+    ("", "strikes", "3", "2", REFUSED, {}), ("", "forfeit", "true", "false", REFUSED, {}), ("", "forfeit", "true", None, REFUSED, {}),
+    ("", "order", '"goals"', '"points"', REFUSED, {}), ("", "order", None, '"points"', REFUSED, {}),
+    ("", "anchor", "{p0 = 1500}", "{p1 = 1500}", REFUSED, {}), ("", "anchor", None, "{p0 = 1500}", REFUSED, {}),
+    ("", "ids", '"counted"', '"random"', REFUSED, {}), ("", "seeds", '"a"', '"b"', REFUSED, {}),
+    ("", "withdrawn_results", '"keep"', '"void"', SHOWN, {}),
+    ("", "withdrawn_results", '"keep"', '"void"', REFUSED, {"players": {**FILE["players"], "withdrawn": "true"}}),
+    ("", "absent_rounds", "1", "2", SHOWN, SWISS), ("", "forfeit", "true", "false", REFUSED, SWISS), ("", "pause", "true", "false", FREE, SWISS),
+    ("", "absent", '"leave"', '"play"', FREE, {}), ("", "tries", "1", "2", FREE, {}), ("", "wait", "1", "2", FREE, {}), ("", "info", "1", "2", FREE, {}),
+    ("launcher", "command", '["srun"]', '["ssh"]', FREE, {}), ("launcher", "slots", "2", "3", FREE, {}), ("faults", "replaced", "3", "2", REFUSED, {}),
+    ("form", "kind", '"round_robin"', '"knockout"', REFUSED, {"form": {}}), ("form", "rounds", "1", "2", SHOWN, {}), ("form", "rounds", "2", "1", REFUSED, {}),
+    ("form", "rounds", "2", "1", REFUSED, SWISS), ("form", "final", None, "2", REFUSED, SWISS),
+    ("form", "one", '"p0"', '"p1"', SHOWN, {"form": {"kind": '"gauntlet"'}}),
+    ("form", "lines", '["two p0 p1"]', '["two p1 p0"]', REFUSED, {"form": {"kind": '"schedule"'}}),
+    ("games", "name", '"two"', '"one"', REFUSED, {}), ("games", "start", "5", "6", REFUSED, {}), ("games", "play", "5", "6", REFUSED, {}),
+    ("games", "player_rules", '"ground"', '"variables"', REFUSED, {}), ("games", "board", '"shape"', '"hex"', FREE, {}),
+    *(("games", key, old, new, FREE, {}) for key, old, new in (("aborts", "false", "true"), ("large", "false", "true"), ("instantiate", "1", "2"))),
+    ("games", "file", '"f"', '"g"', FREE, {}), ("games", "described", '"f"', '"g"', FREE, {}),
+    ("players", "name", '"p0"', '"p2"', REFUSED, {}), ("players", "withdrawn", "false", "true", SHOWN, {}), ("players", "withdrawn", "true", "false", REFUSED, {}),
+    ("players", "address", '"h:1"', '"h:2"', FREE, {}), ("players", "concurrent", "1", "2", FREE, {}),
+    ("started", "command", '["x", "{port}"]', '["y", "{port}"]', FREE, {}), ("started", "launcher", '["ssh"]', '["srun"]', FREE, {}),
+    ("started", "environment", '{A = "1"}', '{A = "2"}', FREE, {}), ("started", "memory", '"1G"', '"2G"', FREE, {}),
+    ("started", "restart", '"never"', '"when_dead"', FREE, {}), ("started", "directory", '"a"', '"b"', FREE, {}),
+    ("started", "processors", "1", "2", FREE, {}), ("started", "start_seconds", "1", "2", FREE, {}),
+)
+
+
+def file_with(tables, section, key, value):
+    """Returns a file with these tables, in which a key has this value, or is not there, and the line of the key."""
+    tables = {**FILE, **tables}
+    tables[section] = {**tables[section], key: value}
+    lines = [(name, of, f"{of} = {said}" if of else HEADS.get(name, f"[{name}]" if name else "")) for name, keys in tables.items() for of, said in {"": "", **keys}.items() if said is not None]
+    return "\n".join(text for _, _, text in lines).encode(), next((at for at, line in enumerate(lines, 1) if line[:2] == (section, key)), 0)
+
+
+@pytest.mark.parametrize("section, key, old, new, outcome, tables", CHANGES)
+def test_what_comes_of_a_key_that_is_changed_once_matches_were_played(section, key, old, new, outcome, tables):
+    (text, _), (other, line) = (file_with(tables, section, key, value) for value in (old, new))
+    before, after = read_competition(text), read_competition(other)
+    assert before != after or (section, key) == ("form", "final")
+    history = History(((len(planned(before, ROLES)), before),))
+    try:
+        refuse_changes(before, after)
+        grown(history, after, ROLES, nothing_known)
+        assert outcome == (FREE if shape(before) == shape(after) else SHOWN)
+    except Misfit as why:
+        assert outcome == REFUSED
+        assert why.line == line or (section, key) not in {(*["", *name.split(".")][-2:],) for name in fixed(before)}
+
+
+def test_each_key_is_decided():
+    kinds = {"": Competition, "launcher": Launcher, "faults": Faults, "form": Form, "games": Game, "players": Player, "started": Command}
+    keys = {(section, key) for section, kind in kinds.items() for key in keys_of(kind)} - {("", section) for section in kinds}
+    assert keys - {("players", "command")} == {(section, key) for section, key, *_ in CHANGES}
+
+
 class ByRounds(unittest.TestCase):
     def swiss(self, rounds, game="two"):
         return competition(4, games=(game,), form=f'kind = "swiss"\nrounds = {rounds}')
@@ -213,31 +285,6 @@ class ByRounds(unittest.TestCase):
 
 
 class Histories(InFolder):
-    def test_a_file_of_orders_is_read_as_it_is_written(self):
-        folder, orders = Folder(self.folder), (Again("cup-5", "cup-1", "a  reason, \"so\""), Again("cup-6", "cup-5", "x"))
-        text = again_text(orders)
-        folder.again.write_bytes(text)
-        self.assertEqual(read_history(folder), History((), orders))
-        for wrong in (b"", text[:-1], text + b"\n", text + text.splitlines(True)[1], text.replace(b"\tx\n", b"\t\n"), text.replace(b"x", b"\xc3\xa9"), text.partition(b"\n")[2], text.partition(b"\n")[0]):
-            folder.again.write_bytes(wrong)
-            with self.assertRaises(Refused, msg=wrong):
-                read_history(folder)
-
-    def test_a_file_that_is_no_earlier_one(self):
-        folder = Folder(self.folder)
-        folder.earlier.mkdir()
-        (folder.earlier / ".unfinished-7-3.toml").touch()
-        self.assertEqual(read_history(folder), History())
-        for name in ("03.toml", "0.toml", "x", "3"):
-            (folder.earlier / name).touch()
-            with self.assertRaises(Refused):
-                read_history(folder)
-            (folder.earlier / name).unlink()
-        (folder.earlier / "3.toml").touch()
-        with self.assertRaises(Refused) as why:
-            read_history(folder)
-        self.assertIn("earlier/3.toml:1: name: the key is missing", str(why.exception))
-
     def write(self, count, rounds, head=""):
         text = toml([(f"p{at}", f"127.0.0.1:{at + 9000}") for at in range(count)], [("countdown", GAMES / "countdown.kif")], f'kind = "round_robin"\nrounds = {rounds}', head)
         (self.folder / "competition.toml").write_text(text)

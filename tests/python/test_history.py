@@ -72,11 +72,15 @@ class Histories(unittest.TestCase):
         self.assertEqual(history_files(self.folder), [self.folder.earlier / "6.toml", self.folder.again])
 
     def test_what_is_no_file_of_orders(self):
+        text = again_text((Again("cup-5", "cup-1", 'a "reason"'), Again("cup-6", "cup-5", "x")))
+        texts = [b"", text[:-1], text + b"\n", text + text.splitlines(True)[1], text.replace(b"\tx\n", b"\t\n"), text.replace(b"x", b"\xc3\xa9"), *text.split(b"\n", 1)]
         for orders in (
             (), (Again("a", "b", "c"), Again("a", "d", "e")), (Again("c" * 61, "b", "x"),), (Again("a", "c" * 61, "x"),), (Again("a", "b", "x" * 201),), (Again("a", "b", ""),),
             (Again("a b", "c", "x"),), (Again("", "c", "x"),),
         ):
-            self.folder.again.write_bytes(again_text(orders))
-            with self.assertRaises(Refused) as why:
+            texts.append(again_text(orders))
+        for wrong in texts:
+            self.folder.again.write_bytes(wrong)
+            with self.assertRaises(Refused, msg=wrong) as why:
                 read_again(self.folder)
             self.assertEqual(str(why.exception), f"{self.folder.again} is not what `ggp_competition again` writes")

@@ -14,7 +14,7 @@ import unittest
 from unittest import mock
 
 from ggp_tools.holding import command
-from ggp_tools.holding.command import DIFFERENT, NOT_FOLLOWED, SAME, Holding, Late, hold, limit_memory, place_of, records_in, within
+from ggp_tools.holding.command import DIFFERENT, NOT_FOLLOWED, SAME, Holding, Late, hold, limit_memory, place_of, records_in
 from ggp_tools.kif import expressions
 from ggp_tools.streams import seconds
 from ground_matches import played
@@ -117,7 +117,8 @@ class Seconds(unittest.TestCase):
                 raise found
 
         with mock.patch.object(signal, "setitimer", set_timer):
-            self.assertIsNone(within(1, types.SimpleNamespace(held=lambda line: (SAME, line)), "x"))
+            late = NOT_FOLLOWED, "not followed: out of time after 1 s"
+            self.assertEqual(list(hold(types.SimpleNamespace(held=lambda line: (SAME, line)), ["x"], 1)), [late])
 
 
 class Streams(unittest.TestCase):

@@ -12,7 +12,7 @@ from ggp_tools.holding.following import Differs, Following
 from ggp_tools.holding.game import Game
 from ggp_tools.holding.positions import Whole
 from ggp_tools.holding.reading import LEGAL, NotFollowed
-from ggp_tools.holding.records import read_record
+from ggp_tools.holding.following import read_record
 from ggp_tools.kif import Refused, expressions, told
 from ggp_tools.records.record import NoRecord, parsed
 from ground_matches import differs, played
@@ -166,8 +166,8 @@ class Followed(unittest.TestCase):
 
     def test_a_text_that_is_not_canonical_is_told_in_part(self):
         with self.assertRaises(NotFollowed) as why:
-            self.words(self.RULES, moves=[("X" * 101, "wait")])
-        self.assertEqual(str(why.exception), f"it is not a record: {'X' * 100!r} is not canonical text")
+            self.words(self.RULES, moves=[("X" * 161, "wait")])
+        self.assertEqual(str(why.exception), f"it is not a record: `{'X' * 160}..` is not canonical text")
 
     def test_a_turn_behind_the_end(self):
         text = f"{self.RULES}\n(<= terminal (true s))"
@@ -276,7 +276,7 @@ class Records(unittest.TestCase):
             ({"startMarks": 5}, "expected in startMarks: "), ({"startMarks": [None]}, "startMarks do not fit its phase"), ({"phase": "starting", "goalValues": []}, "startMarks do not fit its phase"),
             ({"goalValues": []}, "goalValues do not fit its phase"), ({"phase": "playing"}, "goalValues do not fit its phase"),
             *(({"goalValues": goals}, "expected in goalValues: ") for goals in ([50, 50], ["50"], [50.0], [True])),
-            *(({"moves": [[move]]}, "a text of it is not one term") for move in ("", "go go", ";")), ({"moves": [["GO"]]}, "'GO' is not canonical text"),
+            *(({"moves": [[move]]}, "a text of it is not one term") for move in ("", "go go", ";")), ({"moves": [["GO"]]}, "`GO` is not canonical text"),
         ]:
             with self.subTest(changes):
                 self.assertTrue(self.words(**changes).startswith(f"not followed: it is not a record: {words}"), self.words(**changes))
@@ -348,7 +348,7 @@ class Described(unittest.TestCase):
         wrong = {("legal", "does"), ("goal", "does"), ("terminal", "does"), ("init", "does"), ("init", "true"), ("role", "does"), ("role", "true")}
         for name, head in heads.items():
             for other, body in (("true", "(true a)"), ("does", "(does a m)")):
-                for text in (f"(<= {head} {body})", f"(<= {head} y) (<= x {body}) (<= y z (not x) z) (<= z y)"):
+                for text in (f"(<= {head} {body})", f"(<= {head} y) (<= x w) (<= x {body}) (<= y z (not x) z) (<= z y)"):
                     if (name, other) not in wrong:
                         Game(f"(role a) {text}".replace("(not x)", "x"))
                         continue

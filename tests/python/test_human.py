@@ -6,12 +6,15 @@ import json
 import socket
 import threading
 import unittest
+from unittest import mock
 
 from ggp_tools.holding.game import Game
+from ggp_tools.human import server
 from ggp_tools.human.game import Shown
 from ggp_tools.human.seat import Seat, Unread, read_message
-from ggp_tools.human.server import Server
+from ggp_tools.human.server import MOST_CONNECTIONS, Server
 from ggp_tools.records.show import boards_of, places_of
+from html_pages import parsed, text_of
 from support import GAMES
 
 RULES = (GAMES / "tictactoe.kif").read_text(encoding="ascii")
@@ -44,19 +47,21 @@ class Boards(unittest.TestCase):
     def test_a_board_has_the_places_of_the_rules_and_only_some_moves_name_places(self):
         moves = ("(put 1 1)", "(put 3 2)", "(push 1 1)", "(push 0 1)", "(drop 1)", "(drop 2)", "(drop 3)", "pass")
         shown = Shown(Game(f"(role a) (init begin) (<= (next (cell 1 1 stone)) (does a pass)) (<= (next (cell 3 2 stone)) (does a pass)) {''.join(f'(legal a {move})' for move in moves)}"))
-        for cells in ({}, {"1,1": ["stone"], "3,2": ["stone"]}):
+        for stones in ([], ["1 1: stone", "3 2: stone"]):
             picture = shown.picture(shown.legal("a"))
-            (board,), found = picture["boards"], {move["text"]: move["places"][0] for move in picture["legal"]}
-            self.assertEqual((board["across"], board["up"], board["cells"]), (["1", "2", "3"], ["1", "2"], cells))
+            board, found = parsed(picture["state"]), {move["text"]: move["places"][0] for move in picture["legal"]}
+            titles = [button["title"] for button in board.select(".board button")]
+            self.assertEqual((sorted(title[:3] for title in titles), [title for title in titles if "nothing" not in title]), (["1 1", "1 2", "2 1", "2 2", "3 1", "3 2"], stones))
             # (push 0 1) names no place, so (push 1 1) is none either; (drop 1) to (drop 3) name columns.
             wanted = {"(put 3 2)": [(3, 2)], "(push 1 1)": [], "(push 0 1)": [], "(drop 2)": [(2, 0)], "pass": []}
             self.assertEqual({move: found[move] for move in wanted}, wanted)
             shown.advance(("pass",))
-        self.assertEqual((picture["boards"][0]["changed"], picture["players"]), ([(1, 1), (3, 2)], [{"role": "a", "made": "pass", "can": True}]))
+        changed = [button["title"] for button in board.select(".new")]
+        self.assertEqual((changed, picture["players"]), (stones, [{"role": "a", "made": "pass", "can": True}]))
 
     def test_terms_that_no_board_shows_stand_beside_it(self):
-        picture = Shown(Game(RULES)).picture(["(mark 1 3)"])
-        self.assertEqual(picture["terms"], ["(control xplayer)"])
+        picture = Shown(Game(RULES + "(init (round 1))")).picture(["(mark 1 3)"])
+        self.assertEqual([text_of(term) for term in parsed(picture["state"]).select("li")], ["(round 1)"])
         self.assertEqual(picture["legal"], [{"text": "(mark 1 3)", "places": [[(1, 3)]]}])
 
 
@@ -230,6 +235,15 @@ class Pages(unittest.TestCase):
         for path in ("/x", "/../etc/passwd", "/index.html", self.of_page("x"), self.server.page.rstrip("/")):
             self.assertEqual(self.request("GET", path).status, 404)
 
+    def test_other_methods(self):
+        for path in (self.of_page(), self.of_page("events"), "/none"):
+            answers = [self.request(method, path) for method in ("GET", "HEAD")]
+            self.assertEqual(*([(answer.status, answer.getheader("Content-Type"), answer.getheader("Content-Length")) for answer in answers]))
+            self.assertEqual(answers[1].read(), b"")
+        for method in ("PUT", "DELETE", "OPTIONS", "PATCH"):
+            answer = self.request(method, self.of_page())
+            self.assertEqual((answer.status, answer.getheader("Allow")), (405, "GET, HEAD, POST"))
+
     def test_start_waits_for_a_page_and_the_page_is_told_of_each_change(self):
         answered = []
         body = f"(START M xplayer ({RULES}) 60 60)"
@@ -312,10 +326,30 @@ class Pages(unittest.TestCase):
             with contextlib.suppress(OSError, http.client.HTTPException):
                 answered = self.request("GET", self.of_page(), source="127.0.0.2").status
 
-    def test_a_message_may_have_16_mib(self):
+    def half(self, source, count):
+        """Opens connections, each with the beginning of a message."""
+        for _ in range(count):
+            line = socket.create_connection(self.server.server_address[:2], SECONDS, (source, 0))
+            self.addCleanup(line.close)
+            line.sendall(b"POST / HTTP/1.0\r\nContent-Length: 60000\r\n\r\n")
+        return line
+
+    def test_half_requests_give_way(self):
         self.seat.page_opens(1)
-        self.assertEqual(self.request("POST", "/", "(INFO)".ljust(16_777_216)).read(), b"available")
-        self.assertEqual(self.request("POST", "/", headers={"Content-Length": "16777217"}).status, 400)
+        for sources in (["127.0.0.1"], [f"127.0.0.{at}" for at in range(2, 60)]):
+            for source in sources:
+                self.half(source, -(-200 // len(sources)))
+            self.assertEqual(self.request("POST", "/", "(INFO)").read(), b"available")
+            self.assertLessEqual(len(self.server.requests), MOST_CONNECTIONS)
+
+    def test_a_request_that_is_not_finished_is_ended(self):
+        with mock.patch.object(server, "REQUEST_SECONDS", 0):
+            self.assertEqual(self.half("127.0.0.1", 1).recv(100), b"")
+
+    def test_a_message_may_have_32_mib(self):
+        self.seat.page_opens(1)
+        self.assertEqual(self.request("POST", "/", "(INFO)".ljust(33_554_432)).read(), b"available")
+        self.assertEqual(self.request("POST", "/", headers={"Content-Length": "33554433"}).status, 400)
 
     def test_bytes_beyond_ascii_come_back_as_they_came(self):
         self.seat.waits_for_page = False

@@ -13,6 +13,11 @@ EVIL = "<img/src=x/onerror=document.title=1>"
 HOSTILE = f"(role {EVIL}) (init (cell 1 1 {EVIL})) (init (cell 2 2 b)) (init </script><b>) (legal {EVIL} {EVIL}) (legal {EVIL} <script>document.title=1</script>)"
 # A piece moves and becomes one of two others, or not.
 PROMOTING = "(role a) (init (cell 1 1 pawn)) (init (cell 2 2 none)) (legal a pass) (legal a (move 1 1 2 2 queen)) (legal a (move 1 1 2 2 rook)) terminal (goal a 100)"
+# Hex on nine places. A player may swap instead of placing a stone.
+HEX = f"""(role red) (role blue) {' '.join(f'(p {x} {y})' for x in (1, 2, 3) for y in (1, 2, 3))} (init (cell 1 1 none)) (init (cell 3 3 none))
+(<= (next (cell ?x ?y red)) (does red (place ?x ?y))) (<= (next (cell ?x ?y ?c)) (true (cell ?x ?y ?c)))
+(<= (legal red (place ?x ?y)) (p ?x ?y) (not (true (cell ?x ?y red)))) (legal red swap) (legal blue noop)
+(<= terminal (true (cell 1 1 blue))) (goal red 50) (goal blue 50)"""
 MOVE = "document.querySelector('#moves button')"
 CELLS = "[...document.querySelectorAll('.board button')]"
 
@@ -49,8 +54,7 @@ class InBrowser(unittest.TestCase):
         page = self.begin("xplayer", RULES)
         asked = self.ask("(PLAY M NIL)")
         page.until("document.querySelectorAll('.board button.can').length === 9")
-        for words in ("Match M, turn 1: you are xplayer", "(control xplayer)"):
-            self.assertIn(words, page.text())
+        self.assertIn("Match M, turn 1: you are xplayer", page.text())
         page.until("/^[0-9]+ of [0-9]+ s$/.test(document.getElementById('clock').textContent)")
         self.assertEqual(set(self.cells().values()), {"\u00b7"})
         self.assertEqual(page.unreadable(), [])
@@ -99,7 +103,7 @@ class InBrowser(unittest.TestCase):
         page.until("view.phase === 'moving'")
         rows = page.value("[...document.querySelectorAll('#players tr')].map((row) => row.innerText.trim().split(/\\s*\\t\\s*/))")
         self.assertEqual(rows, [["red", "you", "(drop 3)", "to move"], ["yellow", "(drop 4)"]])
-        self.assertEqual(page.value(f"{CELLS}.filter((cell) => cell.matches('.changed')).map((cell) => cell.title)"), ["4 1: yellow"])
+        self.assertEqual(page.value(f"{CELLS}.filter((cell) => cell.matches('.new')).map((cell) => cell.title)"), ["4 1: yellow"])
         self.answered(self.ask("(ABORT M)"))
         asked.join(HANGS)
         # Several moves with the same places are buttons, and so are moves without places.
@@ -112,13 +116,38 @@ class InBrowser(unittest.TestCase):
         page.click(MOVE)
         self.assertIn(self.answered(asked), ("(move 1 1 2 2 queen)", "(move 1 1 2 2 rook)"))
 
+    def test_a_board_of_hexagons(self) -> None:
+        self.seat.is_hex = True
+        page = self.begin("red", HEX)
+        asked = self.ask("(PLAY M NIL)")
+        page.until("document.querySelectorAll('.board.hex button.can').length === 9")
+        place = "(cell => (box => [Math.round(box.x), Math.round(box.y), Math.round(box.width)])(cell.getBoundingClientRect()))"
+        (x, y, wide), (right, same, _), (up, above, _) = (
+            page.value(f"{place}({CELLS}.find((cell) => cell.title.startsWith('{at}')))") for at in ("1 1", "2 1", "1 2")
+        )
+        # A row is half a place to the right of the one below it.
+        self.assertEqual(same, y)
+        self.assertAlmostEqual(right - x, wide, delta=4)
+        self.assertAlmostEqual(up - x, (right - x) / 2, delta=1)
+        self.assertLess(above, y)
+        self.assertEqual(page.unreadable(), [])
+        page.click(f"{CELLS}.find((cell) => cell.title.startsWith('2 3'))")
+        self.assertEqual(self.answered(asked), "(place 2 3)")
+        # A move without a place is made by its button.
+        asked = self.ask("(PLAY M ((place 2 3) noop))")
+        page.until("document.querySelectorAll('.board.hex button.can').length === 8")
+        self.assertEqual(page.value(f"{CELLS}.filter((cell) => cell.matches('.new')).map((cell) => cell.title)"), ["2 3: red"])
+        page.click(MOVE)
+        self.assertEqual(self.answered(asked), "swap")
+        self.assertEqual(self.browser.said, [])
+
     def test_what_a_referee_says_is_text(self) -> None:
         page = self.begin(EVIL, HOSTILE)
         asked = self.ask("(PLAY M NIL)")
         page.until("document.querySelectorAll('#moves button').length === 2")
         for words in (f"you are {EVIL}", "</script><b>", "<script>document.title=1</script>"):
             self.assertIn(words, page.text())
-        self.assertEqual(page.value("[document.title, document.scripts.length, document.querySelectorAll('img, h1 *, #terms *').length]"), ["A match", 1, 0])
+        self.assertEqual(page.value("[document.title, document.scripts.length, document.querySelectorAll('img, h1 *, li *:not(button), .board button *').length]"), ["A match", 1, 0])
         self.assertEqual(page.unreadable(), [])
         page.click("document.querySelectorAll('#moves button')[0]")
         self.assertEqual(self.answered(asked), EVIL)

@@ -39,8 +39,8 @@ class Kept(unittest.TestCase):
     def test_the_sum_is_over_all_code_that_a_result_comes_from(self):
         found = kept.sources()
         asked = {name for file in found for name in re.findall(r"from ggp_tools\.(\w+) import", file.read_text())}
-        # This one only reads and says.
-        self.assertEqual({f"{name}.py" for name in asked} - {file.name for file in found}, {"streams.py"})
+        # These only read, report, and limit the time.
+        self.assertEqual({f"{name}.py" for name in asked} - {file.name for file in found}, {"streams.py", "timed.py"})
 
     def test_a_file_that_is_cut_off_is_none(self):
         kept.keep("key", b"rules\n", b"")

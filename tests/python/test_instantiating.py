@@ -9,13 +9,10 @@ import signal
 import unittest
 import unittest.mock
 
-from ggp_tools.instantiating import folding, forms, limits, making, rounds
-from ggp_tools.instantiating.endless import endless
+from ggp_tools.instantiating import folding, gringo, limits, making, rounds
 from ggp_tools.instantiating.grounding import sentence_of
 from ggp_tools.gdl import GAME, Literal, Rule, all_rules
-from ggp_tools.instantiating.splitting import MOST_LITERALS, split
-from ggp_tools.instantiating.for_players import text_for_players
-from ggp_tools.kif import Refused, expressions, put, relation, spelled, variables
+from ggp_tools.kif import Refused, expressions, spelled
 from support import GAMES
 
 STATE = ["a", "b", "c", "d"]
@@ -93,15 +90,6 @@ class Folding(unittest.TestCase):
                 found = [sentence for _, sentence in folded(rules, most, most).written()]
                 self.compare(plain, found, seed)
 
-    def test_what_can_not_be_within_the_limits_is_refused_early(self):
-        rules = dice_game(random.Random(0))
-        game = folded(rules, 10_000, 1 << 20)
-        self.assertIsNone(refused(rules, game.sentences(), 1 << 20))
-        self.assertRegex(refused(rules, 3, 1 << 20), r"^sentences \(at least \d+ of 3\)$")
-        text = "(<= (next s) (does r a)) " + " ".join(f"(<= (next {t}) p{k} p{k + 1})" for k, t in enumerate("abcdefgh"))
-        text += " ".join(f"(<= p{k} (true a) (true b{k})) (<= p{k} (not (true c)) (true d{k}) (true e{k}))" for k in range(9))
-        self.assertRegex(refused(all_rules(expressions(text)), 12, 500), r"^bytes \(at least \d+ of 500, because \d+ of 18 sentences must be inlined\)$")
-
     def test_it_is_folded_to_the_first_target_that_it_can_be_within(self):
         rules = dice_game(random.Random(0))
         small, large = folding.Target(20, 1 << 20), folding.Target(10_000, 1 << 20)
@@ -120,6 +108,8 @@ class Folding(unittest.TestCase):
         text = "(<= (next s) (does r a)) " + " ".join(f"(<= (next {t}) p{k} p{k + 1})" for k, t in enumerate("abcdefgh"))
         text += " ".join(f"(<= p{k} (true a) (true b{k})) (<= p{k} (not (true c)) (true d{k}) (true e{k}))" for k in range(9))
         rules = all_rules(expressions(text))
+        by_dice = dice_game(random.Random(0))
+        self.assertIsNone(refused(by_dice, folded(by_dice, 10_000, 1 << 20).sentences(), 1 << 20))
         for most, most_bytes, words in (
             (8, 500, "sentences (at least 9 of 8)"), (9, 1_121, "bytes (at least 1,122 of 1,121, because 9 of 18 sentences must be inlined)"),
             (12, 500, "bytes (at least 828 of 500, because 6 of 18 sentences must be inlined)"),
@@ -369,21 +359,6 @@ def least(rules, state):
 
 
 class Texts(unittest.TestCase):
-    def number(self, text):
-        rule = endless(all_rules(expressions(text)))
-        return rule and rule.sentence
-
-    def test_what_has_no_end(self):
-        self.assertEqual(self.number("(n 0) (<= (n (s ?x)) (n ?x))"), 1)
-        self.assertEqual(self.number("(<= (next (p ?y (s ?x))) (true (p ?y ?x)))"), 0)
-        self.assertEqual(self.number("(<= (n (t ?x ?y)) (n ?x) (n ?y))"), 0)
-
-    def test_what_may_have_one(self):
-        self.assertIsNone(self.number("(<= (n (s ?x)) (n ?x) (m ?x))"))
-        self.assertIsNone(self.number("(<= (n (s ?x)) (n ?x) (distinct ?x (s 0)))"))
-        self.assertIsNone(self.number("(<= (next (p ?x)) (true (p ?x)))"))
-        self.assertIsNone(self.number("(<= (n (s ?x) a) (n ?x b))"))
-
     def refusal(self, text, seconds=60):
         with self.assertRaises(Refused) as why:
             making.Making(text, seconds, making.NEVER).run()
@@ -391,7 +366,7 @@ class Texts(unittest.TestCase):
 
     def test_refusals_say_which_sentence_makes_the_most(self):
         text = "(role r) (d 1) (d 2) (d 3) (<= (legal r (m ?a ?b)) (d ?a) (d ?b)) (init s)"
-        with unittest.mock.patch.object(forms, "MOST_INSTANCES", 5):
+        with unittest.mock.patch.object(gringo, "MOST_INSTANCES", 5):
             said = "there are more than 5 instances; the most instances, "
             self.assertEqual(self.refusal(text)[: len(said)], said)
         with unittest.mock.patch.object(making, "all_rules", lambda *_: signal.raise_signal(signal.SIGPROF)):
@@ -412,81 +387,5 @@ class Texts(unittest.TestCase):
         text += "(<= (next s) (does r (m ?a ?b ?c)) (does r (m ?d ?b ?e)) (does r (m ?f ?g ?e)))"
         with contextlib.redirect_stderr(io.StringIO()):
             self.assertNotIn("split", making.Making(text, 60, making.WHERE_NEEDED).run())
-        with contextlib.redirect_stderr(io.StringIO()), unittest.mock.patch.object(forms, "FEW_INSTANCES", 20):
+        with contextlib.redirect_stderr(io.StringIO()), unittest.mock.patch.object(making, "FEW_INSTANCES", 20):
             self.assertTrue(making.Making(text, 60, making.WHERE_NEEDED).run().startswith("; split: "))
-
-    def test_told_has_base_and_input(self):
-        sentences = expressions("(p r) (<= (role ?x) (p ?x)) (<= (legal ?r m) (role ?r)) (init s)")
-        rules = [Rule(1, ("role", "r"), ()), Rule(2, ("legal", "r", "m"), ()), Rule(3, ("init", "s"), ())]
-        lines = "(role r)\n(p r)\n(<= (legal ?r m) (role ?r))\n(init s)\n(base s)\n(input r m)\n"
-        self.assertEqual(text_for_players(sentences, rules), lines)
-        self.assertNotIn("(base s)", text_for_players([*sentences, ("base", "t")], rules))
-        self.assertNotIn("(base s)\n", text_for_players([*sentences, *expressions("(<= terminal (not (base s)))")], rules))
-
-    def test_told_has_no_and(self):
-        text = "(<= (p ?x) (and (q ?x) (or a b)) (or c (and (not d) (distinct ?x 1))) (not (and (e (and)) (distinct ?x 2))))"
-        lines = text_for_players(expressions(text), []).splitlines()
-        both = "(<= (p ?x) (q ?x) (or a b)"
-        ways = [f"{literal} (not {denied})" for literal in ("c", "(not d) (distinct ?x 1)") for denied in ("(e (and))", "(distinct ?x 2)")]
-        self.assertEqual(lines, [f"{both} {way})" for way in ways])
-
-
-def joined(rules, domain):
-    """Returns everything that rules with variables derive, by trying all values of their variables repeatedly."""
-    found, count = set(), -1
-    while len(found) > count:
-        count = len(found)
-        for rule in rules:
-            names = variables((rule.head, *(literal.atom for literal in rule.body)))
-            for values in itertools.product(domain, repeat=len(names)):
-                values = dict(zip(names, values))
-                if all(is_so(literal, values, found) for literal in rule.body):
-                    found.add(put(rule.head, values))
-    return found
-
-
-def is_so(literal, values, found):
-    atom = put(literal.atom, values)
-    return (atom[0] == atom[1] if literal.same else atom in found) == literal.positive
-
-
-def dice_join(dice):
-    """Returns a rule that joins facts at some variables, some of which must differ."""
-    names = [f"?{letter}" for letter in "abcdef"]
-    body = [Literal(True, (dice.choice("pq"), *dice.sample(names, 2))) for _ in range(dice.randrange(2, 5))]
-    bound = variables(tuple(literal.atom for literal in body))
-    body += [Literal(False, tuple(dice.sample(bound, 2)), True) for _ in range(dice.randrange(2))]
-    body += [Literal(False, ("z", *dice.sample(bound, 2))) for _ in range(dice.randrange(2))]
-    return Rule(9, ("h", *dice.sample(bound, dice.randrange(1, 3))), tuple(body))
-
-
-class Splitting(unittest.TestCase):
-    def test_split_rules_derive_the_same(self):
-        dice, domain, count = random.Random(1), ["1", "2", "3"], 0
-        for _ in range(150):
-            facts = [Rule(0, (name, *dice.choices(domain, k=2)), ()) for name in "ppppqqqqz"]
-            rules = [*facts, dice_join(dice)]
-            parts = split(rules)
-            count += len(parts) > len(rules)
-            found = {atom for atom in joined(parts, domain) if not relation(atom)[0].startswith("split")}
-            self.assertEqual(found, joined(rules, domain), rules)
-            self.assertLessEqual(self.width(parts), self.width(rules))
-        self.assertGreater(count, 50)
-
-    def width(self, rules):
-        return max(len(variables((rule.head, *(literal.atom for literal in rule.body)))) for rule in rules)
-
-    def test_names_are_new(self):
-        text = "(<= (h ?a ?c) (p ?a ?b) (p ?b split1) (p ?c ?d) (p ?d split2-))"
-        self.assertEqual({relation(rule.head)[0] for rule in split(all_rules(expressions(text)))}, {"h", "split-1", "split-2"})
-
-    def test_what_stays_as_it_is(self):
-        for text in ["(<= (r ?a ?c) (p ?a ?b) (r ?b ?d) (p ?c ?e))", "(<= (h ?a ?b) (p ?a ?b))", "(<= (h ?a ?c) (p ?a ?b) (p ?b ?c) (p ?c ?a))"]:
-            rules = all_rules(expressions(text))
-            self.assertEqual(split(rules), rules)
-        long = "(<= (h ?a) " + "(p ?a ?b) (p ?b ?c)" * MOST_LITERALS + ")"
-        self.assertEqual(split(all_rules(expressions(long))), all_rules(expressions(long)))
-
-    def test_parts_that_say_the_same_are_one(self):
-        text = "(<= (h ?a) (p ?a ?b) (q ?b ?c)) (<= (g ?x) (p ?x ?y) (q ?y ?z))"
-        self.assertEqual(len(split(all_rules(expressions(text)))), 3)

@@ -1,23 +1,24 @@
 """Facts about files, cached by their checksums: they save work, and every changed byte is noticed."""
 
+import hashlib
 import os
 import pathlib
+import pickle
 import shutil
 import tempfile
 from dataclasses import replace
 from unittest import mock
 
-from ggp_tools.competition import kept, known, pages
+from ggp_tools.competition import known, pages
 from ggp_tools.competition.archive import check_archive, publish
-from ggp_tools.competition.kept import look_at_records
-from ggp_tools.competition.known import Known
+from ggp_tools.competition.match_files import check_records
+from ggp_tools.competition.known import Known, sum_of_parts
 from ggp_tools.competition.pages import Pages
 from ggp_tools.competition.plan import read_plan
-from ggp_tools.competition.results import Retirement, result_of, result_of_values, values_of
 from ggp_tools.competition.table_text import in_order
 from ggp_tools.referee import Referee
 from html_pages import parsed, rows_of
-from live_support import BEGAN, plan_in, record_of
+from live_support import BEGAN
 from made_up import make_up
 from support import InFolder, program, run
 
@@ -43,16 +44,44 @@ class InCache(InFolder):
         self.cache = pathlib.Path(room.name) / "ggp_manager/known"
 
 
+class Made:
+    """Makes a directory when it is unpickled."""
+
+    def __init__(self, path):
+        self.path = path
+
+    def __reduce__(self):
+        return os.mkdir, (str(self.path),)
+
+
 class Values(InCache):
     def test_a_value_is_kept_under_its_sum(self):
         one = Known(self.folder)
-        key = one.key(b"a", b"bc")
-        self.assertNotEqual(key, one.key(b"ab", b"c"))
+        key = sum_of_parts(b"a", b"bc")
+        self.assertNotEqual(key, sum_of_parts(b"ab", b"c"))
         one.put("lines", key, ["x", 1])
         one.write()
         self.assertEqual(Known(self.folder).get("lines", key), ["x", 1])
         self.assertIsNone(Known(self.folder).get("pages", key))
         self.assertIsNone(Known(self.folder / "other").get("lines", key))
+
+    def test_a_file_that_others_may_write_is_not_read(self):
+        one = Known(self.folder)
+        one.put("lines", "a", 1)
+        one.write()
+        self.assertEqual(one.path().stat().st_mode & 0o777, 0o600)
+        one.path().chmod(0o620)
+        self.assertIsNone(Known(self.folder).get("lines", "a"))
+
+    def test_a_file_runs_no_code(self):
+        one = Known(self.folder)
+        made = pathlib.Path(self.folder) / "made"
+        for data in (pickle.dumps(Made(made)), pickle.dumps([1]), b"no pickle"):
+            one.path().parent.mkdir(parents=True, exist_ok=True)
+            one.path().write_bytes(hashlib.sha256(data).hexdigest().encode() + b"\n" + data)
+            one.path().chmod(0o600)
+            self.assertEqual(Known(self.folder).before, {})
+        self.assertFalse(made.exists())
 
     def test_of_a_kind_what_was_not_asked_for_is_forgotten(self):
         one = Known(self.folder)
@@ -82,11 +111,11 @@ class Values(InCache):
         shutil.copytree(known.PACKAGE, package, ignore=shutil.ignore_patterns("__pycache__"))
         files = [file for file in package.rglob("*") if file.is_file()]
         with mock.patch.object(known, "PACKAGE", package):
-            keys = {Known(self.folder).key(b"a")}
+            names = {Known(self.folder).name}
             for file in files:
                 file.write_bytes(file.read_bytes() + b"\n")
-                keys.add(Known(self.folder).key(b"a"))
-        self.assertEqual(len(keys), 1 + len(files))
+                names.add(Known(self.folder).name)
+        self.assertEqual(len(names), 1 + len(files))
 
     def test_where_nothing_can_be_kept_all_is_found_again(self):
         self.cache.parent.parent.mkdir(exist_ok=True)
@@ -124,13 +153,6 @@ class Values(InCache):
             os.utime(self.cache / one.name, (1000 + number, 1000 + number))
         self.assertEqual([Known(self.folder / str(number)).get("lines", "a") for number in range(4)], [None, None, 2, 3])
 
-    def test_a_result_as_values(self):
-        match = plan_in(str(self.folder), ["ann", "bob"]).matches[0]
-        record = record_of(match, [["noop", "noop"]] * 2, [["TO", ""], ["IL x", ""]], [0, 100]) | {"strikes": 2}
-        found = result_of(record, match, True)
-        self.assertEqual(found.retirements[0], Retirement(("TO", "IL"), 2))
-        self.assertEqual(repr(result_of_values(kept.json.loads(kept.json.dumps(values_of(found))), match, True)), repr(found))
-
 
 class Files(InCache):
     COUNT = 3
@@ -141,68 +163,14 @@ class Files(InCache):
         self.referee = Counting(program())
         self.plan = read_plan(str(self.folder), self.referee)
 
-    def looked_at(self):
-        """Returns how many records the referee checked, the results, and the errors."""
-        self.referee.count, knowledge = 0, Known(self.folder)
-        results, faults, _ = look_at_records(self.plan, self.referee, knowledge)
-        knowledge.write()
-        return self.referee.count, results, faults
-
     def change(self, file, at):
         data = file.read_bytes()
         file.write_bytes(data[:at] + bytes([data[at] ^ 1]) + data[at + 1 :])
 
-    def test_a_record_is_judged_once(self):
-        count, results, faults = self.looked_at()
-        self.assertEqual((count, len(results), faults), (3, 3, {}))
-        self.assertEqual(self.looked_at(), (0, results, {}))
-        match = self.plan.matches[1]
-        for file in (self.plan.folder.record(match.id), self.plan.folder.account(match.id)):
-            data = file.read_bytes()
-            # A byte in its middle, where no look at its form alone sees it.
-            self.change(file, data.index(b"mark") + 6)
-            count, found, faults = self.looked_at()
-            self.assertEqual((count, sorted(found), list(faults)), (1, sorted(set(results) - {match.id}), [match.id]), file)
-            file.write_bytes(data)
-        self.plan.folder.account(match.id).unlink()
-        self.assertEqual(self.looked_at()[2], {match.id: "its account is missing"})
-
-    def test_another_program_other_rules_other_strikes_and_another_match(self):
-        self.looked_at()
-        before = self.plan.competition
-        self.plan.competition = replace(before, strikes=1)
-        self.assertEqual(self.looked_at()[0], 3)
-        self.plan.competition = before
-        self.assertEqual(self.looked_at()[0], 0)
-        self.plan.matches[0] = replace(self.plan.matches[0], again="cup-009", reason="x")
-        count, results, _ = self.looked_at()
-        self.assertEqual((count, results[self.plan.matches[0].id].match.again), (1, "cup-009"))
-        rules = self.plan.folder.rules_of("tictactoe")
-        rules.write_bytes(rules.read_bytes() + b" ")
-        self.assertEqual([self.looked_at()[0], self.looked_at()[0]], [3, 0])
-        other = self.folder / "program"
-        shutil.copy(program(), other)
-        with open(other, "ab") as file:
-            file.write(b"\0")
-        self.referee.path = str(other)
-        self.assertEqual(self.looked_at()[0], 3)
-
-    def test_rules_that_change_while_a_record_is_judged(self):
-        rules, verdicts = self.plan.folder.rules_of("tictactoe"), self.referee.verdicts
-
-        def changing(path, records):
-            rules.write_bytes(rules.read_bytes() + b" ")
-            return verdicts(path, records)
-
-        with mock.patch.object(self.referee, "verdicts", changing):
-            self.looked_at()
-        # It was judged by rules of one sum or of the other.
-        self.assertEqual(self.looked_at()[0], 3)
-
     def written(self):
         """Writes the pages, and returns how many pages of matches were made."""
         knowledge = Known(self.folder)
-        results, _, _ = look_at_records(self.plan, self.referee, knowledge)
+        results, _, _ = check_records(self.plan, self.referee, knowledge)
         made = []
         with mock.patch.object(pages, "match_page", lambda *work: made.append(work) or b"made %d" % len(work[1])):
             Pages(self.plan, known=knowledge).write(in_order(self.plan, results))
@@ -223,7 +191,7 @@ class Files(InCache):
     def test_the_pages_are_those_of_a_first_run(self):
         for number, known_of in enumerate((None, Known, Known)):
             knowledge = known_of and known_of(self.folder)
-            results = in_order(self.plan, look_at_records(self.plan, self.referee, knowledge)[0])
+            results = in_order(self.plan, check_records(self.plan, self.referee, knowledge)[0])
             Pages(self.plan, known=knowledge).write(results)
             if knowledge:
                 knowledge.write()
@@ -236,31 +204,13 @@ class Files(InCache):
         Pages(self.plan, known=Known(self.folder)).write(results)
         self.assertEqual(rows_of(parsed((self.plan.folder.pages / "matches.html").read_bytes()))[1][-1], "0.9")
 
-    def published(self):
+    def publish(self):
         knowledge, path = Known(self.folder), self.folder / "cup.tar.gz"
-        results = in_order(self.plan, look_at_records(self.plan, self.referee, knowledge)[0])
-        found = publish(self.plan, self.referee, results, path, knowledge)
+        publish(self.plan, self.referee, in_order(self.plan, check_records(self.plan, self.referee, knowledge)[0]), path, knowledge)
         knowledge.write()
-        return found, path.stat().st_ino
-
-    def test_an_archive_is_written_once(self):
-        first = self.published()
-        self.assertEqual(self.published(), first)
-        stranger = self.plan.folder.pages / "matches/stranger.html"
-        stranger.write_text("")
-        self.assertEqual(self.published(), first)
-        self.assertFalse(stranger.exists())
-        self.change(self.folder / "cup.tar.gz", 100)
-        second = self.published()
-        self.assertEqual((second[0], second[1] != first[1]), (first[0], True))
-        log = self.plan.folder.log(self.plan.matches[0].id)
-        log.write_bytes(log.read_bytes() + b"x\n")
-        self.assertEqual(self.published()[0], first[0], "a line that no account confirms is not published")
-        log.write_bytes(b"")
-        self.assertNotEqual(self.published()[0], first[0])
 
     def test_check_believes_nothing_that_is_known(self):
-        self.published()
+        self.publish()
         self.referee.count = 0
         with mock.patch.object(Known, "__init__", side_effect=AssertionError):
             faults, said = check_archive(self.folder / "cup.tar.gz", self.referee)

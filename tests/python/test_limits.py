@@ -6,7 +6,7 @@ import unittest
 from collections import Counter
 from unittest import mock
 
-from ggp_tools.instantiating import forms, limits
+from ggp_tools.instantiating import gringo, limits
 from ggp_tools.instantiating.endless import endless, fits
 from ggp_tools.instantiating.limits import atoms_of, costs_of, dearest, is_high, refuse_faults, without_high_goals
 from ggp_tools.instantiating.making import NEVER, Making
@@ -150,6 +150,6 @@ class Endless(unittest.TestCase):
     def test_no_sentence_is_blamed_for_instances_that_end(self):
         text = "(role r) (init s) (goal r 1) (n (f (s (s (s (s (s a))))))) {} (<= terminal (n (g ?x)) (true s)) (d 1) (d 2) (d 3) (<= (legal r (k ?a ?b)) (d ?a) (d ?b))"
         for rule, is_endless in (("(<= (n (g (s ?x))) (n (f ?x)))", False), ("(<= (n (f (s ?x))) (n (f ?x)))", True)):
-            with mock.patch.object(forms, "MOST_INSTANCES", 12), self.assertRaises(Refused) as why:
+            with mock.patch.object(gringo, "MOST_INSTANCES", 12), self.assertRaises(Refused) as why:
                 Making(text.format(rule), 60, NEVER, False).run()
             self.assertEqual(str(why.exception).startswith("there are infinitely many instances: "), is_endless, why.exception)

@@ -16,8 +16,10 @@ from ggp_tools.competition.live_board import NO_LINE, NO_VERDICT, TOO_LONG, Live
 from ggp_tools.competition.live_pages import now_part, open_row, replaced_part, state_html, turn_row
 from ggp_tools.competition.open_match import leave_players
 from ggp_tools.competition.schedule import Match
+from ggp_tools.kif import expressions
 from ggp_tools.match_log import Message, event_of
-from ggp_tools.records.show import named_in
+from ggp_tools.records import show
+from ggp_tools.records.show import Named, boards_of, named_in
 from ggp_tools.referee import Referee
 from html_pages import parsed, text_of
 from live_support import RULES, SILENT, Missed, begin, end, line, opened, plan_in, record_of, started
@@ -442,3 +444,22 @@ class States(InRoom):
         text = drawn(self.board(self.play(2, "NIL", ["(take 2)", "noop"])))
         self.assertEqual(re.findall(r'title="([^"]*)"', html.unescape(text)), ["1 1: white man", "1 2: black king"])
         self.assertEqual([term.text for term in parsed(text).select("li:not(.gone)")], ["(heap 1)"])
+
+    def test_a_state_that_is_too_large_to_be_drawn_is_listed(self):
+        def states(relations, size, count):
+            return [[f"({name} {x} {y} {(x + y + at) % 5} w)" for name in relations for x in range(1, size + 1) for y in range(1, size + 1)] for at in range(count)]
+
+        rules = expressions(" ".join(f"(next (cell {x} {y} {label} w))" for x in range(1, 33) for y in range(1, 33) for label in range(17)))
+        # The number of terms that are read, how many places are drawn, and how many terms are listed.
+        cases = (
+            (states(["cell"], 32, 31), Named(), 16 * 1_024, 1_024, 0), (states(["cell"], 32, 2), Named(rules), 2 * 1_024, 1_024, 0),
+            (states(["cell"], 127, 3), Named(), 16_129, 0, 60), (states(["cell"], 129, 3), Named(), 0, 0, 60),
+            (states([f"c{at}" for at in range(15)], 32, 1), Named(), 15_360, 0, 60), (states([f"c{at}" for at in range(600)], 2, 1), Named(is_hex=True), 2_400, 0, 60),
+            ([], Named(), 0, 0, 0),
+        )
+        for found, named, count, places, terms in cases:
+            read = []
+            with patch.object(show, "boards_of", lambda found, named: read.extend(found) or boards_of(found, named)):
+                text = state_html(found, ("red", "blue"), named, [])
+            drawn = parsed(text)
+            self.assertEqual((sum(map(len, read)), len(drawn.select(".board i")), len(drawn.select("li:not(.gone)"))), (count, places, terms))

@@ -9,7 +9,7 @@ import threading
 
 import pytest
 
-from ggp_tools.competition.live import Room, Seen
+from ggp_tools.competition.live import Extent, Room, Seen
 from ggp_tools.competition.live_board import LiveBoard
 from ggp_tools.competition.schedule import Match
 from ggp_tools.competition.tail import Tail
@@ -105,7 +105,7 @@ class Matches(InFolder):
         for line in lines:
             with open(log, "ab") as file:
                 file.write(line)
-            seen.look(Room("playing", log.stat().st_size), 0.0)
+            seen.look(Room("playing", Extent(log.stat().st_size)), 0.0)
             count += isinstance(event_of(line), Message)
             if board.is_due():
                 seen.judge(referee)

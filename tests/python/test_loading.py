@@ -36,6 +36,11 @@ class Takes:
         return ("x",)
 
 
+def arguments(command):
+    """Returns the arguments of a command that runs the module for grounding."""
+    return command[command.index("ggp_tools.instantiating") + 1 :]
+
+
 class Loading(unittest.TestCase):
     def setUp(self):
         self.folder = pathlib.Path(self.enterContext(tempfile.TemporaryDirectory()))
@@ -83,12 +88,12 @@ class Loading(unittest.TestCase):
             self.assertEqual((found[0].text, found[0].notes, found[1].notes), (found[1].text, ("folded", "and more"), ("folded", "and more")))
             self.assertEqual((found[1].text, found[1].sum), (self.made[0], hashlib.sha256(self.made[0]).hexdigest()))
             self.assertEqual((found[1].description_sum, found[1].player_rules), (hashlib.sha256(OPEN).hexdigest(), None))
-            self.assertEqual([words[len(loading.INSTANTIATE) :] for words in self.runs], [["--seconds=7", str(self.path)]])
+            self.assertEqual([arguments(words) for words in self.runs], [["--seconds=7", str(self.path)]])
             self.assertEqual([self.load(OPEN, True).player_rules for _ in range(2)], [b"(told ?x)\n"] * 2)
-            self.assertEqual((len(self.runs), self.runs[1][len(loading.INSTANTIATE) :][:2]), (2, ["--seconds=60", "--player-rules"]))
+            self.assertEqual((len(self.runs), arguments(self.runs[1])[:2]), (2, ["--seconds=60", "--player-rules"]))
             # By the limits for large games it may be another one.
             found = [self.load(OPEN, referee=Takes(is_large=True)).is_large for _ in range(2)]
-            self.assertEqual((found, [words[len(loading.INSTANTIATE) :] for words in self.runs[2:]]), ([True] * 2, [["--seconds=60", "--large", str(self.path)]]))
+            self.assertEqual((found, [arguments(words) for words in self.runs[2:]]), ([True] * 2, [["--seconds=60", "--large", str(self.path)]]))
 
     def test_why_nothing_was_made(self):
         for said, status, words, kind in (
@@ -115,10 +120,10 @@ class Loading(unittest.TestCase):
             self.assert_refused(words, self.load, text)
 
     def test_a_file_is_read_up_to_its_limit(self):
-        self.path.write_bytes(b"x" * (4 << 20))
-        self.assertEqual(len(read_text(self.path)), 4_194_304)
-        self.path.write_bytes(b"x" * ((4 << 20) + 1))
-        self.assert_refused("it has 4,194,305 bytes; at most 1,048,576 are accepted, or 4,194,304 with --large", read_text, self.path)
+        self.path.write_bytes(b"x" * (16 << 20))
+        self.assertEqual(len(read_text(self.path)), 16_777_216)
+        self.path.write_bytes(b"x" * ((16 << 20) + 1))
+        self.assert_refused("it has 16,777,217 bytes; at most 1,048,576 are accepted, or 16,777,216 with --large", read_text, self.path)
         self.assert_refused("it can't be read: No such file or directory", read_text, self.folder / "none")
         self.assert_refused("it can't be read: Is a directory", read_text, self.folder)
 

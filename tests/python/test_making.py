@@ -41,7 +41,7 @@ class Figures(unittest.TestCase):
     def test_the_figures_of_what_is_written(self):
         sentences = expressions("(role r) (role s) (legal r a) (legal r (b (c d))) (<= (legal s a) (true x)) (<= (next x) (or (true x) (not (true y))) (does r a)) terminal")
         usual = Written([], "(role r)", list(limits.figures(list(enumerate(sentences)), 123)), ["a"])
-        for written, size, most_of_them in ((usual, 123, (8_192, 16_384, 1_048_576)), (usual.as_large(), 98, (65_536, 65_536, 4_194_304))):
+        for written, size, most_of_them in ((usual, 123, (8_192, 16_384, 1_048_576)), (usual.as_large(), 98, (262_144, 262_144, 16_777_216))):
             self.assertEqual({name: (count, most) for name, count, most in written.figures}, {
                 "sentences": (7, most_of_them[0]), "atomic sentences": (10, most_of_them[1]), "roles": (2, 16), "moves of r": (2, 4_096), "moves of s": (1, 4_096),
                 "bytes": (size, most_of_them[2]), "nested lists": (4, 64),
@@ -77,13 +77,21 @@ class Made(unittest.TestCase):
                 found, said = made(GAME, **options)
             self.assertEqual(found, f"; {limits.LARGE_NOTE}\n{made(GAME)[0]}", options)
             self.assertIn(f"\n  {limits.LARGE_NOTE}\n", said)
-            self.assertIn("\n  sentences               12 of    65,536\n", said)
+            self.assertIn("\n  sentences               12 of   262,144\n", said)
 
     def test_what_is_past_the_limits_for_large_games_as_it_stands_is_folded_to_within_them(self):
         game = "(role r) (legal r m) (goal r 1) (<= terminal (true b1))" + "".join(f"(init b{k}) (<= (next b1) (true b{k}))" for k in range(10))
         with mock.patch.dict(limits.MOST, {"sentences": 10}), mock.patch.dict(limits.LARGE, {"sentences": 20}):
             found, _ = made(game)
         self.assertRegex(str(found), rf"^; {limits.LARGE_NOTE}\n; factored: 24 ground sentences of \d+ bytes became 15\n")
+
+    def test_a_long_game_is_factored_if_possible(self):
+        game = "(role r) (legal r m) (goal r 1) (<= terminal (true b1))" + "".join(f"(init b{k}) (<= (next b1) (true b{k}))" for k in range(10))
+        for most, options, is_factored in ((24, {}, False), (23, {}, True), (15, {"is_large": True}, True), (23, {"wanted": NEVER}, False), (3, {}, False)):
+            with mock.patch.dict(limits.MOST, {"sentences": 3}), mock.patch.dict(making.LONG, {"sentences": most}):
+                found, _ = made(game, **options)
+            self.assertEqual("; factored: 24 ground sentences" in str(found), is_factored, (most, options))
+            self.assertTrue(str(found).startswith(f"; {limits.LARGE_NOTE}\n"), found)
 
     def test_the_seconds_may_be_over_while_it_is_folded(self):
         plain = made(GAME)[0]

@@ -1,9 +1,12 @@
-"""The pages on a narrow screen, with the longest names and moves, as a browser draws them."""
+"""The pages on a narrow screen, with the longest names and moves, and the parts of the page of a long match, as a browser draws them."""
 
 import json
+from unittest.mock import patch
 
 from ggp_tools.competition.pages import Pages
+from ggp_tools.records import show
 from browser import Browser
+from html_pages import parsed
 from live_support import begin, end, line, plan_in, record_of, started
 from test_serving import Served
 
@@ -15,7 +18,7 @@ class Narrow(Served):
     def setUp(self):
         super().setUp()
         plan = plan_in(str(self.plan.folder.path), NAMES)
-        self.site.begin(plan, ())
+        self.site.begin(plan)
         self.plan, self.site.read_plan = plan, lambda: plan
         match, other = plan.matches[:2]
         begin(plan, match, started(match) + "".join(line(match, role, 2, f"(PLAY {match.id} NIL)", MOVE) for role in (0, 1)))
@@ -39,3 +42,29 @@ class Narrow(Served):
                 page.go(address)
                 with self.subTest(address):
                     self.assertEqual(page.unreadable(), [])
+
+
+class Long(Served):
+    def test_a_long_match_comes_in_parts(self):
+        match, turns = self.plan.matches[0], 6
+        record = record_of(match, [["(take 1)", "noop"]] * turns, [["", ""]] * turns, [0, 100])
+        end(self.plan, match, record | {"states": [[f"(heap {turn})", f"(step {turn})"] for turn in range(turns + 1)]})
+        self.look()
+        # A part has states of at most five terms.
+        self.enterContext(patch.object(show, "MOST_OF_PART", 5))
+        shown = []
+        for part in ("", "~1", "~2", "~3", "~4"):
+            page = parsed(self.page(f"/matches/{match.id}{part}.html"))
+            shown.append(([state["id"] for state in page.select(".state")], [link.text for link in page.select(".turn a")]))
+        parts = [(["turn=0", "turn=1"], ["1"]), (["turn=2", "turn=3"], ["2", "3"]), (["turn=4", "turn=5"], ["4", "5"]), (["turn=6"], ["6"])]
+        self.assertEqual(shown, [parts[-1], *parts])
+        for part in ("~5", "~0", "~x", "~"):
+            self.assertEqual(self.ask(f"/matches/{match.id}{part}.html")[0], 404, part)
+        with Browser() as browser:
+            page = browser.page("about:blank")
+            # The last part leads on to the one with this turn.
+            page.tell("Page.navigate", url=f"http://127.0.0.1:{self.port}/matches/{match.id}.html#turn=3")
+            for key, turn in (("", 3), ("ArrowRight", 4), ("ArrowLeft", 3), ("Home", 0), ("End", 6), ("ArrowLeft", 5)):
+                if key:
+                    page.click(f"document.querySelector('[data-key={key}]')")
+                page.until(f"location.hash === '#turn={turn}' && document.querySelector('.state.shown')?.innerText.includes('(heap {turn})')")

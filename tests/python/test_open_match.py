@@ -10,12 +10,12 @@ import types
 import unittest
 from unittest import mock
 
-from ggp_tools.competition import checking, open_match
+from ggp_tools.competition import open_match
 from ggp_tools.competition.children import Done
 from ggp_tools.competition.files import Folder
 from ggp_tools.competition.jobs import Lost
 from ggp_tools.competition.open_match import OpenMatch, leave_players
-from ggp_tools.competition.seats import Seats
+from ggp_tools.competition.slots import Slots
 from ggp_tools.competition.started_players import StartedPlayers
 from ggp_tools.referee import Referee, Unchecked
 from live_support import plan_in, record_of
@@ -75,8 +75,8 @@ class WithMatch(unittest.TestCase):
         self.meanwhile = lambda name: None
         self.enterContext(mock.patch.object(open_match, "run", self.run_process))
         self.description, self.held, self.described = (None, None), "the same: 2 turns", []
-        self.enterContext(mock.patch.object(checking.described, "description_of", lambda plan, game: self.described.append((plan, game.name)) or self.description))
-        self.enterContext(mock.patch.object(checking.described, "held_records", self.hold))
+        self.enterContext(mock.patch.object(open_match, "description_of", lambda plan, game: self.described.append((plan, game.name)) or self.description))
+        self.enterContext(mock.patch.object(open_match, "comparisons", self.hold))
         self.begin(self.HEAD)
 
     async def run_process(self, words, given=b"", seconds=None):
@@ -101,13 +101,13 @@ class WithMatch(unittest.TestCase):
         self.plan = plan_in(str(self.folder), ["ann", "bob"], head=head)
         folder, competition = self.plan.folder, self.plan.competition
         folder.make(folder.accounts, folder.rules)
-        self.match, self.reporter, self.seats, self.referee = self.plan.matches[0], Said(), Seats(competition), Judge("program")
+        self.match, self.reporter, self.slots, self.referee = self.plan.matches[0], Said(), Slots(competition), Judge("program")
         self.may_begin, self.left, self.begun = True, [], []
         players, news = StartedPlayers(folder, competition, None, self.reporter), types.SimpleNamespace(set=lambda: self.left.append(self.open.stage))
         playing = types.SimpleNamespace(
-            plan=self.plan, referee=self.referee, seats=self.seats, reporter=self.reporter, launcher=None, players=players, may_begin=lambda match: self.may_begin, news=news,
+            plan=self.plan, referee=self.referee, slots=self.slots, reporter=self.reporter, launcher=None, players=players, may_begin=lambda match: self.may_begin, news=news,
         )
-        self.seats.sit(self.match)
+        self.slots.take(self.match)
         self.open = OpenMatch(playing, self.match)
         self.record = json.dumps(record_of(self.match, [["(take 2)", "noop"], ["noop", "(take 1)"]], [["", ""], ["", ""]], [0, 100])).encode() + b"\n"
         self.account = f"0\topen {self.match.id} 0 10 10 ann bob\topened\n".encode()
@@ -118,7 +118,7 @@ class WithMatch(unittest.TestCase):
         try:
             asyncio.run(self.open.go())
         finally:
-            self.open.leave()
+            self.open.release_players()
 
     def names(self):
         return [name for name, _, _ in self.begun]
@@ -135,22 +135,22 @@ class Whole(WithMatch):
     def test_from_info_to_its_files(self):
         self.plan.folder.open.rmdir()
         seen = {}
-        self.meanwhile = lambda name: seen.update({name: (self.open.stage, sorted(file.name for file in self.open.room.iterdir()), self.seats.free["ann"])})
+        self.meanwhile = lambda name: seen.update({name: (self.open.stage, sorted(file.name for file in self.open.directory.iterdir()), self.slots.free["ann"])})
         self.go()
         asking, playing = ("asking", ["asking", "log.jsonl"], 0), ("playing", ["asking", "log.jsonl", "players", "playing"], 0)
         self.assertEqual(seen, {"ann@h:1": asking, "bob@h:2": asking, "played": playing})
         self.assertEqual(self.words_of("bob@h:2"), ["program", "info", "--json", "--", "bob@h:2"])
         rules = self.plan.folder.rules_of("heap")
         self.assertEqual(self.words_of("played"), [
-            "program", "run", f"--rules-file={rules.absolute()}", f"--id={self.match.id}", "--start=10", "--play=10", "--strikes=0", "--history", f"--log={self.open.room.absolute()}/log.jsonl", "--", "ann@h:1", "bob@h:2",
+            "program", "run", f"--rules-file={rules.absolute()}", f"--id={self.match.id}", "--start=10", "--play=10", "--strikes=0", "--history", f"--log={self.open.directory.absolute()}/log.jsonl", "--", "ann@h:1", "bob@h:2",
         ])
         self.assertEqual((self.referee.verified, self.referee.replayed), ((rules, [self.record]), (rules, [self.account], [self.record])))
         folder = self.plan.folder
         self.assertEqual([folder.record(self.match.id).read_bytes(), folder.account(self.match.id).read_bytes(), folder.log(self.match.id).read_bytes()], [
             self.record, self.account, OPENED.encode(),
         ])
-        self.assertEqual((self.open.result.goals, self.open.why, self.open.is_broken, self.open.stops_game, self.open.room.exists()), ((0, 100), None, False, False, False))
-        self.assertEqual((self.seats.free, self.left, self.reporter.begun, self.reporter.lines), ({"ann": 1, "bob": 1}, ["playing"], [(self.match.id, None)], []))
+        self.assertEqual((self.open.result.goals, self.open.why, self.open.is_broken, self.open.stops_game, self.open.directory.exists()), ((0, 100), None, False, False, False))
+        self.assertEqual((self.slots.free, self.left, self.reporter.begun, self.reporter.lines), ({"ann": 1, "bob": 1}, ["playing"], [(self.match.id, None)], []))
         self.assertEqual(self.reporter.notes, [f"info {self.match.id} ann: available, 0.0 s", f"info {self.match.id} bob: available, 0.0 s"])
 
     def test_the_seconds_of_a_match_are_those_of_its_play(self):
@@ -173,32 +173,40 @@ class Whole(WithMatch):
         self.laid_down["played"] = (3, b"", "a line\nggp_manager: want of memory\n")
         self.go()
         self.assertEqual((self.open.result, self.open.why, self.open.is_broken), (None, "ggp_manager: want of memory", True))
-        self.assertEqual((self.files(), self.seats.free, self.names()[-1]), ([], {"ann": 1, "bob": 1}, "played"))
+        self.assertEqual((self.files(), self.slots.free, self.names()[-1]), ([], {"ann": 1, "bob": 1}, "played"))
         # Its directory stays, since its players have yet to be freed.
-        self.assertTrue((self.open.room / "players").exists())
+        self.assertTrue((self.open.directory / "players").exists())
+
+    def test_if_the_referee_was_killed_the_started_players_are_named(self):
+        for status, started, why in ((-9, ["bob"], "it ended with status -9 and no message; started players that ran: bob"), (-9, [], "it ended with status -9 and no message"), (3, ["bob"], "it ended with status 3 and no message")):
+            self.begin(self.HEAD)
+            self.laid_down["played"] = (status, b"", "")
+            with mock.patch.object(self.open.players, "of", lambda names: [types.SimpleNamespace(name=name, matches=set()) for name in started]), mock.patch.object(self.open.players, "ready", mock.AsyncMock()):
+                self.go()
+            self.assertEqual(self.open.why, why)
 
     def test_a_match_that_is_ended_is_broken_if_it_is_at_play(self):
         for name, is_broken in (("ann@h:1", False), ("played", True), ("checked", False)):
             for error in (asyncio.CancelledError, OSError):
                 self.begin(self.HEAD)
                 self.laid_down |= {"ann@h:1": READY, **({} if name == "checked" else {name: (error, b"", "")})}
-                with mock.patch.object(open_match, "check", side_effect=error), self.assertRaises(BaseException) as raised:
+                with mock.patch.object(open_match, "check_match", side_effect=error), self.assertRaises(BaseException) as raised:
                     self.go()
                 errors = getattr(raised.exception, "exceptions", [raised.exception])
-                self.assertEqual(([type(found) for found in errors], self.open.is_broken, self.open.room.exists(), self.seats.free), ([error], is_broken, is_broken, {"ann": 1, "bob": 1}))
+                self.assertEqual(([type(found) for found in errors], self.open.is_broken, self.open.directory.exists(), self.slots.free), ([error], is_broken, is_broken, {"ann": 1, "bob": 1}))
 
     def test_a_match_that_may_not_begin_any_more(self):
         self.may_begin = False
         self.go()
-        self.assertEqual((self.open.result, self.open.why, self.names(), self.seats.free, self.open.room.exists()), (None, None, ["ann@h:1", "bob@h:2"], {"ann": 1, "bob": 1}, False))
+        self.assertEqual((self.open.result, self.open.why, self.names(), self.slots.free, self.open.directory.exists()), (None, None, ["ann@h:1", "bob@h:2"], {"ann": 1, "bob": 1}, False))
 
     def test_a_directory_that_names_players_of_a_play_before_is_kept_until_it_begins_again(self):
-        self.open.room.mkdir(parents=True)
-        (self.open.room / "players").write_text("ann@h:1\n")
-        (self.open.room / "more").touch()
+        self.open.directory.mkdir(parents=True)
+        (self.open.directory / "players").write_text("ann@h:1\n")
+        (self.open.directory / "more").touch()
         self.may_begin = False
         self.go()
-        self.assertEqual([file.name for file in self.open.room.iterdir()], ["players"])
+        self.assertEqual([file.name for file in self.open.directory.iterdir()], ["players"])
 
     def test_of_a_directory_only_the_players_are_left(self):
         room = self.folder / "room"
@@ -226,24 +234,24 @@ class Asking(WithMatch):
 
     def test_who_is_busy_is_asked_again_and_then_no_more(self):
         self.assertEqual(self.asked(info_of("busy"), READY), (False, None, [f"back {self.match.id}: ann is busy"]))
-        self.assertEqual((self.seats.failed, self.seats.rested["ann"] > 0, self.open.result), ({"ann": 1, "bob": 0}, True, None))
+        self.assertEqual((self.slots.failed, self.slots.rests_until["ann"] > 0, self.open.result), ({"ann": 1, "bob": 0}, True, None))
         self.assertEqual(self.asked(info_of("busy"), NO_ANSWER, head="tries = 1\n"), (False, "ann is busy, bob is silent", []))
         self.begin("tries = 3\n")
-        self.seats.failed["ann"] = 2
+        self.slots.failed["ann"] = 2
         self.assertEqual(self.asked(info_of("busy"), NO_ANSWER), (False, "ann is busy", []))
         self.begin("tries = 3\n")
         self.assertEqual(self.asked(NO_ANSWER, info_of("busy")), (False, None, [f"back {self.match.id}: ann is silent, bob is busy"]))
 
     def test_who_is_there_begins_anew(self):
-        self.seats.failed.update(ann=1, bob=1)
+        self.slots.failed.update(ann=1, bob=1)
         self.asked(READY, NO_ANSWER)
-        self.assertEqual((self.seats.failed, self.open.why), ({"ann": 0, "bob": 2}, "bob is silent"))
+        self.assertEqual((self.slots.failed, self.open.why), ({"ann": 0, "bob": 2}, "bob is silent"))
         # Also where nobody is missed, and where it is played without who is.
         for bob, failed in ((READY, 0), (NO_ANSWER, 2)):
             self.begin('tries = 2\nabsent = "play"\n')
-            self.seats.failed.update(ann=1, bob=1)
+            self.slots.failed.update(ann=1, bob=1)
             self.assertEqual(self.asked(READY, bob)[0], True)
-            self.assertEqual(self.seats.failed, {"ann": 0, "bob": failed})
+            self.assertEqual(self.slots.failed, {"ann": 0, "bob": failed})
 
     def test_without_who_is_absent_it_is_played_where_that_is_wanted(self):
         head = 'tries = 1\nabsent = "play"\n'
@@ -254,7 +262,7 @@ class Asking(WithMatch):
 
     def test_a_fault_of_this_computer_is_none_of_a_player(self):
         self.assertEqual(self.asked((3, b"", "x\nggp_manager: want of memory"), NO_ANSWER), (False, "ann could not be asked: ggp_manager: want of memory", []))
-        self.assertEqual(self.seats.failed, {"ann": 0, "bob": 0})
+        self.assertEqual(self.slots.failed, {"ann": 0, "bob": 0})
         self.begin(self.HEAD)
         self.assertEqual(self.asked(NO_ANSWER, (2, b"", "ggp_manager: other")), (False, "bob could not be asked: ggp_manager: other", []))
 
@@ -285,7 +293,7 @@ class Checking(WithMatch):
             setattr(self.referee, name, verdict)
         self.go()
         self.assertEqual(self.open.result is None, self.open.why is not None)
-        self.assertFalse(self.open.is_broken or self.open.room.exists())
+        self.assertFalse(self.open.is_broken or self.open.directory.exists())
         return self.open.why, self.files()
 
     def assert_whole(self):
@@ -353,7 +361,7 @@ class Checking(WithMatch):
             reports.append((match.id, files))
             return "report-cup-001.tar.gz"
 
-        with mock.patch.object(checking.described, "write_report", report):
+        with mock.patch.object(open_match, "write_report", report):
             why, files = self.checked()
         self.assertEqual(why, f"by the description of heap it differs: turn 1; it is kept as {self.plan.folder.records}/cup-001.json.differs; please report it, with report-cup-001.tar.gz")
         self.assertEqual((files, self.open.stops_game), (self.kept(".differs"), True))
@@ -370,22 +378,22 @@ class Jobs(WithMatch):
 
     def setUp(self):
         super().setUp()
-        self.open.room.mkdir(parents=True)
+        self.open.directory.mkdir(parents=True)
         self.job = open_match.MatchJob(self.open)
 
     def test_events_go_to_the_log_and_other_lines_do_not(self):
         for line in (b"motd", OPENED.strip().encode(), b"srun: error: x"):
-            self.job.take_said(line)
-        self.assertEqual((self.open.log.read_text(), self.job.words), (OPENED, b"motd\nsrun: error: x\n"))
+            self.job.take_line(line)
+        self.assertEqual((self.open.log.read_text(), self.job.errors), (OPENED, b"motd\nsrun: error: x\n"))
 
     def test_a_job_that_sends_more_than_a_referee_can_write_is_given_up(self):
         self.job.left = 5
-        asyncio.run(self.job.take_printed(b"1234"))
-        self.job.take_said(b"")
+        asyncio.run(self.job.take_output(b"1234"))
+        self.job.take_line(b"")
         words = r"^it sent more than [0-9,]{11,} bytes, which no match has$"
         with self.assertRaisesRegex(Lost, words):
-            asyncio.run(self.job.take_printed(b"5"))
+            asyncio.run(self.job.take_output(b"5"))
         with self.assertRaisesRegex(Lost, words):
-            self.job.take_said(b"")
+            self.job.take_line(b"")
         self.job.output.seek(0)
         self.assertEqual(self.job.output.read(), b"1234")

@@ -6,7 +6,6 @@ import pathlib
 import subprocess
 import tarfile
 import tempfile
-import unittest
 from unittest import mock
 
 import hypothesis
@@ -17,7 +16,8 @@ from ggp_tools.competition.packing import Spoilt, TooLarge, most_files, pack, un
 from support import InFolder, toml
 
 COMPETITION = toml([("ann", "h:1"), ("bob", "h:2")], [("g", "f")]).encode()
-FIRST = {"cup/competition.toml": COMPETITION, "cup/schedule.tsv": b"id\ncup-1\n"}
+ROW = b"cup-1\tg\t10\t5\tann bob\n"
+FIRST = {"cup/competition.toml": COMPETITION, "cup/schedule.tsv": b"id\n" + ROW}
 LONG = f"cup/pages/players/player-{'x' * 120}.html"
 FILES = {**FIRST, "cup/empty": b"", "cup/block": b"b" * 512, "cup/pages/index.html": b"c" * 5_000, LONG: b"d"}
 END = bytes(1_024)
@@ -155,7 +155,7 @@ class Packing(InFolder):
         found = {**FIRST, **{f"cup/{name}": b"1" for name in places}}
         self.assertEqual(unpacked(tar_of(found)), found)
         wrong = "a/b", "rules", "pages", "earlier", "rules/a/b", "pages/other/a.html", "pages/matches/a/b", "xpages/index.html", "a b", "../a", "rules/..", "./a", "pages//a", "a\n"
-        for name in ("cup", "/cup/a", *(f"cup/{name}" for name in wrong)):
+        for name in ("cup", "/cup/a", *(f"cup/{name}" for name in wrong), f"cup/records/{'a' * 256}"):
             self.assertEqual(unpacked(tar_of({**FIRST, name: b"1"})), f"{name!r} is no file of a competition")
         self.assertEqual(unpacked(tar_of({**FIRST, "cap/a": b"1"})), "'cap/a' is not below cup")
         self.assertEqual(unpacked(tar_of([*FIRST.items(), ("cup/a", b""), ("cup/a", b"")])), "cup/a is there twice, or below a file")
@@ -166,27 +166,32 @@ class Packing(InFolder):
         said = "it does not begin with competition.toml and schedule.tsv"
         for files in ({}, {"cup/competition.toml": b""}, {"cup/schedule.tsv": b"", **FIRST}, {"cup/competition.toml": b"", "cup/a": b"", **FIRST}):
             self.assertIn(said, unpacked(tar_of(files)))
-        with mock.patch.object(packing, "MOST_OF_FIRST", len(COMPETITION) - 1):
-            self.assertEqual(unpacked(tar_of(FIRST)), f"{said}, of at most {len(COMPETITION) - 1} bytes")
         with mock.patch.object(packing, "most_files", lambda _: 4):
             self.assertEqual(len(unpacked(tar_of({**FIRST, "cup/a": b"", "cup/b": b""}))), 4)
-            said = "it has more than 4 files, and the matches of its schedule, its games and its players have no more"
+            said = "it has more than 4 files, and the matches of its schedule have no more"
             self.assertEqual(unpacked(tar_of({**FIRST, "cup/a": b"", "cup/b": b"", "cup/c": b""})), said)
 
-    def test_more_files_than_the_schedule_needs_are_not_unpacked(self):
-        path = self.folder / "a.tar.gz"
+    def test_more_files_than_the_matches_need_are_not_unpacked(self):
+        path, schedule = self.folder / "a.tar.gz", self.folder / "schedule.tsv"
         with open(path, "wb") as file:
-            pack(file, [*FIRST.items(), *((f"cup/{number}", b"") for number in range(2_000))])
-        # Two matches of five files, a game of four, two players, and a hundred.
-        with self.assertRaisesRegex(Spoilt, "it has more than 116 files, "):
+            pack(file, [*FIRST.items(), *((f"cup/{number}", b"") for number in range(30))])
+        with mock.patch.object(packing, "OTHER_FILES", 10), self.assertRaisesRegex(Spoilt, "it has more than 15 files, "):
             unpack(path, self.folder)
-        self.assertEqual(len([*(self.folder / "cup").iterdir()]), 116)
-        for name, data in FIRST.items():
-            (self.folder / name).write_bytes(data * 1_000)
-        self.assertEqual(most_files(self.folder / "cup"), 600_000)
-        (self.folder / "cup/competition.toml").write_bytes(COMPETITION)
-        # There are five files for each of 2,000 rows, and four lists of 500 matches.
-        self.assertEqual(most_files(self.folder / "cup"), 10_000 + 4 + 4 + 2 + 100)
+        self.assertEqual(len([*(self.folder / "cup").iterdir()]), 15)
+        # Only rows of matches count, whatever else is there.
+        for text, count in ((b"", 0), (b"\n" * 40_000, 0), (b"\t\t\t\t\n" * 40_000, 0), (b"id\tgame\tstart\tplay\tplayers\n", 0), (ROW * 2_000, 2_000), (ROW * 100_001, 100_000)):
+            schedule.write_bytes(text)
+            self.assertEqual(most_files(schedule), 5 * count + 10_000)
+
+    def test_a_file_has_no_more_bytes_than_are_read_of_it(self):
+        for name, most in (("competition.toml", 8 << 20), ("SHA256SUMS", 64 << 20), ("earlier/7.toml", 8 << 20), ("games/a.kif", 64 << 20), ("logs/a.jsonl", 256 << 20), ("records/a.json", 1 << 30)):
+            large = block(f"cup/{name}", change=at(124, b"%011o\0" % (most + 1)))
+            head = HEAD if name != "competition.toml" else b""
+            self.assertEqual(unpacked(head + large + END), f"cup/{name} has more than {most:,} bytes, which are the most of such a file in an archive")
+        with mock.patch.dict(packing.MOST_OF_FILES, {"logs": 2}):
+            self.assertEqual(len(unpacked(tar_of({**FIRST, "cup/logs/a": b"12"}))), 3)
+            with self.assertRaisesRegex(TooLarge, "cup/logs/a has more than 2 bytes"):
+                tar_of({**FIRST, "cup/logs/a": b"123"})
 
     def test_the_bytes_of_all_files_are_counted(self):
         files = {**FIRST, "cup/a": b"123", "cup/b": b"45"}

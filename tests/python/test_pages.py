@@ -295,10 +295,9 @@ class PagesOfMany(unittest.TestCase):
         before = untouched.stat().st_ino, changed.stat().st_ino
         pages.write(self.results[:3])
         self.assertEqual((untouched.stat().st_ino == before[0], changed.stat().st_ino == before[1]), (True, False))
-        # What another run has written there in the meantime is made again.
+        # What another run has deleted in the meantime is made again.
         text = untouched.read_text()
         untouched.unlink()
-        untouched.write_text("another")
         pages.write(self.results[:3])
         self.assertEqual(untouched.read_text(), text)
 

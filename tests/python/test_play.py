@@ -13,7 +13,7 @@ import tempfile
 import time
 import unittest
 
-from ggp_tools.competition.children import UNSAID
+from ggp_tools.competition.children import WITHOUT_MESSAGE
 from ggp_tools.competition.files import held
 from ggp_tools.competition.command import MOST_LINES
 from players import TestPlayer
@@ -112,7 +112,7 @@ class Play(InFolder):
 
     def test_a_referee_that_ends_without_a_word(self):
         self.planned(["good", "good"])
-        for done, words, count in (("kill -9 $$", UNSAID.format(-9), 2), ("exit 1", UNSAID.format(1), 2), ("echo 'ggp_manager: write fault' >&2; exit 1", "ggp_manager: write fault", 1)):
+        for done, words, count in (("kill -9 $$", WITHOUT_MESSAGE.format(-9), 2), ("exit 1", WITHOUT_MESSAGE.format(1), 2), ("echo 'ggp_manager: write fault' >&2; exit 1", "ggp_manager: write fault", 1)):
             faulty = program_but(self.folder / "faulty", '"$1" = run', f"for word; do case $word in --log=*) echo cut >> ${{word#--log=}};; esac; done; {done}")
             status, out, _ = run(self.folder, "play", "--at-once", "1", "--program", faulty)
             self.assertEqual((status, lines(out, "no record")), (1, [f"no record {planned[0]}: {words}" for planned in self.schedule[:count]]), out)
@@ -127,43 +127,8 @@ class Play(InFolder):
         self.assertEqual(run(cup, "play"), (2, "", said))
         self.assertEqual(([run(cup, command)[0] for command in ("plan", "table")], list(cup.glob("open"))), ([0, 0], []))
 
-    def test_a_fault_of_info_is_not_the_player_s(self):
-        self.planned(["good", "good"], head=HEAD + 'absent = "play"\n')
-        write_fault = "ggp_manager: write fault"
-        # The disk may be full where a write fails.
-        for done, words, count in ((f"echo '{write_fault}' >&2; exit 2", write_fault, 1), ("exit 2", UNSAID.format(2), 2), ("kill -9 $$", UNSAID.format(-9), 2)):
-            faulty = program_but(self.folder / "faulty", f'"$1" = info && "$4" = p0*', done)
-            status, out, _ = run(self.folder, "play", "--at-once", "1", "--program", faulty)
-            told = [f"no record {planned[0]}: p0 could not be asked: {words}" for planned in self.schedule]
-            self.assertEqual((status, lines(out, "no record"), lines(out, "begin")), (1, told[:count], []), out)
-            self.assertNotIn("silent", out)
-
-    def test_what_becomes_of_a_match_is_told_once_all_players_are_judged(self):
-        for head, first, second, words in (
-            ('absent = "play"\ntries = 1', "gone", "busy", ["no record cup-001: p1 is busy"]),
-            ('absent = "play"\ntries = 1', "busy", "gone", ["no record cup-001: p0 is busy"]),
-            ("tries = 1", "gone", "busy", ["no record cup-001: p0 is silent, p1 is busy"]),
-            ("tries = 2", "gone", "busy", ["back cup-001: p0 is silent, p1 is busy", "no record cup-001: p0 is silent, p1 is busy"]),
-            ('absent = "play"\ntries = 2', "gone", "gone", ["back cup-001: p0 is silent, p1 is silent", *(f"absent cup-001: p{number} is silent, and the match is played" for number in (0, 1))]),
-        ):
-            self.planned(["good", "good"], head=HEAD.replace("tries = 2\n", f"{head}\n"), form='kind = "schedule"\nlines = ["countdown p0 p1"]')
-            for player, kind in zip(self.players, (first, second)):
-                player.status = "busy"
-                if kind == "gone":
-                    player.leave()
-            out = run(self.folder, "play")[1]
-            self.assertEqual([line for line in out.splitlines() if line.split()[0] in ("back", "absent", "no")], words)
-
-    def test_one_player_s_last_try_is_another_s_first(self):
-        self.planned(["good"] * 3, form='kind = "schedule"\nlines = ["countdown p0 p1", "countdown p0 p2"]')
-        self.players[0].leave()
-        self.players[2].status = "busy"
-        out = run(self.folder, "play", "--at-once", "1")[1]
-        self.assertEqual(lines(out, "back"), ["back cup-001: p0 is silent"])
-        self.assertEqual(lines(out, "no record"), [f"no record cup-00{number}: p0 is silent" for number in (2, 1)])
-
     def test_a_player_that_stays_busy_is_made_silent(self):
-        self.planned(["good", "good", "good"])
+        self.planned(["good", "good", "good"], head=f"{HEAD}forfeit = true\n")
         self.players[2].status = "busy"
         status, out, _ = run(self.folder, "play")
         self.assertEqual((status, len(lines(out, "end"))), (1, 2))
@@ -171,7 +136,7 @@ class Play(InFolder):
         file, nobody = self.folder / "competition.toml", TestPlayer("nobody")
         nobody.leave()
         text = file.read_text().replace(self.players[2].place(), nobody.place())
-        for old, new in (("strikes", 'absent = "play"\nforfeit = true\nstrikes'), ("tries = 2", "tries = 1"), ("wait = 1", "wait = 0"), ("info = 5", "info = 9")):
+        for old, new in (("strikes", 'absent = "play"\nstrikes'), ("tries = 2", "tries = 1"), ("wait = 1", "wait = 0"), ("info = 5", "info = 9")):
             text = text.replace(old, new)
         file.write_text(f"{text}concurrent = 2\n")
         status, out, _ = run(self.folder, "play")
@@ -454,12 +419,6 @@ class Play(InFolder):
                     self.assertEqual(self.files(), before)
         self.assertEqual(run(self.folder, "play")[:2], (0, "6 of 6 matches have a lawful record\n"))
 
-    def test_a_shortage_for_many_accounts_is_none_for_one(self):
-        self.planned(["good", "good"])
-        run(self.folder, "play")
-        alone = program_but(self.folder / "short", '"$1" = replay', 'all=$(cat); [ $(grep -c "open " <<< "$all") -gt 1 ] && exit 3; exec %s "$@" <<< "$all"' % program())
-        self.assertEqual(run(self.folder, "play", "--program", alone), (0, "2 of 2 matches have a lawful record\n", ""))
-
     def test_a_damaged_record_costs_no_other(self):
         self.planned(["good", "good", "good"])
         run(self.folder, "play")
@@ -478,13 +437,6 @@ class Play(InFolder):
                 after = self.files()
                 self.assertEqual([name for name in before if "cup-001" not in name and after[name] != before[name]], [])
                 self.assertEqual(after[f"records/cup-001.json.{ending}"], data)
-
-    def test_a_replay_that_is_ended_during_play_is_told_as_it_is(self):
-        self.planned(["good", "good"])
-        ended = program_but(self.folder / "short", '"$1" = replay', "kill -9 $$")
-        status, out, _ = run(self.folder, "play", "--program", ended)
-        self.assertEqual((status, len(lines(out, "no record"))), (1, 2))
-        self.assertTrue(all("it said nothing, status -9" in line for line in lines(out, "no record")), out)
 
     def test_a_match_that_was_played_and_not_checked_is_kept_aside(self):
         self.planned(["good", "good"])
@@ -510,20 +462,6 @@ class Play(InFolder):
         self.assertEqual((status, len(lines(out, "end")), (self.folder / played[0]).read_bytes()), (0, 1, kept), out)
         self.assertTrue((self.folder / "records/cup-001.json.unchecked.2").exists())
         self.assert_sound(self.schedule)
-
-    def test_a_record_that_does_not_verify_does_not_count(self):
-        self.planned(["good", "good"])
-        goals = 's/"goalValues":.100,0./"goalValues":[50,50]/; s/"goalValues":.0,100./"goalValues":[50,50]/'
-        for change, words in ((goals, "not lawful: goals"), ("s/taken$/over/", "is not a call that a referee makes there")):
-            liar = self.folder / "liar"
-            liar.write_text(f"#!/bin/bash\nset -o pipefail\n[ \"$1\" = run ] || exec {program()} \"$@\"\n{program()} \"$@\" | sed '{change}'\n")
-            liar.chmod(0o755)
-            status, out, _ = run(self.folder, "play", "--program", liar)
-            self.assertEqual((status, len(lines(out, "no record")), lines(out, "end")), (1, 2, []), out)
-            self.assertTrue(all(words in line for line in lines(out, "no record")), out)
-            self.assertEqual([*self.folder.glob("*/cup-*")], [])
-        status, out, _ = run(self.folder, "play")
-        self.assertEqual((status, len(lines(out, "end"))), (0, 2))
 
     def test_plan_does_not_change_what_was_played(self):
         self.planned(["good", "good"])

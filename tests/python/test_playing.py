@@ -6,6 +6,7 @@ import collections
 import dataclasses
 import errno
 import pathlib
+import random
 import resource
 import signal
 import tempfile
@@ -14,14 +15,15 @@ import types
 import unittest
 from unittest import mock
 
-from ggp_tools.competition import playing, resuming
-from ggp_tools.competition.command import said_of_missing
-from ggp_tools.competition.competition_file import Launcher
+from ggp_tools.competition import playing
+from ggp_tools.competition.command import missing_lines
+from ggp_tools.competition.competition_file import Launcher, read_competition
 from ggp_tools.competition.files import Refused
-from ggp_tools.competition.playing import Playing
-from ggp_tools.competition.resuming import left_open
-from ggp_tools.competition.seats import Seats
+from ggp_tools.competition.playing import Playing, open_directories, seconds_left
+from ggp_tools.competition.slots import Slots
 from live_support import plan_in
+from planning import planned
+from support import toml
 
 
 class Said:
@@ -56,9 +58,9 @@ class Standing:
 
     def __init__(self, playing, match):
         self.playing, self.match = playing, match
-        self.stage, self.places, self.seconds, self.seated = "asking", [f"{player}@h" for player in match.players], 1.5, 0.0
+        self.stage, self.places, self.seconds, self.taken_at = "asking", [f"{player}@h" for player in match.players], 1.5, 0.0
         self.result, self.why = None, None
-        self.is_broken, self.stops_game, self.is_seated, self.goes_on, self.is_ended = False, False, True, False, False
+        self.is_broken, self.stops_game, self.has_slots, self.goes_on, self.is_ended = False, False, True, False, False
         Standing.begun.append(self)
 
     async def go(self):
@@ -70,10 +72,10 @@ class Standing:
             self.is_broken, self.is_ended = self.stage == "playing", True
             raise
 
-    def leave(self):
-        if self.is_seated:
-            self.is_seated = False
-            self.playing.seats.leave(self.match)
+    def release_players(self):
+        if self.has_slots:
+            self.has_slots = False
+            self.playing.slots.give_back(self.match)
             self.playing.news.set()
 
 
@@ -110,7 +112,7 @@ class WithMatches(unittest.TestCase):
         self.plan = plan_in(str(self.folder), self.NAMES, head=head)
         self.plan.competition = dataclasses.replace(self.plan.competition, launcher=launcher)
         self.reporter = Said()
-        self.playing = Playing(self.plan, "referee", Seats(self.plan.competition), self.reporter, at_once)
+        self.playing = Playing(self.plan, "referee", self.reporter, at_once)
 
     def go(self, **laid_down):
         """Plays all matches, each by the instructions for its id."""
@@ -130,7 +132,7 @@ class Going(WithMatches):
         most, ids = [], {match.id for match in self.plan.matches}
 
         def look(match):
-            most.append(max(collections.Counter(player for standing in Standing.begun if standing.is_seated for player in standing.match.players).values()))
+            most.append(max(collections.Counter(player for standing in Standing.begun if standing.has_slots for player in standing.match.players).values()))
 
         Standing.laid_down = {match: [look, "playing", look, won] for match in ids}
         self.go()
@@ -144,12 +146,12 @@ class Going(WithMatches):
         counts, checked = [], []
 
         def look(match):
-            counts.append(sum(standing.is_seated for standing in Standing.begun))
+            counts.append(sum(standing.has_slots for standing in Standing.begun))
             checked.append(len(self.playing.open))
 
         def check(match):
             match.stage = "checking"
-            match.leave()
+            match.release_players()
 
         Standing.laid_down = {match.id: [look, "playing", look, check, *["checking"] * 9, won] for match in self.plan.matches}
         self.go()
@@ -177,9 +179,9 @@ class Going(WithMatches):
 
     def test_a_player_that_rests_is_waited_for(self):
         self.begin("wait = 1\n")
-        again = iter([lambda match: self.playing.seats.was_not_there("ann", match.seated), won])
+        again = iter([lambda match: self.playing.slots.count_failure("ann", match.taken_at), won])
         self.plan.matches = self.plan.matches[:1]
-        self.playing.seats.missed = dict.fromkeys(self.NAMES, -1.0)
+        self.playing.slots.failed_at = dict.fromkeys(self.NAMES, -1.0)
         self.go(cup_001=[lambda match: next(again)(match)])
         self.assertEqual((self.begun(), list(self.playing.results)), (["cup-001"] * 2, ["cup-001"]))
 
@@ -191,7 +193,7 @@ class Going(WithMatches):
         free, send = [], self.send_aborts
 
         async def send_aborts(*words):
-            free.append(self.playing.seats.free["ann"])
+            free.append(self.playing.slots.free["ann"])
             return await send(*words)
 
         with mock.patch.object(playing, "send_aborts", send_aborts):
@@ -207,7 +209,7 @@ class Going(WithMatches):
             games, once = self.plan.competition.games, iter([end])
             self.plan.competition = dataclasses.replace(self.plan.competition, games=(*games, dataclasses.replace(games[0], name="other")))
             self.plan.matches[6:] = [dataclasses.replace(match, game="other") for match in self.plan.matches[6:]]
-            self.playing = Playing(self.plan, "referee", Seats(self.plan.competition), self.reporter, 2)
+            self.playing = Playing(self.plan, "referee", self.reporter, 2)
             self.go(cup_001=[over(why="differs", stops_game=True)], cup_003=["playing", "playing", lambda match: next(once)(match)])
             lost = {match.id: why for match in self.plan.matches[:6]} | {"cup-001": "differs", "cup-003": left}
             self.assertEqual((self.playing.left, self.playing.stopped), (lost, {"heap": why}))
@@ -226,7 +228,7 @@ class Going(WithMatches):
 
                 self.go(cup_001=[stage, fail])
                 self.assertEqual((self.playing.left, self.playing.is_full, self.playing.may_begin(), self.begun(), self.aborted), ({"cup-001": words}, True, False, ["cup-001"], aborted))
-                self.assertEqual(self.playing.seats.free, dict.fromkeys(self.NAMES, 1))
+                self.assertEqual(self.playing.slots.free, dict.fromkeys(self.NAMES, 1))
 
     def test_another_error_is_not_taken_for_one_of_the_disk(self):
         def fail(match):
@@ -261,7 +263,7 @@ class Going(WithMatches):
             self.go(cup_001=["playing", self.interrupt(counts[0]), "playing", self.interrupt(counts[1]), *["playing"] * 9, won], cup_003=[*["asking"] * 9, won])
             self.assertEqual((self.begun(), self.playing.results, [standing.is_ended for standing in Standing.begun]), (["cup-001", "cup-003"], {}, [True, True]))
             self.assertEqual((self.playing.left, self.aborted), ({"cup-001": "it was ended before its end"}, [({"cup-001": ["ann@h", "bob@h"]}, 3)]))
-            self.assertEqual(self.playing.seats.free, dict.fromkeys(self.NAMES, 1))
+            self.assertEqual(self.playing.slots.free, dict.fromkeys(self.NAMES, 1))
 
     def test_those_that_are_checked_go_on(self):
         self.begin(at_once=2)
@@ -300,7 +302,7 @@ class Going(WithMatches):
     def test_with_a_launcher_as_many_begin_as_it_has_slots(self):
         self.begin(launcher=Launcher(("x",), 1))
         most = []
-        Standing.laid_down = {match.id: [lambda match: most.append(sum(standing.is_seated for standing in Standing.begun)), won] for match in self.plan.matches}
+        Standing.laid_down = {match.id: [lambda match: most.append(sum(standing.has_slots for standing in Standing.begun)), won] for match in self.plan.matches}
         self.go()
         self.assertEqual((max(most), len(self.playing.results)), (1, 12))
         self.assertIsNotNone(self.reporter.shown[0])
@@ -312,7 +314,7 @@ class Before(WithMatches):
     def setUp(self):
         super().setUp()
         self.looked = ({}, {}, {})
-        self.enterContext(mock.patch.object(resuming, "look_at_records", lambda plan, referee: self.looked))
+        self.enterContext(mock.patch.object(playing, "check_records", lambda plan, referee: self.looked))
 
     def room(self, name, players="ann@h:1\nbob@h:2\n"):
         room = self.plan.folder.open / name
@@ -324,9 +326,9 @@ class Before(WithMatches):
     def test_all_that_have_no_result_wait(self):
         self.plan.matches[1] = dataclasses.replace(self.plan.matches[1], again="cup-013")
         self.looked = ({"cup-003": "its result"}, {}, {})
-        resuming.prepare(self.playing)
+        playing.prepare(self.playing)
         self.assertEqual([match.id for match in self.playing.waiting], [match.id for match in self.plan.matches if match.id not in ("cup-002", "cup-003")])
-        self.assertEqual((self.playing.results, self.reporter.lines, self.reporter.drawn), ({"cup-003": "its result"}, [], ["looking at the records"]))
+        self.assertEqual((self.playing.results, self.reporter.lines, self.reporter.drawn), ({"cup-003": "its result"}, [], ["checking the records"]))
 
     def test_files_that_do_not_count_are_set_aside(self):
         folder = self.plan.folder
@@ -335,7 +337,7 @@ class Before(WithMatches):
         folder.account("cup-002").write_text("x")
         folder.log("cup-003").write_text("x")
         self.looked = ({"cup-003": "its result"}, {"cup-001": "not lawful: goals"}, {})
-        resuming.prepare(self.playing)
+        playing.prepare(self.playing)
         self.assertEqual(self.reporter.lines, [
             "refused cup-001: not lawful: goals; its files are set aside, and it is played again",
             "aside cup-002: it has no record; its other files are set aside, and it is played",
@@ -362,14 +364,14 @@ class Before(WithMatches):
         for name, more in (("x.json", ""), ("y.json", ", and 1 more")):
             (records / name).touch()
             with self.assertRaises(Refused) as why:
-                resuming.prepare(self.playing)
+                playing.prepare(self.playing)
             self.assertEqual(str(why.exception), f"{records}/x.json is of no match of the schedule{more}: move what is of no match out of {records}, and play again")
         for file in records.iterdir():
             file.unlink()
         self.looked = ({}, {"cup-002": "not lawful: goals"}, {"cup-001": "its matchId is 'x'"})
         self.plan.folder.record("cup-002").touch()
         with self.assertRaises(Refused) as why:
-            resuming.prepare(self.playing)
+            playing.prepare(self.playing)
         self.assertEqual(str(why.exception), f"{records}/cup-001.json is lawful, and of another match: its matchId is 'x'")
         # Until that is put right nothing is set aside.
         self.assertEqual([file.name for file in records.iterdir()], ["cup-002.json"])
@@ -384,7 +386,7 @@ class Before(WithMatches):
         self.plan.rounds = ["the first", "the second"]
         self.looked = ({match.id: "its result" for match in self.plan.matches[3:]}, {"cup-001": "not lawful: goals"}, {})
         with self.assertRaises(Refused) as why:
-            resuming.prepare(self.playing)
+            playing.prepare(self.playing)
         self.assertIn("cup-001 has no record that counts, and a later round was paired by it", str(why.exception))
         # Until that is put right nothing is set aside, nobody is told anything, and nothing waits.
         self.assertEqual([file.name for kind in (folder.records, folder.accounts) for file in kind.iterdir()], ["cup-001.json", "cup-002.txt"])
@@ -392,7 +394,7 @@ class Before(WithMatches):
 
     def test_a_folder_that_can_not_be_written(self):
         with mock.patch.object(self.plan.folder, "make", side_effect=OSError(errno.EROFS, "x", "f")), self.assertRaises(Refused) as why:
-            resuming.prepare(self.playing)
+            playing.prepare(self.playing)
         self.assertEqual(str(why.exception), f"{self.plan.folder.path} can't be written: f: Read-only file system")
 
     def test_players_of_matches_that_were_open_are_freed(self):
@@ -402,7 +404,7 @@ class Before(WithMatches):
         (self.plan.folder.open / "file").touch()
         self.looked = ({"cup-002": "its result"}, {}, {})
         self.plan.folder.record("cup-002").touch()
-        resuming.prepare(self.playing)
+        playing.prepare(self.playing)
         places = ["ann@h:1", "bob@h:2"]
         self.assertEqual(self.aborted, [({"cup-001": places, "old-007": places}, None)])
         self.assertEqual([room.exists() for room in (first, over_one, other, plain, empty, wrong)], [False, False, False, True, False, True])
@@ -414,7 +416,7 @@ class Before(WithMatches):
         self.room("a", "ann@h:1 bob@h:2\n")
         self.room("c", "ann\n")
         (self.room("d") / "players").write_bytes(b"\xff@h:1")
-        found = {room.name: places for room, places in left_open(self.plan).items()}
+        found = {room.name: places for room, places in open_directories(self.plan).items()}
         self.assertEqual(found, {"a": ["ann@h:1", "bob@h:2"], "b": ["ann@h:1"], "cup-001": []})
 
     def test_a_room_is_kept_where_a_player_does_not_answer_abort(self):
@@ -458,9 +460,9 @@ class Before(WithMatches):
 class Words(unittest.TestCase):
     def test_missing_matches_are_told_by_reasons(self):
         ten, eleven = ({f"m{at}": "why" for at in range(count)} for count in (10, 11))
-        self.assertEqual(list(said_of_missing(ten)), [f"missing m{at}: why" for at in range(10)])
-        self.assertEqual(list(said_of_missing({**eleven, "x": "else"})), ["missing 11 matches, m0 to m10: why", "missing x: else"])
-        self.assertEqual(list(said_of_missing({f"m{at}": "it was not begun" for at in range(1_200)})), ["missing 1,200 matches, m0 to m1199: it was not begun"])
+        self.assertEqual(list(missing_lines(ten)), [f"missing m{at}: why" for at in range(10)])
+        self.assertEqual(list(missing_lines({**eleven, "x": "else"})), ["missing 11 matches, m0 to m10: why", "missing x: else"])
+        self.assertEqual(list(missing_lines({f"m{at}": "it was not begun" for at in range(1_200)})), ["missing 1,200 matches, m0 to m1199: it was not begun"])
 
 
 class Signals(WithMatches):
@@ -501,3 +503,53 @@ class Signals(WithMatches):
                 self.plan.matches = []
                 playing.play(self.playing)
             self.assertEqual([call.args for call in changed.call_args_list], [(resource.RLIMIT_NOFILE, (wanted, limits[1]))], limits)
+
+
+# ---- the time left, compared with the actual time by a fake clock
+
+ROUND_ROBIN = 'kind = "round_robin"\nrounds = {}'
+# Players, form, matches at a time of a player and of all, and by games the least and the greatest seconds of a match.
+SHAPES = {
+    "one match at a time": (8, ROUND_ROBIN.format(5), 1, 4, {"one": (20, 40)}),
+    "two at once": (8, ROUND_ROBIN.format(5), 1, 2, {"one": (20, 40)}),
+    "games of different lengths": (10, ROUND_ROBIN.format(3), 1, 32, {"one": (20, 40), "two": (60, 200)}),
+    "three games, one after the other": (20, ROUND_ROBIN.format(2), 1, 10, {"one": (5, 10), "two": (60, 200), "three": (20, 30)}),
+    "all wait for one player": (10, 'kind = "gauntlet"\none = "p0"\nrounds = 5', 1, 8, {"one": (20, 40)}),
+    "an odd number of players": (9, ROUND_ROBIN.format(5), 1, 4, {"one": (20, 40)}),
+    "players with several slots": (4, ROUND_ROBIN.format(20), 4, 32, {"one": (20, 40)}),
+}
+
+
+def estimated_and_true(players, form, concurrent, at_once, lengths):
+    """Plays a competition by a fake clock. Yields, as each match ends, the finished part, the estimated time left, and the actual one."""
+    who = [(f"p{number}", f"h:{number + 1}", f"concurrent = {concurrent}") for number in range(players)]
+    competition = read_competition(toml(who, [(game, "f") for game in lengths], form).encode())
+    matches, chance = planned(competition, dict.fromkeys(lengths, 2)), random.Random(1)
+    slots, waiting, now, open_matches, estimates, took = Slots(competition), collections.deque(matches), 1.0, [], [], collections.defaultdict(list)
+    concurrent = {player.name: player.concurrent for player in competition.players}
+    while open_matches or waiting:
+        while len(open_matches) < at_once and (match := slots.next_match(waiting, now)):
+            open_matches.append((now + chance.uniform(*lengths[match.game]), now, match))
+        now, began, match = open_matches.pop(open_matches.index(min(open_matches, key=lambda found: found[0])))
+        slots.give_back(match)
+        took[match.game].append(now - began)
+        estimates.append((now, seconds_left(waiting, [(other, now - since) for _, since, other in open_matches], took, concurrent, at_once)))
+    return [(number / len(matches), seconds, now - when) for number, (when, seconds) in enumerate(estimates, 1)]
+
+
+class Left(unittest.TestCase):
+    def test_it_is_right_within_a_third(self):
+        for shape, words in SHAPES.items():
+            with self.subTest(shape):
+                found = [(estimate, true) for part, estimate, true in estimated_and_true(*words) if 0.1 <= part <= 0.9]
+                self.assertEqual([(estimate, true) for estimate, true in found if not true * 2 / 3 <= estimate <= true * 4 / 3], [])
+
+    def test_few_matches(self):
+        competition = read_competition(toml([("a", "h:1"), ("b", "h:2")], [("one", "f")]).encode())
+        matches, concurrent = planned(competition, {"one": 2}), {"a": 1, "b": 1}
+        self.assertIsNone(seconds_left(matches, [], {}, concurrent, 4))
+        self.assertIsNone(seconds_left([], [(matches[0], 1.0)], {}, concurrent, 4))
+        found = [seconds_left(matches[1:], [], {"one": [8.0]}, concurrent, 4), seconds_left(matches[1:], [(matches[0], 5.0)], {"one": [8.0]}, concurrent, 4)]
+        self.assertEqual((found, seconds_left([], [], {"one": [8.0]}, concurrent, 4)), ([8.0, 11.0], 0.0))
+        # One that takes longer than others is about to end.
+        self.assertEqual(seconds_left([], [(matches[1], 20.0)], {"one": [8.0]}, concurrent, 1), 0.0)

@@ -8,14 +8,13 @@ from unittest import mock
 
 from ggp_tools.gdl import all_rules
 from ggp_tools.holding import compiling
-from ggp_tools.holding.following import Differs, Following
+from ggp_tools.holding.following import Following
 from ggp_tools.holding.game import Game
 from ggp_tools.holding.planning import Sizes, is_known, is_test
 from ggp_tools.holding.positions import Index, Position, Tables, Whole, by_functor, index_of
 from ggp_tools.holding.reading import Asked, Either, NotFollowed, Rule, Same, is_built, low, rules_of, term_of, tests_of, variables_of
 from ggp_tools.holding.relations import Relations
-from ggp_tools.instantiating.rounds import components
-from ggp_tools.kif import KifFault, Refused, expressions, fits, place
+from ggp_tools.kif import KifFault, Refused, expressions, place
 
 
 def rules(text):
@@ -135,12 +134,6 @@ class Tied(unittest.TestCase):
         self.assertEqual((found.circles, found.timely), ({("v", 1): (("v", 1),)}, {("true", 1), ("does", 2), ("u", 1)}))
         self.assertEqual(set(found.asks["v", 1]), {("n", 1), ("s", 1), ("v", 1), ("k", 1), ("m", 1)})
 
-    def test_sets_stand_behind_what_they_depend_on(self):
-        asks = {"a": {"b": None, "x": None}, "b": {"c": None}, "c": {"b": None, "d": None}, "d": {"y": None}, "e": {"a": None, "e": None}}
-        found = components(asks)
-        self.assertEqual(sorted(map(sorted, found)), [["a"], ["b", "c"], ["d"], ["e"]])
-        self.assertEqual([sorted(group) for group in found], [["d"], ["b", "c"], ["a"], ["e"]])
-
 
 class Positions(unittest.TestCase):
     def test_rows_by_what_they_have_at_some_places(self):
@@ -231,11 +224,6 @@ class Games(unittest.TestCase):
     def setUp(self):
         self.game = Game(self.TEXT)
 
-    def test_goals_are_numbers_from_0_to_100(self):
-        for state, wanted in (({"s"}, ([5, 100], [7])), (set(), ([5, 100], []))):
-            position = self.game.position(frozenset(state))
-            self.assertEqual((self.game.goals(position, "a"), self.game.goals(position, "b")), wanted)
-
     def test_the_sentences_that_give_something(self):
         s, other = frozenset({"s"}), frozenset({"other"})
         for relation, arguments, state, moves, wanted in (
@@ -267,32 +255,8 @@ class Games(unittest.TestCase):
     def test_what_follows_the_moves(self):
         self.assertEqual(set(self.game.following(self.game.position(frozenset({"s"}), self.MOVES))), {("did", "a", "go"), ("did", "b", ("m", "1"))})
 
-    def test_what_is_asked_between_turns_depends_on_no_moves(self):
-        for text, words in (
-            ("(<= (legal a m) (does a m))", "legal depends on does"), ("(<= (legal a m) p) (<= p q) (<= q p) (<= q (does a m))", "legal depends on does"),
-            ("(<= (goal a 1) (not (does a m)))", "goal depends on does"), ("(<= terminal (does a m))", "terminal depends on does"), ("(<= (init x) (true x))", "init depends on true"),
-            ("(<= (init x) (does a m))", "init depends on does"), ("(<= (role b) (true x))", "role depends on true"), ("(<= (role b) p) (<= p (does a m))", "role depends on does"),
-        ):
-            with self.assertRaises(Refused) as why:
-                Game(f"(role a) {text}")
-            self.assertEqual(str(why.exception).partition(", by ")[0], words)
-        Game("(role a) (<= (next x) (does a m) (true y)) (<= (legal a m) p) (<= p q) (<= q p) (<= q (true x))")
-
 
 class Followed(unittest.TestCase):
-    RECORD = {"roles": ["r"], "states": [["s"], ["t"]], "moves": [["m"]], "errors": [[""]], "goalValues": [], "phase": "playing"}
-
-    def test_a_pattern_is_a_term_for_some_values(self):
-        for pattern, term, is_so in (
-            ("?x", ("a", "b"), True), (("f", "?x", "?x"), ("f", "a", "a"), True), (("f", "?x", "?x"), ("f", "a", "b"), False), (("f", "?x"), ("f", "a", "b"), False),
-            ("a", "a", True), ("a", "b", False), ("a", ("a",), False), (("a",), "a", False), (("f", ("g", "?x"), "?x"), ("f", ("g", "a"), "a"), True),
-        ):
-            self.assertEqual(fits(pattern, term, {}), is_so, (pattern, term))
-
-    def test_numbers_then_atoms_then_lists(self):
-        order = ["0", "7", "10", "a", "b", ("a", "2"), ("a", "10"), ("b",)]
-        self.assertEqual(sorted(reversed(order), key=place), order)
-
     def test_the_place_of_a_term_is_that_of_its_parts(self):
         def before(first, second):
             """Returns whether a term comes before another: numbers by value, and equal ones by text, then other atoms, then lists."""
@@ -313,22 +277,6 @@ class Followed(unittest.TestCase):
         for _ in range(2_000):
             first, second = made(dice, 2), made(dice, 2)
             self.assertEqual(place(first) < place(second), first != second and before(first, second), (first, second))
-
-    def test_of_many_differences_five_of_each_kind_are_told(self):
-        game = Game("(role r) (legal r m) " + " ".join(f"(init (at {at}))" for at in range(7)) + "(<= (next ?t) (true ?t)) (<= terminal (true none)) (goal r 1)")
-        record = {**self.RECORD, "states": [[f"(on {at})" for at in range(8)], []]}
-        with self.assertRaises(Differs) as why:
-            Following(game).follow(record)
-        lines = str(why.exception).splitlines()
-        self.assertEqual([sum(word in line for line in lines) for word in ("the first state lacks (at ", "the first state has (on ")], [5, 5])
-
-    def test_roles_that_a_rule_gives_may_stand_in_any_order(self):
-        text = "(player a) (player b) (<= (role ?x) (player ?x)) (init s) (<= (next s) (true s)) (<= (legal ?r (m ?r)) (role ?r)) (<= terminal (true t)) (<= (goal ?r 1) (role ?r))"
-        for roles in (["a", "b"], ["b", "a"]):
-            record = {"roles": roles, "states": [["s"], ["s"]], "moves": [[f"(m {role})" for role in roles]], "errors": [["", ""]], "goalValues": [], "phase": "playing", "cause": None}
-            self.assertEqual(Following(Game(text)).follow(record), 1)
-        with self.assertRaises(Differs):
-            Following(Game(text)).follow({**record, "moves": [["(m a)", "(m b)"]]})
 
 
 class Compiled(unittest.TestCase):

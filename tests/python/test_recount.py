@@ -45,7 +45,7 @@ class Standings(unittest.TestCase):
     def assert_table(self, table, rows, cross):
         found = [
             (place, of.player, of.matches, of.mean(), of.won, of.drawn, of.lost, of.moves, of.replaced, of.absent, of.retired, of.won_by_forfeit, of.lost_by_forfeit, of.points())
-            for place, of in zip(table.places(), table.standings())
+            for place, of in zip(table.ranks(), table.standings())
         ]
         keys = "place", "player", "matches", "mean", "W", "D", "L", "moves", "replaced", "absent", "retired", "won_by", "lost_by", "points"
         self.assertEqual(found, [tuple(row[key] for key in keys) for row in rows])
@@ -164,7 +164,7 @@ class Rounds(unittest.TestCase):
             order, total, buchholz = plain.swiss_standings(names, len(games), said, sum(by_round, []), forfeit)
             table = tables(found, results, growing.rounds.found)[0]
             self.assertEqual([(of.player, of.points(), of.buchholz) for of in table.standings()], [(name, total[name], buchholz[name]) for name in order])
-            self.assertEqual(table.places(), [1 + sum((total[other], buchholz[other]) > (total[name], buchholz[name]) for other in order) for name in order])
+            self.assertEqual(table.ranks(), [1 + sum((total[other], buchholz[other]) > (total[name], buchholz[name]) for other in order) for name in order])
             meetings = Counter(frozenset(pair) for pairs, _ in said for pair in pairs)
             # Where there are players enough nobody meets again.
             again += sum(times > 1 for times in meetings.values()) if count >= 2 * rounds + 2 else 0
@@ -195,7 +195,7 @@ class Rounds(unittest.TestCase):
             won = {**lost_in, left[0]: len(by_round)}
             table = tables(found, results, growing.rounds.found)[0]
             self.assertEqual([(of.player, of.rounds_won) for of in table.standings()], sorted(won.items(), key=lambda place: (-place[1], names.index(place[0]))))
-            self.assertEqual(table.places(), [1 + sum(other > rounds for other in won.values()) for _, rounds in sorted(won.items(), key=lambda place: (-place[1], names.index(place[0])))])
+            self.assertEqual(table.ranks(), [1 + sum(other > rounds for other in won.values()) for _, rounds in sorted(won.items(), key=lambda place: (-place[1], names.index(place[0])))])
             self.assertEqual(len(growing.rounds.found), (count - 1).bit_length())
 
     def test_the_best_seeds_meet_last(self):

@@ -142,7 +142,7 @@ class Rules(WithStandIn):
     def test_a_bad_description_has_its_place(self):
         for said, words in (
             (self.BAD, "line 2, column 1: no such thing: (x)"), (b"ggp_manager: bad description\n", "bad description"),
-            (b"ggp_manager: bad description: the file is too long\n", "the file is too long"),
+            (b"ggp_manager: bad description: it has 9 bytes; at most 8 are accepted\n", "it has 9 bytes; at most 8 are accepted"),
         ):
             for ask in (lambda: self.referee.roles(b"", "nim"), lambda: self.referee.check_rules("game.kif")):
                 self.begin_anew()

@@ -5,8 +5,7 @@ import unittest
 from dataclasses import replace
 
 from ggp_tools.competition.results import (
-    Result, Sums, fault_of_record, forfeit_words, kind_of, match_line, remarks, result_of, result_of_values, retirement_of, values_of,
-    winner_words,
+    Result, fault_of_record, forfeit_words, kind_of, match_line, remarks, result_of, retirement_of, winner_words,
 )
 from ggp_tools.competition.schedule import Match
 from ggp_tools.match_log import event_of
@@ -18,7 +17,7 @@ RECORD = {
     "matchId": "cup-001", "players": ["ann", "bob"], "startClock": 10, "playClock": 5, "strikes": 2, "phase": "finished", "cause": None,
     "goalValues": [100, 0], "moves": [["a", "n"], ["n", "b"], ["a", "n"]], "errors": [["", "TO"], ["CE", ""], ["IL (x y)", "IL ?"]],
 }
-SUMS = Sums("first", "sum")
+SUMS = {"record": "first", "rules": "sum", "description": None}
 BROKEN = [{"role": 0, "message": 3, "why": "no connection"}]
 
 
@@ -175,11 +174,6 @@ class Remarks(unittest.TestCase):
 
 
 class Values(unittest.TestCase):
-    def test_values_of_json_say_all_of_a_result(self):
-        for has_forfeits in (False, True):
-            found = result_of(record(phase="aborted", cause="nogoal 1", goalValues=[]), MATCH, has_forfeits)
-            self.assertEqual(result_of_values(json.loads(json.dumps(values_of(found))), MATCH, has_forfeits), found)
-
     def test_without_a_word_of_it_there_are_no_forfeits(self):
         found = result_of(RECORD, MATCH)
         self.assertEqual(Result(MATCH, found.goals, found.turns, found.errors, found.retirements, "finished", None).forfeits(), {})

@@ -8,14 +8,13 @@ import unittest
 from collections import Counter
 from unittest import mock
 
-from ggp_tools.competition.again import order_again
 from ggp_tools.competition.competition_file import Mistaken, read_competition
 from ggp_tools.competition.files import Folder, Refused
 from ggp_tools.competition.growth import Again
 from ggp_tools.competition.history import again_text
-from ggp_tools.competition.kept import result_in_file
+from ggp_tools.competition.match_files import Check, unverified_result
 from ggp_tools.competition.pages import Site
-from ggp_tools.competition.plan import grows, make_plan, plan_next_round, read_plan, refuse_lost_results, round_words, rounds_left, sums_text
+from ggp_tools.competition.plan import grows, make_plan, order_again, plan_next_round, read_plan, refuse_lost_results, round_words, rounds_left, sums_text
 from ggp_tools.competition.round_pages import count_of_all, round_text, rounds_part, rounds_words
 from ggp_tools.competition.rounds import Round, bracket, matches_to_come, paired, rounds_of
 from ggp_tools.competition.schedule import Match, asked
@@ -39,7 +38,7 @@ def record(match, goals, **more):
 
 def is_lawful(_, __, ___, matches):
     """A fake check of whether a match counts."""
-    return iter([(matches[0], None, None, object())])
+    return [Check(matches[0], result=object())]
 
 
 class ByRounds(unittest.TestCase):
@@ -64,7 +63,7 @@ class ByRounds(unittest.TestCase):
             if not self.folder.record(match.id).exists() and match.counts():
                 self.folder.record(match.id).write_text(json.dumps(record(match, goals_of(match))) + "\n")
                 self.folder.account(match.id).write_text(f"0\topen {match.id} x\topened\n")
-        return {match.id: found for match in plan.matches if (found := result_in_file(self.folder, plan.competition, plan.rules, match))}
+        return {match.id: found for match in plan.matches if (found := unverified_result(self.folder, plan.competition, plan.rules, match))}
 
     def pairs(self, plan):
         return [(found.pairs, found.byes) for found in plan.rounds]
@@ -200,7 +199,7 @@ class ByRounds(unittest.TestCase):
         self.assertEqual(sorted(file.name for file in self.folder.earlier.iterdir()), ["4.toml", "8.toml"])
         for count, form, head, words in (
             (6, SWISS.format(2), "", "form.rounds was 3 and is 2"), (5, SWISS.format(3), "", "the player p5 is there no more"),
-            (6, SWISS.format(3), "forfeit = true", "forfeit was False and is True"), (6, 'kind = "knockout"', "", "form.kind was 'swiss' and is 'knockout'"),
+            (6, SWISS.format(3), "forfeit = true", "forfeit was false and is true"), (6, 'kind = "knockout"', "", "form.kind was 'swiss' and is 'knockout'"),
         ):
             self.write(count, form, head)
             self.assert_refused(words, self.make)
@@ -312,7 +311,7 @@ class ByRounds(unittest.TestCase):
         self.play(self.make())
         self.write(5, SWISS.format(2))
         self.make()
-        with mock.patch("ggp_tools.competition.again.looked_at", is_lawful):
+        with mock.patch("ggp_tools.competition.plan.checks", is_lawful):
             self.assertEqual(order_again(self.folder.path, REFEREE, "cup-002", "late").id, "cup-005")
         self.assertEqual([(match.id, match.instead_of) for match in self.read().matches[3:]], [("cup-004", ""), ("cup-005", "cup-002")])
 
@@ -320,11 +319,11 @@ class ByRounds(unittest.TestCase):
         self.write(4, SWISS.format(2))
         plan = self.make()
         self.play(plan)
-        with mock.patch("ggp_tools.competition.again.looked_at", is_lawful):
+        with mock.patch("ggp_tools.competition.plan.checks", is_lawful):
             new = order_again(self.folder.path, REFEREE, "cup-001", "the power was out")
             self.assertEqual((new.id, new.players, new.round, new.instead_of), ("cup-005", ("p0", "p1"), 1, "cup-001"))
             plan = self.read()
-            results = {match.id: found for match in plan.matches if (found := result_in_file(self.folder, plan.competition, plan.rules, match))}
+            results = {match.id: found for match in plan.matches if (found := unverified_result(self.folder, plan.competition, plan.rules, match))}
             self.assertEqual((sorted(results), plan_next_round(plan, results)), (["cup-001", "cup-002", "cup-003", "cup-004"], []))
             results = self.play(plan, lambda match: [0, 100])
             # What was ordered again does not count, so nothing waits for it.
@@ -345,7 +344,7 @@ class ByRounds(unittest.TestCase):
         self.folder.schedule.unlink()
         self.assertEqual([match.id for match in self.make().matches], ids)
         self.play(plan)
-        with mock.patch("ggp_tools.competition.again.looked_at", is_lawful):
+        with mock.patch("ggp_tools.competition.plan.checks", is_lawful):
             self.assertRegex(order_again(self.folder.path, REFEREE, ids[0], "x").id, r"\Acup-005-[a-z2-7]{12}\Z")
         plan = self.read()
         results = self.play(plan)
@@ -384,13 +383,13 @@ class ByRounds(unittest.TestCase):
             {**good, "errors": None}, {**good, "moves": 1}, {**good, "goalValues": [True, False]}, {**good, "matchId": "cup-002"}, {key: good[key] for key in good if key != "phase"},
         ):
             self.folder.record(match.id).write_text(json.dumps(wrong))
-            self.assertIsNone(result_in_file(self.folder, plan.competition, plan.rules, match), wrong)
+            self.assertIsNone(unverified_result(self.folder, plan.competition, plan.rules, match), wrong)
             self.assertEqual(len(self.read().matches), 2)
         for wrong in ("", "{", "[" * 100_000):
             self.folder.record(match.id).write_text(wrong)
-            self.assertIsNone(result_in_file(self.folder, plan.competition, plan.rules, match))
+            self.assertIsNone(unverified_result(self.folder, plan.competition, plan.rules, match))
         self.folder.record(match.id).write_text(json.dumps({key: good[key] for key in good if key != "cause"}))
-        self.assertEqual(result_in_file(self.folder, plan.competition, plan.rules, match).goals, (100, 0))
+        self.assertEqual(unverified_result(self.folder, plan.competition, plan.rules, match).goals, (100, 0))
 
 
 class Refusals(unittest.TestCase):

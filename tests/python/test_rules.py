@@ -7,8 +7,8 @@ from unittest import mock
 from ggp_tools.competition.command import arguments
 from ggp_tools.competition.init_file import write_first_file
 from players import TestPlayer
-from support import GAMES, toml
-from test_archive import changed, without
+from support import GAMES, assert_spoilt, toml
+from test_archive import changed, files_of, without
 from test_grown import InArchive
 
 HEAD = "start = 5\nplay = 5\n"
@@ -50,8 +50,8 @@ class Rules(InArchive):
         self.assertTrue(all(match["counted"] == [goal * (player != "cid") for goal, player in zip(match["goals"], match["players"])] for match in found if match["game"] == "three"))
         self.ran("publish")
         self.ran("check", "cup.tar.gz")
-        self.assert_spoilt({
-            "the rule is another": (changed("cup/competition.toml", lambda text: text.replace(b"replaced = 2", b"replaced = 3")), "table.json does not follow"),
+        assert_spoilt(self, files_of(self.folder / "cup.tar.gz"), {
+            "the rule is another": (changed("cup/competition.toml", lambda text: text.replace(b"replaced = 2", b"replaced = 3")), "faults.replaced was 2 and is 3"),
             "the reason is another": (changed("cup/matches.jsonl", lambda text: text.replace(b'"errors":["IL","IL"]', b'"errors":["IL","TO"]')), "matches.jsonl does not follow"),
         })
         text = (self.folder / "competition.toml").read_text()
@@ -79,9 +79,9 @@ class Rules(InArchive):
         self.ran("publish")
         self.assertIn("8 records and accounts", self.ran("check", "cup.tar.gz")[0])
         void = changed("cup/competition.toml", lambda text: b'withdrawn_results = "void"\n' + text)
-        self.assert_spoilt({
+        assert_spoilt(self, files_of(self.folder / "cup.tar.gz"), {
             "it has not withdrawn": (changed("cup/competition.toml", lambda text: text.replace(b"withdrawn = ", b"# ")), "earlier/12.toml asks for the same matches"),
-            "its matches do not count": (void, "table.json does not follow"),
+            "its matches do not count": (void, "withdrawn_results was 'keep' and is 'void'"),
             "a match of another one is missing": (without("cup/records/cup-007.json"), "cup-007: it has no record"),
         })
         self.write(players, COUNTDOWN, form='kind = "round_robin"\nrounds = 2', head=HEAD)
@@ -108,7 +108,7 @@ class Rules(InArchive):
         self.assertEqual(notes[:2], [absent, "dan has withdrawn; the matches that it has played do not count"])
         self.ran("publish")
         self.assertIn("8 records and accounts", self.ran("check", "cup.tar.gz")[0])
-        self.assert_spoilt({
+        assert_spoilt(self, files_of(self.folder / "cup.tar.gz"), {
             "they count": (changed("cup/competition.toml", lambda text: text.replace(b'"void"', b'"keep"')), "schedule.tsv is not what"),
             "one is not withdrawn": (changed("cup/competition.toml", lambda text: text.replace(b"withdrawn = true", b"")), "schedule.tsv is not what"),
             "who is absent stays": (changed("cup/competition.toml", lambda text: text.replace(b"absent_rounds = 1", b"")), "schedule.tsv is not what"),
@@ -133,9 +133,9 @@ class Rules(InArchive):
         self.ran("publish")
         self.assertIn("6 records and accounts", self.ran("check", "cup.tar.gz")[0])
         self.assertIn("<h2>Bracket</h2>", (first / "pages/index.html").read_text())
-        self.assert_spoilt({
+        assert_spoilt(self, files_of(self.folder / "cup.tar.gz"), {
             "there is no final": (changed("cup/competition.toml", lambda text: text.replace(b"final = 2", b"")), "schedule.tsv is not what"),
-            "an anchor is another": (changed("cup/competition.toml", lambda text: text.replace(b"1500", b"1600")), "table.txt does not follow"),
+            "an anchor is another": (changed("cup/competition.toml", lambda text: text.replace(b"1500", b"1600")), "anchor was {'ann': 1500} and is {'ann': 1600}"),
         })
         self.new_folder()
         text = toml([(player.name, player.place()) for player, in players], COUNTDOWN, 'kind = "knockout"', f'{HEAD}seeds = "{first}"\n')
@@ -145,7 +145,7 @@ class Rules(InArchive):
         pair = (self.folder / "schedule.tsv").read_text().splitlines()[1].split("\t")[4]
         self.assertEqual(pair, f"{order[0]} {order[3]}")
         (self.folder / "cup.tar.gz").write_bytes((self.folder / "last.tar.gz").read_bytes())
-        self.assert_spoilt({"the seeds are others": (changed("last/seeds.csv", lambda text: text.replace(order[0].encode(), b"x")), "schedule.tsv is not what")})
+        assert_spoilt(self, files_of(self.folder / "cup.tar.gz"), {"the seeds are others": (changed("last/seeds.csv", lambda text: text.replace(order[0].encode(), b"x")), "schedule.tsv is not what")})
         self.assertEqual(self.ran("table", first, ".")[0], "cup + last: 12 of 12 matches")
         self.assertIn("two of the folders have a competition of the name cup", self.refused("table", first, first))
 
@@ -158,14 +158,14 @@ class Rules(InArchive):
         self.assertIn("cup/competition.toml is there already", self.refused(*words))
         for more, refused in (
             (["--games", "nogame"], "'nogame' is neither a file nor a game"), (["--knockout"], "not allowed with argument --swiss"), (["--swiss", "x"], "rounds: this is no TOML"),
-            (["--final", "3"], "form.final: there are 2 players"), (["--name", "a cup"], "name: 'a cup' is no name"), (["--players", "ann=9147"], "players.address: '9147' is no HOST:PORT"),
+            (["--final", "3"], "form.final: there are 2 players"), (["--name", "a cup"], "name: expected a name of 1 to 40 letters"), (["--players", "ann=9147"], "players.address: expected HOST:PORT"),
         ):
             self.assertIn(refused, self.refused("init", "other", *words[2:], *more))
         self.assertFalse((self.folder / "other").exists())
         self.folder /= "cup"
         for command in (["plan"], ["play"], ["publish"], ["check", "cup.tar.gz"]):
             self.ran(*command)
-        self.assert_spoilt({"there is no final": (changed("cup/competition.toml", lambda text: text.replace(b"final = 2", b"")), "schedule.tsv is not what")})
+        assert_spoilt(self, files_of(self.folder / "cup.tar.gz"), {"there is no final": (changed("cup/competition.toml", lambda text: text.replace(b"final = 2", b"")), "schedule.tsv is not what")})
         asked = arguments(["init", str(self.folder / "asked/cup")])
         with mock.patch("builtins.input", side_effect=["countdown", "swiss 1", f"{ann},{bob}"]), mock.patch("sys.stdin.isatty", return_value=True):
             write_first_file(asked)

@@ -6,7 +6,7 @@ import types
 import unittest
 from collections import Counter
 
-from ggp_tools.competition.command import said_of_game
+from ggp_tools.competition.command import counts_of_game
 from ggp_tools.competition.competition_file import Mistaken, read_competition
 from ggp_tools.competition.schedule import MOST_MATCHES, circle_steps, refuse_too_many, schedule_text
 from planning import planned
@@ -47,14 +47,6 @@ class Schedule(unittest.TestCase):
                 for rounds in (1, 2, 3):
                     self.assertEqual(list(circle_steps(count, roles, rounds)), plain_steps(count, roles, rounds), (count, roles, rounds))
 
-    def test_round_robin_of_two_roles(self):
-        for count in (2, 3, 4, 7, 12):
-            for rounds in (1, 3):
-                found = matches(count, 2, f'kind = "round_robin"\nrounds = {rounds}')
-                pairs = Counter(match.players for match in found)
-                self.assertEqual(len(pairs), count * (count - 1))
-                self.assertEqual(set(pairs.values()), {rounds})
-
     def test_each_player_in_each_seat_equally_often(self):
         widest = 0
         for roles in range(1, 17):
@@ -90,12 +82,7 @@ class Schedule(unittest.TestCase):
 
     def test_two_players_meet_in_whatever_seats_they_sit(self):
         plan = types.SimpleNamespace(competition=read_competition(toml([(f"p{at}", f"h:{at + 1}") for at in range(3)], [("g0", "f")]).encode()), roles=lambda _: ("a", "b"))
-        self.assertEqual(said_of_game(plan, matches(3, 2)), "6 matches, roles a b; each player in each role: 2; each two players: 2")
-
-    def test_a_game_of_one_role_is_played_by_each_player_alone(self):
-        for form in ('kind = "round_robin"', 'kind = "gauntlet"\none = "p1"'):
-            found = matches(4, 1, f"{form}\nrounds = 3")
-            self.assertEqual(Counter(match.players for match in found), Counter({(f"p{number}",): 3 for number in range(4)}))
+        self.assertEqual(counts_of_game(plan, matches(3, 2)), "6 matches, roles a b; each player in each role: 2; each two players: 2")
 
     def test_the_limit_of_matches(self):
         self.assertEqual(len(matches(1_000, 1, 'kind = "round_robin"\nrounds = 100')), MOST_MATCHES)

@@ -26,8 +26,9 @@ from unittest.mock import Mock, patch
 from ggp_tools.competition import files, http_server, live, live_site, pages
 from ggp_tools.competition.competition_file import EACH_MATCH, WHEN_DEAD
 from ggp_tools.competition.live_site import LiveSite
-from ggp_tools.competition.page_changes import changes
+from ggp_tools.competition.page_parts import changes
 from ggp_tools.competition.page_parts import Items, Part
+from ggp_tools.competition.rounds import Round
 from ggp_tools.referee import NoReferee, Referee
 from html_pages import links_of, parsed, rows_of, text_of
 from live_support import SILENT, Missed, begin, end, line, plan_in, record_of, started
@@ -92,11 +93,11 @@ class Served(unittest.TestCase):
         self.assertEqual(status, 200, path)
         return text
 
-    def opened(self, path, **headers):
+    def opened(self, path, method="GET", **headers):
         """Returns an answer that is still to be read."""
         asking = http.client.HTTPConnection("127.0.0.1", self.port, timeout=60)
         self.addCleanup(asking.close)
-        asking.request("GET", path, headers=headers)
+        asking.request(method, path, headers=headers)
         return asking.getresponse()
 
     def events(self, page):
@@ -248,6 +249,7 @@ class Pages(Served):
         bad = (
             ({"goalValues": [0, 10**400]}, "one of its goals is not from 0 to 100"),
             ({"goalValues": [101, 0]}, "one of its goals is not from 0 to 100"),
+            ({"moves": [["noop", "noop"]] * 10_001, "errors": [["", ""]] * 10_001, "states": [[]] * 10_002}, "it has 10,001 turns, and a match has at most 10,000"),
             ({"matchId": "x" * 10**6}, "..,"), ({"startClock": 10**400}, "..,"), ({"errors": [["", 1]]}, "expected in errors: for each turn of moves a list with one text for each role"),
         )
         for wrong, said in bad:
@@ -434,6 +436,38 @@ class Delayed(Served):
         self.assertEqual(self.look_at(10), ("0 matches are open", "1 of 6"))
         self.assertIn('id="turn=2"', self.page(f"/matches/{match.id}.html"))
 
+    def test_a_record_that_is_replaced_is_shown_late_too(self):
+        match, other = self.plan.matches[:2]
+        turns = [["(take 2)", "noop"], ["noop", "(take 1)"]], [["", ""]] * 2
+        for over in (match, other):
+            end(self.plan, over, record_of(over, *turns, [0, 100]))
+        self.look_at(1)
+        self.assertEqual(self.look_at(61)[1], "2 of 6")
+        # Nobody has asked for the page of the match so far.
+        places = f"/matches/{match.id}.html", f"/api/matches/{match.id}", "/", "/players/player-ann.html", "/matches.html", "/api/table"
+        end(self.plan, match, record_of(match, [["(take 1)", "noop"]], [["IL (zq)", ""]], [100, 0]))
+        self.plan.folder.record(other.id).unlink()
+        shown = []
+        for seconds in (0, 1, 58, 62):
+            self.look_at(seconds)
+            texts = [self.ask(path)[1] for path in places]
+            shown.append((any(word in text for word in ("zq", f"{match.players[0]} won") for text in texts), "1 of 6" in texts[2]))
+        self.assertEqual(shown, [(False, False)] * 3 + [(True, True)])
+
+    def test_a_journal_that_is_replaced_is_shown_late_too(self):
+        match, words = self.plan.matches[0], "2026-01-02T03:04:05.000Z no record {}: {}\n"
+        self.plan.folder.journal.write_text(words.format(self.plan.matches[1].id, "ann is silent" * 5))
+        self.look_at(1)
+        self.look_at(61)
+        other = self.plan.folder.journal.with_name("other")
+        other.write_text(words.format(match.id, "bob is silent"))
+        other.replace(self.plan.folder.journal)
+        shown = []
+        for seconds in (1, 58, 62):
+            self.look_at(seconds)
+            shown.append("bob is silent" in self.page("/"))
+        self.assertEqual(shown, [False, False, True])
+
     def test_a_plan_is_shown_late(self):
         self.plan.folder.schedule.write_text("another")
         # Whatever time the file has.
@@ -444,6 +478,32 @@ class Delayed(Served):
         self.assertIs(self.site.reader, reader)
         self.look_at(2)
         self.assertIsNot(self.site.reader, reader)
+
+
+    def test_a_plan_that_changes_often_is_shown_late(self):
+        plans = []
+        for at in range(5):
+            self.moment += 30
+            plans.append(dataclasses.replace(self.plan))
+            self.site.read_plan = lambda: plans[-1]
+            self.plan.folder.schedule.write_text("x" * at)
+            self.site.look()
+            self.assertIs(self.site.plan, self.plan if at < 2 else plans[at - 2])
+
+    def test_a_round_that_was_paired_a_moment_ago_waits_also_for_a_server_that_begins_then(self):
+        matches = [dataclasses.replace(match, round=1 + at // 2) for at, match in enumerate(self.plan.matches)]
+        plan = dataclasses.replace(self.plan, matches=matches, rounds=[Round(number, (), ()) for number in (1, 2, 3)])
+        for match, age in zip(matches, (100, 90, 80, 10)):
+            plan.folder.record(match.id).touch()
+            os.utime(plan.folder.record(match.id), (self.moment - age, self.moment - age))
+        site = LiveSite(plan, Referee(program()), lambda: plan, delay=60)
+        self.assertEqual((site.plan.matches, len(site.plan.rounds)), (matches[:4], 2))
+        self.moment += 59
+        site.look_at_plan()
+        self.assertEqual(site.plan.matches, matches[:4])
+        self.moment += 1
+        site.look_at_plan()
+        self.assertIs(site.plan, plan)
 
 
 class Refused(Served):
@@ -461,9 +521,23 @@ class Refused(Served):
         self.assertEqual(self.ask("/events/matches/none.html?after=0")[0], 404)
 
     def test_other_methods(self):
-        for method in ("HEAD", "POST", "PUT", "DELETE", "OPTIONS", "PATCH"):
+        for method in ("POST", "PUT", "DELETE", "OPTIONS", "PATCH"):
             self.assertEqual(self.ask("/", method)[0], 405, method)
+            self.assertEqual(self.opened("/", method).getheader("Allow"), "GET, HEAD")
         self.assertEqual(self.ask("/", "BREW")[0], 400)
+
+    def test_head_is_answered_like_get_without_a_body(self):
+        for path, host in (("/", ""), ("/metrics", ""), ("/api/matches/none", ""), ("/none.html", ""), ("/", "evil.example"), ("/api/events", "")):
+            heads = []
+            for method in ("GET", "HEAD"):
+                with contextlib.closing(socket.create_connection(("127.0.0.1", self.port), timeout=60)) as asking:
+                    asking.sendall(f"{method} {path} HTTP/1.1\r\nHost: {host or 'localhost'}\r\n\r\n".encode())
+                    parts = iter(lambda: asking.recv(65_536), b"")
+                    # A stream of events has no end.
+                    whole = b"".join(parts) if method == "HEAD" or path != "/api/events" else next(parts)
+                head, _, body = whole.partition(b"\r\n\r\n")
+                heads.append([line for line in head.split(b"\r\n") if not line.startswith(b"Date: ")])
+            self.assertEqual((heads[0], body), (heads[1], b""), path)
 
     def test_other_names(self):
         # A site that gives its name to this address does not get the pages of a server that this computer alone can reach.

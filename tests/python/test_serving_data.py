@@ -13,6 +13,7 @@ from unittest.mock import patch
 
 import pytest
 from ggp_tools.competition import live_api
+from ggp_tools.competition.serving import origin
 from live_support import SILENT, begin, end, record_of, started
 from packages import searched
 from support import TOP, run
@@ -144,8 +145,23 @@ class Front(Served):
 
 
 @pytest.mark.parametrize(
+    "text, known",
+    [
+        ("HTTPS://Example.org:443", "https://example.org"),
+        ("http://club.example:0080", "http://club.example"),
+        ("http://club.example:443", "http://club.example:443"),
+        ("https://CLUB.example:8443", "https://club.example:8443"),
+    ],
+)
+def test_an_origin_is_kept_as_browsers_write_it(text, known):
+    assert origin(text) == known
+
+
+@pytest.mark.parametrize(
     "words, said",
     [
+        (("--embed", "https://club.example:65536"), "found 'https://club.example:65536'"),
+        (("--embed", "https://club.example:0"), "found 'https://club.example:0'"),
         (("--base-path", "cup"), "expected a path that begins with / and does not end with it, such as /cup, found 'cup'"),
         (("--base-path", "/cup/"), "found '/cup/'"),
         (("--host", "cup:80"), "expected a host name, such as cup.example.org, found 'cup:80'"),

@@ -237,7 +237,7 @@ def test_boards_of_hexagons(places: list[tuple[int, int]], is_hex: bool, lean: i
     first = placed(places[: len(places) // 2])
     (board,) = show.boards_of([first], named)
     assert (board.lean, len(board.places)) == (lean, len(places))
-    page = parsed(show.page_of({**example("countdown"), "moves": [], "errors": [], "states": [first]}, None, None, "", named))
+    page = parsed(show.page_of({**example("countdown"), "moves": [], "errors": [], "states": [first]}, frame=show.Frame(named=named)))
     cells = [tuple(map(int, re.findall("[0-9]+", cell["style"]))) for cell in page.select(".hex i")]
     assert cells == (sorted(places) if lean else [])
 

@@ -304,10 +304,10 @@ class Files(InFolder):
         found, held = {}, threading.Event()
         move = players[0].move
 
+        planned = set(self.folder.rglob("*"))
+
         def look(*message):
-            for root, folders, files in os.walk(self.folder / "open"):
-                found.update({os.path.join(root, name): os.stat(os.path.join(root, name)) for name in (*folders, *files)})
-            found[str(self.folder / "open")] = os.stat(self.folder / "open")
+            found.update({path: path.stat() for path in {self.folder / "open", *self.folder.rglob("*")} - planned})
             held.set()
             return move(*message)
 
@@ -319,9 +319,11 @@ class Files(InFolder):
         finally:
             os.umask(before)
         self.assertTrue(held.is_set())
-        self.assertIn("log.jsonl", {os.path.basename(path) for path in found})
+        self.assertLessEqual({"log.jsonl", "play.log"}, {path.name for path in found})
         # The addresses of the players and the stage of the match are no answers, and a match whose record is checked is over.
         others = [path for path, status in found.items() if status.st_mode & (stat.S_IRWXG | stat.S_IRWXO)]
-        self.assertLessEqual({os.path.basename(path) for path in others}, {"players", "record", "account", *STAGES})
+        self.assertLessEqual({path.name for path in others if path.parent.parent == self.folder / "open"}, {"players", "record", "account", *STAGES})
+        others = {path.relative_to(self.folder).parts[0] for path in others if path.parent.parent != self.folder / "open"}
+        self.assertLessEqual(others, {"records", "accounts", "logs"})
         for player in players:
             player.leave()

@@ -3,12 +3,14 @@
 import asyncio
 import json
 import os
+import shutil
 import signal
 import socket
 import subprocess
 import sys
 import time
 import types
+import unittest
 
 import pytest
 from ggp_tools.competition import children, job, jobs, started_players
@@ -81,6 +83,13 @@ def test_it_is_limited(tmp_path):
     ann.referee.info_words = lambda place: ["test", "-s", str(ann.log.path)]
     run_for(ann, "cup-001")
     assert (tmp_path / "players/ann.log").read_text() == f"({1 << 30}, {1 << 30}) 1\n"
+
+
+def test_it_has_a_limited_number_of_open_files(tmp_path):
+    ann = player(tmp_path, "ulimit -n; ulimit -Hn; exec sleep 600")
+    ann.referee.info_words = lambda place: ["test", "-s", str(ann.log.path)]
+    run_for(ann, "cup-001")
+    assert ann.log.path.read_text() == "1024\n1024\n"
 
 
 def test_different_players_get_different_processors(monkeypatch):
@@ -297,10 +306,18 @@ def test_the_memory_of_all_processes_is_bounded_where_systemd_takes_it(tmp_path,
     systemd.write_text(f'#!/bin/bash\necho "$*" >> {tmp_path}/asked\nuntil [ "$1" = -- ]; do shift; done\nshift\nexec "$@"\n')
     systemd.chmod(0o755)
     monkeypatch.setenv("PATH", f"{tmp_path}:{os.environ['PATH']}")
-    run_for(player(tmp_path, "echo up; exec sleep 600", memory=1 << 30), "cup-001")
+    asked, started = tmp_path / "asked", player(tmp_path, "echo up; exec sleep 600", memory=1 << 30)
+
+    async def play():
+        await started.ready("cup-001")
+        while len(asked.read_text().splitlines()) < 2:
+            await asyncio.sleep(0.01)
+        await started.end()
+
+    asyncio.run(play())
     user = "" if os.geteuid() == 0 else "--user "
     words = f"{user}--scope --quiet --property=MemoryMax={1 << 30} --property=MemorySwapMax=0 --"
-    assert (tmp_path / "asked").read_text().splitlines() == [f"{words} true", f"{words} sh -c echo up; exec sleep 600"]
+    assert asked.read_text().splitlines() == [f"{words} true", f"{words} sh -c echo up; exec sleep 600"]
     # A systemd-run that does not work, as where systemd does not run, is not used.
     systemd.write_text("#!/bin/sh\nexit 1\n")
     assert (job.bounded(1 << 30), job.bounded(0)) == ([], [])
@@ -342,6 +359,49 @@ def test_a_full_disk_ends_no_player(tmp_path):
 
 
 # ---- competitions
+
+# A player that tries to read and write files of the competition, and to kill the referee. It tells what it could do.
+THIEF = """#!/usr/bin/python3
+import contextlib, http.server, os, pathlib, signal, sys
+cup = pathlib.Path(sys.argv[2])
+
+class Thief(http.server.BaseHTTPRequestHandler):
+    def do_POST(self):
+        message = self.rfile.read(int(self.headers["Content-Length"]))
+        if message.startswith(b"(PLAY"):
+            self.steal()
+        reply = b"available" if message.startswith(b"INFO") else b"ready"
+        self.send_response(200)
+        self.send_header("Content-Length", str(len(reply)))
+        self.end_headers()
+        self.wfile.write(reply)
+
+    def steal(self):
+        attempts = {
+            "listed": lambda: os.listdir(cup / "open"), "read": lambda: open(cup / "open" / "cup-001" / "log.jsonl"), "key": lambda: open(cup / "ids.key").read(),
+            "wrote": lambda: (cup / "records" / "cup-009.json").touch(), "killed": self.kill,
+        }
+        for name, attempt in attempts.items():
+            try:
+                attempt()
+                print(name, flush=True)
+            except OSError as why:
+                print("not", name, why.strerror, flush=True)
+
+    def kill(self):
+        for file in pathlib.Path("/proc").glob("[0-9]*/cmdline"):
+            with contextlib.suppress(FileNotFoundError, ProcessLookupError):
+                command = file.read_bytes().split(b"\\0")
+                if command[1:2] == [b"run"] and str(cup).encode() in b" ".join(command):
+                    os.kill(int(file.parent.name), signal.SIGKILL)
+
+    def log_message(self, *words):
+        pass
+
+print("user", os.getuid(), flush=True)
+http.server.ThreadingHTTPServer(("", int(sys.argv[1])), Thief).serve_forever()
+"""
+
 
 class Started(InFolder):
     HEAD = "start = 60\nplay = 60\nwait = 0\ninfo = 10\ntries = 2\n"
@@ -418,6 +478,41 @@ class Started(InFolder):
         file.write_text(file.read_text().replace('"{port}", "1"]', '"{port}", "no seed"]', 1))
         status, out, said = run(self.folder, "try", "competition.toml", "ann")
         self.assertEqual((status, out.partition(";")[0]), (1, "down try ann: it ended with status 2"), said)
+
+    def test_plan_names_the_players_that_run_as_the_same_user(self):
+        self.planned()
+        words = "players that run as you, and can read and change all that you can: "
+        self.assertIn(f"{words}ann, bob\n", run(self.folder, "plan")[1])
+        file = self.folder / "competition.toml"
+        file.write_text(file.read_text().replace("start_seconds = 600", 'launcher = ["env"]', 1))
+        self.assertIn(f"{words}bob\n", run(self.folder, "plan")[1])
+        file.write_text(file.read_text().replace("start_seconds = 600", 'launcher = ["env"]'))
+        self.assertNotIn(words, run(self.folder, "plan")[1])
+
+    @unittest.skipUnless(os.geteuid() == 0, "only root can run a player as another user")
+    def test_a_player_of_another_user_reads_and_ends_nothing(self):
+        thief, python = self.folder / "thief.py", self.folder / "python"
+        thief.write_text(THIEF)
+        thief.chmod(0o755)
+        # The other user can read this directory, and neither that of the repository nor that of open matches.
+        self.folder.chmod(0o755)
+        shutil.copytree(TOP / "python", python, ignore=shutil.ignore_patterns("__pycache__"))
+        schedule = self.planned('launcher = ["setpriv", "--reuid=65534", "--regid=65534", "--clear-groups"]\nrestart = "each_match"')
+        file = self.folder / "competition.toml"
+        first, bob = f"{TOP}/examples/players/player.py", file.read_text().rindex("[[players]]")
+        text = file.read_text()[:bob] + file.read_text()[bob:].replace(f'"{first}", "{{port}}", "1"', f'"{thief}", "{{port}}", "{self.folder}"')
+        file.write_text(f'ids = "random"\n{text}')
+        # The other user may not run the Python that runs this.
+        words = {"capture_output": True, "text": True, "cwd": self.folder, "env": {**os.environ, "PATH": "/usr/sbin:/usr/bin:/sbin:/bin"}}
+        for command_line in ("plan", "play"):
+            done = subprocess.run([sys.executable, python / "ggp_competition", command_line, "--program", program()], **words)
+            self.assertEqual((done.returncode, done.stderr), (0, ""), done.stdout)
+        self.assertIn("2 of 2 matches have a lawful record", done.stdout)
+        log = (self.folder / "players/bob.log").read_text().splitlines()
+        self.assertEqual((log.count("user 65534"), len(log) > 10), (2, True), log)
+        denied = {f"not {name} Permission denied" for name in ("listed", "read", "key", "wrote")} | {"not killed Operation not permitted"}
+        self.assertEqual({line for line in log if not line.startswith("user")}, denied)
+        self.assertEqual((len(schedule), [process for process in self.processes() if is_alive(process)]), (2, []))
 
     def test_a_program_or_a_directory_that_is_not_there_is_refused(self):
         self.planned()

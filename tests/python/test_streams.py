@@ -93,7 +93,7 @@ def test_an_output_that_is_closed(monkeypatch):
 def test_what_is_said(capsys):
     say("one", end="")
     report("\u00e9\n")
-    assert capsys.readouterr() == ("one", "\\xe9\n\n")
+    assert capsys.readouterr() == ("one", "\\u{e9}\n")
 
 
 @pytest.mark.parametrize("call", ["say('text')", "put_bytes(b'text')"])

@@ -1,8 +1,7 @@
-"""The table, compared with a simple recount of random results, and in special cases."""
+"""The table in special cases. `test_recount.py` compares it with a simple recount of random results."""
 
 import csv
 import json
-import random
 import unittest
 from collections import Counter
 from dataclasses import replace
@@ -37,30 +36,6 @@ def line(results, player, head="", game=0):
 
 
 class Tables(unittest.TestCase):
-    def test_plain_recount(self):
-        chance = random.Random(5)
-        results = []
-        for _ in range(400):
-            players = chance.sample(NAMES, chance.choice((1, 2, 3)))
-            game = {1: "one", 2: "two", 3: "three"}[len(players)]
-            results.append(result(players, [chance.choice((0, 50, 100)) for _ in players], [chance.randrange(3) for _ in players], game=game))
-        for table in tables_of(competition(), results):
-            of_game = [one_result for one_result in results if table.game in ("all games", one_result.match.game)]
-            self.assertEqual(table.matches, len(of_game))
-            for name in NAMES:
-                mine = [(played, played.match.players.index(name)) for played in of_game if name in played.match.players]
-                found = table.lines[name]
-                versus = [(played.goals[at], [goal for other, goal in enumerate(played.goals) if other != at]) for played, at in mine if len(played.goals) > 1]
-                self.assertEqual(found.matches, len(mine))
-                self.assertEqual(found.goals, sum(played.goals[at] for played, at in mine))
-                self.assertEqual(found.won, sum(own > max(others) for own, others in versus))
-                self.assertEqual(found.lost, sum(own < max(others) for own, others in versus))
-                self.assertEqual(found.drawn, sum(own == max(others) for own, others in versus))
-                self.assertEqual(found.replaced, sum(played.replaced(at) for played, at in mine))
-                self.assertEqual((found.scored, found.moves, found.absent, found.retired), (len(mine), 5 * len(mine), sum(played.replaced(at) == 5 for played, at in mine), 0))
-                points = sum((own > other_goal) + (own == other_goal) / 2 for own, others in versus for other_goal in others)
-                self.assertEqual(sum(got for (player, _), got in table.points.items() if player == name), points)
-
     def test_the_order_and_places(self):
         # Means of 33.333.. and 33.33 are printed alike, so wins decide; then losses; else the place is shared.
         line = Line("x", matches=3, scored=3, goals=100, won=1, lost=2)
@@ -74,12 +49,12 @@ class Tables(unittest.TestCase):
         results = [result(["dan", "bob"], [100, 0]), result(["cid", "ann"], [0, 50]), result(["bob", "cid"], [50, 50]), result(["ann", "dan"], [0, 50])]
         results += [result(["bob", "cid"], [0, 0])]
         table = tables_of(competition(), results)[0]
-        found = [(place, standing.player, standing.mean(), standing.won, standing.lost) for place, standing in zip(table.places(), table.standings())]
+        found = [(place, standing.player, standing.mean(), standing.won, standing.lost) for place, standing in zip(table.ranks(), table.standings())]
         self.assertEqual(found, [(1, "dan", 75, 2, 0), (2, "ann", 25, 1, 1), (3, "bob", 16.67, 0, 1), (3, "cid", 16.67, 0, 1)])
         self.assertEqual([row[:2] for row in standings_rows(table)][1:], [["1", "dan"], ["2", "ann"], ["3", "bob"], ["3", "cid"]])
         self.assertEqual([row[0] for row in crosstable_rows(table)], ["", "1", "2", "3", "4"])
         alone = tables_of(competition(), [result([name], [40], game="one") for name in ("bob", "cid", "dan")] + [result(["ann"], [30], game="one")])[0]
-        self.assertEqual((alone.places(), [standing.player for standing in alone.standings()]), ([1, 1, 1, 4], ["bob", "cid", "dan", "ann"]))
+        self.assertEqual((alone.ranks(), [standing.player for standing in alone.standings()]), ([1, 1, 1, 4], ["bob", "cid", "dan", "ann"]))
 
     def test_who_made_no_move_is_told(self):
         results = [result(["ann", "bob"], [100, 0], [0, 5]), result(["bob", "ann"], [0, 100], [5, 0]), result(["bob", "cid"], [100, 0], [5, 4])]
@@ -139,7 +114,7 @@ class Tables(unittest.TestCase):
         results = [result(["ann", "bob"], [60, 70]), result(["ann", "cid"], [90, 10]), result(["bob", "cid"], [40, 40]), result(["dan", "cid"], [0, 5])]
         for head, order, places in (("", ["ann", "bob", "cid", "dan"], [1, 2, 3, 4]), ('order = "points"', ["bob", "cid", "ann", "dan"], [1, 2, 3, 4])):
             table = tables_of(competition(head), results)[0]
-            self.assertEqual(([of.player for of in table.standings()], table.places()), (order, places))
+            self.assertEqual(([of.player for of in table.standings()], table.ranks()), (order, places))
         self.assertEqual([of.points() for of in table.standings()], [1.5, 1.5, 1, 0])
         rows = list(standings_rows(table))
         self.assertEqual([row[3] for row in rows], ["points", "1.5", "1.5", "1", "0"])
@@ -181,7 +156,7 @@ class Tables(unittest.TestCase):
         self.assertEqual({name: value for name, value in values.items() if value}, {"player": "x"})
         self.assertEqual([name for name, value in values.items() if value is None], ["rating", "round_points", "buchholz", "rounds_won"])
         table = Table("two", {})
-        self.assertEqual((table.matches, table.points, table.met, table.by, table.again, table.rounds, table.standings(), table.places(), table.is_of_pairs(), table.has_forfeits()), (0, {}, {}, "", [], (), [], [], False, False))
+        self.assertEqual((table.matches, table.points, table.met, table.by, table.again, table.rounds, table.standings(), table.ranks(), table.is_of_pairs(), table.has_forfeits()), (0, {}, {}, "", [], (), [], [], False, False))
 
     def test_what_orders_a_line(self):
         line = Line("x", scored=3, goals=200, won=3, drawn=3, lost=1, round_points=8.5)
@@ -204,7 +179,7 @@ class Tables(unittest.TestCase):
         whole, two, other = self.by_rounds("swiss", rounds, results)
         self.assertEqual([(of.player, of.byes, of.points(), of.buchholz, of.rounds_won) for of in whole.standings()],
                          [("bob", 1, 4.5, 2.5, None), ("cid", 1, 4, 2.5, None), ("ann", 0, 2.5, 8.5, None)])
-        self.assertEqual((whole.places(), whole.rounds, whole.by, whole.matches, len(whole.again)), ([1, 2, 3], rounds, "swiss", 3, 1))
+        self.assertEqual((whole.ranks(), whole.rounds, whole.by, whole.matches, len(whole.again)), ([1, 2, 3], rounds, "swiss", 3, 1))
         # The tables of games know nothing of rounds.
         self.assertEqual([(of.player, of.byes, of.points()) for of in two.standings()], [("ann", 0, 2.5), ("bob", 0, 0.5), ("cid", 0, 0)])
         self.assertEqual((two.by, two.rounds, other.standings()), ("points", (), []))
@@ -218,7 +193,7 @@ class Tables(unittest.TestCase):
         first = [(pair, goals, 1, "") for pair, goals in ((("bob", "cid"), [0, 100]), (("cid", "bob"), [100, 0])) for _ in range(2)]
         whole, two, _ = self.by_rounds("knockout", rounds, [*first, (("ann", "cid"), [100, 0], 2, "")])
         self.assertEqual([(of.player, of.rounds_won, of.byes, of.buchholz) for of in whole.standings()], [("ann", 1, 1, None), ("cid", 1, 0, None), ("bob", 0, 0, None)])
-        self.assertEqual((whole.places(), whole.by, two.by), ([1, 1, 3], "knockout", "points"))
+        self.assertEqual((whole.ranks(), whole.by, two.by), ([1, 1, 3], "knockout", "points"))
         second = [(pair, goals, 2, "") for pair, goals in ((("ann", "cid"), [0, 100]), (("cid", "ann"), [100, 0])) for _ in range(2)]
         self.assertEqual([(of.player, of.rounds_won) for of in self.by_rounds("knockout", rounds, [*first, *second])[0].standings()], [("cid", 2), ("ann", 1), ("bob", 0)])
 

@@ -61,7 +61,7 @@ def values_of_macro(text: str) -> dict[str, dict[str, object]]:
         "live.waiting": {"waiting": text},
         "boards.terms": {"before": None},
         "boards.open_hexagons": {"lean": 1, "shift": 2, "halves": 3, "tops": {1: 2}},
-        "boards.cell": {"marks": [Value(text=visible(text), side=text)] * 2},
+        "boards.cell": {"tag": "button", "marks": [Value(text=visible(text), side=text)] * 2},
         "plots.ratings": {"rows": [row], "ticks": [(1, text)]},
         "plots.goals": {"lines": [(1, text)], "dots": [(1, 2)], "means": [(1, 2)]},
         "plots.times": {"bars": [(1, 2, 3, 4)], "ticks": [(1, text)]},

@@ -7,7 +7,7 @@ import unittest
 from ggp_tools.descriptions.loading import sum_of
 from ggp_tools.match_log import Other, line_of
 from players import TestPlayer, example, has_variables
-from support import GAMES, InFolder, run, toml
+from support import GAMES, InFolder, assert_spoilt, run, toml
 from test_archive import changed, files_of, packed, without
 
 TOLD = 'player_rules = "variables"'
@@ -91,7 +91,7 @@ class Told(InFolder):
             self.assertEqual([player.told[match] for player in self.players], [told[game]] * 2, match)
         self.assertEqual({error for record in self.records().values() for turn in record["errors"] for error in turn}, {""})
         self.tell_otherwise()
-        self.assert_refused("rules/SHA256SUMS would change, and matches were played", "plan")
+        self.assert_refused("player_rules of nim was 'variables' and is 'ground': put back what was changed", "plan")
         (self.folder / "competition.toml").write_text(toml([(player.name, player.place()) for player in self.players], GAMES_WITH_PLAYER_RULES, head=HEAD))
         self.assertEqual(run(self.folder, "publish")[0], 0)
         self.look_at_pages()
@@ -138,9 +138,4 @@ class Told(InFolder):
         # No call confirms that line, so `publish` leaves it out, and `check` holds the matches against their descriptions again.
         self.assertEqual([name for name, data in files.items() if name.startswith("cup/logs/") and b'"held"' in data], [])
         self.assertEqual(files["cup/rules/nim.players"], self.rules("nim.players"))
-        for name, (spoil, words) in SPOILINGS.items():
-            with self.subTest(name):
-                (self.folder / "spoilt.tar.gz").write_bytes(spoil(dict(files)))
-                status, out, said = run(self.folder, "check", "spoilt.tar.gz")
-                self.assertEqual((status, out), (1, ""))
-                self.assertIn(words, said)
+        assert_spoilt(self, files, SPOILINGS)

@@ -5,7 +5,7 @@ import shutil
 import time
 from dataclasses import replace
 
-from ggp_tools.competition.why import Told
+from ggp_tools.competition.why import Explanation
 from ggp_tools.match_log import last_run, messages
 from ggp_tools.moments import MOMENT
 from live_support import BEGAN, SILENT, Missed, end, line, opened, plan_in, record_of
@@ -145,7 +145,7 @@ class Why(InFolder):
         errors = [["", ""], ["", ""], ["TO", "CE"], ["", "IL ?"]]
         record = record_of(match, [["to", "noop"], ["lost", "ce"], ["noop", "noop"], ["il", "noop"]], errors, [0, 100])
         end(plan, match, record | {"startMarks": ["TO", ""], "endMarks": ["", "TO"]}, log)
-        said = "\n".join(Told(plan, match).lines(["ann", "bob"]))
+        said = "\n".join(Explanation(plan, match).lines(["ann", "bob"]))
         for words in ("turn 1: PLAY was answered `TO` after", "turn 2: PLAY was answered `lost` after", "turn 2: PLAY was answered `CE` after"):
             self.assertIn(words, said)
         for message, seconds in (("START", 20), ("turn 3: PLAY", 30), ("STOP", 30)):
@@ -158,24 +158,24 @@ class Why(InFolder):
     def test_where_a_move_would_be_legal(self):
         plan = plan_in(str(self.folder), ["ann", "bob"])
         match = plan.matches[0]
-        told = Told(plan, match)
-        told.record = {"states": [["(heap 2)", "(turn red)"], ["(heap 1)", "(turn blue)"]]}
-        self.assertEqual([told.roles, told.illegal.legal(0, 0), told.illegal.legal(1, 0)], [("red", "blue"), ["(take 1)", "(take 2)"], ["noop"]])
-        self.assertEqual(told.illegal_words(0, 0, "IL noop", "noop"), ", which has 2: (take 1), (take 2); it is legal for blue")
-        self.assertEqual(told.illegal_words(0, 1, "IL (take 2)", "(take 2)"), ", which has 1: noop; it was legal in the turn before")
-        self.assertEqual(told.illegal_words(0, 0, "IL (take 3)", "(take 3)"), ", which has 2: (take 1), (take 2)")
-        self.assertEqual([told.illegal_words(0, 0, error, "") for error in ("TO", "CE", "RT")], ["", "", ""])
+        explained = Explanation(plan, match)
+        explained.record = {"states": [["(heap 2)", "(turn red)"], ["(heap 1)", "(turn blue)"]]}
+        self.assertEqual([explained.roles, explained.illegal.legal(0, 0), explained.illegal.legal(1, 0)], [("red", "blue"), ["(take 1)", "(take 2)"], ["noop"]])
+        self.assertEqual(explained.illegal_text(0, 0, "IL noop", "noop"), ", which has 2: (take 1), (take 2); it is legal for blue")
+        self.assertEqual(explained.illegal_text(0, 1, "IL (take 2)", "(take 2)"), ", which has 1: noop; it was legal in the turn before")
+        self.assertEqual(explained.illegal_text(0, 0, "IL (take 3)", "(take 3)"), ", which has 2: (take 1), (take 2)")
+        self.assertEqual([explained.illegal_text(0, 0, error, "") for error in ("TO", "CE", "RT")], ["", "", ""])
         for states in ([], [["(heap 2"]], [[]]):
-            told = Told(plan, match)
-            told.record = {"states": states}
-            self.assertEqual(told.illegal_words(0, 0, "IL noop", "noop"), "")
+            explained = Explanation(plan, match)
+            explained.record = {"states": states}
+            self.assertEqual(explained.illegal_text(0, 0, "IL noop", "noop"), "")
 
     def test_turns_in_a_row_without_a_move_of_its_own(self):
         plan = plan_in(str(self.folder), ["ann", "bob"])
-        told = Told(plan, plan.matches[0])
+        explained = Explanation(plan, plan.matches[0])
         errors = [["TO", ""], ["", ""], ["TO", ""], ["TO", ""], ["RT", ""]]
-        told.record = {"states": [["(heap 3)"]] * 6, "moves": [["noop", "noop"]] * 5, "errors": errors, "strikes": 2}
-        said = [re.findall(r"turn \d in a row|so it is retired", told.turn_words(0, turn, "")) for turn in range(5)]
+        explained.record = {"states": [["(heap 3)"]] * 6, "moves": [["noop", "noop"]] * 5, "errors": errors, "strikes": 2}
+        said = [re.findall(r"turn \d in a row|so it is retired", explained.turn_text(0, turn, "")) for turn in range(5)]
         self.assertEqual(said, [[], [], [], ["turn 2 in a row", "so it is retired"], ["turn 3 in a row"]])
 
     def test_a_player_with_the_name_of_a_match(self):
@@ -189,11 +189,11 @@ class Why(InFolder):
             "begin cup-0010 heap cup-001 bob", "stopped heap is not played on, since cup-0010 is no match of its description", "round 10 of 12: cup-001 to cup-002",
         ]
         plan.folder.journal.write_text("".join(f"2026-01-01T00:00:00.000Z {line}\n" for line in lines))
-        told = Told(plan, plan.matches[0])
-        self.assertEqual([note.words for note in told.noted()], [lines[at] for at in (0, 3, 5, 6)])
-        self.assertEqual([note.role for note in told.noted()], [0, None, None, None])
-        of_round = Told(plan, replace(plan.matches[0], round=1))
-        self.assertEqual([note.words for note in of_round.noted()], [lines[at] for at in (0, 3, 5, 6, 7)])
+        explained = Explanation(plan, plan.matches[0])
+        self.assertEqual([note.text for note in explained.notes()], [lines[at] for at in (0, 3, 5, 6)])
+        self.assertEqual([note.role for note in explained.notes()], [0, None, None, None])
+        of_round = Explanation(plan, replace(plan.matches[0], round=1))
+        self.assertEqual([note.text for note in of_round.notes()], [lines[at] for at in (0, 3, 5, 6, 7)])
 
     def said_of(self, notes: str, log: str) -> str:
         """Returns the report about a player from a journal and a log. `MATCH` in the notes stands for the match."""
@@ -201,7 +201,7 @@ class Why(InFolder):
         match = plan.matches[0]
         plan.folder.journal.write_text(notes.replace("MATCH", match.id))
         plan.folder.log(match.id).write_text(log)
-        return "\n".join(Told(plan, match).lines(["ann"]))
+        return "\n".join(Explanation(plan, match).lines(["ann"]))
 
     def message(self, number: int, answer: str, time: int | None) -> str:
         """Returns the line of a message that was sent this many seconds after the match began."""

@@ -1,5 +1,4 @@
--- For callers of desks over rings: a desk's lines stay its lines while calls are posted, taken and
--- served.
+-- The lines of a desk over rings stay its lines while calls are posted, taken and served.
 use Rattle.std.proofs.Common.{◌≡◌, ℕ, ◌<◌, List, [], ◌∷◌, ◌++◌, length, get_or, refl, sym, ◌∙◌, subst, arith, rules}
 use Rattle.std.specs.List.{All}
 use Rattle.call_history.specs.declared.port.Port.{Port}
@@ -28,7 +27,6 @@ module _ {C R : Type 0} where
     rings = λ p. let P : ℕ → Type 0 = λ n. IsPortOf (get_or ps n p) l in subst P (sym f.number_is) (f.rings p);
   }
 
-  -- a new line stays new through the desk's rounds
   pub new_of_same : (ps qs : List (Port C R)) (i : ℕ) (l : LineValue C R) → SamePorts ps qs → i < length ps → IsNewLine ps i l → IsNewLine qs i l
   new_of_same ps qs i l s below new = record {
     number_is = new.number_is;
@@ -51,10 +49,9 @@ module _ {C R : Type 0} where
       let P : List (LineValue C R) → Type 0 = λ x. AreEndsOf ps x in
       subst P (sym is) (All-push (IsLineOf ps) es e all one)
 
-  -- the new lines of a desk are its lines
   pub lines_of_new : (ps : List (Port C R)) (ls : List (LineValue C R)) → AreNewLines ps ls → length ls ≡ length ps → All (IsLineOf ps) ls
   lines_of_new ps ls new count = λ k l below. line_of_new ps k (get_or ls k l) (omega (arith, below, count)) (new k l below)
 
-  -- ends stay the desk's through its rounds
+  -- ends stay the desk's ends through its rounds
   pub ends_of_ports : (ps qs : List (Port C R)) (es : List (LineValue C R)) → SamePorts ps qs → AreEndsOf ps es → AreEndsOf qs es
   ends_of_ports ps qs es s all = λ k e below. line_of_same ps qs (get_or es k e) (get_or es k e) s (search rules) (all k e below)

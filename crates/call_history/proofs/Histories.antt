@@ -12,14 +12,14 @@ module _ {S C R : Type 0} (reply : S → C → R) (after : S → C → S) where
   IsLegalHistory-snoc s [] e legal is = (is, tt)
   IsLegalHistory-snoc s (x ∷ es) e legal is = (legal.0, IsLegalHistory-snoc (after s x.call) es e legal.1 is)
 
-  -- the same, read the other way
+  -- the converse
   pub IsLegalHistory-unsnoc : (s : S) (es : List (Entry C R)) (e : Entry C R) → IsLegalHistory reply after s (es ++ e ∷ []) → IsLegalHistory reply after s es × (e.reply ≡ reply (run after s es) e.call)
   IsLegalHistory-unsnoc s [] e legal = (tt, legal.0)
   IsLegalHistory-unsnoc s (x ∷ es) e legal =
       let rest : IsLegalHistory reply after (after s x.call) es × (e.reply ≡ reply (run after (after s x.call) es) e.call) = IsLegalHistory-unsnoc (after s x.call) es e legal.1 in
       ((legal.0, rest.0), rest.1)
 
-  -- the object makes one call more, and the entry stands at the end
+  -- the object makes one more call, and the history gets its entry
   pub IsReplay-snoc : (opening : S → S) → ((s : S) (c : C) → opening (after s c) ≡ opening s)
       → (old new : S) (es es' : List (Entry C R)) (e : Entry C R)
       → IsReplay reply after opening old es → e.reply ≡ reply old e.call → new ≡ after old e.call → es' ≡ es ++ e ∷ []

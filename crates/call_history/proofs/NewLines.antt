@@ -1,4 +1,4 @@
--- One line more is opened.
+-- Opening one more line.
 use Rattle.std.proofs.Common.{◌≡◌, ℕ, ◌<◌, ◌≢◌, List, [], ◌∷◌, ◌++◌, length, get_or, sym, ◌∙◌, subst, arith, ⊎_elim, true, false}
 use Rattle.std.proofs.lemmas.Grind.{common_steps}
 use Rattle.std.proofs.lemmas.List.{get_or_append_left, get_or_push}
@@ -6,10 +6,6 @@ use Rattle.std.proofs.lemmas.Bool.Decides.{eqb_tells}
 use Rattle.std.proofs.Math.Dec.{eqb}
 use Rattle.call_history.specs.declared.port.Port.{Port}
 use Rattle.call_history.specs.RingLines.{LineValue, posted_calls, taken_replies, AreNewLines, IsNewLine, IsPortOf}
-
--- the i-th element of a list with one more, for i below the length, and at the length
-pub before_last : {X : Type 0} (xs : List X) (x : X) (i : ℕ) (d : X) → i < length xs → get_or (xs ++ x ∷ []) i d ≡ get_or xs i d
-before_last xs x i d lt = grind (arith, common_steps)
 
 pub at_last : {X : Type 0} (xs : List X) (x : X) (i : ℕ) (d : X) → i ≡ length xs → get_or (xs ++ x ∷ []) i d ≡ x
 at_last xs x i d e = grind (arith, common_steps)

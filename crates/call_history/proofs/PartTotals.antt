@@ -1,4 +1,4 @@
--- The counts of the lines add up to the history.
+-- The counts of the lines add up to the length of the history.
 use Rattle.std.proofs.Common.{◌≡◌, ℕ, ◌+◌, ◌<◌, ◌≤◌, ◌≢◌, ⊎_elim, zero, suc, List, [], ◌∷◌, length, get_or, set, sum, refl, sym, ◌∙◌, ap, subst, arith}
 use Rattle.std.specs.List.{All}
 use Rattle.std.proofs.lemmas.Grind.{common_steps}
@@ -31,7 +31,6 @@ module _ {C R : Type 0} where
   part_there : (e : Entry C R) (h : List (Entry C R)) (i : ℕ) → i ≢ e.line → part i (e ∷ h) ≡ part i h
   part_there e h i ne = grind (arith, common_steps)
 
-  -- if each count is the length of the line's part, the counts add up to the history's length
   pub total : (h : List (Entry C R)) (made : List ℕ) → ((i : ℕ) → i < length made → get_or made i 0 ≡ length (part i h)) → All (λ e. e.line < length made) h → sum made ≡ length h
   total [] made each lines = sum_zero made each
   total (e ∷ h) made each lines =
@@ -62,7 +61,6 @@ module _ {C R : Type 0} where
       omega (arith, past_below e h n past, here))
       (cases_lt e.line n)
 
-  -- the parts of the lines have all entries, if each entry is of one of them
   pub all_below : (h : List (Entry C R)) (n : ℕ) → All (λ e. e.line < n) h → length h ≡ entries_below n h
   all_below [] n lines = sym (none_below C R n)
   all_below (e ∷ h) n lines = omega (arith, all_below h n (λ k d below. lines (suc k) d (omega (arith, below))), one_below e h n (lines 0 e (omega arith)))

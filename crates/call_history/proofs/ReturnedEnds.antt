@@ -49,7 +49,7 @@ module _ {C R : Type 0} where
       → ((j : ℕ) (e : LineValue C R) → j < i → P (get_or es j e)) → P f → (j : ℕ) (e : LineValue C R) → j < i + 1 → P (get_or (set es i f) j e)
   upto_set P es i f lt before one = λ j e below. get_set P es i j f e lt (λ at. one) (λ n. before j e (omega (arith, n)))
 
-  -- what the first `count` ends show: all are served, or the lowest number of an unserved one
+  -- the result for the first `count` ends: all are served, or the lowest number of an unserved one
   abbrev pub Compared : List (Entry C R) → List (LineValue C R) → ℕ → Option ℕ → Type 0
   Compared h es count lowest = MatchOption lowest ((i : ℕ) (e : LineValue C R) → i < count → IsServed h (get_or es i e)) (λ n. IsLowestUnserved h es count n)
 
@@ -106,7 +106,6 @@ module _ {C R : Type 0} where
       let rest : end_numbers fs ≡ end_numbers es = numbers_of_same es fs (record { count = omega (arith, s.count); each = λ i d below. s.each (suc i) d (omega arith) }) in
       ap (λ n. n ∷ end_numbers fs) here ∙ ap (λ ns. e.number ∷ ns) rest
 
-  -- if a number is among those of the ends, one of them has it
   pub has_end : (es : List (LineValue C R)) (n : ℕ) → has_number n (end_numbers es) ≡ true → (k : ℕ) × (k < length es) × ((e : LineValue C R) → (get_or es k e).number ≡ n)
   has_end [] n has = absurd (cc)
   has_end (e ∷ es) n has = elim (eqb_tells e.number n) [
@@ -120,19 +119,16 @@ module _ {C R : Type 0} where
   pub prefix_of_same : (h : List (Entry C R)) (a b : LineValue C R) → SameEnd a b → TakesPrefix h b → TakesPrefix h a
   prefix_of_same h a b s p = (p.0, ap (λ x. x ++ p.0) (sym s.taken) ∙ p.1 ∙ ap (λ n. replies_of (part n h)) s.line.0)
 
-  -- what is known of each end, by its number
   pub own_calls : (h : List (Entry C R)) (es : List (LineValue C R)) → All (IsServed h) es → HaveOwnCalls h es
   own_calls h es all n e among is = sym (All-contains (IsServed h) es e all among ∙ ap (λ k. calls_of (part k h)) is)
 
   pub own_replies : (h : List (Entry C R)) (es : List (LineValue C R)) → All (TakesPrefix h) es → HaveOwnReplies h es
   own_replies h es all n e among is = subst (λ k. IsPrefix (taken_replies e) (replies_of (part k h))) is (All-contains (TakesPrefix h) es e all among)
 
--- an element of a list that is not empty
 pub some_of : {X : Type 0} (xs : List X) (k : ℕ) → k < length xs → X
 some_of [] k lt = absurd (omega arith)
 some_of (x ∷ xs) k lt = x
 
--- the end that has a number which is among those of the ends
 pub end_with : {C R : Type 0} (es : List (LineValue C R)) (n : ℕ) → has_number n (end_numbers es) ≡ true
     → (end : LineValue C R) × Contains es end × (end.number ≡ n)
 end_with es n has =

@@ -7,8 +7,8 @@ use Rattle.std.proofs.lemmas.List.Sums.{sum_by-set, sum_by-cons}
 use Rattle.std.proofs.lemmas.List.Folds.{sum_by-replicate}
 use Rattle.call_history.specs.Lines.{LockLineValue, numbers, has_number, HasAll}
 
--- Of these lines, rest are still to come. No line has come yet for an awaited number. For the other numbers, made has
--- the lines' calls. The parts and the amount are those of the shares that were put together.
+-- Of these lines, rest are still to come. For an awaited number, no line has come yet. For each other number, made has the number of
+-- the line's calls. The parts and the amount are those of the combined shares.
 pub record IsGathering (lines rest : List LockLineValue) (awaited : List Bool) (made : List ℕ) (parts amount : ℕ) : Type 0 where
   pub width : length made ≡ length awaited
   pub parts_so_far : parts + count_by (λ b. b) awaited ≡ length awaited
@@ -33,7 +33,6 @@ count_by-none (false ∷ bs) none =
     let step : count_by (λ (x : Bool). x) (false ∷ bs) ≡ 0 + count_by (λ (x : Bool). x) bs = sum_by-cons (λ (x : Bool). cond x 1 0) false bs in
     step ∙ omega (arith, count_by-none bs (λ k h. none (suc k) h))
 
--- a place that is read as true is within the list
 within_of_true : (bs : List Bool) (k : ℕ) → get_or bs k false ≡ true → k < length bs
 within_of_true [] k h = absurd (cc)
 within_of_true (b ∷ bs) zero h = omega arith
@@ -43,7 +42,6 @@ false_of : (b : Bool) → (b ≡ true → ⊥) → b ≡ false
 false_of true never = absurd (never refl)
 false_of false never = refl
 
--- no line has come yet
 pub IsGathering-start : (lines left : List LockLineValue) (awaited : List Bool) (made : List ℕ) (parts amount : ℕ) → HasAll (numbers lines) (length awaited) → ((k : ℕ) → k < length awaited → get_or awaited k false ≡ true)
     → made ≡ replicate (length awaited) 0 → parts ≡ 0 → amount ≡ 0 → left ≡ lines → IsGathering lines left awaited made parts amount
 IsGathering-start lines left awaited made parts amount has all zeros no_parts no_amount same =
@@ -58,7 +56,7 @@ IsGathering-start lines left awaited made parts amount has all zeros no_parts no
       noted = λ k within h. absurd (let yes = all k within in cc);
     }
 
--- a line of another number may be left out
+-- a line with another number can be left out
 has_number-other : (k : ℕ) (line : LockLineValue) (rest : List LockLineValue) → k ≢ line.number → has_number k (numbers (line ∷ rest)) ≡ true → has_number k (numbers rest) ≡ true
 has_number-other k line rest other has =
     let fails : eqb line.number k ≡ false = elim (eqb_tells line.number k) [ inl same ↦ absurd (other (sym same.1)) | inr differ ↦ differ.0 ] in
@@ -67,7 +65,6 @@ has_number-other k line rest other has =
 Contains-more : (line : LockLineValue) (rest : List LockLineValue) (other : LockLineValue) → Contains rest other → Contains (line ∷ rest) other
 Contains-more line rest other here = (suc here.0, omega (arith, here.1), here.2)
 
--- the line of a number that is awaited
 pub IsGathering-take : (lines left rest : List LockLineValue) (line : LockLineValue) (awaited : List Bool) (made : List ℕ) (parts amount parts' amount' : ℕ) → IsGathering lines left awaited made parts amount
     → left ≡ line ∷ rest → get_or awaited line.number false ≡ true → parts' ≡ parts + 1 → amount' ≡ amount + line.made
     → IsGathering lines rest (set awaited line.number false) (set made line.number line.made) parts' amount'
@@ -117,7 +114,6 @@ IsGathering-pass lines left rest line awaited made parts amount before comes pas
       noted = so_far.noted;
     }
 
--- all lines have come
 pub IsGathering-end : (lines left : List LockLineValue) (awaited : List Bool) (made : List ℕ) (parts amount : ℕ) → IsGathering lines left awaited made parts amount → length left ≡ 0
     → (parts ≡ length awaited) × ((k : ℕ) → k < length awaited → Contains lines (record { number = k; made = get_or made k 0 }))
 IsGathering-end lines left awaited made parts amount before none_left =

@@ -1,4 +1,4 @@
--- What serving one line does to what was served of all lines.
+-- How serving one line changes what the desk has served to all lines.
 use Rattle.std.proofs.Common.{◌≡◌, ℕ, ◌+◌, ◌<◌, ◌≤◌, ◌⊎◌, ◌≢◌, List, [], ◌∷◌, ◌++◌, length, get_or, set, refl, sym, subst, ◌∙◌, arith, rules, ⊎_elim, inl, inr, true, false, Result, Ok, Err, MatchResult, IfOk}
 use Rattle.std.proofs.lemmas.Grind.{common_steps}
 use Rattle.std.proofs.lemmas.Bool.Decides.{eqb_tells}
@@ -49,9 +49,6 @@ same_ports_set {C} {R} ps qs i q s lt one = record {
       (eqb_tells j i);
 }
 
-pub gains_none : {C R : Type 0} (h : List (Entry C R)) → Gains h h 0 0
-gains_none h = record { gained = []; behind = grind (arith, common_steps); count_is = refl; below = λ k d lt. absurd (omega arith); rising = λ i j d a b. absurd (omega arith) }
-
 pub gains_skip : {C R : Type 0} (h h' : List (Entry C R)) (i n : ℕ) → Gains h h' i n → Gains h h' (i + 1) n
 gains_skip h h' i n g = record { gained = g.gained; behind = g.behind; count_is = g.count_is; below = λ k d lt. omega (arith, g.below k d lt); rising = g.rising }
 
@@ -81,7 +78,6 @@ serves_with {C} {R} h h' ps i q e before s =
 pub gains_with : {C R : Type 0} (h h' h'' : List (Entry C R)) (i n : ℕ) → Gains h h' i n → h'' ≡ h' → Gains h h'' (i + 1) n
 gains_with {C} {R} h h' h'' i n g e = let P : List (Entry C R) → Type 0 = λ x. Gains h x (i + 1) n in subst P (sym e) (gains_skip h h' i n g)
 
--- the j-th element after a change at i
 pub get_set : {X : Type 0} (P : X → Type 0) (xs : List X) (i j : ℕ) (y d : X) → i < length xs → (j ≡ i → P y) → (j ≢ i → P (get_or xs j d)) → P (get_or (set xs i y) j d)
 get_set {X} P xs i j y d lt at other =
     ⊎_elim
@@ -90,19 +86,19 @@ get_set {X} P xs i j y d lt at other =
     (λ (n : (eqb j i ≡ false) × (j ≢ i)). subst P (sym (get_or-set_other xs i j y d n.1)) (other n.1))
     (eqb_tells j i)
 
--- a part of the history never gets shorter
+-- a line's part of the history never becomes shorter
 pub part_grows : {C R : Type 0} (i : ℕ) (h more : List (Entry C R)) → length (part i h) ≤ length (part i (h ++ more))
 part_grows i h more = grind (arith, common_steps)
 
 pub part_gains : {C R : Type 0} (i : ℕ) (h : List (Entry C R)) (e : Entry C R) → e.line ≡ i → length (part i (h ++ e ∷ [])) ≡ length (part i h) + 1
 part_gains i h e is = grind (arith, common_steps, is)
 
--- the line at i was as it had been when the round began
+-- the line at i is as it was when the round began
 pub passed_by : {C R : Type 0} (ps0 ps : List (Port C R)) (i : ℕ) (old q : Port C R) → ((p : Port C R) → old ≡ get_or ps i p)
     → ((j : ℕ) (p : Port C R) → i ≤ j → get_or ps j p ≡ get_or ps0 j p) → IsPassedBy old q → (p : Port C R) → IsPassedBy (get_or ps0 i p) q
 passed_by {C} {R} ps0 ps i old q is rest passed p = subst (λ (x : Port C R). IsPassedBy x q) (is p ∙ rest i p (omega arith)) passed
 
--- the lines behind i are still so
+-- the lines after i are as they were when the round began
 pub rest_after : {C R : Type 0} (ps0 ps : List (Port C R)) (i : ℕ) (q : Port C R) → ((j : ℕ) (p : Port C R) → i ≤ j → get_or ps j p ≡ get_or ps0 j p)
     → (j : ℕ) (p : Port C R) → i + 1 ≤ j → get_or (set ps i q) j p ≡ get_or ps0 j p
 rest_after ps0 ps i q rest j p above = get_or-set_other ps i j q p (λ same. omega (arith, same, above)) ∙ rest j p (omega (arith, above))
@@ -131,16 +127,7 @@ visits_idle {C} {R} h h' h'' ps0 ps i q lt same passed visited =
     (λ at. inl (subst (λ (n : ℕ). IsPassedBy (get_or ps0 n p) q) (sym at) (passed p)))
     (λ apart. visited j p (omega (arith, below, apart))))
 
-pub visits_stop : {C R : Type 0} (h h' h'' : List (Entry C R)) (ps0 ps : List (Port C R)) (i : ℕ) (q : Port C R)
-    → i < length ps → h'' ≡ h' → Visits h h' ps0 ps i → Visits h h'' ps0 (set ps i q) i
-visits_stop {C} {R} h h' h'' ps0 ps i q lt same visited =
-    let V : List (Entry C R) → Type 0 = λ x. Visits h x ps0 (set ps i q) i in
-    subst V (sym same) (λ j p below.
-    get_set (λ x. IsPassedBy (get_or ps0 j p) x ⊎ (length (part j h) < length (part j h'))) ps i j q p lt
-    (λ at. absurd (omega (arith, below, at)))
-    (λ apart. visited j p below))
-
--- a round that serves nothing leaves each line idle
+-- after a round that serves nothing, each line is idle
 pub idle_after : {C R F : Type 0} (served : Result ℕ F) (h h' : List (Entry C R)) (ps0 ps : List (Port C R)) (bound : ℕ) (P Q : F → Type 0) → length ps ≡ bound
     → MatchResult served (λ n. Gains h h' bound n) P → MatchResult served (λ _. Visits h h' ps0 ps bound) Q → IfOk served (λ n. n ≡ 0 → All IsIdle ps)
 idle_after (Ok n) h h' ps0 ps bound P Q count gains visited = λ none i p below.

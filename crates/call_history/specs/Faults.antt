@@ -1,4 +1,4 @@
--- How a wire's fault follows from a fault of its desk.
+-- The error of a wire for each error of its desk.
 use Rattle.call_history.specs.declared.journal.CallFault.{CallFault}
 use Rattle.call_history.specs.declared.journal.CallFault.TheVariants.{Full, Memory}
 use Rattle.call_history.specs.declared.wire.AskFault.{AskFault}

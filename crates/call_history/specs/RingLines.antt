@@ -1,4 +1,4 @@
--- A line over rings, as contracts see it: what it posted and took, and its rings.
+-- What contracts see of a line over rings: what it posted and took, and its rings.
 use Rattle.std.specs.Prelude.{◌≡◌, ℕ, ◌<◌, Bool, List, [], length, slice_index_or}
 use Rattle.std.specs.List.{All}
 use Rattle.std.specs.Global.{Global}
@@ -8,38 +8,37 @@ use Rattle.rtrb.specs.declared.consumer.Consumer.{Consumer}
 use Rattle.rtrb.specs.declared.producer.Producer.{Producer}
 use Rattle.call_history.specs.declared.port.Port.{Port}
 
--- a line, or its end, as contracts see it: its number, its end of the ring of its calls, and its end of the ring of the replies
+-- what contracts see of a line, or of its end: its number, and its ends of the rings for calls and for replies
 pub record LineValue (C R : Type 0) : Type 0 where
   pub number : ℕ
   pub calls : Producer C Global AnyItems
   pub replies : Consumer R Global AnyItems
 
--- a wire over a line, as contracts see it: the tries for each call, and whether a call had no reply within them
+-- what contracts see of a wire over a line: the tries for each call, and whether the wire has stalled
 pub record RingWireValue (C R : Type 0) : Type 0 where
   pub line : LineValue C R
   pub tries : ℕ
   pub has_stalled : Bool
 
--- the same ends of the same two rings, on the desk's side
+-- the desk's ends of the same two rings
 pub record SamePort {C R : Type 0} (a b : Port C R) : Type 0 where
   pub calls : SameConsumer a.calls b.calls
   pub replies : SameProducer a.replies b.replies
 
--- the same for each line: the desk stands for the same lines
+-- the same ends for each line: the desk has the same lines
 pub record SamePorts {C R : Type 0} (before after : List (Port C R)) : Type 0 where
   pub count : length after ≡ length before
   pub each : (i : ℕ) (p : Port C R) → i < length before → SamePort (slice_index_or before i p) (slice_index_or after i p)
 
 module _ {C R : Type 0} where
-  -- the calls that the line posted, in their order
   abbrev pub posted_calls : LineValue C R → List C
   posted_calls line = sent line.calls
 
-  -- the replies that the line took, in their order
+  -- the replies that the line took, in order
   abbrev pub taken_replies : LineValue C R → List R
   taken_replies line = received line.replies
 
-  -- the same number, and the same ends of the same two rings
+  -- the same number, and ends of the same two rings
   abbrev pub SameLine : LineValue C R → LineValue C R → Type 0
   SameLine a b = (b.number ≡ a.number) × SameProducer a.calls b.calls × SameConsumer a.replies b.replies
 
@@ -47,23 +46,20 @@ module _ {C R : Type 0} where
   abbrev pub IsPortOf : Port C R → LineValue C R → Type 0
   IsPortOf port line = IsPair line.calls port.calls × IsPair port.replies line.replies
 
-  -- a line of the desk that has these ports
   pub record IsLineOf (ports : List (Port C R)) (line : LineValue C R) : Type 0 where
     pub within : line.number < length ports
     pub rings : (p : Port C R) → IsPortOf (slice_index_or ports line.number p) line
 
-  -- the ends of lines of that desk
   abbrev pub AreEndsOf : List (Port C R) → List (LineValue C R) → Type 0
   AreEndsOf ports ends = All (IsLineOf ports) ends
 
-  -- a new line of that desk: it has this number, and nothing was posted or taken
+  -- a new line of the desk with these ports: it has this number, and has posted and taken nothing
   pub record IsNewLine (ports : List (Port C R)) (number : ℕ) (line : LineValue C R) : Type 0 where
     pub number_is : line.number ≡ number
     pub rings : (p : Port C R) → IsPortOf (slice_index_or ports number p) line
     pub posted : posted_calls line ≡ []
     pub taken : taken_replies line ≡ []
 
-  -- new lines, numbered from 0
   abbrev pub AreNewLines : List (Port C R) → List (LineValue C R) → Type 0
   AreNewLines ports lines = (i : ℕ) (line : LineValue C R) → i < length lines → IsNewLine ports i (slice_index_or lines i line)
 

@@ -1,4 +1,4 @@
-//! How the thread of a desk over rings and the threads of its lines signal each other.
+//! How the thread of a desk over rings and the threads of its lines wake each other.
 use std::sync::Wait;
 use std::sync::atomic::{AtomicU64, Ordering};
 use std::time::Duration;
@@ -7,10 +7,10 @@ const AWAKE: u64 = 0;
 
 const ASLEEP: u64 = 1;
 
-/// The bell of a desk over rings. A line rings it after posting a call, and when it is done. The desk's thread sleeps on it while
-/// no call comes, and signals through it when it makes no further call.
+/// The bell of a desk over rings. A line rings it after it posts a call, and when it is done. The desk's thread sleeps on it
+/// while no call comes, and signals through it that it makes no further calls.
 ///
-/// No promise of a desk or of a line depends on it.
+/// No guarantee of a desk or a line depends on the bell.
 #[derive(Drop)]
 pub struct Bell {
     sleep: AtomicU64,
@@ -19,7 +19,7 @@ pub struct Bell {
 }
 
 impl Bell {
-    /// A bell that has not been rung.
+    /// Creates a bell that has not been rung.
     pub const fn new() -> Bell {
         Bell {
             sleep: AtomicU64::new(AWAKE),
@@ -28,7 +28,7 @@ impl Bell {
         }
     }
 
-    /// Wakes the desk's thread if it sleeps or is about to. It costs little if the thread is awake.
+    /// Wakes the desk's thread if it sleeps or is about to sleep. If the thread is awake, this costs little.
     pub fn ring(&self) {
         if self.sleep.load(Ordering::SeqCst) == ASLEEP
             && self.sleep.swap(AWAKE, Ordering::SeqCst) == ASLEEP
@@ -48,29 +48,30 @@ impl Bell {
         self.left.load(Ordering::SeqCst)
     }
 
-    /// Signals that the desk makes no further call. A line that waits for a reply can give up.
+    /// Signals that the desk makes no further calls, so that lines can stop waiting for replies.
     pub fn stop(&self) {
         self.stopped.store(1, Ordering::SeqCst);
     }
 
-    /// Whether the desk makes no further call.
+    /// Whether the desk makes no further calls.
     pub fn has_stopped(&self) -> bool {
         self.stopped.load(Ordering::SeqCst) > 0
     }
 
-    /// Announces that the desk's thread is about to sleep. It looks for calls once more after this; any later call wakes it.
+    /// Announces that the desk's thread is about to sleep. The thread checks for calls once more after this; any later call
+    /// wakes it.
     pub(crate) fn prepare_sleep(&self) {
         self.sleep.store(ASLEEP, Ordering::SeqCst);
     }
 
-    /// Sleeps until the bell is rung, or for the time `longest`. It returns at once if the bell was rung since `prepare_sleep`,
-    /// and it may return for no reason.
+    /// Sleeps until the bell is rung, but at most for `longest`. Returns at once if the bell was rung since `prepare_sleep`,
+    /// and may wake up for no reason.
     pub(crate) fn sleep<R: Wait>(&self, rt: &R, longest: Duration) {
         self.sleep.park_timeout(rt, ASLEEP as u32, longest);
         self.stay_awake();
     }
 
-    /// Takes back that the desk's thread is about to sleep.
+    /// Cancels `prepare_sleep`.
     pub(crate) fn stay_awake(&self) {
         self.sleep.store(AWAKE, Ordering::SeqCst);
     }

@@ -1,4 +1,4 @@
-//! Lines that come back to a desk over rings: whether all their calls were served.
+//! When lines come back to a desk over rings: whether the desk has served all their calls.
 ghost use Rattle.std.specs.Prelude.{◌≡◌, ◌<◌, ℕ, slice_index_or, length, MatchBool, MatchOption, min};
 ghost use Rattle.std.specs.List.{All};
 ghost use Rattle.call_history.specs.Parts.{part};
@@ -12,8 +12,8 @@ use crate::object::Object;
 use crate::port::Port;
 use crate::ring_line::LineEnd;
 
-/// Whether no call of a line waits. Both ends of each ring are in one thread now, so they can be compared. The journal is not
-/// read: only the clauses speak of its history.
+/// Whether no call of a line is waiting. Both ends of each ring are now in one thread, so they can be compared. Only the
+/// clauses read the journal, for its history.
 fn compare<O: Object>(
     journal: &Journal<O>,
     port: &mut Port<O::Call, O::Reply>,
@@ -33,7 +33,7 @@ fn compare<O: Object>(
     waiting == 0 && port.kept.is_none()
 }
 
-/// The lower of this number and the lowest one so far.
+/// The lower of the two numbers, or `number` if there is no lowest one yet.
 fn lower(lowest: Option<u32>, number: u32) -> u32
     ensures { MatchOption lowest (result ≡ number) (λ n. result ≡ min n number) }
 {
@@ -43,7 +43,8 @@ fn lower(lowest: Option<u32>, number: u32) -> u32
     }
 }
 
-/// Compares all ends with the desk's. Returns the lowest number of a line that posted more than its part of the history has.
+/// Compares all ends with the desk's ends. Returns the lowest number of a line that has posted more calls than the desk
+/// served.
 pub(crate) fn lowest_unserved<O: Object>(
     journal: &Journal<O>,
     ports: &mut Vec<Port<O::Call, O::Reply>>,
@@ -73,7 +74,7 @@ pub(crate) fn lowest_unserved<O: Object>(
     lowest
 }
 
-/// Notes how many calls the line of each number made. The journal is not read: only the clauses speak of its history.
+/// Stores how many calls each line made, by its number. Only the clauses read the journal, for its history.
 pub(crate) fn note_made<O: Object>(
     journal: &Journal<O>,
     made_by_line: &mut Vec<u64>,

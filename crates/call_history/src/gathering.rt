@@ -7,9 +7,8 @@ ghost use Rattle.call_history.specs.Lines.{numbers, has_number, HasAll, IsLowest
 use crate::line::LockLine;
 use std::sync::ledger::{Ledger, Share};
 
-/// A line that comes back to its desk. It may be a lock's or a ring's.
+/// A line that comes back to its desk, either from a lock or from rings.
 pub(crate) trait Numbered {
-    /// Its number.
     ghost number: { Self → ℕ };
 
     fn number(&self) -> u32
@@ -24,7 +23,6 @@ impl<L: Ledger> Numbered for LockLine<L> {
     }
 }
 
-/// Notes for each number whether one of these lines has it.
 fn note_numbers<N: Numbered>(lines: &[N], found: &mut [bool])
     ensures { (k : ℕ) → k < length found.old → slice_index_or found.new k false ≡ has_number k (map N.number lines.now) }
 {
@@ -37,8 +35,7 @@ fn note_numbers<N: Numbered>(lines: &[N], found: &mut [bool])
     }
 }
 
-/// The lowest number with a place in `found` that none of these lines has. If there is none, each
-/// place of `found` is left true.
+/// The lowest number with a place in `found` that none of these lines has. If there is none, all of `found` is set to true.
 pub(crate) fn lowest_missing<N: Numbered>(lines: &[N], found: &mut [bool]) -> Option<u32>
     requires { length found.old < 2 ^ 32 }
     ensures some { IfSome result (λ n. IsLowestMissing (map N.number lines.now) (length found.old) n) }
@@ -54,9 +51,8 @@ pub(crate) fn lowest_missing<N: Numbered>(lines: &[N], found: &mut [bool]) -> Op
     None
 }
 
-/// Puts the shares of the lines together, and notes for each number what its line made. A place of
-/// `awaited` is true until a line with its number has come. A further line with that number is
-/// dropped, and so is a line with a number that has no place.
+/// Combines the shares of the lines, and stores how many calls each line made. A place of `awaited` is true until the line
+/// with its number has come. A second line with that number is dropped, and so is a line whose number has no place.
 pub(crate) fn gather<L: Ledger>(
     lines: Vec<LockLine<L>>,
     awaited: &mut [bool],

@@ -1,4 +1,4 @@
-//! An object with the history of its calls.
+//! An object and the history of its calls.
 ghost use Rattle.std.specs.Prelude.{◌≡◌, ◌≤◌, ◌↔◌, [], ◌∷◌, ◌++◌, length, IfOk, OnOk, OnErr, IsErrOf};
 ghost use Rattle.call_history.specs.declared.journal.CallFault.TheVariants.{Memory};
 ghost use Rattle.call_history.specs.History.{IsReplay};
@@ -10,13 +10,13 @@ use std::error::Error;
 use std::fmt;
 use std::marker::Model;
 
-/// The limit of entries that a history may be opened for.
+/// The largest number of entries for which a history can be opened.
 pub const MAX_ENTRIES: u64 = 1_000_000;
 
-/// Why a call was not made. The history does not hold it, and nothing has changed.
+/// Why a call was not made. The history does not have the call, and nothing has changed.
 #[derive(Clone, Copy, Debug, PartialEq, Eq)]
 pub enum CallFault {
-    /// The history has reached the limit of entries that it was opened with.
+    /// The history has as many entries as it was opened for.
     Full,
     /// Out of memory.
     Memory,
@@ -49,7 +49,7 @@ pub struct Entry<C, R> {
     pub reply: R,
 }
 
-/// An object, and the history of its calls in their order.
+/// An object, and the history of its calls in order.
 #[derive(Drop)]
 pub struct Journal<O: Object> {
     alloc: Global,
@@ -73,7 +73,7 @@ impl<O: Object> Model for Journal<O> {
 }
 
 impl<O: Object> Journal<O> {
-    /// A journal without entries. `most` is the limit of its entries.
+    /// Creates a journal without entries. `most` is the largest number of entries that it accepts.
     pub fn new(alloc: Global, object: O, most: u64) -> Journal<O>
         requires most { (1 ≤ most) × (most ≤ max_entries) }
         requires opening { O.opening object ≡ object }
@@ -89,7 +89,7 @@ impl<O: Object> Journal<O> {
         }
     }
 
-    /// Makes a call of a line, and keeps it with its reply.
+    /// Makes a call for a line, and stores it with its reply.
     pub fn call(&mut self, line: u32, call: &O::Call) -> Result<O::Reply, CallFault>
         ensures reply { IfOk result (λ r. r ≡ O.reply self.old.object call.now) }
         ensures history { IfOk result (λ r. self.new.history ≡ self.old.history ++ record { line = line; call = call.now; reply = r } ∷ []) }
@@ -114,7 +114,7 @@ impl<O: Object> Journal<O> {
         let kept = self.object.answer(self.alloc, call)?;
         let reply = self.object.answer(self.alloc, call)?;
         let copy = O::copy_call(self.alloc, call)?;
-        // The change comes last, after everything that can be refused.
+        // The change comes last, after every step that can fail.
         self.object.apply(self.alloc, call)?;
         self.entries.push_reserved(Entry {
             line,
@@ -124,7 +124,7 @@ impl<O: Object> Journal<O> {
         Ok(reply)
     }
 
-    /// The history: the entries in the order of their calls.
+    /// The history, in the order of the calls.
     pub fn entries(&self) -> &[Entry<O::Call, O::Reply>]
         ensures entries { result.now ≡ self.now.history }
 
@@ -135,14 +135,14 @@ impl<O: Object> Journal<O> {
         self.entries.as_slice()
     }
 
-    /// The object after the calls.
+    /// The object after all calls.
     pub fn object(&self) -> &O
         ensures { result.now ≡ self.now.object }
     {
         &self.object
     }
 
-    /// The object and its history.
+    /// Takes the journal apart: the object and its history.
     pub(crate) fn into_parts(self) -> (O, Vec<Entry<O::Call, O::Reply>>)
         ensures object { result.0 ≡ self.object }
         ensures history { result.1.items ≡ self.history }

@@ -1,11 +1,11 @@
-//! Laws of the definitions of this crate, each on a function that does nothing.
+//! Laws of the definitions of this crate. Each is a function that does nothing.
 //!
-//! The definitions read a history from its front. Two laws say what they give at its end, and so, by the number of entries, for
+//! The definitions read a history from its front. Two laws say what they give at its end, and therefore, by induction, for
 //! each entry. One law says that the constants are the limits of the definitions.
 //!
-//! The laws on rings tie the lines of a desk to it over the calls of its rounds and of the lines, so that a caller who has kept the
-//! lines of a desk can close it with their ends. They have no arguments, as they speak of what was before those calls: call them
-//! with the type of the desk's object.
+//! The laws on rings say that the lines of a desk stay its lines while the desk serves and the lines post and take, so a
+//! caller who keeps the lines can close the desk with their ends. These laws have no arguments, because they relate values
+//! from before and after such calls: name the type of the desk's object when you call them.
 ghost use Rattle.std.specs.Prelude.{◌≡◌, ◌↔◌, [], ◌∷◌, ◌++◌};
 ghost use Rattle.call_history.specs.History.{run, IsLegalHistory};
 ghost use Rattle.call_history.specs.Limits.{max_entries, max_lines, max_room};
@@ -16,7 +16,7 @@ use crate::lock::MAX_LINES;
 use crate::object::Object;
 use crate::ring_opening::MAX_ROOM;
 
-/// A history with one more entry leaves the object as its last call leaves it.
+/// The run of a history with one more entry is the value that the last call leaves.
 pub fn run_with_one_more<O: Object>(
     object: &O,
     history: &[Entry<O::Call, O::Reply>],
@@ -26,8 +26,8 @@ pub fn run_with_one_more<O: Object>(
         ≡ O.after (run O.after object.now history.now) last.now.call }
 {}
 
-/// A history with one more entry is legal if and only if it was legal before and the last reply is the reply of the object that it
-/// left.
+/// A history with one more entry is legal if and only if it was legal before, and the last reply is the object's reply at
+/// that point.
 pub fn legal_with_one_more<O: Object>(
     object: &O,
     history: &[Entry<O::Call, O::Reply>],
@@ -38,32 +38,34 @@ pub fn legal_with_one_more<O: Object>(
         × (last.now.reply ≡ O.reply (run O.after object.now history.now) last.now.call)) }
 {}
 
-/// `MAX_ENTRIES` is the limit of entries in a history, `MAX_LINES` of lines at a desk, and `MAX_ROOM` of slots in a ring.
+/// `MAX_ENTRIES` is the limit of entries in a history, `MAX_LINES` that of lines of a desk, and `MAX_ROOM` that of slots in
+/// a ring.
 pub fn constants_are_the_limits()
     ensures entries { MAX_ENTRIES ≡ max_entries }
     ensures lines { MAX_LINES ≡ max_lines }
     ensures room { MAX_ROOM ≡ max_room }
 {}
 
-/// The lines of a desk over rings stay its lines while the desk serves, and while the lines post and take. So do their ends.
+/// The lines of a desk over rings stay its lines while the desk serves and while the lines post and take. The same holds for
+/// their ends.
 pub fn lines_stay<O: Object>()
     ensures lines { LinesStay O.Call O.Reply }
     ensures ends { EndsStay O.Call O.Reply }
 {}
 
-/// A new line of a desk over rings is a line of it, and stays a new one while the desk serves.
+/// A new line of a desk over rings is a line of the desk, and stays new while the desk serves.
 pub fn new_lines_are_lines<O: Object>()
     ensures lines { NewLinesAreLines O.Call O.Reply }
     ensures stay { NewLinesStay O.Call O.Reply }
 {}
 
-/// A desk over rings stands for the same lines before and after any number of rounds.
+/// A desk over rings has the same lines before and after any number of rounds.
 pub fn desks_stay<O: Object>()
     ensures same { PortsAreSame O.Call O.Reply }
     ensures through { PortsStaySame O.Call O.Reply }
 {}
 
-/// A number that is among those of some ends is the number of one of these ends.
+/// If a number is among the numbers of some ends, one of these ends has it.
 pub fn numbers_are_of_ends<O: Object>()
     ensures { NumbersAreOfEnds O.Call O.Reply }
 {}

@@ -4,9 +4,9 @@ ghost use Rattle.std.specs.Prelude.{◌≡◌};
 use std::marker::Model;
 use std::sync::ledger::{Ledger, Share};
 
-/// One line of a desk, by which a caller makes calls. It can be sent to a thread of its own.
+/// A line of a desk: one caller's access to the object. You can send it to another thread.
 ///
-/// `L` is the ledger of its desk, so the lines of two desks have two types.
+/// `L` is the ledger of its desk, so the lines of two desks have different types.
 #[derive(Drop)]
 pub struct LockLine<L: Ledger> {
     pub(crate) number: u32,
@@ -22,7 +22,7 @@ impl<L: Ledger> Model for LockLine<L> {
 
     ghost view = { λ l. record { number = l.number; made = l.made } };
 
-    // A line has one part of the desk's ledger, and its calls are its share of the total.
+    // A line has one part of the desk's ledger, and its share of the total is the number of its calls.
     ghost invariant = { λ l. (l.share.parts ≡ 1) × (l.share.amount ≡ l.made) };
 }
 
@@ -34,7 +34,7 @@ impl<L: Ledger> LockLine<L> {
         self.number
     }
 
-    /// The number of its calls that got a reply.
+    /// The number of calls of this line that got a reply.
     pub fn made(&self) -> u64
         ensures { result ≡ self.now.made }
     {

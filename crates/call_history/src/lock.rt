@@ -14,24 +14,23 @@ use std::sync::ledger::{Blank, Book, Ledger, Share};
 use std::sync::{Mutex, Wait};
 use thiserror::Error;
 
-/// The limit of lines at a desk.
+/// The largest number of lines of a desk.
 pub const MAX_LINES: u32 = 4_096;
 
-/// The data under the lock: the journal, and the total of the calls that the lines made.
+/// The data under the lock: the journal, and the total number of calls of the lines.
 #[derive(Drop)]
 struct Locked<O: Object, L: Ledger> {
     journal: Journal<O>,
     calls: Book<L>,
     gathered: Share<L>,
     ghost counted: { length journal.history ≡ calls.total },
-    // The lines' shares are added to this one at the end.
+    // `close` adds the shares of the lines to this one.
     ghost no_parts: { gathered.parts ≡ 0 },
     ghost no_amount: { gathered.amount ≡ 0 },
 }
 
 impl<O: Object, L: Ledger> Locked<O, L> {
-    /// The whole critical section: one call of the journal, and one step of the total and of the
-    /// line's share.
+    /// The whole critical section: one call of the journal, counted in the total and in the line's share.
     fn call(
         &mut self,
         line: u32,
@@ -63,14 +62,14 @@ impl<O: Object, L: Ledger> Locked<O, L> {
     }
 }
 
-/// An object with its history behind a lock, for callers with a line each.
+/// An object with its history behind a lock. Each caller has a line.
 ///
-/// Contracts see only the number of a desk's lines. A contract cannot name the data under the lock:
-/// what is known of it comes out at `close`.
+/// Contracts see only the number of a desk's lines. A contract cannot name the data under the lock, so only `close` says
+/// what is known about them.
 #[derive(Drop)]
 pub struct LockDesk<O: Object, L: Ledger> {
     locked: Mutex<Locked<O, L>>,
-    // Both have a place for each line from the opening on, so that `close` takes no memory.
+    // Both have a place for each line from the start, so `close` allocates nothing.
     found: Vec<bool>,
     made_by_line: Vec<u64>,
 }
@@ -89,26 +88,26 @@ impl<O: Object, L: Ledger> Model for LockDesk<O, L> {
         × (d.made_by_line.items ≡ replicate (length d.found.items) 0) };
 }
 
-/// The result of closing a desk once all its lines have come back.
+/// What a desk leaves when it is closed, after all its lines have come back.
 #[derive(Drop)]
 pub struct Closed<O: Object> {
-    /// The calls that got a reply, in their order.
+    /// The calls that got a reply, in order.
     pub history: Vec<Entry<O::Call, O::Reply>>,
     /// The object after these calls.
     pub object: O,
-    /// The number of calls that each line made, by the lines' numbers.
+    /// The number of calls that each line made. The index is the line's number.
     pub made_by_line: Vec<u64>,
 }
 
 /// Why a desk was not closed.
 #[derive(Clone, Copy, Debug, PartialEq, Eq, Error)]
 pub enum CloseFault {
-    /// No line with this number was handed in. It is the lowest such number.
+    /// None of the given lines has this number. It is the lowest such number.
     #[error("line {0} is missing")]
     MissingLine(u32),
 }
 
-/// A desk that was not closed, still open, with the lines that were handed in.
+/// A desk that was not closed. It stays open, and comes back with the given lines.
 #[derive(Drop)]
 pub struct Unclosed<O: Object, L: Ledger> {
     pub desk: LockDesk<O, L>,
@@ -116,11 +115,11 @@ pub struct Unclosed<O: Object, L: Ledger> {
     pub cause: CloseFault,
 }
 
-/// Opens a desk with an empty history of at most `most` entries, and its lines. If memory runs out,
-/// the object comes back.
+/// Opens a desk with an empty history of at most `most` entries, and its lines. If an allocation is refused, the object
+/// comes back.
 ///
-/// The blank has one part for each line. Call this function in a function over `L`, and call that one
-/// with `Brand`, as std's `sync::ledger` says.
+/// The blank has one part for each line. Call this function in a function over `L`, and call that one with `Brand`, as
+/// `sync::ledger` of std explains.
 pub fn open_lock<O: Object, L: Ledger>(
     alloc: Global,
     blank: Blank,
@@ -170,10 +169,10 @@ pub fn open_lock<O: Object, L: Ledger>(
 }
 
 impl<O: Object, L: Ledger> LockDesk<O, L> {
-    /// Makes a call of the line. It waits for the lock, and holds it for this one call.
+    /// Makes a call on the line. It waits for the lock, and holds it only for this call.
     ///
-    /// At `Ok` the entry stands in the history that `close` returns. `Full` comes only if that
-    /// history is full. No contract says either, since none can name the data under the lock.
+    /// After `Ok` the history that `close` returns has the entry, and `Full` comes only if that history is full. No contract
+    /// says so, since none can name the data under the lock.
     pub fn ask<R: Wait>(
         &self,
         rt: &R,
@@ -191,8 +190,8 @@ impl<O: Object, L: Ledger> LockDesk<O, L> {
         Ok(reply)
     }
 
-    /// Closes the desk if all its lines are handed in. Otherwise the desk and the lines come back. It
-    /// takes no memory, and looks at each line twice.
+    /// Closes the desk if all its lines are given. Otherwise the desk and the lines come back. It allocates nothing, and
+    /// visits each line twice.
     pub fn close(self, lines: Vec<LockLine<L>>) -> Result<Closed<O>, Unclosed<O, L>>
         ensures all { IsOk result ↔ HasAll (numbers lines.items) self.lines }
 

@@ -10,7 +10,7 @@ use std::marker::Model;
 use std::sync::Wait;
 use std::sync::ledger::Ledger;
 
-/// A line of a desk, with the desk. Contracts see the line.
+/// A line together with its desk. Contracts see the line.
 #[derive(Drop)]
 pub struct LockWire<'a, O: Object, L: Ledger, R> {
     rt: &'a R,
@@ -27,14 +27,15 @@ impl<'a, O: Object, L: Ledger, R> Model for LockWire<'a, O, L, R> {
 }
 
 impl<'a, O: Object, L: Ledger, R> LockWire<'a, O, L, R> {
-    /// A wire that makes the line's calls on this desk. Each call waits for the lock with this runtime; nothing else waits.
+    /// Creates a wire that makes the line's calls on this desk. Each call waits for the lock with this runtime; nothing else
+    /// waits.
     pub fn new(rt: &'a R, desk: &'a LockDesk<O, L>, line: LockLine<L>) -> LockWire<'a, O, L, R>
         ensures { result ≡ line }
     {
         LockWire { rt, desk, line }
     }
 
-    /// Returns the line.
+    /// Gives the line back.
     pub fn end(self) -> LockLine<L>
         ensures { result ≡ self.entry }
     {

@@ -4,14 +4,14 @@ use std::sync::Wait;
 use std::time::Duration;
 use std::{hint, thread};
 
-/// The number of rests in a row that only spin: about the time that a line needs for its next call.
+/// How many rests in a row only spin: about as long as a line needs for its next call.
 const SPINS: u32 = 64;
 
-/// The number of rests after these that give the processor to another thread. Then it sleeps.
+/// How many further rests give the processor to another thread, before the thread sleeps.
 const YIELDS: u32 = 8;
 
-/// The rests in a row of the thread that serves a desk. A call that comes soon is found soon, and a long wait takes no processor
-/// time.
+/// The rests in a row of the thread that serves a desk. It finds a call that comes soon without delay, and a long wait takes
+/// no processor time.
 #[derive(Drop)]
 pub struct Pause<'a> {
     bell: &'a Bell,
@@ -22,7 +22,7 @@ pub struct Pause<'a> {
 }
 
 impl<'a> Pause<'a> {
-    /// The state before the first rest. No sleep is longer than `longest`, even if nobody rings.
+    /// Creates the state before the first rest. No sleep is longer than `longest`, even if no line rings.
     pub fn new(bell: &'a Bell, longest: Duration) -> Pause<'a> {
         Pause {
             bell,
@@ -33,8 +33,8 @@ impl<'a> Pause<'a> {
         }
     }
 
-    /// Rests once, after a look for calls that found none. The last look before a sleep comes after `prepare_sleep`, so no ring is
-    /// missed.
+    /// Rests once, after the thread found no call. Before a sleep the thread checks once more after `prepare_sleep`, so it
+    /// misses no ring.
     pub fn rest<R: Wait>(&mut self, rt: &R) {
         if self.spins > 0 {
             self.spins -= 1;
@@ -51,7 +51,7 @@ impl<'a> Pause<'a> {
         }
     }
 
-    /// Ends the rests in a row: a call was found.
+    /// Ends the rests in a row, because a call was found.
     pub fn end(&mut self) {
         self.spins = SPINS;
         self.yields = YIELDS;

@@ -10,14 +10,14 @@ use crate::serving::serve_round;
 use std::marker::Model;
 use thiserror::Error;
 
-/// An object with its history, for callers with a line each. The thread that holds the desk serves the posted calls in rounds.
+/// An object with its history. Each caller has a line. The thread that has the desk serves the posted calls in rounds.
 ///
 /// Contracts see the journal, and the desk's ends of the rings.
 #[derive(Drop)]
 pub struct RingDesk<O: Object> {
     journal: Journal<O>,
     ports: Vec<Port<O::Call, O::Reply>>,
-    // Both have a place for each line from the opening on, so that `close` takes no memory.
+    // Both have a place for each line from the start, so `close` allocates nothing.
     found: Vec<bool>,
     made_by_line: Vec<u64>,
 }
@@ -38,7 +38,8 @@ impl<O: Object> Model for RingDesk<O> {
         × (length d.journal.history ≤ d.journal.most) };
 }
 
-/// Why a round stopped at this line. The line's call is kept for the next round, and the calls that were served before it stand.
+/// Why a round stopped at this line. The desk keeps the line's call for the next round. The calls that it served before stay
+/// made.
 #[derive(Clone, Copy, Debug, PartialEq, Eq, Error)]
 #[error("line {line}: {cause}")]
 pub struct DeskFault {
@@ -50,15 +51,15 @@ pub struct DeskFault {
 /// Why a desk over rings was not closed.
 #[derive(Clone, Copy, Debug, PartialEq, Eq, Error)]
 pub enum RingCloseFault {
-    /// No end with this number was handed in. It is the lowest such number.
+    /// None of the given ends has this number. It is the lowest such number.
     #[error("line {0} is missing")]
     MissingLine(u32),
-    /// A call of the line with this number waits or is kept. It is the lowest such number.
+    /// A call of the line with this number is waiting or kept. It is the lowest such number.
     #[error("line {0} is not served")]
     Unserved(u32),
 }
 
-/// A desk that was not closed, still open, with the ends that were handed in.
+/// A desk that was not closed. It stays open, and comes back with the given ends.
 #[derive(Drop)]
 pub struct RingUnclosed<O: Object> {
     pub desk: RingDesk<O>,
@@ -99,20 +100,20 @@ impl<O: Object> RingDesk<O> {
         }
     }
 
-    /// The journal. The line's part of its history says what the line's rings carried.
+    /// The journal. Its history has, for each line, what the line's rings carried.
     pub fn journal(&self) -> &Journal<O>
         ensures journal { result.now ≡ self.now.journal }
 
-        // The invariant of the type, whenever no round runs.
+        // The invariant of the type between rounds.
         ensures serves { ServesLines self.now.journal.history self.now.ports }
     {
         &self.journal
     }
 
-    /// Visits the lines in the order of their numbers, and serves at most one call of each. Returns how many calls it served. A
-    /// line without room for a reply is skipped.
+    /// Visits the lines in the order of their numbers, and serves at most one call of each. Returns how many calls it
+    /// served. It skips a line that has no free slot for a reply.
     ///
-    /// A call that can't be made stops the round. The desk keeps it, and the next round tries it at its line's turn, before the
+    /// If a call cannot be made, the round stops. The desk keeps the call, and the next round tries it again before the
     /// line's later calls.
     pub fn round(&mut self) -> Result<u64, DeskFault>
         ensures lines { SamePorts self.old.ports self.new.ports }
@@ -122,7 +123,7 @@ impl<O: Object> RingDesk<O> {
             (λ served. Gains self.old.journal.history self.new.journal.history (length self.old.ports) served)
             (λ fault. Gains self.old.journal.history self.new.journal.history fault.line fault.served) }
 
-        // No line before the one at which it stops is left out, and no call is taken from a line that is skipped.
+        // The round skips no line before the one at which it stops, and takes no call from a line without a free slot.
         ensures visits { MatchResult result
             (λ _. Visits self.old.journal.history self.new.journal.history self.old.ports self.new.ports (length self.old.ports))
             (λ fault. Visits self.old.journal.history self.new.journal.history self.old.ports self.new.ports fault.line) }
@@ -135,7 +136,7 @@ impl<O: Object> RingDesk<O> {
         serve_round(&mut self.journal, &mut self.ports)
     }
 
-    /// Serves rounds until one serves nothing. Each other round makes the history longer, so there is an end.
+    /// Serves rounds until one serves nothing. Each other round makes the history longer, so this comes to an end.
     pub fn serve_all(&mut self) -> Result<(), DeskFault>
         ensures lines { SamePorts self.old.ports self.new.ports }
         ensures most { self.new.journal.most ≡ self.old.journal.most }
@@ -151,12 +152,11 @@ impl<O: Object> RingDesk<O> {
         }
     }
 
-    /// Closes the desk if the ends of all its lines are handed in and all their calls were served. Otherwise the desk and the
-    /// ends come back. It takes no memory.
+    /// Closes the desk if the ends of all its lines are given and all their calls were served. Otherwise the desk and the
+    /// ends come back. It allocates nothing.
     pub fn close(self, ends: Vec<LineEnd<O>>) -> Result<Closed<O>, RingUnclosed<O>>
         requires lines { AreEndsOf self.ports ends.items }
 
-        // Each line's own calls.
         ensures closed { IfOk result (λ c. IsClosed self ends.items c.history.items c.object c.made_by_line.items) }
 
         // The history replays on one thread.

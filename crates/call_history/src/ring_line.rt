@@ -5,8 +5,8 @@ use crate::object::Object;
 use rtrb::{Consumer, Producer, PushError};
 use std::marker::Model;
 
-/// One line of a desk: a caller's ends of two rings. One takes its calls to the desk, the other brings the replies. It can be
-/// sent to a thread of its own, and never waits.
+/// A line of a desk: a caller's ends of two rings, one for its calls and one for the replies. You can send it to another
+/// thread. No method waits.
 #[derive(Drop)]
 pub struct RingLine<O: Object> {
     number: u32,
@@ -28,7 +28,7 @@ impl<O: Object> Model for RingLine<O> {
     ghost invariant = { λ l. (l.posted ≡ length (sent l.calls)) × (l.taken ≡ length (received l.replies)) };
 }
 
-/// A line that posts no more. The desk is closed with it. Contracts see the line.
+/// The end of a line, which posts no more calls. The desk is closed with the ends of its lines. Contracts see the line.
 #[derive(Drop)]
 pub struct LineEnd<O: Object> {
     pub(crate) line: RingLine<O>,
@@ -72,21 +72,21 @@ impl<O: Object> RingLine<O> {
         self.number
     }
 
-    /// The number of calls that it posted.
+    /// The number of calls that the line posted.
     pub fn posted(&self) -> u64
         ensures { result ≡ length (posted_calls self.now) }
     {
         self.posted
     }
 
-    /// The number of replies that it took.
+    /// The number of replies that the line took.
     pub fn taken(&self) -> u64
         ensures { result ≡ length (taken_replies self.now) }
     {
         self.taken
     }
 
-    /// Posts a call. The call is handed back if its ring has no free slot, or if the line has posted 2^64 - 1 calls.
+    /// Posts a call. The call comes back if its ring has no free slot, or if the line has posted 2^64 - 1 calls.
     pub fn post(&mut self, call: O::Call) -> Result<(), O::Call>
         ensures line { SameLine self.old self.new }
         ensures taken { taken_replies self.new ≡ taken_replies self.old }
@@ -106,7 +106,7 @@ impl<O: Object> RingLine<O> {
         }
     }
 
-    /// Takes the next reply, if one has come. There is none after 2^64 - 1 replies.
+    /// Takes the next reply, if it has come. After 2^64 - 1 replies this returns `None`.
     pub fn take(&mut self) -> Option<O::Reply>
         ensures line { SameLine self.old self.new }
         ensures posted { posted_calls self.new ≡ posted_calls self.old }
@@ -126,7 +126,7 @@ impl<O: Object> RingLine<O> {
         }
     }
 
-    /// Ends the posting, so that the desk can be closed.
+    /// Closes the line for further calls, so that the desk can be closed.
     pub fn finish(self) -> LineEnd<O>
         ensures { result ≡ self }
     {
@@ -139,7 +139,7 @@ impl<O: Object> LineEnd<O> {
     ghost use Rattle.rtrb.specs.Ring.{known_items};
     ghost use Rattle.call_history.specs.RingLines.{posted_calls, taken_replies, SameLine};
 
-    /// Takes the next reply, if one has come. There is none after 2^64 - 1 replies.
+    /// Takes the next reply, if it has come. After 2^64 - 1 replies this returns `None`.
     pub fn take(&mut self) -> Option<O::Reply>
         ensures line { SameLine self.old self.new }
         ensures posted { posted_calls self.new ≡ posted_calls self.old }

@@ -1,4 +1,4 @@
-//! The opening of a desk over rings.
+//! Opens desks over rings.
 ghost use Rattle.std.specs.Prelude.{◌≡◌, ◌+◌, ◌<◌, ◌≤◌, [], length, IfOk, IfErr};
 ghost use Rattle.std.specs.List.{All};
 ghost use Rattle.call_history.specs.Limits.{max_entries, max_lines, max_room};
@@ -13,11 +13,11 @@ use crate::ring_line::RingLine;
 use rtrb::RingBuffer;
 use std::alloc::{AllocError, Global};
 
-/// The limit of slots in a ring.
+/// The largest number of slots in a ring.
 pub const MAX_ROOM: u64 = 1_024;
 
 /// Opens a desk with an empty history of at most `most` entries, and its lines. Each line has two rings of `room` slots. If
-/// memory runs out, the object comes back.
+/// an allocation is refused, the object comes back.
 pub fn open_rings<O: Object>(
     alloc: Global,
     object: O,
@@ -52,7 +52,7 @@ pub fn open_rings<O: Object>(
     }
 }
 
-/// Takes the last line of a new desk. Its number is the number of those that are left.
+/// Takes the last line of a new desk. Its number is the number of lines that are left.
 pub fn last_line<O: Object>(desk: &RingDesk<O>, lines: &mut Vec<RingLine<O>>) -> RingLine<O>
     requires some { 0 < length lines.old.items }
     requires within { length lines.old.items ≤ length desk.now.ports }
@@ -68,7 +68,7 @@ pub fn last_line<O: Object>(desk: &RingDesk<O>, lines: &mut Vec<RingLine<O>>) ->
     }
 }
 
-/// A line, and the desk's side of it.
+/// Makes a line, and the desk's side of it.
 fn make_line<O: Object>(
     alloc: Global,
     number: u32,
@@ -91,7 +91,7 @@ fn make_line<O: Object>(
     Ok((port, RingLine::new(number, post, take)))
 }
 
-/// `count` lines, numbered from 0, and the desk's sides of them.
+/// Makes `count` lines, numbered from 0, and the desk's sides of them.
 fn make_lines<O: Object>(
     alloc: Global,
     count: u32,

@@ -10,7 +10,7 @@ use crate::wire::{AskFault, Wire};
 use std::marker::Model;
 use std::sync::Arc;
 
-/// A line of a desk over rings, with a limit of tries for each call. Contracts see no bell.
+/// A line of a desk over rings, and how often each call tries. Contracts do not see the bell.
 #[derive(Drop)]
 pub struct RingWire<O: Object> {
     line: RingLine<O>,
@@ -28,8 +28,8 @@ impl<O: Object> Model for RingWire<O> {
 }
 
 impl<O: Object> RingWire<O> {
-    /// A wire that makes the line's calls on a desk with a thread that does not sleep. It looks `tries` times for room for a call
-    /// and then for the reply, and a call that has no reply by then stalls the wire.
+    /// Creates a wire to a desk whose thread does not sleep. For each call it tries at most `tries` times to post the call
+    /// and to take the reply. If the reply has not come by then, the wire stalls.
     pub fn new(line: RingLine<O>, tries: u64) -> RingWire<O>
         ensures line { result.line ≡ line }
         ensures tries { result.tries ≡ tries }
@@ -43,8 +43,8 @@ impl<O: Object> RingWire<O> {
         }
     }
 
-    /// The same for a desk with a thread that may sleep: each posted call rings this bell. A desk that makes no further call stalls
-    /// the wire too.
+    /// Creates a wire to a desk whose thread may sleep: after each post it rings this bell. The wire also stalls when the
+    /// desk makes no further calls.
     pub fn with_bell(line: RingLine<O>, tries: u64, bell: Arc<Bell>) -> RingWire<O>
         ensures line { result.line ≡ line }
         ensures tries { result.tries ≡ tries }
@@ -55,7 +55,7 @@ impl<O: Object> RingWire<O> {
         wire
     }
 
-    /// Returns the line.
+    /// Gives the line back.
     pub fn end(self) -> RingLine<O>
         ensures { result ≡ self.line }
     {
@@ -77,9 +77,9 @@ impl<O: Object> Wire for RingWire<O> {
 
     ghost same_line = { λ v w. SameLine v.line w.line };
 
-    /// Posts the call and takes one reply. This is the reply to the call if the line had taken as many replies as it posted calls.
-    /// The wire stalls if no reply comes within its tries, or if the desk has stopped. A stalled wire does nothing more, but a call
-    /// that was posted stays posted.
+    /// Posts the call and takes one reply. This is the reply to the call if the line had taken as many replies as it had
+    /// posted calls. The wire stalls if no reply comes within its tries, or if the desk has stopped. A stalled wire does
+    /// nothing more, but a call that it has posted stays posted.
     fn ask(&mut self, call: O::Call) -> Result<O::Reply, AskFault>
         ensures line { SameLine self.old.line self.new.line }
         ensures tries { self.new.tries ≡ self.old.tries }
@@ -96,7 +96,7 @@ impl<O: Object> Wire for RingWire<O> {
         if self.has_stalled {
             return Err(AskFault::Stalled);
         }
-        // The wire counts as stalled until the reply is there.
+        // The wire counts as stalled until the reply has come.
         self.has_stalled = true;
         let mut left = self.tries;
         if !post_within(&mut self.line, call, &mut left, &self.bell) {
@@ -121,7 +121,7 @@ fn ring(bell: &Option<Arc<Bell>>) {
     }
 }
 
-/// Whether the desk makes no further call, as far as its bell says.
+/// Whether the bell signals that the desk makes no further calls.
 fn has_stopped(bell: &Option<Arc<Bell>>) -> bool
     ensures { IfNone bell.now (IsFalse result) }
 {
@@ -131,7 +131,7 @@ fn has_stopped(bell: &Option<Arc<Bell>>) -> bool
     }
 }
 
-/// Tries to post a call while tries are `left` and the desk goes on. Each try takes one off. Returns whether the call is posted.
+/// Tries to post a call until no tries are `left` or the desk stops. Returns whether the call is posted.
 fn post_within<O: Object>(
     line: &mut RingLine<O>,
     call: O::Call,
@@ -162,7 +162,7 @@ fn post_within<O: Object>(
     false
 }
 
-/// Tries to take a reply while tries are `left` and the desk goes on. Each try takes one off.
+/// Tries to take a reply until no tries are `left` or the desk stops.
 fn take_within<O: Object>(
     line: &mut RingLine<O>,
     left: &mut u64,
@@ -178,7 +178,7 @@ fn take_within<O: Object>(
 {
     for tried in 0..*left {
         *left -= 1;
-        // The desk sends a reply before it stops, so the last look comes after it has stopped.
+        // The desk sends all replies before it stops, so the last try comes after the stop.
         let is_last = has_stopped(bell);
         if let Some(reply) = line.take() {
             return Some(reply);

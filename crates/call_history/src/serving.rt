@@ -10,8 +10,8 @@ use crate::object::Object;
 use crate::port::Port;
 use crate::ring_desk::DeskFault;
 
-/// Serves at most one call of a line: the kept call, or else the next one that has come. A line without room for a reply is
-/// skipped.
+/// Serves at most one call of a line: the kept call, or else the next one that has come. Skips a line that has no free slot
+/// for a reply.
 fn serve<O: Object>(
     journal: &mut Journal<O>,
     port: &mut Port<O::Call, O::Reply>,

@@ -1,4 +1,4 @@
-//! The trait of a caller's way to a desk, behind a lock or over rings. It is no network connection.
+//! The trait of a caller's connection to a desk, behind a lock or over rings.
 ghost use Rattle.std.specs.Prelude.{◌≡◌, [], ◌∷◌, List, Option, ◌⊎◌, IfOk, OnOk, OnErr};
 ghost use Rattle.call_history.specs.Told.{told_with};
 ghost use Rattle.call_history.specs.Faults.{ask_fault};
@@ -10,11 +10,11 @@ use std::fmt;
 /// Why a call got no reply.
 #[derive(Clone, Copy, Debug, PartialEq, Eq)]
 pub enum AskFault {
-    /// The history has reached the limit of entries that it was opened with.
+    /// The history has as many entries as it was opened for.
     Full,
     /// Out of memory.
     Memory,
-    /// The wire gave up waiting. It is not known whether the call is made.
+    /// The wire gave up waiting. The call may or may not have been made.
     Stalled,
 }
 
@@ -41,27 +41,25 @@ impl From<CallFault> for AskFault {
     }
 }
 
-/// A caller's way to make calls in one process, one after another, and to take the reply of each.
-/// It is no network connection. It stands for one line of a desk, and goes on doing so.
+/// A caller's way to make calls within one process, one after another, and to take the reply to each. It is not a network
+/// connection. A wire always belongs to the same line of a desk.
 ///
-/// A wire may show contracts the calls that went out over it and the replies that came. One over a
-/// lock shows neither.
+/// A wire may show contracts the calls that it made and the replies that it took. A wire over a lock shows neither.
 pub trait Wire {
     type Call: Drop;
 
     type Reply: Drop;
 
-    /// The calls that it made, in their order: none if it does not show them.
+    /// The calls that it made, in order: `None` if it does not show them.
     ghost calls: { Self → Option (List Self.Call) };
 
-    /// The replies that it took, in their order: none if it does not show them.
+    /// The replies that it took, in order: `None` if it does not show them.
     ghost replies: { Self → Option (List Self.Reply) };
 
-    /// The two stand for the same line.
+    /// The two wires belong to the same line.
     ghost same_line: { Self → Self → Type 0 };
 
-    /// Makes a call and takes its reply. At a fault, no reply was taken, but the call may have been
-    /// made.
+    /// Makes a call and takes its reply. After an error no reply was taken, but the call may have been made.
     fn ask(&mut self, call: Self::Call) -> Result<Self::Reply, AskFault>
         ensures line { same_line self.old self.new }
         ensures call { OnOk result (calls self.new ≡ told_with (calls self.old) (call ∷ [])) }

@@ -1,5 +1,5 @@
--- The program's fault for a fault of one of its parts, and its status.
-use Rattle.std.specs.Prelude.{◌≡◌, ◌⊎◌, ℕ}
+-- The program's error for an error of one of its parts, and its exit status.
+use Rattle.std.specs.Prelude.{◌≡◌, ◌<◌, ◌⊎◌, ℕ}
 use Rattle.std.specs.declared.io.ErrorKind.{ErrorKind}
 use Rattle.std.specs.declared.io.ErrorKind.TheVariants.{NotFound, OutOfMemory}
 use Rattle.match_plans.specs.declared.schedule_fault.ScheduleFault.{ScheduleFault}
@@ -13,47 +13,52 @@ use Rattle.command_faults.specs.declared.fault.Fault.TheVariants.{WrongUse, Memo
 use Rattle.command_faults.specs.declared.files.NamedFile.{NamedFile}
 use Rattle.command_faults.specs.declared.files.NamedFile.TheVariants.{Input}
 use Rattle.command_faults.specs.declared.files.FileFault.{FileFault}
-use Rattle.command_faults.specs.declared.files.FileFault.TheVariants.{NoFile, Unopened, Unread, TooLong as FileTooLong}
+use Rattle.command_faults.specs.declared.files.FileFault.TheVariants.{NoFile, Unopened, Unread, TooLarge, TooLong as FileTooLong}
+use Rattle.command_faults.specs.declared.files.MaxBytes.{MaxBytes}
 
--- an input that can't be read
 abbrev pub input_fault : InputFault → Fault
 input_fault InputReadFault = ReadFault
 input_fault TooLong = InputTooLong
 input_fault InputMemory = Memory
 
--- a file that can't be opened, by the kind of the error
 abbrev pub opening_fault : NamedFile → ErrorKind → Fault
 opening_fault named OutOfMemory = Memory
 opening_fault named NotFound = File named NoFile
 opening_fault named kind = File named Unopened
 
--- a file that can't be read
 abbrev pub reading_fault : NamedFile → InputFault → Fault
 reading_fault named InputReadFault = File named Unread
 reading_fault named TooLong = File named FileTooLong
 reading_fault named InputMemory = Memory
 
--- the fault of a command whose input is a file
+-- an error of standard input as one of the input file
 abbrev pub input_file_fault : Fault → Fault
 input_file_fault ReadFault = File Input Unread
 input_file_fault InputTooLong = File Input FileTooLong
 input_file_fault fault = fault
 
--- out of memory, or why the file that is named for this could not be read
+-- out of memory, or why the file for this use cannot be read
 abbrev pub IsFileFault : NamedFile → Fault → Type 0
 IsFileFault named fault = (fault ≡ Memory) ⊎ ((why : FileFault) × (fault ≡ File named why))
 
--- a record that fails a test is not lawful
+-- A file that is refused for its size has more bytes than this limit, and the fault names both.
+abbrev pub NamesSize : MaxBytes → Fault → Type 0
+NamesSize limit (File named (TooLarge size accepted)) = (accepted ≡ limit) × (limit.bytes < size)
+NamesSize limit fault = Unit {0}
+
+-- No file is refused for its size.
+abbrev pub IsNotOfSize : Fault → Type 0
+IsNotOfSize fault = (limit : MaxBytes) → NamesSize limit fault
+
 abbrev pub verify_fault : VerifyFault → Fault
 verify_fault CheckMemory = Memory
 verify_fault fault = NotLawful fault
 
--- a schedule with a bad line is a bad one
 abbrev pub schedule_fault : ScheduleFault → Fault
 schedule_fault (BadLine number why) = BadSchedule number why
 schedule_fault ScheduleMemory = Memory
 
--- The program's status for a fault. Without one it is 0.
+-- The exit status for an error. Without an error it is 0.
 abbrev pub status_of : Fault → ℕ
 status_of WrongUse = 2
 status_of Memory = 3

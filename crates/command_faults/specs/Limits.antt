@@ -1,6 +1,13 @@
 -- Limits of what is read.
-use Rattle.std.specs.Prelude.{ℕ}
+use Rattle.std.specs.Prelude.{ℕ, Option, Some, None}
+use Rattle.game_core.specs.Limits.{max_bytes}
+use Rattle.game_core.specs.declared.limits.Limits.{Limits}
+use Rattle.game_core.specs.declared.limits.Limits.TheVariants.{Usual, Large}
 
--- the limit of the bytes of a line in an input of records or accounts
 abbrev pub max_line : ℕ
 max_line = 68719476736
+
+-- the limit of bytes in the text of a description that `--large` would raise these limits to
+abbrev pub max_bytes_with_large : Limits → Option ℕ
+max_bytes_with_large Usual = Some (max_bytes Large)
+max_bytes_with_large Large = None

@@ -1,4 +1,4 @@
-//! The faults of the program.
+//! The errors of the program.
 ghost use Rattle.std.specs.Prelude.{◌≡◌};
 ghost use Rattle.command_faults.specs.Faults.{verify_fault, input_fault, schedule_fault, status_of};
 ghost use Rattle.command_faults.specs.declared.fault.Fault.TheVariants.{Memory, WriteFault};
@@ -12,57 +12,58 @@ use std::alloc::{AllocError, AllocFailed};
 use std::fmt;
 use whole_streams::{InputFault, WriteFault};
 
-/// A fault of the program. Its text is what standard error shows after the program's name.
+/// An error of the program. Standard error shows it after the program's name.
 #[derive(Clone, Copy)]
 pub enum Fault {
     /// The command line is refused.
     WrongUse,
     /// Out of memory.
     Memory,
-    /// A standard stream is closed, and nothing can be opened in its place.
+    /// A standard stream is closed, and no placeholder can be opened for it.
     ClosedStream,
-    /// The text of the rules is not KIF, or is no ground description.
+    /// The text of the rules is not KIF, or not a ground description.
     BadDescription,
-    /// The file that the command line names for this could not be read or added to.
+    /// A file that the command line names for this use cannot be read or written.
     File(NamedFile, FileFault),
     /// The file of the players' rules is not KIF.
     BadPlayerRules,
-    /// Standard input failed.
+    /// Standard input cannot be read.
     ReadFault,
     /// The input is longer than its limit.
     InputTooLong,
-    /// Standard output failed.
+    /// Standard output cannot be written.
     WriteFault,
-    /// The player can't be reached, or its answer can't be read.
+    /// The player cannot be reached, or its answer cannot be read.
     NoAnswer,
-    /// The referee was short of this, so a message was not sent, or not in time, or its answer was lost. No player is to blame.
+    /// The referee lacked this resource, so it did not send a message, or sent it too late, or lost the answer. The player did nothing
+    /// wrong.
     NotSent(Shortage),
-    /// The match was not opened.
+    /// The desk refused to open the match.
     Refused(Refusal),
     /// The match has neither finished nor been aborted.
     MatchNotEnded,
-    /// The referee had this shortage in the match, so an answer in it is not the player's.
+    /// The referee lacked this resource in the match, so a wrong or missing answer may not be the player's fault.
     Shortage(Shortage),
-    /// The schedule's line of this number is bad. No match was begun.
+    /// The line of the schedule with this number is invalid. No match was begun.
     BadSchedule(u64, LineFault),
-    /// The number of a schedule's matches without a record. The other records are output.
+    /// This many matches of a schedule have no record. The other records were written.
     NoRecords(u64),
-    /// The record is not lawful, by the first test that it fails.
+    /// The record is not lawful. This is the first test that failed.
     NotLawful(VerifyFault),
-    /// The number of the input's lines that are no lawful records. All verdicts are output.
+    /// This many lines of the input are not lawful records. All verdicts were written.
     UnlawfulRecords(u64),
-    /// The account's line of this number holds no call.
+    /// The line of the call log with this number has no valid call.
     NoEntry(u64),
-    /// The call of the account's line of this number gets another reply, or the line is written in another way. The right line is output.
+    /// The call in the line with this number gets another reply, or the line is written in another way. The correct line was written.
     Differs(u64),
-    /// The number of a script's bad lines. The whole output is written.
+    /// This many lines of a script are bad. The whole output was written.
     BadLines(u64),
-    /// The number of a checked player's bad answers. The whole table is output.
+    /// This many answers of a checked player are bad. The whole table was written.
     BadAnswers(u64),
 }
 
 impl Fault {
-    /// The program's status.
+    /// The exit status without `--why`.
     pub fn status(self) -> u8
         ensures { result ≡ status_of self }
     {
@@ -73,7 +74,7 @@ impl Fault {
         }
     }
 
-    /// The first words of the fault's text.
+    /// The message, or its beginning if it depends on the error's value.
     fn words(self) -> &'static str {
         match self {
             Fault::WrongUse => "wrong use",
@@ -105,7 +106,7 @@ impl fmt::Display for Fault {
     fn fmt<F: fmt::Write>(&self, f: &mut fmt::Formatter<F>) -> fmt::Result {
         f.write_str(self.words())?;
         match *self {
-            Fault::File(_, why) => f.write_str(why.words()),
+            Fault::File(_, why) => write!(f, "{why}"),
             Fault::Refused(refusal) => f.write_str(refusal_word(refusal)),
             Fault::NotSent(shortage) | Fault::Shortage(shortage) => write!(f, "{shortage}"),
             Fault::NotLawful(fault) => write!(f, "{fault}"),

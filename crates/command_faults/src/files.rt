@@ -1,41 +1,91 @@
-//! The files that a command line names.
-ghost use Rattle.std.specs.Prelude.{◌≡◌, IfErr};
+//! Reads the files that a command line names.
+ghost use Rattle.std.specs.Prelude.{◌≡◌, ◌<◌, IfErr};
 ghost use Rattle.std.specs.IoError.{error_kind};
-ghost use Rattle.command_faults.specs.Faults.{IsFileFault, input_file_fault, opening_fault, reading_fault};
+ghost use Rattle.game_core.specs.Limits.{max_bytes};
+ghost use Rattle.command_faults.specs.Faults.{IsFileFault, IsNotOfSize, NamesSize, input_file_fault, opening_fault, reading_fault};
+ghost use Rattle.command_faults.specs.Limits.{max_bytes_with_large};
 
 use crate::fault::Fault;
 use crate::printable::Printable;
-use game_core::Counted;
+use game_core::{Counted, Limits};
 use std::alloc::Global;
 use std::fmt::Write as _;
 use std::io::{ErrorKind, Write};
 use std::rt::Files;
-use std::{fs, io};
+use std::{fmt, fs, io};
 use whole_streams::{InputFault, Pieces, read_to_end};
 
-/// The limit of the bytes in a file of rules for players, which is that of a text.
-pub const MAX_PLAYER_RULES: usize = 1_048_576;
+/// How many bytes a file may have.
+#[derive(Clone, Copy)]
+pub struct MaxBytes {
+    /// Without another option.
+    pub bytes: u32,
+    /// With `--large`, if that is not given and accepts more.
+    pub with_large: Option<u32>,
+}
 
-/// The limit of a line's bytes in an input of records or accounts: 64 GiB, which no record of a match has.
+impl MaxBytes {
+    /// Those of a file to which `--large` makes no difference.
+    pub fn fixed(bytes: u32) -> MaxBytes
+        ensures { result.bytes ≡ bytes }
+    {
+        MaxBytes {
+            bytes,
+            with_large: None,
+        }
+    }
+
+    /// Those of a description within these limits.
+    pub fn of_description(limits: Limits) -> MaxBytes
+        ensures bytes { result.bytes ≡ max_bytes limits }
+        ensures with_large { result.with_large ≡ max_bytes_with_large limits }
+    {
+        match limits {
+            Limits::Usual => MaxBytes {
+                bytes: Limits::Usual.bytes() as u32,
+                with_large: Some(Limits::Large.bytes() as u32),
+            },
+            Limits::Large => MaxBytes {
+                bytes: Limits::Large.bytes() as u32,
+                with_large: None,
+            },
+        }
+    }
+}
+
+impl fmt::Display for MaxBytes {
+    fn fmt<F: fmt::Write>(&self, f: &mut fmt::Formatter<F>) -> fmt::Result {
+        write!(f, "at most {} are accepted", self.bytes)?;
+        match self.with_large {
+            Some(bytes) => write!(f, ", or {bytes} with --large"),
+            None => Ok(()),
+        }
+    }
+}
+
+/// The limit of the bytes in a file of players' rules.
+pub const MAX_PLAYER_RULES: u32 = 1_048_576;
+
+/// The limit of a line's bytes in an input of records or call logs: 64 GiB. No record of a match is as long.
 pub const MAX_LINE: usize = 68_719_476_736;
 
-/// What a file that a command line names holds.
+/// What the command line names a file for.
 #[derive(Clone, Copy)]
 pub enum NamedFile {
     /// The game's rules.
     Rules,
-    /// The rules that players get in place of the game's own.
+    /// The rules that players get instead of the game's own.
     PlayerRules,
-    /// The records of matches that are over.
+    /// The records of finished matches.
     Records,
-    /// The input, in place of standard input.
+    /// The input, instead of standard input.
     Input,
     /// The log of the messages.
     Log,
 }
 
 impl NamedFile {
-    /// The first words of a fault's text for this file.
+    /// The beginning of the message for an error of this file.
     pub fn words(self) -> &'static str {
         match self {
             NamedFile::Rules => "bad description: ",
@@ -47,31 +97,36 @@ impl NamedFile {
     }
 }
 
-/// Why a file could not be read or added to.
+/// Why a file cannot be read or written.
 #[derive(Clone, Copy)]
 pub enum FileFault {
     NoFile,
     Unopened,
     Unread,
+    /// It has this many bytes, which is more than it may have.
+    TooLarge(u64, MaxBytes),
+    /// Its content, or one of its lines, is longer than the limit.
     TooLong,
     /// It is a directory, a pipe or a device.
     NotRegular,
-    /// Another program adds to it.
+    /// Another program appends to it.
     InUse,
-    /// What is cut off at its end can't be moved to another file.
+    /// Its incomplete end cannot be moved to another file.
     Unmended,
-    /// The account of a record in it is not whole.
+    /// The call log of a record in it is incomplete.
     Partial,
     /// Another file or stream of the command is the same file.
     Shared,
 }
 
 impl FileFault {
-    pub fn words(self) -> &'static str {
+    /// The fault's text, or its first words.
+    fn words(self) -> &'static str {
         match self {
             FileFault::NoFile => "no such file",
             FileFault::Unopened => "the file can't be opened",
             FileFault::Unread => "the file can't be read",
+            FileFault::TooLarge(_, _) => "it has ",
             FileFault::TooLong => "the file is too long",
             FileFault::NotRegular => "it is not a regular file",
             FileFault::InUse => "another program adds to the file",
@@ -82,8 +137,18 @@ impl FileFault {
     }
 }
 
-/// Reports in a line why the file at this path can't be used. A failed write is skipped.
-pub fn tell_of_file<E: Write>(errors: &mut E, path: &str, why: &str) {
+impl fmt::Display for FileFault {
+    fn fmt<F: fmt::Write>(&self, f: &mut fmt::Formatter<F>) -> fmt::Result {
+        f.write_str(self.words())?;
+        match *self {
+            FileFault::TooLarge(size, limit) => write!(f, "{size} bytes; {limit}"),
+            _ => Ok(()),
+        }
+    }
+}
+
+/// Reports why the file at this path cannot be used. Errors of the stream are ignored.
+pub fn tell_of_file<E: Write>(errors: &mut E, path: &str, why: FileFault) {
     let mut pieces = Pieces { stream: errors };
     let _ = writeln!(
         pieces,
@@ -92,10 +157,10 @@ pub fn tell_of_file<E: Write>(errors: &mut E, path: &str, why: &str) {
     );
 }
 
-/// The fault for a file that can't be opened.
 fn opening_fault(named: NamedFile, error: io::Error) -> Fault
     ensures exact { result ≡ opening_fault named (error_kind error) }
     ensures file { IsFileFault named result }
+    ensures not_size { IsNotOfSize result }
 {
     match error.kind() {
         ErrorKind::OutOfMemory => Fault::Memory,
@@ -104,9 +169,10 @@ fn opening_fault(named: NamedFile, error: io::Error) -> Fault
     }
 }
 
-/// Opens the file at this path, which is named for this.
+/// Opens the file at this path. `named` says what the command line names it for.
 pub fn opened<F: Files>(files: &F, named: NamedFile, path: &str) -> Result<Counted<F::File>, Fault>
-    ensures { IfErr result (IsFileFault named) }
+    ensures fault { IfErr result (IsFileFault named) }
+    ensures not_size { IfErr result IsNotOfSize }
 {
     match fs::open(files, path) {
         Ok(file) => Ok(Counted::new(file)),
@@ -114,7 +180,7 @@ pub fn opened<F: Files>(files: &F, named: NamedFile, path: &str) -> Result<Count
     }
 }
 
-/// Opens the regular file at this path, which is named for this. A pipe or a device is not opened, since that may wait.
+/// Opens the regular file at this path. Refuses a directory, a pipe or a device, because opening a pipe may block.
 pub fn opened_regular<F: Files>(
     files: &F,
     named: NamedFile,
@@ -128,10 +194,11 @@ pub fn opened_regular<F: Files>(
     }
 }
 
-/// The fault for a file that can't be read.
+/// The error for a file that cannot be read.
 pub fn reading_fault(named: NamedFile, fault: InputFault) -> Fault
     ensures exact { result ≡ reading_fault named fault }
     ensures file { IsFileFault named result }
+    ensures not_size { IsNotOfSize result }
 {
     match fault {
         InputFault::ReadFault => Fault::File(named, FileFault::Unread),
@@ -140,7 +207,7 @@ pub fn reading_fault(named: NamedFile, fault: InputFault) -> Fault
     }
 }
 
-/// The fault of a command whose input is a file.
+/// Turns an error of standard input into one of the input file.
 pub fn input_file_fault(fault: Fault) -> Fault
     ensures { result ≡ input_file_fault fault }
 {
@@ -151,19 +218,38 @@ pub fn input_file_fault(fault: Fault) -> Fault
     }
 }
 
-/// The text of a file with at most this many bytes.
+/// The size of the file at this path, which has more bytes than the limit. The size of a pipe is not known.
+fn size_above<F: Files>(files: &F, path: &str, limit: u32) -> u64
+    ensures { limit < result }
+{
+    let least = u64::from(limit) + 1;
+    match fs::metadata(files, path) {
+        Ok(found) => found.len().max(least),
+        Err(_) => least,
+    }
+}
+
+/// Reads a file of at most `limit` bytes.
 pub fn file_text<F: Files>(
     files: &F,
     alloc: Global,
     named: NamedFile,
     path: &str,
-    limit: usize,
+    limit: MaxBytes,
 ) -> Result<Vec<u8>, Fault>
-    ensures { IfErr result (IsFileFault named) }
+    ensures fault { IfErr result (IsFileFault named) }
+    ensures too_large { IfErr result (NamesSize limit) }
 {
-    let mut file = opened(files, named, path)?;
-    match read_to_end(alloc, &mut file, limit) {
+    let mut file = match opened(files, named, path) {
+        Ok(file) => file,
+        Err(fault) => return Err(fault),
+    };
+    match read_to_end(alloc, &mut file, limit.bytes as usize) {
         Ok(text) => Ok(text),
+        Err(InputFault::TooLong) => {
+            let size = size_above(files, path, limit.bytes);
+            Err(Fault::File(named, FileFault::TooLarge(size, limit)))
+        }
         Err(fault) => Err(reading_fault(named, fault)),
     }
 }

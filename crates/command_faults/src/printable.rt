@@ -1,10 +1,10 @@
-//! Words from outside as a line of standard error shows them.
+//! Formats text from outside for one line of standard error.
 
 use std::fmt;
 use std::fmt::Write as _;
 
-/// A word that came from outside: an id, a name, a file. It is shown on one line, with `?` for each control character, so it can neither
-/// change the terminal nor begin a line.
+/// Text from outside: an id, a name, a path. It is printed with `?` for each control character, so that it can neither change the
+/// terminal nor begin a new line.
 #[derive(Clone, Copy)]
 pub struct Printable<'a>(pub &'a str);
 

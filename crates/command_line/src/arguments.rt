@@ -1,4 +1,4 @@
-//! Reading the command line.
+//! Reads the command line.
 ghost use Rattle.std.specs.Prelude.{◌≤◌, IfOk};
 
 use crate::program::program;
@@ -14,28 +14,28 @@ use match_plans::{
 };
 use std::alloc::{AllocError, AllocFailed, Global};
 
-/// A wrong value in a command line of the right form.
+/// Why a value on a well-formed command line is invalid.
 #[derive(Clone, Copy)]
 pub enum WrongValue<'a> {
     /// Not exactly one option names the game.
     Game,
-    /// The value of the option is no number from `least` to `limit`.
+    /// The value of the option is not a number from `least` to `limit`.
     Number {
         option: &'static str,
         value: &'a str,
         least: u64,
         limit: u64,
     },
-    /// The word is not `NAME@HOST:PORT` with a lawful name and port.
+    /// The argument is not `NAME@HOST:PORT` with a valid name and port.
     Player(&'a str),
 }
 
 /// Why a command line is refused.
 #[derive(Clone, Copy)]
 pub enum ArgumentFault<'a> {
-    /// The words do not have the form of a command line.
+    /// `clap` does not accept the arguments.
     Form,
-    /// A value is wrong.
+    /// The value of an option or argument is invalid.
     Value(WrongValue<'a>),
     /// Out of memory.
     Memory,
@@ -74,7 +74,7 @@ impl<'a> From<WrongValue<'a>> for ArgumentFault<'a> {
     }
 }
 
-/// The number of an option, from `least` to `limit`.
+/// The value of an option as a number from `least` to `limit`.
 fn number<'a>(
     found: &ArgMatches<'a>,
     option: &'static str,
@@ -95,17 +95,16 @@ fn number<'a>(
     }
 }
 
-/// The seconds of an option. They may be out of a clock's range.
+/// The value of an option in seconds. Whether a clock can have this value is checked later.
 fn seconds<'a>(found: &ArgMatches<'a>, option: &'static str) -> Result<u32, WrongValue<'a>> {
     Ok(number(found, option, 0, 4_294_967_295)? as u32)
 }
 
-/// The number of substituted moves in a row after which a role is retired.
+/// The number of consecutive substituted moves after which a role is retired.
 fn strikes<'a>(found: &ArgMatches<'a>) -> Result<u8, WrongValue<'a>> {
     Ok(number(found, "strikes", 0, 255)? as u8)
 }
 
-/// The limits of the game's description.
 fn limits(found: &ArgMatches<'_>) -> Limits {
     if found.get_flag("large") {
         Limits::Large
@@ -114,7 +113,7 @@ fn limits(found: &ArgMatches<'_>) -> Limits {
     }
 }
 
-/// The game's source. Exactly one of its options must be there.
+/// The game's source. The command line must have exactly one of the options that name a source.
 fn game_source<'a>(found: &ArgMatches<'a>) -> Result<GameSource<'a>, WrongValue<'a>> {
     let limits = limits(found);
     let size = found.get_str("countdown");
@@ -133,12 +132,11 @@ fn player(word: &str) -> Result<PlayerAddress<'_>, WrongValue<'_>> {
     player_address(word).ok_or(WrongValue::Player(word))
 }
 
-/// The player of a command that has one.
 fn only_player<'a>(found: &ArgMatches<'a>) -> Result<PlayerAddress<'a>, WrongValue<'a>> {
     player(found.get_str("player").unwrap_or(""))
 }
 
-/// The file that is named for the input. A dash stands for standard input.
+/// The input file, or `None` for standard input, which a dash also means.
 fn input_file<'a>(found: &ArgMatches<'a>) -> Option<&'a str> {
     match found.get_str("file") {
         Some("-") => None,
@@ -146,17 +144,17 @@ fn input_file<'a>(found: &ArgMatches<'a>) -> Option<&'a str> {
     }
 }
 
-fn game_task<'a>(
-    command: GameCommand,
-    is_json: bool,
-    found: &ArgMatches<'a>,
-) -> Result<Task<'a>, WrongValue<'a>> {
+fn game_task<'a>(command: GameCommand, found: &ArgMatches<'a>) -> Result<Task<'a>, WrongValue<'a>> {
     let task = GameTask {
         command,
         game: game_source(found)?,
         file: input_file(found),
     };
-    Ok(Task::Game(GameRequest { task, is_json }))
+    Ok(Task::Game(GameRequest {
+        task,
+        is_json: found.get_flag("json"),
+        is_interactive: found.get_flag("interactive"),
+    }))
 }
 
 fn verify_command(found: &ArgMatches<'_>) -> GameCommand {
@@ -210,7 +208,6 @@ fn check_plan<'a>(found: &ArgMatches<'a>) -> Result<CheckPlan<'a>, WrongValue<'a
     })
 }
 
-/// The players of a command that has several.
 fn players<'a>(
     alloc: Global,
     found: &ArgMatches<'a>,
@@ -253,7 +250,7 @@ fn abort_plan<'a>(
     })
 }
 
-/// The task with matches of a game, for the command with this name. The error is `Form` if the command has no such task.
+/// The task of a command that plays or checks matches. Returns `Form` for any other command.
 fn hosted_task<'a>(
     alloc: Global,
     name: &str,
@@ -267,16 +264,15 @@ fn hosted_task<'a>(
     }
 }
 
-/// The task of the command with this name.
 fn task<'a>(
     alloc: Global,
     name: &str,
     found: &ArgMatches<'a>,
 ) -> Result<Task<'a>, ArgumentFault<'a>> {
     match name {
-        "desk" => Ok(game_task(GameCommand::Desk, false, found)?),
-        "verify" => Ok(game_task(verify_command(found), found.get_flag("json"), found)?),
-        "replay" => Ok(game_task(GameCommand::Replay, found.get_flag("json"), found)?),
+        "desk" => Ok(game_task(GameCommand::Desk, found)?),
+        "verify" => Ok(game_task(verify_command(found), found)?),
+        "replay" => Ok(game_task(GameCommand::Replay, found)?),
         "info" => Ok(Task::Info(info_plan(found)?)),
         "abort" => Ok(Task::Abort(abort_plan(alloc, found)?)),
         _ => {
@@ -286,7 +282,7 @@ fn task<'a>(
     }
 }
 
-/// The task or the fault of an error of `clap`. The help and the version are among its errors.
+/// The task or the error for an error of `clap`. For `clap`, help and version are errors too.
 fn shown<'a>(alloc: Global, error: clap::Error) -> Result<Task<'a>, ArgumentFault<'a>> {
     if !error.use_stderr() {
         return Ok(Task::Show(error.to_string(alloc)?));
@@ -297,7 +293,7 @@ fn shown<'a>(alloc: Global, error: clap::Error) -> Result<Task<'a>, ArgumentFaul
     }
 }
 
-/// Reads the words after the program's name as a task. The error says what is wrong with them, or is `Memory`.
+/// Reads the arguments after the program's name.
 pub fn read_arguments<'a>(
     alloc: Global,
     words: &'a [&'a str],

@@ -1,9 +1,7 @@
-//! The command line of `ggp_manager`: the task of its words, and the words about a refusal.
+//! The command line of `ggp_manager`.
 //!
-//! `read_arguments` reads the words after the program's name as a `Task`. `refusal` explains why words are refused. `asks_why` says whether
-//! they have `--why` or `--json`.
-//!
-//! Free functions take the allocator first.
+//! `read_arguments` turns the arguments into a `Task`, and `refusal` turns an `ArgumentFault` into a message for the user. Free functions
+//! take the allocator first.
 #![tactic(auto)]
 
 mod arguments;

@@ -1,33 +1,32 @@
-//! The commands of the program, with their options.
+//! The commands of the program, with their options and help.
 
 use clap::{Arg, ArgAction, Command};
 use std::alloc::{AllocError, Global};
 
-/// The program's version.
+/// The version that `--version` prints.
 pub const VERSION: &str = "0.3.0";
 
 /// The program's name in its usage.
 pub const PROGRAM: &str = "ggp_manager";
 
-/// The form of an argument.
+/// How an argument is written on the command line.
 #[derive(Clone, Copy)]
 enum Form {
-    /// An option with a value of this name.
+    /// An optional option, with the name of its value in the help.
     Value(&'static str),
-    /// A required option with a value of this name.
+    /// A required option, with the name of its value.
     Required(&'static str),
-    /// An option with a value of this name, and its default.
+    /// An optional option, with the name of its value and its default.
     Default(&'static str, &'static str),
     Flag,
-    /// A word of this name.
+    /// A positional argument with this name.
     Word(&'static str),
-    /// The file of the input, if it is not standard input.
+    /// The input file. Without it the command reads standard input.
     File,
     Player,
     Players,
 }
 
-/// An argument of a command, with its help.
 #[derive(Clone, Copy)]
 struct Argument {
     name: &'static str,
@@ -36,7 +35,6 @@ struct Argument {
 }
 
 impl Argument {
-    /// The argument in the form of `clap`.
     fn arg<'a>(self, alloc: Global) -> Arg<'a> {
         let arg = Arg::new(alloc, self.name).help(self.help);
         let place = "NAME@HOST:PORT";
@@ -92,7 +90,7 @@ const PLAYER_RULES: Argument = Argument {
 const LARGE: Argument = Argument {
     name: "large",
     form: Form::Flag,
-    help: "Accept a large game: at most 4194304 bytes, 65536 sentences and 65536 different atomic sentences",
+    help: "Accept a large game: at most 16777216 bytes, 262144 sentences and 262144 different atomic sentences",
 };
 
 const STRIKES: Argument = Argument {
@@ -137,12 +135,17 @@ const PLAYER: Argument = Argument {
     help: "The player to ask",
 };
 
-const DESK: [Argument; 6] = [
+const DESK: [Argument; 7] = [
     COUNTDOWN,
     RULES,
     RULES_FILE,
     LARGE,
     WHY,
+    Argument {
+        name: "interactive",
+        form: Form::Flag,
+        help: "Answer each line of the script before reading the next, for a program that talks to the desk over a pipe",
+    },
     Argument {
         name: "file",
         form: Form::File,
@@ -287,18 +290,18 @@ const CHECK: [Argument; 11] = [
     PLAYER,
 ];
 
-/// The form of a command.
+/// A command as data, from which `clap`'s `Command` is built.
 #[derive(Clone, Copy)]
 pub struct CommandForm {
     name: &'static str,
     about: &'static str,
     arguments: &'static [Argument],
-    /// What the help says at its end: how the words go together, an example, and the statuses.
+    /// The end of the help: how the arguments go together, an example, and the exit statuses.
     notes: &'static str,
 }
 
 impl CommandForm {
-    /// The command in the form of `clap`.
+    /// Builds the command for `clap`.
     pub fn command<'a>(self, alloc: Global) -> Result<Command<'a>, AllocError> {
         let mut command = Command::new(alloc, self.name)
             .about(self.about)
@@ -310,7 +313,6 @@ impl CommandForm {
     }
 }
 
-/// The commands.
 static COMMANDS: [CommandForm; 8] = [
     CommandForm {
         name: "desk",
@@ -395,17 +397,16 @@ static COMMANDS: [CommandForm; 8] = [
     },
 ];
 
-/// The forms of the commands.
 fn forms() -> &'static [CommandForm] {
     &COMMANDS
 }
 
-/// The form of the command with this name.
+/// The command with this name.
 pub fn form_named(name: &str) -> Option<CommandForm> {
     forms().iter().find(|form| form.name == name).copied()
 }
 
-/// The program's command line.
+/// Builds the whole command line for `clap`.
 pub fn program<'a>(alloc: Global) -> Result<Command<'a>, AllocError> {
     let mut program = Command::new(alloc, PROGRAM)
         .about("A referee for General Game Playing")

@@ -1,14 +1,14 @@
-//! The words about a refused command line.
+//! Error messages about a refused command line.
 
 use crate::arguments::{ArgumentFault, WrongValue};
 use crate::program::{PROGRAM, form_named, program};
 use clap::error::ErrorKind;
 use std::alloc::{AllocError, Global};
 
-/// The commands that explain a fault on standard error before its own line, whatever standard error is.
+/// The commands that always print an explanation before the error, even if standard error is not a terminal.
 const OWN_COMMANDS: [&str; 4] = ["season", "check", "replay", "abort"];
 
-/// The options that do so.
+/// The options that have the same effect.
 const OWN_OPTIONS: [&str; 7] = [
     "--rules-file",
     "--large",
@@ -19,10 +19,9 @@ const OWN_OPTIONS: [&str; 7] = [
     "--history",
 ];
 
-/// The name of `--player-rules` before version 0.2.0.
 const FORMER_PLAYER_RULES: &str = "--told";
 
-/// Whether the word is this option, by itself or with its value.
+/// Whether the argument is this option, with or without `=VALUE`.
 fn is_option(word: &str, option: &str) -> bool {
     match word.strip_prefix(option) {
         Some(rest) => rest.is_empty() || rest.starts_with('='),
@@ -30,8 +29,8 @@ fn is_option(word: &str, option: &str) -> bool {
     }
 }
 
-/// Whether a command line has one of the commands or options that explain a fault before its own line, even if standard error is no
-/// terminal.
+/// Whether a command line has a command or an option with which the program always prints an explanation before the error, even if standard
+/// error is not a terminal.
 pub fn has_own_word(words: &[String]) -> bool {
     let is_own = |word: &String| OWN_OPTIONS
         .iter()
@@ -42,8 +41,8 @@ pub fn has_own_word(words: &[String]) -> bool {
     }
 }
 
-/// Whether a command line asks by `--why` or `--json` for what a terminal is told, and for a status that says whether the answer is no. Words
-/// after `--` are not options.
+/// Whether a command line has `--why` or `--json`. With them the program prints the explanation even if standard error is not a terminal, and
+/// its exit status says whether the answer is no. Arguments after `--` are not options.
 pub fn asks_why(words: &[String]) -> bool {
     for word in words {
         match word.as_str() {
@@ -55,7 +54,7 @@ pub fn asks_why(words: &[String]) -> bool {
     false
 }
 
-/// The words about a wrong value of this command.
+/// The message about an invalid value.
 fn words_of(alloc: Global, command: &str, wrong: WrongValue<'_>) -> Result<String, AllocError> {
     match wrong {
         WrongValue::Game if command == "run" => String::from_str(
@@ -80,7 +79,6 @@ fn words_of(alloc: Global, command: &str, wrong: WrongValue<'_>) -> Result<Strin
     }
 }
 
-/// These words about a command line, and the command's usage.
 fn with_usage(
     alloc: Global,
     command: &str,
@@ -96,7 +94,7 @@ fn with_usage(
     error.to_string(alloc)
 }
 
-/// The words about a command line of a wrong form, and the usage.
+/// The message of `clap` about these arguments.
 fn wrong_form<'a>(alloc: Global, words: &'a [&'a str]) -> Result<String, AllocError> {
     match program(alloc)?.try_get_matches_from(words) {
         Ok(_) => Ok(String::new(alloc)),
@@ -104,8 +102,7 @@ fn wrong_form<'a>(alloc: Global, words: &'a [&'a str]) -> Result<String, AllocEr
     }
 }
 
-/// Explains in lines why the words of a command line are refused, and gives the usage. `fault` is what `read_arguments` returned for
-/// them. The error is out of memory.
+/// The message for a user whose command line is refused, with the usage. `fault` is the error of `read_arguments` for the same arguments.
 pub fn refusal<'a>(
     alloc: Global,
     words: &'a [&'a str],

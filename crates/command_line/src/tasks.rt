@@ -1,37 +1,40 @@
-//! The tasks of a command line.
+//! The task that a command line asks for.
 
 use match_plans::{CheckPlan, GameSource, GameTask, MatchPlan, PlayerAddress, SeasonForm};
 
-/// The task of a command line. Its texts are words of the command line.
+/// What the program should do. The texts borrow from the command line.
 #[derive(Drop)]
 pub enum Task<'a> {
-    /// Runs a command on one game.
+    /// Runs a command on one game, without players.
     Game(GameRequest<'a>),
-    /// Plays matches of a game.
+    /// Plays matches of a game, or checks a player with it.
     Host(GameOptions<'a>, MatchTask<'a>),
-    /// Asks a player whether it is free.
+    /// Asks a player whether it is available.
     Info(InfoPlan<'a>),
-    /// Sends players ABORT.
+    /// Sends ABORT to players.
     Abort(AbortPlan<'a>),
-    /// Shows this text: the help or the version.
+    /// Prints the help or the version.
     Show(String),
 }
 
-/// A command on one game, and whether its verdict is printed as JSON.
+/// A command on one game, with its output format.
 #[derive(Clone, Copy)]
 pub struct GameRequest<'a> {
     pub task: GameTask<'a>,
+    /// Whether `verify` and `replay` print their verdict as JSON.
     pub is_json: bool,
+    /// Whether `desk` answers each line before it reads the next one.
+    pub is_interactive: bool,
 }
 
-/// The player to ask, and whether its answer is printed as JSON.
+/// The player to ask, and whether to print its answer as JSON.
 #[derive(Clone, Copy)]
 pub struct InfoPlan<'a> {
     pub player: PlayerAddress<'a>,
     pub is_json: bool,
 }
 
-/// A task with matches of a game.
+/// A task that plays matches of a game.
 #[derive(Drop)]
 pub enum MatchTask<'a> {
     /// Referees a match between players on the network.
@@ -42,36 +45,38 @@ pub enum MatchTask<'a> {
     Check(CheckPlan<'a>),
 }
 
-/// The game to play, the file of the rules that players get instead of the game's own, and the file of the log.
+/// The options about the game: its source, the file with the rules that players get instead of the game's own, and the log
+/// file.
 #[derive(Clone, Copy)]
 pub struct GameOptions<'a> {
     pub game: GameSource<'a>,
     pub player_rules: Option<&'a str>,
-    /// A dash stands for standard error. Without a file there is no log.
+    /// A dash means standard error. Without a file nothing is logged.
     pub log: Option<&'a str>,
 }
 
-/// One match, and whether its account is wanted.
+/// The match to play, and whether its call log is printed too.
 #[derive(Drop)]
 pub struct RunPlan<'a> {
     pub plan: MatchPlan<'a>,
     pub has_history: bool,
 }
 
-/// The matches of a schedule: the strikes of each, and how they are played and written.
+/// How to play the matches of a schedule.
 #[derive(Clone, Copy)]
 pub struct SeasonPlan<'a> {
     pub strikes: u8,
     pub form: SeasonForm,
-    /// The file of the schedule. Without it the schedule is standard input.
+    /// `None` means standard input.
     pub schedule: Option<&'a str>,
-    /// The file of the records of matches that are not played again.
+    /// A file of records. `season` does not play the matches of these records again.
     pub done: Option<&'a str>,
-    /// The file that records are added to in place of the output. Matches that it has records of are not played again.
+    /// A file that `season` appends records to, instead of printing them. It does not play the matches of the file's records
+    /// again.
     pub records: Option<&'a str>,
 }
 
-/// The players that wait for the next message of a match, the match's id, and whether the output is JSON.
+/// The match to abort, by its id, the players that take part in it, and whether to print the answers as JSON.
 #[derive(Drop)]
 pub struct AbortPlan<'a> {
     pub id: &'a str,

@@ -3,7 +3,7 @@ use Rattle.std.specs.Prelude.{ℕ, zero, suc, ◌+◌, nat_lt, List, [], ◌∷�
 use Rattle.std.specs.Fmt.{decimal}
 use Rattle.game_core.specs.Bytes.{line_feed}
 
--- the rules that are the same for every heap: whose turn it is, what a role may do, when the game ends, and what it is worth
+-- the rules that are the same for every heap: whose turn it is, the legal moves, the end of the game, and the goals
 abbrev pub turn_rules : List (List ℕ)
 turn_rules =
     codes "(role red) (role blue) (init (turn red))"
@@ -25,15 +25,15 @@ turn_rules =
     ∷ codes "(<= (goal blue 0) (true (heap 0)) (true (turn blue)))"
     ∷ []
 
--- the rule by which a heap of `before` becomes one of `left`, when this word holds of the moves
+-- the rule that a heap of `before` becomes one of `left` if this word is true of the moves
 abbrev pub step_rule : ℕ → ℕ → List ℕ → List ℕ
 step_rule left before word = codes "(<= (next (heap " ++ (decimal left ++ (codes ")) (true (heap " ++ (decimal before ++ (codes ")) " ++ (word ++ (codes ")" ++ line_feed ∷ []))))))
 
--- the rules by which a heap of at most `size` becomes one of `left`: one is taken, or two
+-- the rules that make a heap of at most `size` one of `left`: a move takes one or two
 abbrev pub steps_to : ℕ → ℕ → List ℕ
 steps_to size left = step_rule left (left + 1) (codes "one") ++ (if nat_lt (left + 1) size then step_rule left (left + 2) (codes "two") else [])
 
--- those for each heap below this one, the smallest first
+-- the rules for each heap below this one, the smallest first
 abbrev pub steps_below : ℕ → ℕ → List ℕ
 steps_below size zero = []
 steps_below size (suc left) = steps_below size left ++ steps_to size left

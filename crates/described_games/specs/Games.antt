@@ -1,4 +1,4 @@
--- Games that are described in text.
+-- Games described by text.
 use Rattle.std.specs.Prelude.{◌≢◌, ℕ, List, map}
 use Rattle.game_core.specs.Expression.{Expression, Expressions, folded}
 use Rattle.game_core.specs.Limits.{max_bytes}
@@ -18,31 +18,30 @@ use Rattle.packed_rules.specs.declared.packed_game.PackedGame.{PackedGame}
 use Rattle.described_games.specs.declared.games.DescriptionFault.{DescriptionFault}
 use Rattle.described_games.specs.declared.games.DescriptionFault.TheVariants.{Memory, Unread, Unfit}
 
--- the text spells sentences, and the game is what they describe without their capitals, all within these limits
+-- the text spells sentences, and the game is the one that they describe in lower case, within these limits
 pub record IsLoadedFrom (limits : Limits) (text : List ℕ) (game : GroundGame) : Type 0 where
   pub sentences : List Expression
   pub spelled : SpellsUpTo (max_bytes limits) text (expressions sentences)
   pub loaded : IsLoaded limits (map folded sentences) game
 
--- the game is the packed form of what the text describes
+-- the game is the packed form of the game that the text describes
 pub record IsDescribed (limits : Limits) (text : List ℕ) (game : PackedGame) : Type 0 where
   pub plain : GroundGame
   pub loaded : IsLoadedFrom limits text plain
   pub packed : IsPackedFormOf plain game
 
--- the text spells no sentences, or sentences that have a fault, by these limits
+-- within these limits, the text spells no sentences, or sentences with an error
 pub data DescribesNone (limits : Limits) (text : List ℕ) : Type 0 where
   unread : ((xs : Expressions) → ¬ SpellsUpTo (max_bytes limits) text xs) → DescribesNone limits text
   faulty : (sentences : List Expression) (fault : LoadFault) → SpellsUpTo (max_bytes limits) text (expressions sentences) → fault ≢ LoadMemory → IsLoadFault limits (map folded sentences) fault → DescribesNone limits text
 
--- By these limits the text has this first fault of spelling, or the sentences that it spells, without capitals, have this first fault of
--- loading.
+-- Within these limits, the text has this first error of spelling, or its sentences, in lower case, have this first error of loading.
 abbrev pub IsRefusedAs : Limits → List ℕ → DescriptionFault → Type 0
 IsRefusedAs limits text (Unread fault) = (fault ≢ KifMemory) × IsFaultUpTo (max_bytes limits) any_number text fault
 IsRefusedAs limits text (Unfit fault) = (fault ≢ LoadMemory) × (sentences : List Expression) × SpellsUpTo (max_bytes limits) text (expressions sentences) × IsLoadFault limits (map folded sentences) fault
 IsRefusedAs limits text Memory = Unit {0}
 
--- the fault of a text that can't be read, and of sentences that have a fault
+-- the error of a text that cannot be read, or of sentences that cannot be loaded
 abbrev pub reading_fault : KifFault → DescriptionFault
 reading_fault KifMemory = Memory
 reading_fault fault = Unread fault

@@ -26,7 +26,7 @@ const TURNS: &str = "(role red) (role blue) (init (turn red))
 (<= (goal blue 0) (true (heap 0)) (true (turn blue)))
 ";
 
-/// Appends the rule by which a heap of `before` becomes one of `left`, when this word holds of the moves.
+/// Appends the rule that a heap of `before` becomes one of `left` if this word is true of the moves.
 fn push_step(rules: &mut String, left: u16, before: u16, word: &str) -> fmt::Result
     ensures { OnOk result (string_bytes rules.new ≡ string_bytes rules.old ++ step_rule left before word.now) }
 {
@@ -37,7 +37,7 @@ fn push_step(rules: &mut String, left: u16, before: u16, word: &str) -> fmt::Res
     Ok(())
 }
 
-/// Appends the rules by which a heap of at most `size` becomes one of `left`.
+/// Appends the rules that make a heap of at most `size` one of `left`.
 fn push_steps_to(rules: &mut String, size: u8, left: u8) -> fmt::Result
     ensures { OnOk result (string_bytes rules.new ≡ string_bytes rules.old ++ steps_to size left) }
 {
@@ -49,7 +49,7 @@ fn push_steps_to(rules: &mut String, size: u8, left: u8) -> fmt::Result
     Ok(())
 }
 
-/// Appends the rules of what is left of the heap to `rules`.
+/// Appends the rules for all heaps up to `size`.
 fn push_steps(rules: &mut String, size: u8) -> fmt::Result
     ensures { OnOk result (string_bytes rules.new ≡ string_bytes rules.old ++ steps_below size size) }
 {
@@ -59,7 +59,7 @@ fn push_steps(rules: &mut String, size: u8) -> fmt::Result
     Ok(())
 }
 
-/// The rules of Countdown with a heap of `size`, as a ground description. The error is out of memory.
+/// The rules of Countdown with a heap of `size`, as a ground description. The only error is out of memory.
 pub fn countdown_rules(alloc: Global, size: u8) -> Result<String, fmt::Error>
     ensures { IfOk result (λ rules. string_bytes rules ≡ countdown_text size) }
 {

@@ -1,4 +1,4 @@
-//! Games from their texts.
+//! Games from text.
 ghost use Rattle.std.specs.Prelude.{◌≡◌, ◌≢◌, IfOk, IfErr};
 ghost use Rattle.described_games.specs.Games.{IsLoadedFrom, IsDescribed, DescribesNone, IsRefusedAs};
 
@@ -8,12 +8,12 @@ use kif_text::{KifFault, read_up_to};
 use packed_rules::{PackedGame, pack};
 use std::alloc::{AllocError, Global};
 
-/// Why a text describes no game.
+/// Why a text does not describe a game.
 #[derive(Clone, Copy)]
 pub enum DescriptionFault {
     /// The text is not KIF.
     Unread(KifFault),
-    /// Its sentences are no ground description.
+    /// Its sentences are not a ground description.
     Unfit(LoadFault),
     /// Out of memory.
     Memory,
@@ -58,7 +58,6 @@ impl From<LoadFault> for DescriptionFault {
     }
 }
 
-/// The game of a ground description, in the form in which it is loaded.
 fn loaded(alloc: Global, limits: Limits, rules: &[u8]) -> Result<GroundGame, DescriptionFault>
     ensures loaded { IfOk result (IsLoadedFrom limits rules.now) }
     ensures refused { IfErr result (λ fault. fault ≢ DescriptionFault.Memory → DescribesNone limits rules.now) }
@@ -68,8 +67,8 @@ fn loaded(alloc: Global, limits: Limits, rules: &[u8]) -> Result<GroundGame, Des
     Ok(load_within(alloc, limits, sentences)?)
 }
 
-/// The game of a ground description within these limits, in the form that is fast to play. The error is the first fault of the text, or
-/// `Memory`.
+/// Makes the game of a ground description, in the form that is fast to play. The error is the first error of the text within
+/// these limits, or `Memory`.
 pub fn described_game(
     alloc: Global,
     limits: Limits,

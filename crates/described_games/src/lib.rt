@@ -1,9 +1,7 @@
-//! Games from their texts.
+//! Makes games from the texts of their descriptions.
 //!
-//! `described_game` makes the game of a ground description, or returns the fault of the text; `explanations` says more about it.
-//! `countdown_rules` writes the description of Countdown.
-//!
-//! Free functions take the allocator first.
+//! `described_game` returns the game or an error, which `explanations` describes in more detail. `countdown_rules` writes
+//! the description of Countdown.
 #![tactic(auto)]
 
 mod countdown_text;

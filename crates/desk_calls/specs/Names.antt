@@ -1,4 +1,4 @@
--- Lawful ids, players' names, clocks and setups.
+-- Which ids, names of players, clocks and setups are lawful.
 use Rattle.std.specs.Prelude.{◌≡◌, ℕ, Bool, true, ◌&&◌, ◌||◌, ◌==◌, nat_le, List, length}
 use Rattle.std.specs.List.{list_all}
 use Rattle.desk_calls.specs.declared.setup.Setup.{Setup}
@@ -12,11 +12,11 @@ full_stop = 46
 abbrev pub underscore : ℕ
 underscore = 95
 
--- the limit of bytes in a name
+-- the largest number of bytes of a name
 abbrev pub max_name : ℕ
 max_name = 64
 
--- the limit of seconds on a clock: a day
+-- the largest number of seconds on a clock: a day
 abbrev pub max_clock : ℕ
 max_clock = 86400
 
@@ -27,7 +27,6 @@ is_between low high n = nat_le low n && nat_le n high
 abbrev pub is_letter : ℕ → Bool
 is_letter b = is_between 65 90 b || is_between 97 122 b
 
--- `0` to `9`
 abbrev pub is_digit : ℕ → Bool
 is_digit b = is_between 48 57 b
 
@@ -42,15 +41,15 @@ is_name text = is_between 1 max_name (length text) && list_all is_name_byte text
 abbrev pub is_clock : ℕ → Bool
 is_clock seconds = is_between 1 max_clock seconds
 
--- the limit of the number of substitutions in a row that retire a role
+-- the largest number of substitutions in a row that can be set to retire a role
 abbrev pub max_strikes : ℕ
 max_strikes = 255
 
--- a lawful number of substitutions in a row that retire a role: 0 means never
+-- a lawful number of substitutions in a row that retire a role; 0 means never
 abbrev pub is_strikes : ℕ → Bool
 is_strikes n = nat_le n max_strikes
 
--- a lawful id, lawful names, lawful clocks and a lawful number of strikes
+-- the id, the names, the clocks and the number of strikes are lawful
 pub record IsLawfulSetup (setup : Setup) : Type 0 where
   pub id : is_name setup.id ≡ true
   pub players : list_all is_name setup.players ≡ true

@@ -1,9 +1,8 @@
--- How far a match has come.
+-- The phases of a match.
 use Rattle.std.specs.Prelude.{ℕ, Bool, true, false, List, codes}
 use Rattle.desk_calls.specs.declared.phase.Phase.{Phase}
 use Rattle.desk_calls.specs.declared.phase.Phase.TheVariants.{Starting, Playing, Stopping, Finished, Aborting, Aborted}
 
--- the match is over
 abbrev pub is_last : Phase → Bool
 is_last Starting = false
 is_last Playing = false
@@ -12,7 +11,7 @@ is_last Finished = true
 is_last Aborting = false
 is_last Aborted = true
 
--- its word in replies and records
+-- the phase's word in replies and records
 abbrev pub phase_text : Phase → List ℕ
 phase_text Starting = codes "starting"
 phase_text Playing = codes "playing"

@@ -1,4 +1,4 @@
-//! What comes from a player.
+//! Answers of players.
 ghost use Rattle.std.specs.Prelude.{◌≡◌};
 ghost use Rattle.desk_calls.specs.Answers.{answer_lent};
 
@@ -7,7 +7,7 @@ use game_core::Text;
 /// A player's answer to a message.
 #[derive(Drop)]
 pub enum Answer {
-    /// The body of the reply, as it was sent.
+    /// The body of the reply, as the player sent it.
     Text(Text),
     /// No answer came in time.
     Silent,
@@ -15,7 +15,7 @@ pub enum Answer {
     Broken,
 }
 
-/// An answer that borrows its text.
+/// An answer with borrowed text.
 #[derive(Clone, Copy)]
 pub enum LentAnswer<'a> {
     Text(&'a Text),

@@ -5,11 +5,10 @@ use game_core::{Text, Texts};
 use std::error::Error;
 use std::fmt;
 
-/// A call on the desk. Games and roles are numbered from 0. A match is named by its id, which is compared byte
-/// for byte.
+/// A call on the desk. Games and roles are numbered from 0. A call names a match by its id; ids are compared byte for byte.
 #[derive(Drop)]
 pub enum Call {
-    /// Opens a match of a game. The clocks are in seconds, the players in the order of the roles. `strikes`
+    /// Opens a match of a game. The clocks are in seconds, and the players are in the order of the roles. `strikes`
     /// substitutions in a row retire a role; 0 means never.
     Open {
         id: Text,
@@ -19,26 +18,26 @@ pub enum Call {
         strikes: u32,
         players: Texts,
     },
-    /// Asks what is due to a role.
+    /// Asks what the match owes to a role.
     Next {
         id: Text,
         role: usize,
     },
-    /// A role's answer for a round.
+    /// Gives a role's answer for a round.
     Submit {
         id: Text,
         role: usize,
         round: u64,
         text: Text,
     },
-    /// A role has no answer for a round. If `broken`, its connection failed; otherwise no answer came in time.
+    /// Reports that a role has no answer for a round. If `broken`, its connection failed; otherwise no answer came in time.
     Miss {
         id: Text,
         role: usize,
         round: u64,
         broken: bool,
     },
-    /// Asks where a match stands.
+    /// Asks for the status of a match.
     Query {
         id: Text,
     },
@@ -61,40 +60,40 @@ pub enum Reply {
     Status(Status),
     /// To `Abort`.
     Aborting,
-    /// To any call that is not accepted. Such a call changes no match.
+    /// To any call that the desk refuses. Such a call changes no match.
     Refused(Refusal),
 }
 
-/// Why a call is refused: the first of these that holds.
+/// Why the desk refuses a call: the first of these that holds.
 #[derive(Clone, Copy, Debug, PartialEq, Eq)]
 pub enum Refusal {
     /// The id is not 1 to 64 bytes of ASCII letters, digits, `-`, `_` and `.`.
     BadId,
-    /// There is a match with this id.
+    /// Another match has this id.
     IdUsed,
-    /// There is no game with this number.
+    /// No game has this number.
     NoGame,
     /// The number of players is not the number of roles.
     WrongPlayers,
-    /// A player's name is not lawful. The rule is that of ids.
+    /// A player's name breaks the rule of ids.
     BadName,
     /// A clock is not 1 to 86,400 seconds.
     BadClock,
     /// More than 255 strikes.
     BadStrikes,
-    /// The desk holds 1,024 matches.
+    /// The desk has 1,024 matches.
     DeskFull,
-    /// There is no match with this id.
+    /// No match has this id.
     NoMatch,
     /// The match's game has no such role.
     NoRole,
     /// The match is finished or aborted.
     Over,
-    /// The answer is not for the present round, which is this one.
+    /// The answer is not for the present round, which this is.
     Stale(u64),
-    /// The role has answered this round.
+    /// The role has already answered this round.
     Twice,
-    /// The match is stopping or aborting already, or is over.
+    /// The match is already stopping, aborting or over.
     Ended,
 }
 

@@ -1,8 +1,8 @@
 //! What a match owes to a role.
 use game_core::Texts;
 
-/// A message that is owed. PLAY and STOP carry the texts of the last joint move, in the order of the roles.
-/// They carry `None` before the first turn.
+/// A message that a match owes to a role. PLAY and STOP have the texts of the last joint move, in the order of the roles, or
+/// `None` before the first turn.
 #[derive(Drop)]
 pub enum Owed {
     Start,
@@ -11,12 +11,12 @@ pub enum Owed {
     Abort,
 }
 
-/// What is due to a role.
+/// What the match owes to a role now.
 #[derive(Drop)]
 pub enum Due {
-    /// The role is owed this message, and its answer is for this round.
+    /// The match owes the role this message, and expects an answer for this round.
     Owe { round: u64, owed: Owed },
-    /// The role has answered this round and waits for the others.
+    /// The role has answered this round, and the match waits for the others.
     Hold { round: u64 },
     /// The match is finished or aborted.
     Over,

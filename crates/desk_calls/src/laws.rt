@@ -1,7 +1,7 @@
-//! What holds of the definitions.
+//! Laws of the definitions.
 ghost use Rattle.desk_calls.specs.Laws.{NamesAreAtoms};
 
-/// A lawful id, or name of a player, is an atom.
+/// A lawful id, or a lawful name of a player, is an atom.
 pub fn names_are_atoms()
     ensures { NamesAreAtoms }
 {}

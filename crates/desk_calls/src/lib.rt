@@ -1,7 +1,7 @@
-//! What is said at a desk: the calls, their replies, and what these speak of, which are names and clocks, the setup of a
-//! match, what a role is owed, a player's answer, and where a match stands.
+//! The calls of a desk and their replies, with the types in them: names and clocks, the setup of a match, what a role is
+//! owed, a player's answer, and the status of a match.
 //!
-//! It says what a call is, and not what it does: `match_desk` says that, over the matches of `match_book`. A caller needs neither.
+//! `match_desk` defines what each call does.
 #![tactic(auto)]
 
 mod answer;

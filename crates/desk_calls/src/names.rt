@@ -1,17 +1,17 @@
-//! Lawful ids, players' names, clocks and strikes.
+//! Which ids, names of players, clocks and strikes are lawful.
 ghost use Rattle.std.specs.Prelude.{◌≡◌, ◌&&◌};
 ghost use Rattle.std.specs.List.{list_all};
 ghost use Rattle.desk_calls.specs.Names.{is_between, max_name, is_name_byte, is_name, is_clock, is_strikes};
 
 use game_core::Text;
 
-/// The limit of bytes in a name.
+/// The largest number of bytes of a name.
 const MAX_NAME: usize = 64;
 
-/// The limit of seconds on a clock.
+/// The largest number of seconds on a clock.
 pub const MAX_CLOCK: u32 = 86_400;
 
-/// The limit of the number of substitutions in a row that retire a role.
+/// The largest number of substitutions in a row that can be set to retire a role.
 pub const MAX_STRIKES: u32 = 255;
 
 fn is_name_byte(byte: u8) -> bool
@@ -44,7 +44,7 @@ pub fn is_name(text: &[u8]) -> bool
     is_name_length(text.len()) && are_name_bytes(text)
 }
 
-/// Whether each text is a lawful name.
+/// Whether all texts are lawful names.
 pub fn are_names(texts: &[Text]) -> bool
     ensures { result ≡ list_all is_name texts.now }
 {
@@ -63,14 +63,14 @@ pub fn is_clock(seconds: u32) -> bool
     1 <= seconds && seconds <= MAX_CLOCK
 }
 
-/// Whether both are lawful clocks.
+/// Whether both clocks are lawful.
 pub fn are_clocks(start: u32, play: u32) -> bool
     ensures { result ≡ (is_clock start && is_clock play) }
 {
     is_clock(start) && is_clock(play)
 }
 
-/// Whether `strikes` may be the number of substitutions in a row that retire a role. 0 means never.
+/// Whether a match may retire a role after this many substitutions in a row. 0 means never.
 pub fn is_strikes(strikes: u32) -> bool
     ensures { result ≡ is_strikes strikes }
 {

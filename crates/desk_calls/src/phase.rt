@@ -1,34 +1,34 @@
-//! How far a match has come.
+//! The phases of a match.
 ghost use Rattle.std.specs.Prelude.{◌≡◌};
 ghost use Rattle.desk_calls.specs.Phases.{is_last, phase_text};
 
 /// How far a match has come.
 #[derive(Clone, Copy, PartialEq, Eq)]
 pub enum Phase {
-    /// Not every role has answered START.
+    /// Some role has not answered START.
     Starting,
-    /// Turns are played.
+    /// The roles play turns.
     Playing,
-    /// The game has ended, but not every role has answered STOP.
+    /// The game has ended, but some role has not answered STOP.
     Stopping,
     /// The game has ended, and every role has answered STOP.
     Finished,
-    /// The match is being aborted, as its cause says, but not every role has answered ABORT.
+    /// The match is being aborted, but some role has not answered ABORT.
     Aborting,
     /// The match was aborted, and every role has answered ABORT.
     Aborted,
 }
 
-/// What a query of a match shows.
+/// The reply to a query of a match.
 #[derive(Clone, Copy, PartialEq, Eq)]
 pub struct Status {
     pub phase: Phase,
     /// 0 while the match is starting; after that, the number of recorded turns plus one. An abort that was asked for adds
-    /// one more, or makes the round 1 if a role has not answered START.
+    /// one more, or makes the round 1 if some role has not answered START.
     pub round: u64,
-    /// How many turns are recorded.
+    /// The number of recorded turns.
     pub turns: u64,
-    /// The number of recorded moves that were substituted, retired roles' moves included.
+    /// The number of recorded moves that were substituted, including those of retired roles.
     pub substitutions: u64,
 }
 

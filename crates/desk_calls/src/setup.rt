@@ -1,8 +1,8 @@
-//! The setup that a match is opened with.
+//! The setup of a match.
 use game_core::{Text, Texts};
 
-/// The match's id, the clocks for START and PLAY in seconds, the number of substitutions in a row that retire
-/// a role (0 means never), and the players' names, one for each role.
+/// The match's id, the clocks for START and PLAY in seconds, how many substitutions in a row retire a role (0 means never),
+/// and the players' names in the order of the roles.
 #[derive(Drop)]
 pub struct Setup {
     pub id: Text,

@@ -1,4 +1,4 @@
--- An account whose calls are made again line by line, and the history of its lines.
+-- Replaying a call log line by line.
 use Rattle.std.proofs.Common.{◌≡◌, ℕ, ◌+◌, Bool, true, false, not, List, [], ◌∷◌, ◌++◌, length, map, refl, ap, ◌∙◌, subst, append-nil, arith}
 use Rattle.std.specs.List.{AllByRecursion}
 use Rattle.std.specs.Str.{bytes_eq}
@@ -24,7 +24,7 @@ no_lines [] empty = refl
 no_lines (byte ∷ text) empty = absurd (omega arith)
 
 module _ {S : Type 0} (reply : S → Call → Reply) (after : S → Call → S) where
-  -- the lines before the last ones tell a history that is legal from the start, of the calls that were made and of further ones
+  -- All lines are those of a legal history from the start, and then the last lines. The history has the calls made so far, and `more`.
   pub record Tells (start : S) (all last : List (List ℕ)) (object : S) (calls : ℕ) (more : List (Entry Call Reply)) : Type 0 where
     pub history : List (Entry Call Reply)
     pub cut : all ≡ map entry_text history ++ last
@@ -33,7 +33,7 @@ module _ {S : Type 0} (reply : S → Call → Reply) (after : S → Call → S) 
     pub leaves : run after object more ≡ run after start history
     pub counted : calls + length more ≡ length history
 
-  -- each history from the object in the lines that are left continues one from the start in all lines
+  -- each history from the object in the last lines continues one from the start in all lines
   abbrev pub IsAccountSoFar : S → List (List ℕ) → List (List ℕ) → S → ℕ → Type 0
   IsAccountSoFar start all rest object calls = (more : List (Entry Call Reply)) (last : List (List ℕ))
       → rest ≡ map entry_text more ++ last → AllByRecursion IsRead more → IsLegalHistory reply after object more → Tells start all last object calls more
@@ -41,7 +41,6 @@ module _ {S : Type 0} (reply : S → Call → Reply) (after : S → Call → S) 
   pub account_begins : (start : S) (all : List (List ℕ)) → IsAccountSoFar start all all start 0
   account_begins start all more last cut read legal = record { history = more; cut = cut; are_read = read; legal = legal; leaves = refl; counted = omega arith }
 
-  -- one entry more
   pub account_goes_on : (start : S) (all rest : List (List ℕ)) (line : List ℕ) (old new : S) (calls : ℕ) (e : Entry Call Reply)
       → IsAccountSoFar start all (line ∷ rest) old calls
       → line ≡ entry_text e → IsRead e → e.reply ≡ reply old e.call → new ≡ after old e.call
@@ -68,7 +67,6 @@ module _ {S : Type 0} (reply : S → Call → Reply) (after : S → Call → S) 
         counted = omega (arith, whole.counted);
       }
 
-  -- the next line is refused
   pub fault_comes : (start : S) (all rest : List (List ℕ)) (line : List ℕ) (old : S) (calls : ℕ) (fault : ReplayFault)
       → IsAccountSoFar start all (line ∷ rest) old calls → RefusesLine reply old (calls + 1) line fault → IsFirstFault reply after start all fault
   fault_comes start all rest line old calls fault so_far refused =

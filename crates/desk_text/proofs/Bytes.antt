@@ -1,4 +1,4 @@
--- The bytes in the words and lines of an account, and cutting a list at a byte that its front lacks.
+-- The bytes in the words and lines of a call log, and splitting a list at the first occurrence of a byte.
 use Rattle.std.proofs.Common.{◌≡◌, ◌≢◌, ℕ, zero, suc, ◌+◌, ◌%◌, ◌<◌, ◌≤◌, ◌^◌, ◌==◌, true, nat_le, List, [], ◌∷◌, ◌++◌, refl, ap, ◌∙◌, arith, ne_eqb, eq-eqb, leb-true}
 use Rattle.std.specs.Prelude.{slice_index}
 use Rattle.std.specs.Fmt.{decimal}
@@ -7,7 +7,7 @@ use Rattle.std.proofs.lemmas.Bool.{and_parts}
 use Rattle.std.proofs.lemmas.Fmt.{decimal_by_steps}
 use Rattle.std.proofs.lemmas.List.Splits.{slice_split-cons_yes, slice_split-cons_no}
 
--- ---- bytes from a least one on
+-- ---- bytes of at least this value
 
 abbrev pub AreFrom : ℕ → List ℕ → Type 0
 AreFrom least bytes = AllByRecursion (λ byte. least ≤ byte) bytes
@@ -20,7 +20,7 @@ pub from_lower : (least lower : ℕ) (xs : List ℕ) → lower ≤ least → Are
 from_lower least lower [] below are = tt
 from_lower least lower (x ∷ xs) below are = (omega (arith, below, are.0), from_lower least lower xs below are.1)
 
--- by a test that computes
+-- proved by computing a test
 pub from_tested : (least : ℕ) (xs : List ℕ) → list_all (λ byte. nat_le least byte) xs ≡ true → AreFrom least xs
 from_tested least [] is = tt
 from_tested least (x ∷ xs) is =
@@ -29,8 +29,6 @@ from_tested least (x ∷ xs) is =
 
 pub decimal_from : (n : ℕ) → n < 2 ^ 64 → AreFrom 33 (decimal n)
 decimal_from n small = decimal_by_steps (λ _ digits. AreFrom 33 digits) (λ digit below. (omega arith, tt)) (λ m digits some front. each_append _ digits ((48 + m % 10) ∷ []) front (omega arith, tt)) n small
-
--- ---- lists without a byte
 
 abbrev pub Lacks : ℕ → List ℕ → Type 0
 Lacks c bytes = AllByRecursion (λ byte. byte ≢ c) bytes

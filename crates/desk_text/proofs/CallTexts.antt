@@ -6,7 +6,6 @@ use Rattle.desk_calls.specs.declared.call.Call.TheVariants.{Submit}
 use Rattle.desk_text.specs.Account.{call_text}
 use Rattle.desk_text.specs.Escapes.{escaped_name, escaped_text}
 
--- pieces that were appended one after another
 appended : (out one two three four a b c d e : List ℕ) → one ≡ (out ++ a) ++ b → two ≡ one ++ c → three ≡ two ++ d → four ≡ three ++ e → four ≡ out ++ (a ++ (b ++ (c ++ (d ++ e))))
 appended out one two three four a b c d e first second third last =
     rw (last, third, second, first) (append_assoc (((out ++ a) ++ b) ++ c) d e ∙ append_assoc ((out ++ a) ++ b) c (d ++ e) ∙ append_assoc (out ++ a) b (c ++ (d ++ e)) ∙ append_assoc out a (b ++ (c ++ (d ++ e))))

@@ -1,4 +1,4 @@
--- The line of each entry of a history has the form of an account's.
+-- The line of each entry of a history has the form of a line of a call log.
 use Rattle.std.proofs.Common.{◌≡◌, ℕ, ◌+◌, ◌-◌, ◌/◌, ◌%◌, ◌<◌, ◌≤◌, ◌^◌, ◌==◌, suc, Bool, true, false, not, List, [], ◌∷◌, ◌++◌, map, length, if◌then◌else◌, codes, Option, Some, None, refl, ap, ◌∙◌, arith, eq-eqb, ne_eqb, leb-true}
 use Rattle.std.specs.Prelude.{nat_le, nat_lt, slice_get}
 use Rattle.std.specs.Char.{is_ascii_digit}
@@ -28,8 +28,6 @@ use Rattle.desk_text.specs.Escapes.{escape, escaped_from, escaped_name, escaped_
 use Rattle.desk_text.specs.ScriptLines.{joint_text, owed_text, refusal_text, reply_text}
 use Rattle.desk_text.specs.Words.{behind_spaces, max_in_64_bits, pieces, spaced, words}
 use Rattle.desk_text.specs.AccountLines.{HasReplyNumbers, are_account_fields, begins_as_call, ends_as_reply, is_account_line, is_call_word}
-
--- ---- bytes from the space on
 
 abbrev Seen : List ℕ → Type 0
 Seen bytes = AllByRecursion (λ byte. 32 ≤ byte) bytes
@@ -95,8 +93,6 @@ seen_call (Miss id role round broken) n = step broken
 seen_call (Query id) n = seen_spaced (codes "query") (escaped_name id ∷ []) refl (seen_name id, tt)
 seen_call (Abort id) n = seen_spaced (codes "abort") (escaped_name id ∷ []) refl (seen_name id, tt)
 
--- ---- the fields
-
 tab_cut : (xs ys : List ℕ) → Seen xs → pieces tab (xs ++ tab ∷ ys) ≡ xs ∷ pieces tab ys
 tab_cut [] ys seen = slice_split-cons_yes (λ b. b == tab) tab ys (eq-eqb tab tab refl)
 tab_cut (x ∷ xs) ys seen = slice_split-cons_no (λ b. b == tab) x (xs ++ tab ∷ ys) (ne_eqb x tab (λ same. omega (arith, seen.0, same))) ∙ ap (onto_first x) (tab_cut xs ys seen.1)
@@ -111,8 +107,6 @@ fields e is =
     tab_cut (decimal e.line) (call_text e.call ++ tab ∷ reply) (seen_decimal e.line (omega (arith, is.line)))
     ∙ ap (λ more. decimal e.line ∷ more) (tab_cut (call_text e.call) reply (seen_call e.call is.call.numbers) ∙ ap (λ more. call_text e.call ∷ more) (tab_uncut reply (seen_escaped space (reply_text e.reply) (omega arith))))
 
--- ---- the number
-
 all_digits : (digits : List ℕ) → AllDigits 10 digits → list_all is_ascii_digit digits ≡ true
 all_digits [] each = refl
 all_digits (x ∷ xs) each =
@@ -126,8 +120,6 @@ number n small =
     let long = numeral.0.0 in
     let some : nat_lt 0 (length (decimal n)) ≡ true = grind (arith, nat_tests) in
     rw (some, all_digits (decimal n) numeral.0.1) refl
-
--- ---- the call
 
 word_cut : (w rest : List ℕ) → list_all (λ byte. not (byte == space)) w ≡ true → words (w ++ space ∷ rest) ≡ w ∷ words rest
 word_cut [] rest is = slice_split-cons_yes (λ b. b == space) space rest (eq-eqb space space refl)
@@ -155,9 +147,6 @@ call_begins (Miss id role round broken) = keyword (codes "miss") (escaped_name i
 call_begins (Query id) = keyword (codes "query") (escaped_name id ++ behind_spaces []) refl refl
 call_begins (Abort id) = keyword (codes "abort") (escaped_name id ++ behind_spaces []) refl refl
 
--- ---- the end of the reply
-
--- the last byte can be that of a reply
 abbrev ends : List ℕ → Bool
 ends [] = false
 ends (x ∷ []) = ends_as_reply (Some x)
@@ -228,8 +217,6 @@ reply_ends (Status s) n =
     behind (codes "status " ++ phase_text s.phase ++ codes " round " ++ decimal s.round ++ codes " turns " ++ decimal s.turns ++ codes " substitutions ") (decimal s.substitutions) (decimal_ends s.substitutions n)
 reply_ends Aborting n = refl
 reply_ends (Refused reason) n = behind (codes "refused ") (refusal_text reason) (refusal_ends reason n)
-
--- ---- the line
 
 pub entry_is_line : (e : Entry Call Reply) → IsEntry e → HasReplyNumbers e.reply → is_account_line (entry_text e) ≡ true
 entry_is_line e is n =

@@ -1,4 +1,4 @@
--- A text with escapes fits into a line, and can be read again.
+-- An escaped text fits into a line, and can be read again.
 use Rattle.std.proofs.Common.{◌≡◌, ℕ, ◌+◌, ◌*◌, ◌/◌, ◌%◌, ◌<◌, ◌≤◌, ◌==◌, Bool, true, false, List, [], ◌∷◌, ◌++◌, map, length, take, drop, if◌then◌else◌, Option, Some, None, refl, ap, sym, ◌∙◌, append_assoc, arith}
 use Rattle.std.specs.List.{AllByRecursion}
 use Rattle.std.specs.Prelude.{option_map, slice_set}
@@ -55,17 +55,15 @@ pub names_from : (names : List (List ℕ)) → AllByRecursion (AreFrom 33) (map 
 names_from [] = tt
 names_from (name ∷ more) = (escapes_from 33 name (omega arith), names_from more)
 
--- one byte more
 pub byte_more : (bytes : List ℕ) (byte : ℕ) (rest : Option (List ℕ)) → option_map (λ behind. (bytes ++ byte ∷ []) ++ behind) rest ≡ option_map (λ behind. bytes ++ behind) (before_rest (Some byte) rest)
 byte_more bytes byte None = refl
 byte_more bytes byte (Some rest) = ap Some (append_assoc bytes (byte ∷ []) rest)
 
--- before the first byte is read
 pub none_yet : (read : Option (List ℕ)) → option_map (λ behind. [] ++ behind) read ≡ read
 none_yet None = refl
 none_yet (Some bytes) = refl
 
--- the byte at a place moves behind the bytes that are kept
+-- the byte at this index is appended to the bytes that are already unescaped
 pub kept_in_place : (bytes : List ℕ) (kept place taken byte : ℕ) (whole : Option (List ℕ)) → kept ≤ place → 0 < taken → place + taken ≤ length bytes
     → unescaped (drop place bytes) ≡ before_rest (Some byte) (unescaped (drop taken (drop place bytes)))
     → option_map (λ behind. take kept bytes ++ behind) (unescaped (drop place bytes)) ≡ whole

@@ -1,4 +1,4 @@
--- A text is cut at its first line feed.
+-- A text is split at its first line feed.
 use Rattle.std.proofs.Common.{◌≡◌, ℕ, ◌+◌, ◌<◌, Bool, eqb, List, [], ◌∷◌, length, take, drop, refl, ap, ◌∙◌, arith, Some, None}
 use Rattle.std.specs.Prelude.{position}
 use Rattle.std.specs.List.{slice_split}

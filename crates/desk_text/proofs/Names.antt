@@ -1,4 +1,4 @@
--- The names that end a line, one by one.
+-- The names at the end of a line, one by one.
 use Rattle.std.proofs.Common.{◌≡◌, ℕ, ◌<◌, Bool, true, false, List, [], ◌∷◌, ◌++◌, length, if◌then◌else◌, Option, Some, None, ◌==◌, refl, ap, sym, ◌∙◌, append_assoc, arith, Bor}
 use Rattle.std.specs.Prelude.{is_some, option_copied, option_map}
 use Rattle.std.specs.List.{list_all}
@@ -8,7 +8,6 @@ use Rattle.desk_text.specs.ScriptLines.{first_name, is_end, is_name, names_of}
 use Rattle.desk_text.specs.Words.{words, words_behind}
 use Rattle.desk_text.specs.declared.script_lines.Grammar.{Grammar}
 
--- the first of the words is this name, and the others are behind it
 pub first_taken : (g : Grammar) (words : List (List ℕ)) (name : List ℕ) (more : List (List ℕ)) → Some (name, more) ≡ first_name g words → (words ≡ name ∷ more) × (is_name g name ≡ true)
 first_taken g [] name more is = absurd cc
 first_taken g (word ∷ others) name more is = step (is_name g word) refl is
@@ -19,7 +18,6 @@ first_taken g (word ∷ others) name more is = step (is_name g word) refl is
         (ap (λ p. p.0 ∷ p.1) (sym pair), ap (λ p. is_name g p.0) pair ∙ named)
     step false named same = absurd cc
 
--- these names before those of other words, if there are such
 abbrev pub before_names : List (List ℕ) → Option (List (List ℕ)) → Option (List (List ℕ))
 before_names names others = option_map (λ more. names ++ more) others
 
@@ -52,8 +50,6 @@ no_name g (word ∷ others) some is = step (is_name g word) refl is
     step : (t : Bool) → is_name g word ≡ t → ◌≡◌ {A = Option (List ℕ × List (List ℕ))} None (if t then Some (word, others) else None) → names_of g (word ∷ others) ≡ None
     step true named same = absurd cc
     step false named same = rw named refl
-
--- ---- the words of a text: there is one at least
 
 pub some_words : (text : List ℕ) → 0 < length (words text)
 some_words text = omega (arith, length-slice_split (λ b. b == space) text)

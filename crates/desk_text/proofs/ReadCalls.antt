@@ -1,4 +1,4 @@
--- A call is read from its words.
+-- A call can be read from its words.
 use Rattle.std.proofs.Common.{◌≡◌, ℕ, ◌<◌, ◌≤◌, ◌^◌, ◌++◌, ◌==◌, Bool, true, false, List, [], ◌∷◌, map, if◌then◌else◌, codes, Option, Some, refl, ap, ◌∙◌, sym, append-nil, arith, eqb-true, le-leb}
 use Rattle.std.specs.Prelude.{option_and_then}
 use Rattle.std.specs.Fmt.{decimal}
@@ -27,7 +27,6 @@ pub words_of_text : (w : List ℕ) (ws : List (List ℕ)) (text : List ℕ) → 
 words_of_text w [] text first others = cut_front space w (text ++ []) (lacks_below space 33 w (omega arith) first) ∙ ap (λ t. w ∷ words t) (append-nil text)
 words_of_text w (v ∷ ws) text first others = cut_front space w (spaced (v ∷ (ws ++ text ∷ []))) (lacks_below space 33 w (omega arith) first) ∙ ap (λ vs. w ∷ vs) (words_of_text v ws text others.0 others.1)
 
--- the words fit into a line
 pub behind_from : (ws : List (List ℕ)) → AllByRecursion (AreFrom 32) ws → AreFrom 32 (behind_spaces ws)
 behind_from [] each = tt
 behind_from (w ∷ ws) each = (omega arith, each_append _ w (behind_spaces ws) each.0 (behind_from ws each.1))
@@ -60,7 +59,6 @@ number_32 n within = decimal_from n (small_32 n within)
 name_from : (name : List ℕ) → AreFrom 33 (escaped_name name)
 name_from name = escapes_from 33 name (omega arith)
 
--- the words of an opening without strikes, and of one with strikes
 abbrev open_of : List ℕ → ℕ → ℕ → ℕ → List (List ℕ) → List (List ℕ)
 open_of id game start play players = codes "open" ∷ (escaped_name id ∷ (decimal game ∷ (decimal start ∷ (decimal play ∷ map escaped_name players))))
 
@@ -98,16 +96,14 @@ query_words id is = (from_tested 33 (codes "query") refl, (name_from id, tt))
 abort_words : (id : List ℕ) → IsCall (Abort id) → NoSpaces (call_words (Abort id))
 abort_words id is = (from_tested 33 (codes "abort") refl, (name_from id, tt))
 
--- ---- they are read
+-- ---- reading them
 
--- the call of words
 abbrev worded : List (List ℕ) → Option Call
 worded ws = option_and_then unescaped_call (call_of_words account ws)
 
 read_64 : (n : ℕ) → n ≤ max_in_64_bits → plain_number (decimal n) max_in_64_bits ≡ Some n
 read_64 n within = number_read n max_in_64_bits (small_64 n within) within
 
--- a number of 32 bits where there may be one of 64
 read_small : (n : ℕ) → n ≤ max_in_32_bits → plain_number (decimal n) max_in_64_bits ≡ Some n
 read_small n within = read_64 n (omega (arith, within))
 
@@ -170,7 +166,7 @@ call_read (Miss id role round broken) is = miss_read id role round broken is
 call_read (Query id) is = query_read id is
 call_read (Abort id) is = abort_read id is
 
--- ---- and they fit into a line
+-- ---- they fit into a line
 
 pub call_from : (call : Call) → IsCall call → AreFrom 32 (call_text call)
 call_from (Open id game start play strikes players) is = step (strikes == 0)

@@ -1,4 +1,4 @@
--- The lines of a history tell this history and no other.
+-- The lines of a history determine the history.
 use Rattle.std.proofs.Common.{◌≡◌, ◌≢◌, ℕ, ◌+◌, ◌-◌, ◌<◌, ◌==◌, Bool, List, [], ◌∷◌, ◌++◌, length, map, Some, refl, sym, ap, ◌∙◌, subst, arith, ne_eqb}
 use Rattle.std.specs.Prelude.{slice_index}
 use Rattle.std.specs.Fmt.{decimal}
@@ -20,9 +20,6 @@ use Rattle.desk_text.proofs.Bytes.{Lacks, cut_front, each_append, index_lacks, l
 use Rattle.desk_text.proofs.EscapedTexts.{escapes_from}
 use Rattle.desk_text.proofs.ReadCalls.{call_from, call_read, number_32, read_32}
 
--- ---- one line
-
--- the words of the call are one field, and so is the reply
 pub entry_read : (e : Entry Call Reply) → IsEntry e → IsRead e
 entry_read e is =
     let line_from = number_32 e.line is.line in
@@ -32,7 +29,7 @@ entry_read e is =
     ∙ ap (λ fields. decimal e.line ∷ fields) (cut_front tab (call_text e.call) reply (lacks_below tab 32 _ (omega arith) words_from)))
     ∙ rw (read_32 e.line is.line, call_read e.call is.call) refl
 
--- a line has no line feed
+-- the text of an entry has no control character except tabs
 entry_lacks : (c : ℕ) (e : Entry Call Reply) → c < 32 → c ≢ tab → IsEntry e → Lacks c (entry_text e)
 entry_lacks c e small other is =
     let field = lacks_below c 32 (escaped_text (reply_text e.reply)) small (escapes_from 32 (reply_text e.reply) (omega arith)) in
@@ -40,8 +37,6 @@ entry_lacks c e small other is =
     each_append _ (decimal e.line) (tab ∷ (call_text e.call ++ tab ∷ escaped_text (reply_text e.reply)))
     (lacks_below c 33 _ (omega (arith, small)) (number_32 e.line is.line))
     (λ same. other (sym same), each_append _ (call_text e.call) (tab ∷ escaped_text (reply_text e.reply)) words (λ same. other (sym same), field))
-
--- ---- all lines
 
 parts_more : (x : List ℕ) (parts : List (List ℕ)) → 0 < length parts → lines_of_parts (x ∷ parts) ≡ strip_carriage_return x ∷ lines_of_parts parts
 parts_more x [] some = absurd (omega arith)
@@ -67,8 +62,6 @@ entries_read (e ∷ more) are = (entry_read e are.0, entries_read more are.1)
 
 pub history_read : (history : List (Entry Call Reply)) → AllByRecursion IsEntry history → Tell (lines (history_text history)) history
 history_read history are = record { texts = history_lines history are; are_read = entries_read history are }
-
--- ---- a refused line
 
 same_pair : {A B : Type 0} (p q : A × B) → Some p ≡ Some q → (p.0 ≡ q.0) × (p.1 ≡ q.1)
 same_pair p q same =
@@ -106,7 +99,7 @@ module _ {S : Type 0} (reply : S → Call → Reply) (after : S → Call → S) 
       no_other (after start b.call) before more line rest place fault other lines'.1 read.1 read'.1
       (subst (λ made. IsLegalHistory reply after (after start made) more) parts.1 legal.1) legal'.1 refused
 
-  -- if a line is refused after a legal history, no legal history has these lines
+  -- if a line after a legal history is refused, no legal history has these lines
   pub first_fault_refuses : (start : S) (account : List (List ℕ)) (fault : ReplayFault) → fault ≢ Memory → IsFirstFault reply after start account fault → TellNoHistory reply after start account
   first_fault_refuses start account fault other first object calls is =
       no_other start first.history is.history first.line first.rest (length first.history + 1) fault other

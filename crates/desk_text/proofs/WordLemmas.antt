@@ -1,4 +1,4 @@
--- Words are put together again.
+-- Joining words.
 use Rattle.std.proofs.Common.{◌≡◌, ℕ, List, [], ◌∷◌, ◌++◌, refl, Option, Some, None, ap, ◌∙◌}
 use Rattle.std.specs.Prelude.{unwrap_or}
 use Rattle.std.specs.List.{join_with_byte}
@@ -12,7 +12,7 @@ spaced_join [] = refl
 spaced_join (word ∷ []) = append-nil word
 spaced_join (word ∷ next ∷ more) = ap (λ rest. word ++ space ∷ rest) (spaced_join (next ∷ more))
 
--- the words after a word, put together, are the text after it
+-- joining the words after a word gives the text after it
 pub spaced_behind : (rest : Option (List ℕ)) → spaced (words_behind rest) ≡ unwrap_or rest []
 spaced_behind None = refl
 spaced_behind (Some rest) = spaced_join (words rest) ∙ join_with_byte-slice_split space rest

@@ -1,56 +1,48 @@
--- The texts of an account: visible ASCII and spaces, with an escape \xHH for each other byte and for the backslash.
+-- The texts of call logs have visible ASCII and spaces. Each other byte, and the backslash, is escaped as \xHH.
 use Rattle.std.specs.Prelude.{◌==◌, ◌&&◌, ℕ, ◌+◌, ◌-◌, ◌*◌, ◌/◌, ◌%◌, nat_le, nat_lt, Bool, true, false, not, List, [], ◌∷◌, ◌++◌, Option, Some, None, option_and_then, option_map, if◌then◌else◌}
 use Rattle.game_core.specs.Bytes.{space}
 
 abbrev pub backslash : ℕ
 backslash = 92
 
--- the letter between the backslash and the digits
 abbrev pub letter_x : ℕ
 letter_x = 120
 
--- the first visible byte
 abbrev pub exclamation_mark : ℕ
 exclamation_mark = 33
 
--- whether a byte gets no escape: the bytes from this one to the tilde, except the backslash
+-- whether a byte is not escaped: it is between the least one and the tilde, and is not the backslash
 abbrev pub stands_from : ℕ → ℕ → Bool
 stands_from least byte = nat_le least byte && nat_lt byte 127 && not (byte == backslash)
 
--- the digit for a number below 16: 0 to 9, a to f
 abbrev pub hex_digit : ℕ → ℕ
 hex_digit number = if nat_lt number 10 then 48 + number else 87 + number
 
--- a byte as \xHH
 abbrev pub escape : ℕ → List ℕ
 escape byte = backslash ∷ (letter_x ∷ (hex_digit (byte / 16) ∷ (hex_digit (byte % 16) ∷ [])))
 
--- these bytes, with the escapes that they need
 abbrev pub escaped_from : ℕ → List ℕ → List ℕ
 escaped_from least [] = []
 escaped_from least (byte ∷ more) = (if stands_from least byte then byte ∷ [] else escape byte) ++ escaped_from least more
 
--- a name, as a word without spaces
+-- a name, with its spaces escaped
 abbrev pub escaped_name : List ℕ → List ℕ
 escaped_name name = escaped_from exclamation_mark name
 
--- a text, whose spaces get no escapes
+-- a text, whose spaces are not escaped
 abbrev pub escaped_text : List ℕ → List ℕ
 escaped_text text = escaped_from space text
 
--- the number of a hexadecimal digit
 abbrev pub hex_value : ℕ → Option ℕ
 hex_value digit = if nat_le 48 digit && nat_le digit 57 then Some (digit - 48) else (if nat_le 97 digit && nat_le digit 102 then Some (digit - 87) else None)
 
--- the byte of two hexadecimal digits
 abbrev pub escaped_byte : ℕ → ℕ → Option ℕ
 escaped_byte high low = option_and_then (λ h. option_map (λ l. h * 16 + l) (hex_value low)) (hex_value high)
 
--- a byte before the rest, if there are both
 abbrev pub before_rest : Option ℕ → Option (List ℕ) → Option (List ℕ)
 before_rest byte rest = option_and_then (λ b. option_map (λ bytes. b ∷ bytes) rest) byte
 
--- the text without its escapes: none if a backslash is followed by anything but xHH
+-- the text without its escapes, or None if a backslash is not followed by xHH
 abbrev pub unescaped : List ℕ → Option (List ℕ)
 unescaped [] = Some []
 unescaped (byte ∷ (mark ∷ (high ∷ (low ∷ rest)))) =
@@ -58,17 +50,16 @@ unescaped (byte ∷ (mark ∷ (high ∷ (low ∷ rest)))) =
     else before_rest (Some byte) (unescaped (mark ∷ (high ∷ (low ∷ rest))))
 unescaped (byte ∷ rest) = if byte == backslash then None else before_rest (Some byte) (unescaped rest)
 
--- the value now, if all could be read
+-- the value, if the flag says that it could be read
 abbrev pub read_as : {A : Type 0} → Bool → A → Option A
 read_as true now = Some now
 read_as false now = None
 
--- how many bytes the first one takes, with its escape
+-- the number of bytes that the first byte takes, with its escape
 abbrev pub bytes_taken : Option (ℕ × ℕ) → ℕ
 bytes_taken None = 0
 bytes_taken (Some read) = read.1
 
--- the texts without their escapes, if each can be read
 abbrev pub all_unescaped : List (List ℕ) → Option (List (List ℕ))
 all_unescaped [] = Some []
 all_unescaped (text ∷ more) = option_and_then (λ bytes. option_map (λ others. bytes ∷ others) (all_unescaped more)) (unescaped text)

@@ -1,4 +1,4 @@
--- The calls of script lines, and the lines of replies.
+-- Calls as lines of scripts and call logs, and replies as lines.
 use Rattle.std.specs.Prelude.{ℕ, ◌&&◌, ◌||◌, nat_le, nat_lt, Bool, true, false, List, [], ◌∷◌, ◌++◌, length, Option, Some, None, option_and_then, option_map, if◌then◌else◌, bytes_eq, codes}
 use Rattle.std.specs.List.{list_all}
 use Rattle.std.specs.Fmt.{decimal}
@@ -19,18 +19,18 @@ use Rattle.game_core.specs.Numerals.{plain_number}
 use Rattle.desk_text.specs.declared.script_lines.Grammar.{Grammar}
 use Rattle.desk_text.specs.Words.{words, spaced, max_number, max_in_32_bits, max_in_64_bits}
 
--- what the names and the numbers of a call's words may be: a script's names are not empty, and its numbers at most the largest
+-- in a script, names are not empty, and numbers have a limit
 abbrev pub script : Grammar
 script = record { has_empty_names = false; largest = max_number }
 
--- an account's are any that a call holds
+-- in a call log, a call may have any name and any number of its types
 abbrev pub account : Grammar
 account = record { has_empty_names = true; largest = max_in_64_bits }
 
 abbrev pub is_name : Grammar → List ℕ → Bool
 is_name grammar word = grammar.has_empty_names || nat_lt 0 (length word)
 
--- ---- the first of some words, and those behind it
+-- ---- the first word, and the words after it
 
 infixl 10 ◌>>=◌
 abbrev pub ◌>>=◌ : {A B : Type 0} → Option A → (A → Option B) → Option B
@@ -45,27 +45,25 @@ abbrev pub first_number : Grammar → List (List ℕ) → Option (ℕ × List (L
 first_number grammar [] = None
 first_number grammar (word ∷ more) = option_map (λ number. (number, more)) (plain_number word grammar.largest)
 
--- `silent` or `broken`: whether it is `broken`
+-- whether the word is `broken` rather than `silent`
 abbrev pub first_reason : List (List ℕ) → Option (Bool × List (List ℕ))
 first_reason [] = None
 first_reason (word ∷ more) = if bytes_eq word (codes "silent") then Some (false, more) else (if bytes_eq word (codes "broken") then Some (true, more) else None)
 
--- strikes: 0 if there is no word for them
+-- the number of strikes, or 0 if the call has no word for it
 abbrev pub first_strikes : Grammar → Bool → List (List ℕ) → Option (ℕ × List (List ℕ))
 first_strikes grammar is_strict words = if is_strict then first_number grammar words else Some (0, words)
 
--- no words are left
 abbrev pub is_end : List (List ℕ) → Bool
 is_end [] = true
 is_end (word ∷ more) = false
 
--- each of these words is a name
 abbrev pub names_of : Grammar → List (List ℕ) → Option (List (List ℕ))
 names_of grammar words = if list_all (is_name grammar) words then Some words else None
 
--- ---- the words of each call behind the keyword
+-- ---- the words of each call after the keyword
 
--- ID GAME START PLAY PLAYER .., for `strict` with STRIKES before the players
+-- ID GAME START PLAY PLAYER .., and for `strict` STRIKES before the players
 abbrev pub opening_words : Grammar → Bool → List (List ℕ) → Option (List ℕ × ℕ × ℕ × ℕ × ℕ × List (List ℕ))
 opening_words grammar is_strict words = do
   id ← first_name grammar words
@@ -75,7 +73,7 @@ opening_words grammar is_strict words = do
   strikes ← first_strikes grammar is_strict play.1
   Some (id.0, game.0, start.0, play.0, strikes.0, strikes.1)
 
--- clocks and strikes have 32 bits
+-- clocks and strikes must fit into 32 bits
 abbrev pub opening_call : Grammar → Bool → List (List ℕ) → Option Call
 opening_call grammar is_strict words = do
   opening ← opening_words grammar is_strict words
@@ -92,7 +90,7 @@ next_words grammar words = do
 abbrev pub next_call : Grammar → List (List ℕ) → Option Call
 next_call grammar words = option_map (λ w. Next w.0 w.1) (next_words grammar words)
 
--- ID ROLE ROUND, and the words behind them
+-- ID ROLE ROUND, and the words after them
 abbrev pub round_words : Grammar → List (List ℕ) → Option (List ℕ × ℕ × ℕ × List (List ℕ))
 round_words grammar words = do
   id ← first_name grammar words
@@ -100,11 +98,11 @@ round_words grammar words = do
   round ← first_number grammar role.1
   Some (id.0, role.0, round.0, round.1)
 
--- ID ROLE ROUND TEXT, where the text is the rest of the line
+-- ID ROLE ROUND TEXT. The text is the rest of the line.
 abbrev pub submit_call : Grammar → List (List ℕ) → Option Call
 submit_call grammar words = option_map (λ w. Submit w.0 w.1 w.2 (spaced w.3)) (round_words grammar words)
 
--- ID ROLE ROUND, and why there is no answer
+-- ID ROLE ROUND, and `silent` or `broken`
 abbrev pub miss_words : Grammar → List (List ℕ) → Option (List ℕ × ℕ × ℕ × Bool)
 miss_words grammar words = do
   w ← round_words grammar words
@@ -114,7 +112,6 @@ miss_words grammar words = do
 abbrev pub miss_call : Grammar → List (List ℕ) → Option Call
 miss_call grammar words = option_map (λ w. Miss w.0 w.1 w.2 w.3) (miss_words grammar words)
 
--- ID
 abbrev pub only_id : Grammar → List (List ℕ) → Option (List ℕ)
 only_id grammar words = do
   id ← first_name grammar words
@@ -123,7 +120,6 @@ only_id grammar words = do
 abbrev pub id_call : Grammar → Bool → List (List ℕ) → Option Call
 id_call grammar is_abort words = option_map (λ id. if is_abort then Abort id else Query id) (only_id grammar words)
 
--- the call of a keyword and the words behind it
 abbrev pub call_of_words : Grammar → List (List ℕ) → Option Call
 call_of_words grammar [] = None
 call_of_words grammar (keyword ∷ rest) =
@@ -136,11 +132,11 @@ call_of_words grammar (keyword ∷ rest) =
     else (if bytes_eq keyword (codes "abort") then id_call grammar true rest
     else None))))))
 
--- the call of a script's line. A bad line has none.
+-- the call in a line of a script, or None if the line is invalid
 abbrev pub call_of : List ℕ → Option Call
 call_of line = call_of_words script (words line)
 
--- the last joint move. It is NIL before the first turn.
+-- the last joint move, or NIL before the first turn
 abbrev pub joint_text : Option (List (List ℕ)) → List ℕ
 joint_text None = codes "NIL"
 joint_text (Some moves) = left_parenthesis ∷ (spaced moves ++ right_parenthesis ∷ [])
@@ -159,7 +155,6 @@ due_text Over = codes "over"
 abbrev pub status_text : MatchStatus → List ℕ
 status_text s = codes "status " ++ phase_text s.phase ++ codes " round " ++ decimal s.round ++ codes " turns " ++ decimal s.turns ++ codes " substitutions " ++ decimal s.substitutions
 
--- the word of a refusal
 abbrev pub refusal_word : Refusal → List ℕ
 refusal_word BadId = codes "badid"
 refusal_word IdUsed = codes "idused"
@@ -176,12 +171,12 @@ refusal_word (Stale round) = codes "stale"
 refusal_word Twice = codes "twice"
 refusal_word Ended = codes "ended"
 
--- a refusal: its word, and after `stale` the present round
+-- the word of a refusal; for `stale` followed by the present round
 abbrev pub refusal_text : Refusal → List ℕ
 refusal_text (Stale round) = codes "stale " ++ decimal round
 refusal_text reason = refusal_word reason
 
--- the line of a reply, without its line feed
+-- the line of a reply, without a line feed
 abbrev pub reply_text : Reply → List ℕ
 reply_text Opened = codes "opened"
 reply_text (IsDue due) = due_text due

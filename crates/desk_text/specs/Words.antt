@@ -1,18 +1,17 @@
--- The words of a script line.
+-- The words of a line.
 use Rattle.std.specs.Prelude.{ℕ, ◌==◌, List, [], ◌∷◌, ◌++◌, Option, Some, None}
 use Rattle.std.specs.List.{slice_split}
 use Rattle.game_core.specs.Bytes.{space}
 
--- the pieces of a text between its separators. There is one piece more than separators.
+-- The parts of a text between its separators. There is one more part than there are separators.
 abbrev pub pieces : ℕ → List ℕ → List (List ℕ)
 pieces separator text = slice_split (λ b. b == separator) text
 
--- the pieces after a piece. There are none if no separator follows it.
+-- the parts after a separator, or none if there is no separator
 abbrev pub pieces_behind : ℕ → Option (List ℕ) → List (List ℕ)
 pieces_behind separator None = []
 pieces_behind separator (Some rest) = pieces separator rest
 
--- the words of a text: its pieces between spaces
 abbrev pub words : List ℕ → List (List ℕ)
 words text = pieces space text
 
@@ -24,16 +23,14 @@ abbrev pub behind_spaces : List (List ℕ) → List ℕ
 behind_spaces [] = []
 behind_spaces (word ∷ more) = space ∷ (word ++ behind_spaces more)
 
--- these words with one space between each two
+-- these words, separated by one space
 abbrev pub spaced : List (List ℕ) → List ℕ
 spaced [] = []
 spaced (word ∷ more) = word ++ behind_spaces more
 
--- the largest number in a script
 abbrev pub max_number : ℕ
 max_number = 1000000000
 
--- the largest numbers of 32 and of 64 bits, which the fields of a call hold
 abbrev pub max_in_32_bits : ℕ
 max_in_32_bits = 4294967295
 

@@ -1,4 +1,4 @@
-//! The account of a desk: its history as text, one line for each entry, so that its calls can be made again.
+//! Writes the call log of a desk: its history as text, with one line for each entry.
 ghost use Rattle.std.specs.Prelude.{◌≡◌, [], ◌∷◌, ◌++◌, map, OnOk};
 ghost use Rattle.std.specs.Fmt.{decimal};
 ghost use Rattle.game_core.specs.Bytes.{space};
@@ -14,7 +14,6 @@ use desk_calls::{Call, Reply};
 use game_core::{Text, Texts};
 use std::alloc::{AllocError, Global};
 
-/// Appends a space and the number to `out`.
 fn push_behind_space(out: &mut Vec<u8>, number: u64) -> Result<(), AllocError>
     ensures { OnOk result (out.new.items ≡ out.old.items ++ space ∷ decimal number) }
 {
@@ -22,7 +21,7 @@ fn push_behind_space(out: &mut Vec<u8>, number: u64) -> Result<(), AllocError>
     push_number(out, number)
 }
 
-/// Appends a name to `out`, as a word without spaces.
+/// Appends a name to `out`, with its spaces escaped.
 fn push_name(out: &mut Vec<u8>, name: &Text) -> Result<(), AllocError>
     ensures { OnOk result (out.new.items ≡ out.old.items ++ escaped_name name.now) }
 {
@@ -36,7 +35,6 @@ fn push_text(out: &mut Vec<u8>, text: &[u8]) -> Result<(), AllocError>
     push_escaped(out, text, b' ')
 }
 
-/// Appends a space and the text to `out`.
 fn push_text_behind_space(out: &mut Vec<u8>, text: &[u8]) -> Result<(), AllocError>
     ensures { OnOk result (out.new.items ≡ out.old.items ++ space ∷ escaped_text text.now) }
 {
@@ -44,7 +42,6 @@ fn push_text_behind_space(out: &mut Vec<u8>, text: &[u8]) -> Result<(), AllocErr
     push_text(out, text)
 }
 
-/// Appends the names to `out`, each after a space.
 fn push_names(out: &mut Vec<u8>, names: &[Text]) -> Result<(), AllocError>
     ensures { OnOk result (out.new.items ≡ out.old.items ++ behind_spaces (map escaped_name names.now)) }
 {
@@ -55,7 +52,6 @@ fn push_names(out: &mut Vec<u8>, names: &[Text]) -> Result<(), AllocError>
     Ok(())
 }
 
-/// Appends a keyword and a match's id to `out`, with a space between.
 fn push_keyword(out: &mut Vec<u8>, keyword: &[u8], id: &Text) -> Result<(), AllocError>
     ensures { OnOk result (out.new.items ≡ out.old.items ++ keyword.now ++ space ∷ escaped_name id.now) }
 {
@@ -64,7 +60,7 @@ fn push_keyword(out: &mut Vec<u8>, keyword: &[u8], id: &Text) -> Result<(), Allo
     push_name(out, id)
 }
 
-/// Appends a game and its clocks to `out`, each after a space.
+/// Appends the index of a game and the two clocks in seconds to `out`, each after a space.
 fn push_opening(out: &mut Vec<u8>, game: usize, start: u32, play: u32) -> Result<(), AllocError>
     ensures { OnOk result (out.new.items ≡ out.old.items ++ behind_spaces (decimal game ∷ (decimal start ∷ (decimal play ∷ [])))) }
 {
@@ -73,7 +69,7 @@ fn push_opening(out: &mut Vec<u8>, game: usize, start: u32, play: u32) -> Result
     push_behind_space(out, u64::from(play))
 }
 
-/// Appends the words of an `Open` to `out`.
+/// Appends an `Open` call to `out`: as an `open` line if `strikes` is 0, and otherwise as a `strict` line.
 fn push_open(
     out: &mut Vec<u8>,
     id: &Text,
@@ -96,7 +92,7 @@ fn push_open(
     push_names(out, players.as_slice())
 }
 
-/// Appends the words of the call to `out`, with one space between each two.
+/// Appends the call to `out` as in a script, except that names and text are escaped.
 fn push_call(out: &mut Vec<u8>, call: &Call) -> Result<(), AllocError>
     ensures { OnOk result (out.new.items ≡ out.old.items ++ call_text call.now) }
 {
@@ -144,10 +140,10 @@ fn push_call(out: &mut Vec<u8>, call: &Call) -> Result<(), AllocError>
     }
 }
 
-/// The initial capacity for a reply's text. Most replies fit.
+/// The initial capacity for a reply's text, which is enough for most replies.
 const USUAL_LENGTH: usize = 128;
 
-/// Appends the text of an entry of this line, call and reply to `out`, without its line feed.
+/// Appends the text of an entry to `out`, without a line feed.
 pub(crate) fn push_entry(
     alloc: Global,
     out: &mut Vec<u8>,
@@ -166,9 +162,9 @@ pub(crate) fn push_entry(
     push_text(out, text.as_slice())
 }
 
-/// Appends the texts of a history's entries to `out`, each with a line feed. An entry's text is the number of its line of the desk,
-/// the call in the words of a script, and the reply, with a tab between each two. Each byte that is not visible ASCII, and the
-/// backslash, is written `\xHH`. A space is written so in a name, but not in the text of a submission or a reply.
+/// Appends the text of each entry to `out`, with a line feed. The text of an entry is the number of its line of the desk, a tab,
+/// the call as in a script, a tab, and the reply. Each byte that is not visible ASCII, and the backslash, is written as `\xHH`;
+/// spaces are escaped only in names.
 pub fn push_history(
     alloc: Global,
     out: &mut Vec<u8>,

@@ -1,11 +1,10 @@
-//! The form of an account's lines.
+//! Recognizes the lines of call logs.
 ghost use Rattle.std.specs.Prelude.{◌≡◌, ◌-◌, length, slice_get};
 ghost use Rattle.desk_text.specs.AccountLines.{ends_as_reply, is_account_line, is_call_word};
 
 use crate::words::first_piece;
 use game_core::numeral::are_digits;
 
-/// Whether the word is one with which the calls of accounts begin.
 fn is_call_word(word: &[u8]) -> bool
     ensures { result ≡ is_call_word word.now }
 {
@@ -18,7 +17,7 @@ fn is_call_word(word: &[u8]) -> bool
         || word == b"abort".as_slice()
 }
 
-/// Whether the text ends as a reply does: in a letter, a digit or a closing parenthesis.
+/// Whether the last byte is a letter, a digit or a closing parenthesis, as in every reply.
 fn ends_as_reply(text: &[u8]) -> bool
     ensures { result ≡ ends_as_reply (slice_get text.now (length text.now - 1)) }
 {
@@ -28,8 +27,8 @@ fn ends_as_reply(text: &[u8]) -> bool
     }
 }
 
-/// Whether the line has the form of an account's: decimal digits, a call and a reply, with a tab between each two. A line with a record at
-/// its end has not.
+/// Whether the line has the form of a line of a call log: decimal digits, a tab, a call, a tab, a reply. A line that ends with a record
+/// does not.
 pub fn is_account_line(line: &[u8]) -> bool
     ensures { result ≡ is_account_line line.now }
 {

@@ -1,4 +1,4 @@
-//! Reading the calls of an account.
+//! Reads the calls of a call log.
 ghost use Rattle.std.specs.Prelude.{◌≡◌, IfOk};
 ghost use Rattle.std.specs.Result.{result_ok};
 ghost use Rattle.desk_text.specs.Account.{account_call, entry_call, unescaped_call};
@@ -11,7 +11,7 @@ use crate::words::{first_piece, plain_number_up_to};
 use desk_calls::Call;
 use std::alloc::{AllocError, Global};
 
-/// Removes the escapes from a call's names and its text. Returns whether each of them could be read.
+/// Removes the escapes from a call's names and its text. Returns false if an escape is invalid.
 fn unescape_call(call: &mut Call) -> bool
     ensures { unescaped_call call.old ≡ read_as result call.new }
 {
@@ -25,7 +25,6 @@ fn unescape_call(call: &mut Call) -> bool
     }
 }
 
-/// The call of a text with escapes.
 fn account_call(alloc: Global, text: &[u8]) -> Result<Result<Call, LineFault>, AllocError>
     ensures { IfOk result (λ found. result_ok found ≡ account_call text.now) }
 {
@@ -40,7 +39,7 @@ fn account_call(alloc: Global, text: &[u8]) -> Result<Result<Call, LineFault>, A
     }
 }
 
-/// The number of a desk's line, and the call, that an entry's text holds.
+/// The number of the line of the desk, and the call, in a line of a call log.
 pub(crate) fn entry_call(
     alloc: Global,
     text: &[u8],

@@ -1,18 +1,17 @@
-//! The escapes of an account: the backslash, and each byte that is not visible ASCII, is written `\xHH`.
+//! The escapes of call logs: the backslash, and each byte that is not visible ASCII, is written as `\xHH`.
 ghost use Rattle.std.specs.Prelude.{◌≡◌, ◌<◌, ◌≤◌, ◌++◌, IfSome, OnOk, drop, length, option_map};
 ghost use Rattle.desk_text.specs.Escapes.{stands_from, hex_digit, escape, escaped_from, hex_value, escaped_byte, before_rest, bytes_taken, read_as, unescaped, all_unescaped};
 
 use game_core::Text;
 use std::alloc::AllocError;
 
-/// Whether a byte is written without an escape. `least` is the lowest such byte.
+/// Whether a byte is written without an escape. `least` is the lowest byte for which this is possible.
 fn stands(least: u8, byte: u8) -> bool
     ensures { result ≡ stands_from least byte }
 {
     byte >= least && byte < 127 && byte != b'\\'
 }
 
-/// The digit for a number below 16.
 fn hex_digit(number: u8) -> u8
     requires { number < 16 }
     ensures { result ≡ hex_digit number }
@@ -30,7 +29,7 @@ fn push_escape(out: &mut Vec<u8>, byte: u8) -> Result<(), AllocError>
     out.extend_from_slice(&[b'\\', b'x', hex_digit(byte / 16), hex_digit(byte % 16)])
 }
 
-/// Appends a text to `out`. The bytes from `least` to the tilde, except the backslash, get no escapes.
+/// Appends a text to `out`. It escapes the bytes below `least` and above the tilde, and the backslash.
 pub fn push_escaped(out: &mut Vec<u8>, text: &[u8], least: u8) -> Result<(), AllocError>
     ensures { OnOk result (out.new.items ≡ out.old.items ++ escaped_from least text.now) }
 {
@@ -63,8 +62,8 @@ fn escaped_byte(high: u8, low: u8) -> Option<u8>
     Some(high * 16 + low)
 }
 
-/// The byte that a text begins with, without escapes, and how many bytes of the text it takes. `None` if a backslash is not followed
-/// by `xHH`.
+/// The first byte of a text after its escape is removed, and the number of bytes that it takes in the text. `None` if a backslash is
+/// not followed by `xHH`.
 fn first_byte(text: &[u8]) -> Option<(u8, usize)>
     requires { 0 < length text.now }
     ensures read { unescaped text.now ≡ before_rest (option_map (λ r. r.0) result) (unescaped (drop (bytes_taken result) text.now)) }

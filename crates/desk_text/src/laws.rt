@@ -1,4 +1,4 @@
-//! Laws of accounts, for any desk.
+//! Laws of call logs, for every desk.
 ghost use Rattle.std.specs.Prelude.{◌≡◌, List, Some, true};
 ghost use Rattle.std.specs.List.{AllByRecursion};
 ghost use Rattle.std.specs.Str.Lines.{lines};
@@ -7,7 +7,7 @@ ghost use Rattle.desk_calls.specs.declared.call.Call.{Call};
 ghost use Rattle.desk_text.specs.Account.{IsCall, IsEntry, Tell, account_call, call_text, entry_text, history_text};
 ghost use Rattle.desk_text.specs.AccountLines.{HasReplyNumbers, is_account_line};
 
-/// A call can be read from its text, so no two calls have the same text.
+/// A call can be read from its text, so different calls have different texts.
 pub fn calls_are_read()
     ensures { (call : Call) → IsCall call → account_call (call_text call) ≡ Some call }
 {}
@@ -17,7 +17,7 @@ pub fn histories_are_read()
     ensures { (history : List (Entry _ _)) → AllByRecursion IsEntry history → Tell (lines (history_text history)) history }
 {}
 
-/// The line of each entry has the form of an account's, so where lines are told apart by it, none is taken for a record.
+/// The line of each entry has the form that `is_account_line` recognizes, so it is never taken for a record.
 pub fn entries_have_their_form()
     ensures { (e : _) → IsEntry e → HasReplyNumbers e.reply → is_account_line (entry_text e) ≡ true }
 {}

@@ -1,7 +1,4 @@
-//! The desk in text: a script's lines as calls, replies as lines, and the account of a desk.
-//!
-//! A line has a call's keyword and its words, with one space between each two; a reply has one line. `push_history` writes
-//! the history of a desk as an account, and `replay` makes the calls of an account again.
+//! The texts of a desk: reads the lines of scripts as calls, writes replies as lines, and writes and replays call logs.
 //!
 //! Free functions take the allocator first.
 #![tactic(auto)]

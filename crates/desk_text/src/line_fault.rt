@@ -1,9 +1,9 @@
-//! Why a line has no call.
+//! Why a line has no valid call.
 
-/// Why a line of a script has no call, or an account's line tells none: the first fault, and its place.
+/// The first error in a line of a script or of a call log, and where it is.
 #[derive(Clone, Copy)]
 pub struct LineFault {
-    /// The number of bytes from the fault's place to the end of the line.
+    /// The number of bytes from the error to the end of the line.
     pub left: usize,
     pub kind: FaultKind,
 }
@@ -11,27 +11,27 @@ pub struct LineFault {
 /// What is wrong with a line.
 #[derive(Clone, Copy)]
 pub enum FaultKind {
-    /// The first word of the call is no keyword.
+    /// The first word of the call is not a keyword.
     NoKeyword,
     FewerWords,
-    /// The word is one too many.
+    /// The line has more words than the call.
     MoreWords,
-    /// The word is empty, and has to be a name.
+    /// A name is empty.
     NoName,
-    /// The word is no number from 0 to this one.
+    /// The word is not a number from 0 to this one.
     NoNumber(u64),
     /// The word is neither `silent` nor `broken`.
     NoReason,
-    /// The call has a number that is too large for it, or a byte that is escaped in another way.
+    /// A number does not fit into 32 bits, or an escape is not of the form `\xHH`.
     NoCall,
-    /// An account's line has no tab.
+    /// A line of a call log has no tab.
     FewerFields,
-    /// The first field of an account's line is no number of a line of a desk.
+    /// A line of a call log does not begin with the number of a line of the desk.
     NoLine,
 }
 
 impl LineFault {
-    /// A fault at the beginning of these bytes, which are the last ones of a line.
+    /// An error at the beginning of these bytes, which are the last ones of a line.
     pub(crate) fn at(left: &[u8], kind: FaultKind) -> LineFault {
         LineFault {
             left: left.len(),

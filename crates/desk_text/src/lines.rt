@@ -1,4 +1,4 @@
-//! Cutting an input into lines.
+//! Splits an input into lines.
 ghost use Rattle.std.specs.Prelude.{◌≡◌, ◌<◌, ◌∷◌, length};
 ghost use Rattle.std.specs.Str.Lines.{lines};
 

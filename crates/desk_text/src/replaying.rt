@@ -1,4 +1,4 @@
-//! Making the calls of an account again, one by one, on one thread.
+//! Replays a call log: makes its calls one by one, on one thread, and compares the replies.
 ghost use Rattle.std.specs.Prelude.{◌≡◌, ◌≢◌, IfErr, IfOk, OnOk};
 ghost use Rattle.std.specs.Str.Lines.{lines};
 ghost use Rattle.match_desk.specs.Steps.{reply, after};
@@ -17,7 +17,7 @@ use game_core::Game;
 use match_desk::Manager;
 use std::alloc::{AllocError, Global};
 
-/// The result of making an account's calls again.
+/// The result of replaying a call log.
 #[derive(Drop)]
 pub struct Replayed<G: Game> {
     pub manager: Manager<G>,
@@ -25,13 +25,13 @@ pub struct Replayed<G: Game> {
     pub calls: u64,
 }
 
-/// Why an account is refused. Each fault names the first wrong line, counted from 1.
+/// Why a call log is refused. Each error has the number of the first wrong line, counted from 1.
 #[derive(Drop)]
 pub enum ReplayFault {
     Memory,
-    /// The line holds no call.
+    /// The line has no valid call.
     NoEntry(u64, LineFault),
-    /// The call gets another reply, or the line is written in another way. The bytes are the right line.
+    /// The call gets another reply, or the line is written in another way. The bytes are the correct line.
     Differs(u64, Vec<u8>),
 }
 
@@ -46,7 +46,6 @@ impl From<AllocError> for ReplayFault {
     }
 }
 
-/// The text of an entry of this line, call and reply.
 fn entry_bytes(alloc: Global, line: u32, call: &Call, reply: &Reply) -> Result<Vec<u8>, AllocError>
     ensures { IfOk result (λ text. text.items ≡ entry_text (record { line = line; call = call.now; reply = reply.now })) }
 {
@@ -55,7 +54,7 @@ fn entry_bytes(alloc: Global, line: u32, call: &Call, reply: &Reply) -> Result<V
     Ok(text)
 }
 
-/// The text of the entry of this call, with the reply that it would get now.
+/// The correct line for this call, with the reply that the object gives now.
 fn right_text<O: Object<Call = Call, Reply = Reply>>(
     alloc: Global,
     object: &O,
@@ -68,8 +67,8 @@ fn right_text<O: Object<Call = Call, Reply = Reply>>(
     entry_bytes(alloc, line, call, &reply)
 }
 
-/// Makes this call, that of the account's line of number `place`, counted from 1. The line must be the text that is written for the
-/// call and its reply.
+/// Makes this call, which was read from the line `text` with the number `place`. Returns an error if `text` is not exactly the line
+/// for the call and its reply.
 fn replay_call<O: Object<Call = Call, Reply = Reply>>(
     alloc: Global,
     object: &mut O,
@@ -90,8 +89,8 @@ fn replay_call<O: Object<Call = Call, Reply = Reply>>(
     Ok(())
 }
 
-/// Makes the call of the account's line of number `place`, counted from 1, if it has one. The line must be the text that is
-/// written for the call and its reply.
+/// Makes the call in the line `text` with the number `place`. Returns an error if there is no valid call, or if `text` is not
+/// exactly the line for the call and its reply.
 fn replay_entry<O: Object<Call = Call, Reply = Reply>>(
     alloc: Global,
     object: &mut O,
@@ -107,7 +106,7 @@ fn replay_entry<O: Object<Call = Call, Reply = Reply>>(
     }
 }
 
-/// Makes the calls of an account's lines one by one. Returns their number.
+/// Makes the calls in the lines of a call log. Returns their number.
 fn replay_lines<O: Object<Call = Call, Reply = Reply>>(
     alloc: Global,
     object: &mut O,
@@ -127,8 +126,8 @@ fn replay_lines<O: Object<Call = Call, Reply = Reply>>(
     Ok(calls)
 }
 
-/// Makes the calls of an account again on a manager of these games. Each line must be the one that is written for its call and the
-/// reply that the call gets now. So exactly the accounts of legal histories are accepted.
+/// Replays a call log on a new desk with these games. It accepts exactly the logs of legal histories: each line must be exactly the
+/// one that `push_history` writes for the call and the reply that the call gets now.
 pub fn replay<G: Game + Drop>(
     alloc: Global,
     games: Vec<G>,

@@ -1,4 +1,4 @@
-//! The lines of replies.
+//! Writes replies as lines.
 ghost use Rattle.std.specs.Prelude.{◌≡◌, ◌++◌, OnOk};
 ghost use Rattle.std.specs.Fmt.{decimal};
 ghost use Rattle.desk_text.specs.Words.{spaced};
@@ -91,7 +91,7 @@ fn push_status(out: &mut Vec<u8>, status: &Status) -> Result<(), AllocError>
     push_number(out, status.substitutions)
 }
 
-/// The word of a refusal, as replies and faults print it.
+/// The word for a refusal in replies and error messages.
 pub fn refusal_word(refusal: Refusal) -> &'static str
     ensures { result.now ≡ refusal_word refusal }
 {
@@ -124,7 +124,7 @@ fn push_refusal(out: &mut Vec<u8>, refusal: Refusal) -> Result<(), AllocError>
     Ok(())
 }
 
-/// Appends the reply's line to `out`, without its line feed.
+/// Appends the reply's line to `out`, without a line feed.
 pub fn push_reply(out: &mut Vec<u8>, reply: &Reply) -> Result<(), AllocError>
     ensures { OnOk result (out.new.items ≡ out.old.items ++ reply_text reply.now) }
 {

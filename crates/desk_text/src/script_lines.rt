@@ -1,4 +1,4 @@
-//! The calls of script lines, and of the same lines in an account.
+//! Reads calls from the lines of scripts and call logs.
 ghost use Rattle.std.specs.Prelude.{◌≡◌, IfOk, option_copied, option_map};
 ghost use Rattle.std.specs.Result.{is_ok, result_ok};
 ghost use Rattle.desk_text.specs.Words.{words, words_behind};
@@ -10,10 +10,9 @@ use desk_calls::Call;
 use game_core::{Text, Texts};
 use std::alloc::{AllocError, Global};
 
-/// The largest number in a script.
 const MAX_NUMBER: u64 = 1_000_000_000;
 
-/// What the names and the numbers of a call's words may be.
+/// Which names and numbers a call may have in a text.
 #[derive(Clone, Copy)]
 pub(crate) struct Grammar {
     pub(crate) has_empty_names: bool,
@@ -21,19 +20,18 @@ pub(crate) struct Grammar {
     pub(crate) largest: u64,
 }
 
-/// The grammar of an account's calls.
+/// In a call log, names may be empty, and numbers are limited only by their types.
 pub(crate) const ACCOUNT: Grammar = Grammar {
     has_empty_names: true,
     largest: u64::MAX,
 };
 
-/// The grammar of a script's calls.
 const SCRIPT: Grammar = Grammar {
     has_empty_names: false,
     largest: MAX_NUMBER,
 };
 
-/// The first of the words that are left, which has to be a name, and the words behind it.
+/// The first word as a name, and the words after it.
 fn name<'a>(
     grammar: Grammar,
     rest: Option<&'a [u8]>,
@@ -50,7 +48,7 @@ fn name<'a>(
     Ok((word, rest))
 }
 
-/// The first of the words that are left, which has to be a number, and the words behind it.
+/// The first word as a number, and the words after it.
 fn number<'a>(
     grammar: Grammar,
     rest: Option<&'a [u8]>,
@@ -67,7 +65,7 @@ fn number<'a>(
     }
 }
 
-/// The first of the words that are left, which has to be `silent` or `broken`: whether it is `broken`. And the words behind it.
+/// Whether the first word is `broken` rather than `silent`, and the words after it.
 fn reason(rest: Option<&[u8]>) -> Result<(bool, Option<&[u8]>), LineFault>
     ensures { option_map (λ r. (r.0, words_behind (option_copied r.1))) (result_ok result) ≡ first_reason (words_behind (option_copied rest.entry)) }
 {
@@ -84,7 +82,7 @@ fn reason(rest: Option<&[u8]>) -> Result<(bool, Option<&[u8]>), LineFault>
     }
 }
 
-/// No words may be left.
+/// Returns an error if any words are left.
 fn end(rest: Option<&[u8]>) -> Result<(), LineFault>
     ensures { is_ok result ≡ is_end (words_behind (option_copied rest.entry)) }
 {
@@ -94,7 +92,6 @@ fn end(rest: Option<&[u8]>) -> Result<(), LineFault>
     }
 }
 
-/// The id, the role and the round that a line begins with behind its keyword, and the words behind them.
 fn round_words<'a>(
     grammar: Grammar,
     rest: Option<&'a [u8]>,
@@ -107,7 +104,7 @@ fn round_words<'a>(
     Ok((id, role, round, rest))
 }
 
-/// The number of strikes of a `strict` line, or 0 for an `open` line, and the words behind it.
+/// The number of strikes of a `strict` line, or 0 for an `open` line, and the words after it.
 fn strikes<'a>(
     grammar: Grammar,
     is_strict: bool,
@@ -122,7 +119,7 @@ fn strikes<'a>(
     }
 }
 
-/// The words of an opening: its id, its numbers, and what is left for its players.
+/// The words of an `open` or `strict` line. The players' names are not yet separated.
 #[derive(Clone, Copy)]
 struct Opening<'a> {
     id: &'a [u8],
@@ -155,7 +152,7 @@ fn opening_words(
     })
 }
 
-/// The words that are left, each of which has to be a name.
+/// All words as names.
 fn names(
     alloc: Global,
     grammar: Grammar,
@@ -177,7 +174,6 @@ fn names(
     Ok(Ok(Texts { items }))
 }
 
-/// The call of an `open` or a `strict` line.
 fn opening_call(
     alloc: Global,
     grammar: Grammar,
@@ -209,7 +205,6 @@ fn opening_call(
     }))
 }
 
-/// The words of a `next` line: its id and its role.
 fn next_words(grammar: Grammar, rest: Option<&[u8]>) -> Result<(&[u8], u64), LineFault>
     ensures { option_map (λ r. (r.0.now, r.1)) (result_ok result) ≡ next_words grammar (words_behind (option_copied rest.entry)) }
 {
@@ -235,8 +230,7 @@ fn next_call(
     }
 }
 
-/// The call of a `submit` line. Its text is the rest of the line as it stands, or empty if the line
-/// ends at the round.
+/// The call of a `submit` line. Its text is the unchanged rest of the line, or empty if the line ends after the round.
 fn submit_call(
     alloc: Global,
     grammar: Grammar,
@@ -259,7 +253,7 @@ fn submit_call(
     }
 }
 
-/// The words of a `miss` line: its id, its role, its round, and whether its last word is `broken`.
+/// The id, the role and the round of a `miss` line, and whether its last word is `broken`.
 fn miss_words(grammar: Grammar, rest: Option<&[u8]>) -> Result<(&[u8], u64, u64, bool), LineFault>
     ensures { option_map (λ r. (r.0.now, r.1, r.2, r.3)) (result_ok result) ≡ miss_words grammar (words_behind (option_copied rest.entry)) }
 {
@@ -287,7 +281,6 @@ fn miss_call(
     }
 }
 
-/// The only word of a `query` or an `abort` line: its id.
 fn only_id(grammar: Grammar, rest: Option<&[u8]>) -> Result<&[u8], LineFault>
     ensures { option_map (λ id. id.now) (result_ok result) ≡ only_id grammar (words_behind (option_copied rest.entry)) }
 {
@@ -296,7 +289,6 @@ fn only_id(grammar: Grammar, rest: Option<&[u8]>) -> Result<&[u8], LineFault>
     Ok(id)
 }
 
-/// The call of a `query` or an `abort` line.
 fn id_call(
     alloc: Global,
     grammar: Grammar,
@@ -316,7 +308,7 @@ fn id_call(
     }
 }
 
-/// The call of a line's words, by this grammar, or the first fault of the line.
+/// The call in a line with this grammar, or the first error in the line.
 pub(crate) fn call_in(
     alloc: Global,
     grammar: Grammar,
@@ -344,7 +336,7 @@ pub(crate) fn call_in(
     }
 }
 
-/// The call of a script's line. A bad line has none, but a fault: that of its keyword or of its first wrong word.
+/// The call in a line of a script, or the first error in the line.
 pub fn call_of(alloc: Global, line: &[u8]) -> Result<Result<Call, LineFault>, AllocError>
     ensures { IfOk result (λ found. result_ok found ≡ call_of line.now) }
 {

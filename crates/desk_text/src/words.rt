@@ -1,4 +1,4 @@
-//! The words of a line, and the numbers in them.
+//! Splits a line into words, and reads numbers.
 ghost use Rattle.std.specs.Prelude.{◌≡◌, ◌^◌, ◌≤◌, ◌==◌, ◌∷◌, IsTrue, MatchOption, option_copied, position};
 ghost use Rattle.std.specs.Str.Parse.{digits_value};
 ghost use Rattle.game_core.specs.Numerals.{are_digits, plain_number};
@@ -6,14 +6,14 @@ ghost use Rattle.desk_text.specs.Words.{pieces, pieces_behind};
 
 use game_core::numeral::is_plain_numeral;
 
-/// The place of the first separator.
+/// The index of the first separator.
 pub fn piece_end(text: &[u8], separator: u8) -> Option<usize>
     ensures { result ≡ position (λ b. b == separator) text.now }
 {
     text.iter().position(|b| *b == separator)
 }
 
-/// The piece of a text before the first separator, and the text after it.
+/// The text before the first separator, and the text after it.
 pub fn first_piece(text: &[u8], separator: u8) -> (&[u8], Option<&[u8]>)
     ensures { pieces separator text.now ≡ result.0.now ∷ pieces_behind separator (option_copied result.1) }
 {
@@ -23,7 +23,7 @@ pub fn first_piece(text: &[u8], separator: u8) -> (&[u8], Option<&[u8]>)
     }
 }
 
-/// The number of these digits. `None` if 64 bits don't hold it.
+/// The number with these digits, or `None` if it does not fit into 64 bits.
 fn digits_value(digits: &[u8]) -> Option<u64>
     requires { IsTrue (are_digits digits.now) }
     ensures { MatchOption result (2 ^ 64 ≤ digits_value 10 digits.now) (λ number. number ≡ digits_value 10 digits.now) }
@@ -39,7 +39,7 @@ fn digits_value(digits: &[u8]) -> Option<u64>
     Some(number)
 }
 
-/// The number of a word: decimal, without sign or leading zeros, and at most `limit`.
+/// The number of a word, which must be decimal, without a sign or leading zeros, and at most `limit`.
 pub fn plain_number_up_to(word: &[u8], limit: u64) -> Option<u64>
     ensures { result ≡ plain_number word.now limit }
 {

@@ -1,17 +1,16 @@
-//! The explanation of an account's line whose call can't be made again.
+//! Explains a line of a call log that cannot be replayed.
 
 use crate::bad_lines::{BadLine, FEWER_FIELDS, push_bad_line};
 use desk_text::{LineFault, ReplayFault, first_line, first_piece};
 use std::alloc::AllocError;
 
-/// What is wrong with an entry's text that has no call.
 fn fault_of(entry: &[u8], fault: LineFault) -> BadLine {
     let (_, fields) = first_piece(entry, b'\t');
     let (call, _) = first_piece(fields.unwrap_or(b""), b'\t');
     BadLine::of(entry, call, fault)
 }
 
-/// Where an entry's text differs from the right one, and whether it does in its reply.
+/// Where an entry's text differs from the correct one, and whether the difference is in its reply.
 fn difference(entry: &[u8], right: &[u8]) -> BadLine {
     let mut tabs: usize = 0;
     let mut at = 0;
@@ -31,7 +30,7 @@ fn difference(entry: &[u8], right: &[u8]) -> BadLine {
     BadLine::new(at, words)
 }
 
-/// The line of this number, from 1 on. The text has as many lines.
+/// The line with this number, counted from 1. The text must have as many lines.
 fn line_at(text: &[u8], number: u64) -> &[u8] {
     let mut line = text;
     let mut rest = text;
@@ -45,8 +44,8 @@ fn line_at(text: &[u8], number: u64) -> &[u8] {
     line
 }
 
-/// Appends to `out` what is wrong with the first wrong line of an account, as a line of standard error. Lines are numbered from 1, those of
-/// the accounts `before` too.
+/// Appends to `out` what is wrong with the first wrong line of a call log. Line numbers count from 1 and include the `before` lines of
+/// earlier call logs.
 pub fn push_bad_entry(
     account: &[u8],
     before: u64,

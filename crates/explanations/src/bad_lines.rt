@@ -1,9 +1,9 @@
-//! The explanation of a line that has no call.
+//! Explains a line that has no valid call.
 
 use desk_text::{FaultKind, LineFault, call_of, first_line, first_piece};
 use std::alloc::{AllocError, Global};
 
-/// The forms of the lines that have a call. The first word of each is the keyword.
+/// The forms of lines with a call. The first word of each is its keyword.
 static FORMS: [&str; 7] = [
     "open ID GAME START PLAY PLAYER ..",
     "strict ID GAME START PLAY STRIKES PLAYER ..",
@@ -14,10 +14,10 @@ static FORMS: [&str; 7] = [
     "abort ID",
 ];
 
-/// The words for an account's line that lacks a field of its form.
+/// The explanation of a line of a call log that has too few fields.
 pub const FEWER_FIELDS: &str = "fewer fields than in LINE CALL REPLY, with a tab between each two";
 
-/// What is wrong with a line: the place of the byte, the words, and the form of a line that the words end with.
+/// What is wrong with a line: the index of the byte, the explanation, and the correct form, which ends the explanation.
 #[derive(Clone, Copy)]
 pub struct BadLine {
     pub at: usize,
@@ -34,7 +34,7 @@ impl BadLine {
         }
     }
 
-    /// What is wrong with a line that has this call and this fault.
+    /// What is wrong with a line, given the text of its call and its error.
     pub fn of(line: &[u8], call: &[u8], fault: LineFault) -> BadLine {
         let form = match fault.kind {
             FaultKind::FewerWords | FaultKind::MoreWords => form_of(call),
@@ -76,10 +76,9 @@ fn form_of(call: &[u8]) -> &'static str {
     ""
 }
 
-/// How many bytes of a line are shown.
 const SHOWN: usize = 80;
 
-/// Appends to `out` the beginning of a line, with `?` for each byte that is not visible, two dots if more follows, and a line feed.
+/// Appends to `out` the beginning of a line, with `?` for each invisible byte, two dots if more bytes follow, and a line feed.
 pub fn push_shown(out: &mut String, line: &[u8]) -> Result<(), AllocError> {
     for byte in line.iter().take(SHOWN) {
         let is_seen = byte.is_ascii_graphic() || *byte == b' ';
@@ -88,7 +87,7 @@ pub fn push_shown(out: &mut String, line: &[u8]) -> Result<(), AllocError> {
     out.push_str(if line.len() > SHOWN { "..\n" } else { "\n" })
 }
 
-/// Appends to `out` what is wrong with a line, as a line of standard error. Lines are numbered from 1.
+/// Appends to `out` what is wrong with the line with this number, counted from 1.
 pub fn push_bad_line(
     out: &mut String,
     number: u64,
@@ -104,7 +103,7 @@ pub fn push_bad_line(
     push_shown(out, line)
 }
 
-/// Appends to `out` what is wrong with the first bad line of a script, as a line of standard error.
+/// Appends to `out` what is wrong with the first bad line of a script.
 pub fn push_first_bad_line(
     alloc: Global,
     script: &[u8],

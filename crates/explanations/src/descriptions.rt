@@ -1,4 +1,4 @@
-//! The explanation of a text that describes no game: the place of its fault, what is wrong, and the sentence there.
+//! Explains why a text does not describe a game: where its first error is, what is wrong, and the sentence there.
 
 use crate::bad_lines::push_shown;
 use crate::places::Place;
@@ -9,14 +9,14 @@ use rule_sentences::LoadFault;
 use rule_sentences::sizes::MAX_MOVES;
 use std::alloc::{AllocError, Global};
 
-/// A text with spaces in place of its comments, and the bytes at which its sentences begin.
+/// A text whose comments are replaced with spaces, and the offsets of its sentences.
 #[derive(Drop)]
 struct Sentences {
     text: Vec<u8>,
     starts: Vec<usize>,
 }
 
-/// The text with a space in place of each byte of a comment.
+/// The text with a space for each byte of a comment.
 fn without_comments(alloc: Global, text: &[u8]) -> Result<Vec<u8>, AllocError> {
     let mut bare = Vec::with_capacity(alloc, text.len())?;
     let mut in_comment = false;
@@ -27,7 +27,7 @@ fn without_comments(alloc: Global, text: &[u8]) -> Result<Vec<u8>, AllocError> {
     Ok(bare)
 }
 
-/// The bytes at which the sentences of a text without comments begin.
+/// The offsets at which the sentences of a text without comments begin.
 fn starts_of(alloc: Global, text: &[u8]) -> Result<Vec<usize>, AllocError> {
     let mut starts = Vec::new(alloc);
     let mut depth: usize = 0;
@@ -47,7 +47,7 @@ fn starts_of(alloc: Global, text: &[u8]) -> Result<Vec<usize>, AllocError> {
     Ok(starts)
 }
 
-/// The byte at which the first variable from this byte on begins.
+/// The offset of the first variable at or after `start`.
 fn variable_from(text: &[u8], start: usize) -> usize {
     let mut in_atom = false;
     for at in start..text.len() {
@@ -59,7 +59,7 @@ fn variable_from(text: &[u8], start: usize) -> usize {
     start
 }
 
-/// A text in one line, with one space for white space.
+/// A text on one line, with one space for each run of white space.
 fn one_line(alloc: Global, text: &[u8]) -> Result<Vec<u8>, AllocError> {
     let mut line = Vec::new(alloc);
     for word in text.split(|byte| matches!(*byte, b' ' | b'\t' | b'\r' | b'\n')) {
@@ -80,12 +80,11 @@ impl Sentences {
         Ok(Sentences { text, starts })
     }
 
-    /// The byte at which the sentence of this number begins.
     fn start(&self, number: usize) -> usize {
         self.starts.get(number).copied().unwrap_or(0)
     }
 
-    /// The sentence at this byte, or the last one before it. Where there is none, the text from this byte on.
+    /// The last sentence that begins at or before this offset, or the text from this offset if there is none.
     fn at(&self, at: usize) -> &[u8] {
         let mut start = at;
         let mut end = self.text.len();
@@ -99,7 +98,8 @@ impl Sentences {
         self.text.get(start..end).unwrap_or(b"")
     }
 
-    /// The number of the sentence with which the text gets this fault. No sentence after it takes the fault away, so the numbers are halved.
+    /// The number of the sentence that causes this error. If the first sentences have the error, more sentences do not remove it, so this is
+    /// a binary search.
     fn first_with(&self, alloc: Global, limits: Limits, fault: LoadFault) -> usize {
         let mut without: usize = 0;
         let mut with = self.starts.len();
@@ -117,7 +117,7 @@ impl Sentences {
         without
     }
 
-    /// The byte at which the text has this fault, if it is at one.
+    /// The offset of the error in the text, if it has one.
     fn place_of(&self, alloc: Global, limits: Limits, fault: DescriptionFault) -> Option<usize> {
         match fault {
             DescriptionFault::Unread(
@@ -141,7 +141,7 @@ impl Sentences {
     }
 }
 
-/// What is wrong with a sentence, or with several together.
+/// What is wrong with a sentence, or with several sentences together.
 fn words_of(fault: LoadFault) -> &'static str {
     match fault {
         LoadFault::Variable(_) => "a variable, but rules have to be ground",
@@ -160,7 +160,6 @@ fn words_of(fault: LoadFault) -> &'static str {
     }
 }
 
-/// Appends to `out` what is wrong with a text that has this fault.
 fn push_kind(
     limits: Limits,
     text: &[u8],
@@ -190,15 +189,24 @@ fn push_kind(
             write!(
                 out,
                 "more than {sentences} sentences, {atomic} different atomic sentences, {MAX_ROLES} roles or {MAX_MOVES} moves of one role"
-            )
+            )?;
+            let large = Limits::Large;
+            match limits {
+                Limits::Usual => write!(
+                    out,
+                    " (with --large, {} sentences and {} different atomic sentences)",
+                    large.sentences(),
+                    large.atomic_sentences()
+                ),
+                Limits::Large => Ok(()),
+            }
         }
         DescriptionFault::Unfit(fault) => out.push_str(words_of(fault)),
         DescriptionFault::Memory => out.push_str("out of memory"),
     }
 }
 
-/// What helps against the fault of a text, as a line, if something does. A text without a list may be the name of a file, but an empty
-/// one can't be.
+/// How to fix the error, as a line, if there is a hint. A text without lists may be the name of a file, unless it is empty.
 fn remedy(text: &[u8], fault: DescriptionFault) -> &'static str {
     match fault {
         DescriptionFault::Unfit(LoadFault::NoRole) if !text.is_empty() && !text.contains(&b'(') => {
@@ -211,8 +219,7 @@ fn remedy(text: &[u8], fault: DescriptionFault) -> &'static str {
     }
 }
 
-/// Appends to `out` what is wrong with a text that describes no game within these limits and has this fault, as a line of standard error,
-/// after one that says what helps against it.
+/// Appends to `out` why a text does not describe a game within these limits: a hint how to fix it, if there is one, and then what is wrong.
 pub fn push_description(
     alloc: Global,
     limits: Limits,

@@ -1,13 +1,6 @@
-//! The lines of standard error that explain the fault of an input, before the fault's own line.
+//! Explains errors in an input, as lines for standard error before the error itself.
 //!
-//! Each function appends its lines to a text, and no proof rests on them. The lines are about
-//!
-//! - a description that describes no game: `push_description`;
-//! - a script: `push_first_bad_line`; a schedule: `push_refused_matches`; one match: `push_broken_rules`;
-//! - an account: `push_bad_entry`; a text that is no record: `push_several_lines`;
-//! - lines that were skipped: `push_skipped_lines`.
-//!
-//! Free functions take the allocator first.
+//! Each function appends lines to a text. No proof depends on them. Functions that allocate take the allocator first.
 #![tactic(auto)]
 
 mod bad_entries;

@@ -1,8 +1,8 @@
-//! Places in the text of a description.
+//! Positions in the text of a description.
 ghost use Rattle.std.specs.Prelude.{◌≡◌, take};
 ghost use Rattle.explanations.specs.Places.{line_after, column_after};
 
-/// A place in a text: its line and its column, both counted from 1. Columns count bytes.
+/// A position in a text: line and column, both counted from 1. Columns count bytes.
 #[derive(Clone, Copy)]
 pub struct Place {
     pub line: usize,
@@ -10,7 +10,7 @@ pub struct Place {
 }
 
 impl Place {
-    /// The place of the byte with the number `at`, counted from 0.
+    /// The position of the byte at the index `at`.
     pub fn of(text: &[u8], at: usize) -> Place
         ensures line { result.line ≡ line_after 1 (take at text.now) }
         ensures column { result.column ≡ column_after 1 (take at text.now) }

@@ -1,13 +1,13 @@
-//! The lines about records that are checked.
+//! Explains the results of checking records.
 
 use desk_text::first_piece;
 use std::alloc::AllocError;
 
-/// What helps against a text of several lines where one record was expected.
+/// The hint for a text with several lines that should be one record.
 const LINES: &str =
     "ggp_manager: the text has several lines: with --lines each line is checked as a record\n";
 
-/// Appends to `out` what helps against a text that is no record, if it has several lines.
+/// Appends a hint to `out` if a text that is not a record has several lines.
 pub fn push_several_lines(text: &[u8], out: &mut String) -> Result<(), AllocError> {
     match first_piece(text, b'\n') {
         (_, Some(more)) if !more.is_empty() => out.push_str(LINES),
@@ -15,7 +15,7 @@ pub fn push_several_lines(text: &[u8], out: &mut String) -> Result<(), AllocErro
     }
 }
 
-/// Appends to `out` how many lines of accounts were skipped, if there were any.
+/// Appends to `out` how many lines of call logs were skipped, if there were any.
 pub fn push_skipped_lines(count: u64, out: &mut String) -> Result<(), AllocError> {
     match count {
         0 => Ok(()),

@@ -1,4 +1,4 @@
-//! The lines about matches that break a rule of openings.
+//! Explains why a desk refuses to open matches.
 
 use crate::bad_lines::{BadLine, push_bad_line};
 use desk_calls::{MAX_CLOCK, is_name};
@@ -6,13 +6,11 @@ use desk_text::{first_piece, plain_number_up_to};
 use game_core::lines::without_return;
 use std::alloc::AllocError;
 
-/// The word of the refusal of an id, and the rule.
 const BAD_ID: &str = "badid: an id has 1 to 64 letters, digits, -, _ and .";
 
-/// The word of the refusal of a clock, and the rule.
 const BAD_CLOCK: &str = "badclock: a clock has 1 to 86400 seconds";
 
-/// What is wrong with the word at a place of a match's line: the word of the refusal, and the rule. The id's place is 0.
+/// What is wrong with the word at this index of a schedule's line, if it breaks a rule. The id has the index 0.
 fn broken_rule(place: usize, word: &[u8]) -> Option<&'static str> {
     match place {
         0 if !is_name(word) => Some(BAD_ID),
@@ -24,7 +22,7 @@ fn broken_rule(place: usize, word: &[u8]) -> Option<&'static str> {
     }
 }
 
-/// What is wrong with a line of a schedule that has a match, if it breaks a rule.
+/// What is wrong with a line of a schedule that has a match, if the match breaks a rule.
 fn refused_match(line: &[u8]) -> Option<BadLine> {
     let mut start: usize = 0;
     let mut place: usize = 0;
@@ -46,8 +44,7 @@ fn refused_match(line: &[u8]) -> Option<BadLine> {
     None
 }
 
-/// Appends to `out` what is wrong with each match of a schedule that breaks a rule of openings, as lines of standard error. Lines are
-/// numbered from 1.
+/// Appends to `out` what is wrong with each match of a schedule that breaks a rule. Line numbers count from 1.
 pub fn push_refused_matches(schedule: &[u8], out: &mut String) -> Result<(), AllocError> {
     let mut rest = Some(schedule);
     for number in 1..u64::MAX {
@@ -64,8 +61,7 @@ pub fn push_refused_matches(schedule: &[u8], out: &mut String) -> Result<(), All
     Ok(())
 }
 
-/// Appends to `out` which rules of openings a match of this id, with these clocks and so many players, breaks in a game of `roles` roles, as
-/// lines of standard error.
+/// Appends to `out` which rules a match breaks that has this id, these clocks and this many players, in a game with `roles` roles.
 pub fn push_broken_rules(
     id: &str,
     clocks: [u32; 2],

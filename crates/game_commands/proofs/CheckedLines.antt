@@ -19,7 +19,6 @@ use Rattle.command_faults.specs.Faults.{input_fault}
 use Rattle.game_commands.specs.Verdicts.{IsVerdict, AreVerdicts, verdict_line, verdict_lines}
 use Rattle.game_commands.specs.Checks.{HasFirstLine, TellsVerdicts, LineFails, CheckStops}
 
--- more of the input was read
 pub begins_more : (text : List ℕ) (first : List (List ℕ)) (left given : List ℕ) → BeginsWithLines text first left → BeginsWithLines (text ++ given) first (left ++ given)
 begins_more text first left given begins more =
     ap lines (append_assoc text given more) ∙ begins (given ++ more) ∙ ap (λ l. first ++ lines l) (sym (append_assoc left given more))
@@ -48,7 +47,6 @@ stops_reading given reader mid reader' same calls (inr ended) =
     let made : CallsMade max_stream_calls reader.calls reader'.calls = λ below. omega (arith, ended.0 below, calls) in
     inr (made, ended.1, ended.2 ∙ same)
 
--- the meaning of a fault at reading a line
 pub read_stops : {S M R W : Type 0} (remaining : R → Option (List ℕ)) (contents : W → Option (List ℕ)) (is_json : Bool) (g : Rules S M) (fault : InputFault) (verdicts : List Verdict) (bytes lost left : List ℕ)
     (reader mid reader' : Counting R) (writer writer' : Counting W)
     → mid.faults ≡ reader.faults → CallsMade 0 reader.calls mid.calls → bytes ≡ lost ++ left → HasNoLineFeed lost → InputFails max_line fault lost mid reader' → TellsVerdicts contents is_json verdicts writer writer'
@@ -60,7 +58,6 @@ read_stops remaining contents is_json g TooLong verdicts bytes lost left reader 
 read_stops remaining contents is_json g Memory verdicts bytes lost left reader mid reader' writer writer' same calls cut feedless fails tells =
     (fails.1 ∙ same, tells)
 
--- the meaning of a fault at writing a verdict
 pub tell_stops : {S M R W : Type 0} (remaining : R → Option (List ℕ)) (contents : W → Option (List ℕ)) (is_json : Bool) (g : Rules S M) (fault : Fault) (verdicts : List Verdict) (bytes line : List ℕ)
     (reader reader' : Counting R) (writer mid writer' : Counting W)
     → reader'.faults ≡ reader.faults → HasFirstLine (remaining reader'.stream) bytes line → TellsVerdicts contents is_json verdicts writer mid → LineFails contents is_json g fault line mid writer'

@@ -1,3 +1,4 @@
+mod AnsweredLines
 mod CheckedLines
 mod OpenMatches
 mod ReadAccounts

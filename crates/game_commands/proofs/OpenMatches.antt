@@ -11,11 +11,9 @@ use Rattle.match_book.specs.Phase.{status}
 use Rattle.match_desk.specs.ManagerValue.{ManagerValue, DeskMatch, game_match}
 use Rattle.game_commands.specs.Replays.{is_over}
 
--- the number of the first k matches that are not over
 abbrev pub open_before : {G S M : Type 0} → (G → Rules S M) → ManagerValue G M → ℕ → ℕ
 open_before rules d k = count_by (λ m. not (is_over rules d m)) (take k d.matches)
 
--- one match more
 pub open_before-next : {G S M : Type 0} (rules : G → Rules S M) (d : ManagerValue G M) (k : ℕ) (held : GameMatch G M) → Some held ≡ option_and_then (game_match d) (slice_get d.matches k)
     → open_before rules d (k + 1) ≡ open_before rules d k + cond (not (is_last (status (rules held.game) held.value).phase)) 1 0
 open_before-next {G} {S} {M} rules d k held found = at (slice_get d.matches k) refl (sym found)

@@ -1,4 +1,4 @@
--- The lines of accounts, each up to a line that begins as a record does.
+-- The lines of call logs, which end at the lines that begin as records do.
 use Rattle.std.proofs.Common.{rules, ◌≡◌, ◌≢◌, ◌<◌, ◌≤◌, ◌+◌, ◌-◌, ◌==◌, ◌&&◌, ℕ, zero, suc, Bool, true, false, List, [], ◌∷◌, ◌++◌, length, take, if◌then◌else◌, refl, sym, ap, subst, inl, inr, ◌∙◌, append-nil, append_assoc, arith}
 use Rattle.std.specs.Prelude.{slice_index, not}
 use Rattle.std.specs.List.{AllByRecursion}
@@ -29,12 +29,10 @@ use Rattle.game_commands.proofs.CheckedLines.{begins_more, stops_reading}
 abbrev pub HasNoRecord : List (List ℕ) → Type 0
 HasNoRecord account = AllByRecursion (λ line. begins_as_record line ≡ false) account
 
--- lines without a record are one group
 pub groups_of : (account : List (List ℕ)) → HasNoRecord account → groups account ≡ account ∷ []
 groups_of [] none = refl
 groups_of (line ∷ more) none = rw (none.0, groups_of more none.1)
 
--- a record ends a group
 pub groups_cut : (account : List (List ℕ)) (line : List ℕ) (more : List (List ℕ)) → HasNoRecord account → begins_as_record line ≡ true → groups (account ++ line ∷ more) ≡ account ∷ groups more
 groups_cut [] line more none is = rw is
 groups_cut (first ∷ rest) line more none is = rw (none.0, groups_cut rest line more none.1 is)
@@ -45,9 +43,9 @@ with_lines_push done line rest = filter-append (λ group. not (is_none group)) d
 pub with_lines_none : (done : List (List (List ℕ))) → with_lines (done ++ [] ∷ []) ≡ with_lines done
 with_lines_none done = filter-append (λ group. not (is_none group)) done ([] ∷ []) ∙ append-nil (with_lines done)
 
--- ---- the text of an account
+-- ---- the text of a call log
 
--- the line's text is read as the line
+-- reading the text of a line gives the line
 pub text_push : NextLineIsTaken → (text : List ℕ) (account : List (List ℕ)) (line : List ℕ) → HasNoLineFeed line → BeginsWithLines text account [] → BeginsWithLines (text ++ (line ++ 13 ∷ 10 ∷ [])) (account ++ line ∷ []) []
 text_push next_line text account line feedless begins =
     let whole = line ++ 13 ∷ [] in
@@ -57,7 +55,6 @@ text_push next_line text account line feedless begins =
     next_line text account [] (line ++ 13 ∷ 10 ∷ []) line [] begins
     (whole, sym (append_assoc line (13 ∷ []) (10 ∷ [])), All-push (λ b. b ≢ 10) line 13 feedless (λ same. absurd (omega (arith, same))), stripped)
 
--- a line has no line feed
 pub line_is_feedless : (bytes line left : List ℕ) → BeginsWithLine bytes line left → HasNoLineFeed line
 line_is_feedless bytes line left begins = rw begins.3 (strips begins.0 begins.2)
   where
@@ -68,7 +65,7 @@ line_is_feedless bytes line left begins = rw begins.3 (strips begins.0 begins.2)
         either true = All-take (λ b. b ≢ 10) (length whole - 1) whole feedless
         either false = feedless
 
--- ---- what was replayed
+-- ---- replayed call logs
 
 pub replayed_push : {G S M : Type 0} (is_json : Bool) (rules : G → Rules S M) (games : List G) (all : List (List (List ℕ))) (account : List (List ℕ)) (output text : List ℕ)
     → AreReplayed is_json rules games all output → IsReplayed is_json rules games account text → AreReplayed is_json rules games (all ++ account ∷ []) (output ++ text)
@@ -86,7 +83,7 @@ no_more before =
     let some : (suc before == 0) ≡ false = grind (arith, nat_tests) in
     ap (λ b. not b) some
 
--- an account that ends is replayed, unless it has no lines
+-- a call log that ends is replayed, unless it has no lines
 pub replayed_more : {G S M : Type 0} (is_json : Bool) (rules : G → Rules S M) (games : List G) (done : List (List (List ℕ))) (text : List ℕ) (account : List (List ℕ)) (before : ℕ) (output end : List ℕ)
     → length text ≡ account_size account → AreReplayed is_json rules games (with_lines done) output → IsEnded is_json rules games (is_skipped text false before) account end
     → AreReplayed is_json rules games (with_lines (done ++ account ∷ [])) (output ++ end)
@@ -111,7 +108,7 @@ one_more_is_some : (all : List (List (List ℕ))) (account : List (List ℕ)) �
 one_more_is_some [] account = refl
 one_more_is_some (first ∷ rest) account = refl
 
--- the same at the end of the input, where an account is needed if there was none
+-- the same at the end of the input, where a call log without lines counts if it is the only one
 pub replayed_last : {G S M : Type 0} (is_json : Bool) (rules : G → Rules S M) (games : List G) (done : List (List (List ℕ))) (text : List ℕ) (account : List (List ℕ)) (before : ℕ) (output end : List ℕ)
     → length text ≡ account_size account → before ≡ line_count done → AreReplayed is_json rules games (with_lines done) output → IsEnded is_json rules games (is_skipped text true before) account end
     → AreReplayed is_json rules games (at_least_one (with_lines (done ++ account ∷ []))) (output ++ end)
@@ -127,7 +124,7 @@ replayed_last is_json rules games done [] (line ∷ rest) before output end size
 replayed_last is_json rules games done (byte ∷ text) (line ∷ rest) before output end size count replayed ended =
     rw (with_lines_push done line rest, one_more_is_some (with_lines done) (line ∷ rest)) (replayed_push is_json rules games (with_lines done) (line ∷ rest) output end replayed (subst (λ b. IsEnded is_json rules games b (line ∷ rest) end) (some_text byte text true before) ended))
 
--- the output for an account, and why it fails, are in the form that was asked for
+-- the output for a call log, and why it fails, are in the format that was asked for
 pub ended_as : {G S M : Type 0} (is_json json : Bool) (rules : G → Rules S M) (games : List G) (skipped : Bool) (account : List (List ℕ)) (output : List ℕ)
     → json ≡ is_json → IsEnded json rules games skipped account output → IsEnded is_json rules games skipped account output
 ended_as is_json json rules games skipped account output form ended = subst (λ (b : Bool). IsEnded b rules games skipped account output) form ended
@@ -138,7 +135,7 @@ fails_as contents is_json json rules games before account writer writer' fault f
 
 -- ---- between two lines
 
--- What is known then: the lines so far, the accounts that were replayed with the output for them, and the lines of the open account.
+-- What is known between two lines: the lines so far, the call logs that were replayed and their output, and the lines of the last log.
 pub record Reads {G S M W : Type 0} (contents : W → Option (List ℕ)) (is_json : Bool) (rules : G → Rules S M) (games : List G) (given buffer : List ℕ) (part : OpenAccount) (place : ℕ) (writer writer' : Counting W) : Type 0 where
   pub seen : List (List ℕ)
   pub done : List (List (List ℕ))
@@ -158,11 +155,9 @@ pub record Reads {G S M W : Type 0} (contents : W → Option (List ℕ)) (is_jso
   pub counted : length seen ≡ place
   pub few : line_count done + length account ≤ place
 
--- the lines of an account's text
 pub lines_of : (text : List ℕ) (account : List (List ℕ)) → BeginsWithLines text account [] → lines text ≡ account
 lines_of text account begins = ap lines (sym (append-nil text)) ∙ begins [] ∙ append-nil account
 
--- the text of a record is not kept
 pub text_of_record : (text text' line : List ℕ) → text' ≡ text ++ line_text line → begins_as_record line ≡ true → text' ≡ text
 text_of_record text text' line is begins = is ∙ ap (λ (b : Bool). text ++ (if b then [] else line ++ 13 ∷ 10 ∷ [])) begins ∙ append-nil text
 
@@ -172,7 +167,7 @@ text_of_line text text' line is begins = is ∙ ap (λ (b : Bool). text ++ (if b
 text_size : (text text' line : List ℕ) → text' ≡ text ++ (line ++ 13 ∷ 10 ∷ []) → length text' ≡ length text + (length line + 2)
 text_size text text' line is = ap length is ∙ length-append text (line ++ 13 ∷ 10 ∷ []) ∙ ap (λ n. length text + n) (length-append line (13 ∷ 10 ∷ []))
 
--- what is known of the open account at the end of the input
+-- what is known about the last call log at the end of the input
 pub record LastAccount (seen : List (List ℕ)) (done : List (List (List ℕ))) (text : List ℕ) (most : ℕ) : Type 0 where
   pub account : List (List ℕ)
   pub rest : List (List (List ℕ))
@@ -182,7 +177,7 @@ pub record LastAccount (seen : List (List ℕ)) (done : List (List (List ℕ))) 
   pub none : with_lines rest ≡ []
   pub few : length account ≤ most
 
--- the accounts of an input are those before, and the last one
+-- the call logs of an input are the earlier ones and the last one
 pub accounts_are : (input : List ℕ) (seen : List (List ℕ)) (done : List (List (List ℕ))) (account : List (List ℕ)) (rest : List (List (List ℕ)))
     → lines input ≡ seen → groups seen ≡ done ++ account ∷ rest → with_lines rest ≡ [] → accounts input ≡ at_least_one (with_lines (done ++ account ∷ []))
 accounts_are input seen done account rest are grouped none =
@@ -200,15 +195,12 @@ module _ {G S M W : Type 0} (contents : W → Option (List ℕ)) (is_json : Bool
   more_groups : (line : List ℕ) (more : List (List ℕ)) → groups ((was.seen ++ line ∷ []) ++ more) ≡ was.done ++ groups (was.account ++ line ∷ more)
   more_groups line more = ap groups (append_assoc was.seen (line ∷ []) more) ∙ was.grouped (line ∷ more)
 
-  -- a line that is no record's belongs to the open account
   pub grouped_line : (line : List ℕ) → begins_as_record line ≡ false → groups (was.seen ++ line ∷ []) ≡ was.done ++ (was.account ++ line ∷ []) ∷ []
   grouped_line line is = was.grouped (line ∷ []) ∙ ap (λ l. was.done ++ l) (groups_of (was.account ++ line ∷ []) (push_none was.account line was.no_record is))
 
-  -- a record ends it
   pub grouped_record : (line : List ℕ) → begins_as_record line ≡ true → groups (was.seen ++ line ∷ []) ≡ was.done ++ was.account ∷ [] ∷ []
   grouped_record line is = was.grouped (line ∷ []) ∙ ap (λ l. was.done ++ l) (groups_cut was.account line [] was.no_record is)
 
-  -- so does the end of the input
   pub grouped_all : groups was.seen ≡ was.done ++ was.account ∷ []
   grouped_all = ap groups (sym (append-nil was.seen)) ∙ was.grouped [] ∙ ap (λ l. was.done ++ groups l) (append-nil was.account) ∙ ap (λ l. was.done ++ l) (groups_of was.account was.no_record)
 
@@ -271,7 +263,7 @@ module _ {G S M W : Type 0} (contents : W → Option (List ℕ)) (is_json : Bool
         few = omega (arith, was.few, count);
       }
 
-  -- what is known of the open account once the last line of the input was taken
+  -- what is known about the last call log after the last line of the input
   pub last_line : NextLineIsTaken → (line : List ℕ) (part' : OpenAccount) → HasNoLineFeed line → part'.text.items ≡ part.text.items ++ line_text line
       → LastAccount (was.seen ++ line ∷ []) was.done part'.text.items (length was.account + 1)
   last_line next_line line part' feedless text = go (begins_as_record line) refl
@@ -302,7 +294,7 @@ module _ {G S M W : Type 0} (contents : W → Option (List ℕ)) (is_json : Bool
             few = omega (arith, length_push was.account line);
           }
 
-  -- the same where the input has no such line
+  -- the same if the input ends with a line feed
   pub no_line : LastAccount was.seen was.done part.text.items (length was.account + 1)
   no_line = record {
     account = was.account;
@@ -314,15 +306,13 @@ module _ {G S M W : Type 0} (contents : W → Option (List ℕ)) (is_json : Bool
     few = omega arith;
   }
 
--- ---- what stops
+-- ---- stopping
 
--- the open account does not grow by a line
 pub stops_push : {R : Type 0} (fault : Fault) (seen account : List (List ℕ)) (left : List ℕ) (size : ℕ) (reader reader' : Counting R) → StopsLongAccount fault size → size ≡ account_size account → reader'.faults ≡ reader.faults
     → StopsInput fault seen account left reader reader'
 stops_push fault seen account left size reader reader' (inl is) same kept = rw is kept
 stops_push fault seen account left size reader reader' (inr (is, long)) same kept = rw is (inr (inl (rw same at long)), kept)
 
--- the next line is not read
 pub stops_line : {R : Type 0} (fault : InputFault) (seen account : List (List ℕ)) (bytes lost left : List ℕ) (reader mid reader' : Counting R)
     → mid.faults ≡ reader.faults → CallsMade 0 reader.calls mid.calls → bytes ≡ lost ++ left → HasNoLineFeed lost → InputFails max_line fault lost mid reader'
     → StopsInput (input_fault fault) seen account bytes reader reader'

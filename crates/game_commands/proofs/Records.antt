@@ -10,7 +10,7 @@ use Rattle.match_desk.specs.ManagerValue.{ManagerValue, DeskMatch, game_of, game
 use Rattle.match_record.specs.RecordTree.{record_text}
 use Rattle.game_commands.specs.Script.{record_line, records}
 
--- the record of a match with its game, as a line: nothing if there is no such match
+-- the record of a match with its game, as a line; empty if there is no such match
 abbrev pub line_of : {G S M : Type 0} → (G → Rules S M) → Option (GameMatch G M) → List ℕ
 line_of rules held = unwrap_or (option_map (λ x. record_text (rules x.game) x.value ++ line_feed ∷ []) held) []
 
@@ -18,14 +18,13 @@ records-append : {G S M : Type 0} (rules : G → Rules S M) (d : ManagerValue G 
 records-append rules d [] ns = refl
 records-append rules d (m ∷ ms) ns = ap (λ x. record_line rules d m ++ x) (records-append rules d ms ns) ∙ sym (append_assoc (record_line rules d m) (records rules d ms) (records rules d ns))
 
--- one match more
 pub records-next : {G S M : Type 0} (rules : G → Rules S M) (d : ManagerValue G M) (k : ℕ) (m : DeskMatch M) → slice_get d.matches k ≡ Some m
     → records rules d (take (k + 1) d.matches) ≡ records rules d (take k d.matches) ++ record_line rules d m
 records-next rules d k m at =
     ap (records rules d) (take_more d.matches k m (slice_get_within d.matches k m at) ∙ ap (λ x. take k d.matches ++ x ∷ []) (get_or_from_slice_get d.matches k m m at)) ∙ records-append rules d (take k d.matches) (m ∷ [])
     ∙ ap (λ z. records rules d (take k d.matches) ++ z) (append-nil (record_line rules d m))
 
--- the match at a place, as the manager's functions return it, adds its record
+-- the match at an index, as the desk's functions return it, adds its record
 pub one_match : {G S M : Type 0} (rules : G → Rules S M) (d : ManagerValue G M) (k : ℕ) (g : G) (held : GameMatch G M)
     → option_and_then (game_of d) (slice_get d.matches k) ≡ Some g → option_and_then (game_match d) (slice_get d.matches k) ≡ Some held
     → records rules d (take (k + 1) d.matches) ≡ records rules d (take k d.matches) ++ (record_text (rules g) held.value ++ line_feed ∷ [])
@@ -48,7 +47,6 @@ one_match {G} {S} {M} rules d k g held is_game is_held = at (slice_get d.matches
     at None found is_game is_held = absurd cc
     at (Some m) found is_game is_held = with_game m (game_of d m) found refl is_game is_held
 
--- one more line in the output
 pub one_line : (written before text after out out' out'' : List ℕ) → out ≡ written ++ before → out' ≡ out ++ text → out'' ≡ out' ++ line_feed ∷ [] → after ≡ before ++ (text ++ line_feed ∷ []) → out'' ≡ written ++ after
 one_line written before text after out out' out'' so_far with_text with_feed whole =
     with_feed ∙ ap (λ z. z ++ line_feed ∷ []) (with_text ∙ ap (λ z. z ++ text) so_far)

@@ -1,4 +1,4 @@
--- The output of the check of records, and the meaning of its faults.
+-- The output of the check of records, and what its errors mean.
 use Rattle.std.specs.Prelude.{◌≡◌, ℕ, ◌<◌, ◌≤◌, Bool, true, false, List, [], ◌++◌, length, take, ◌⊎◌, Option}
 use Rattle.std.specs.Io.KnownBytes.{Appends, IsAtEnd}
 use Rattle.std.specs.Str.Lines.{lines}
@@ -16,34 +16,33 @@ use Rattle.game_commands.specs.Verdicts.{IsVerdict, verdict_line, verdict_lines}
 use Rattle.command_faults.specs.declared.fault.Fault.{Fault}
 use Rattle.command_faults.specs.declared.fault.Fault.TheVariants.{ReadFault, InputTooLong, Memory, NotLawful, WriteFault}
 
--- the limit of a record's bytes, if the input is one record
+-- the largest size of a record, if the input is one record
 abbrev pub max_record : ℕ
 max_record = 16777216
 
--- the verdict on a record is written: as JSON any, in words only that it is lawful
+-- the verdict is written: as JSON always, in plain text only if the record is lawful
 abbrev pub IsWritten : {S M : Type 0} → Bool → Rules S M → List ℕ → Verdict → Type 0
 IsWritten is_json g given Lawful = IsLawfulRecord g given
 IsWritten true g given (Unlawful fault) = (¬ IsLawfulRecord g given) × FailsFirst g given fault
 IsWritten is_json g given verdict = ⊥
 
--- what was written of a record that is not lawful
 abbrev pub TellsUnlawful : {W : Type 0} → (W → Option (List ℕ)) → Bool → VerifyFault → Counting W → Counting W → Type 0
 TellsUnlawful contents false fault writer writer' = writer' ≡ writer
 TellsUnlawful contents true fault writer writer' = Appends (contents writer.stream) (contents writer'.stream) (verdict_line true (Unlawful fault)) × (writer'.faults ≡ writer.faults)
 
--- why a verdict was not written: for memory, or only a prefix of it
+-- why a verdict was not written: memory ran out, or only a prefix of it was written
 abbrev pub IsNotWritten : {W : Type 0} → (W → Option (List ℕ)) → Bool → Verdict → Fault → Counting W → Counting W → Type 0
 IsNotWritten contents is_json verdict fault writer writer' = ((fault ≡ Memory) × (writer' ≡ writer))
     ⊎ ((fault ≡ WriteFault) × (writer'.faults ≡ one_more writer.faults) × ((taken : ℕ) × (taken ≤ length (verdict_line is_json verdict))
     × Appends (contents writer.stream) (contents writer'.stream) (take taken (verdict_line is_json verdict))))
 
--- The fault says that a record is not lawful, after what is written of that, or why that could not be written.
+-- The error says that a record is not lawful, after the verdict was written; or it says why the verdict could not be written.
 abbrev pub TellsFault : {W : Type 0} → (W → Option (List ℕ)) → Bool → VerifyFault → Fault → Counting W → Counting W → Type 0
 TellsFault contents is_json fault told writer writer' = ((told ≡ NotLawful fault) × TellsUnlawful contents is_json fault writer writer')
     ⊎ ((is_json ≡ true) × IsNotWritten contents true (Unlawful fault) told writer writer')
 
--- What a fault says about the bytes that were given, the reader before and after, and the writer. Only a verdict is written, or a
--- prefix of it if the write fails. A record is checked after all of it was read.
+-- What an error says about the bytes that were read, the reader before and after, and the writer. Nothing is written but a verdict, or
+-- a prefix of it if the write fails. A record is checked after all of it was read.
 abbrev pub CheckFails : {S M R W : Type 0} → (R → Option (List ℕ)) → (W → Option (List ℕ)) → Bool → Rules S M → Fault → List ℕ → Counting R → Counting R → Counting W → Counting W → Type 0
 CheckFails remaining contents is_json g ReadFault given reader reader' writer writer' = (length given ≤ max_record) × StopsReading (length given) reader reader' × (writer' ≡ writer)
 CheckFails remaining contents is_json g InputTooLong given reader reader' writer writer' = (max_record < length given) × (reader'.faults ≡ reader.faults) × (writer' ≡ writer)
@@ -56,7 +55,7 @@ CheckFails remaining contents is_json g WriteFault given reader reader' writer w
     × Appends (contents writer.stream) (contents writer'.stream) (take taken (verdict_line is_json verdict)))
 CheckFails remaining contents is_json g fault given reader reader' writer writer' = ⊥
 
--- the first line of these bytes. It may be the last one, without a line feed.
+-- the first line of these bytes, which may be a last line without a line feed
 abbrev pub HasFirstLine : Option (List ℕ) → List ℕ → List ℕ → Type 0
 HasFirstLine remaining bytes line = ((left : List ℕ) × BeginsWithLine bytes line left) ⊎ ((0 < length bytes) × HasNoLineFeed bytes × (line ≡ bytes) × IsAtEnd remaining)
 
@@ -64,22 +63,21 @@ HasFirstLine remaining bytes line = ((left : List ℕ) × BeginsWithLine bytes l
 abbrev pub HasOpenLine : List ℕ → (ℕ → Type 0) → Type 0
 HasOpenLine bytes IsLength = (part rest : List ℕ) × (bytes ≡ part ++ rest) × HasNoLineFeed part × IsLength (length part)
 
--- exactly these verdicts were written
 abbrev pub TellsVerdicts : {W : Type 0} → (W → Option (List ℕ)) → Bool → List Verdict → Counting W → Counting W → Type 0
 TellsVerdicts contents is_json verdicts writer writer' = Appends (contents writer.stream) (contents writer'.stream) (verdict_lines is_json verdicts) × (writer'.faults ≡ writer.faults)
 
--- these verdicts were written, then a part of the verdict on this line, and then a write failed
+-- these verdicts were written, then a prefix of the verdict on this line, and then a write failed
 abbrev pub TellsPart : {S M W : Type 0} → (W → Option (List ℕ)) → Bool → Rules S M → List Verdict → List ℕ → Counting W → Counting W → Type 0
 TellsPart contents is_json g verdicts line writer writer' = (writer'.faults ≡ one_more writer.faults)
     × ((verdict : Verdict) × (taken : ℕ) × IsVerdict g line verdict × (taken ≤ length (verdict_line is_json verdict))
     × Appends (contents writer.stream) (contents writer'.stream) (verdict_lines is_json verdicts ++ take taken (verdict_line is_json verdict)))
 
--- the meaning of a fault at writing the verdict on this line
+-- what an error means when the verdict on this line is written
 abbrev pub LineFails : {S M W : Type 0} → (W → Option (List ℕ)) → Bool → Rules S M → Fault → List ℕ → Counting W → Counting W → Type 0
 LineFails contents is_json g fault line writer writer' = ((fault ≡ Memory) × (writer' ≡ writer)) ⊎ ((fault ≡ WriteFault) × TellsPart contents is_json g [] line writer writer')
 
--- What a fault says about the streams before and after. The first lines have these verdicts, and these bytes are left. A line that
--- is too long is not read further, and neither is an input after 2^64 - 1 lines.
+-- What an error says about the streams before and after. The first lines have these verdicts, and these bytes are left. Reading stops
+-- at a line that is too long, and after 2^64 - 1 lines.
 abbrev pub CheckStops : {S M R W : Type 0} → (R → Option (List ℕ)) → (W → Option (List ℕ)) → Bool → Rules S M → Fault → List Verdict → List ℕ → Counting R → Counting R → Counting W → Counting W → Type 0
 CheckStops remaining contents is_json g ReadFault verdicts left reader reader' writer writer' =
     HasOpenLine left (λ count. (count ≤ max_line) × StopsReading count reader reader') × TellsVerdicts contents is_json verdicts writer writer'

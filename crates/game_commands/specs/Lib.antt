@@ -3,5 +3,6 @@ pub mod ScriptFaults
 pub mod Verdicts
 pub mod Checks
 pub mod Whole
+pub mod Interactive
 pub mod Replays
 pub mod Commands

@@ -1,4 +1,4 @@
--- The output for accounts whose calls were made again, and why one is refused.
+-- The output for call logs that were replayed, and why a call log is refused.
 use Rattle.std.specs.Prelude.{◌≡◌, ◌≢◌, ◌==◌, ◌⊎◌, ◌≤◌, ◌<◌, ◌+◌, ℕ, zero, suc, Bool, true, false, not, ◌&&◌, if◌then◌else◌, List, [], ◌∷◌, ◌++◌, codes, count_by, filter, length, sum_by, take, Option, option_map, unwrap_or}
 use Rattle.std.specs.Fmt.{decimal}
 use Rattle.std.specs.Io.KnownBytes.{Appends}
@@ -22,33 +22,29 @@ use Rattle.whole_streams.specs.Lines.{BeginsWithLines}
 use Rattle.command_faults.specs.Limits.{max_line}
 use Rattle.game_commands.specs.Checks.{HasOpenLine}
 
--- whether a match of a desk has finished or was aborted
 abbrev pub is_over : {G S M : Type 0} → (G → Rules S M) → ManagerValue G M → DeskMatch M → Bool
 is_over rules desk m = unwrap_or (option_map (λ x. is_last (status (rules x.game) x.value).phase) (game_match desk m)) true
 
--- the number of matches of a desk that are not over
 abbrev pub open_matches : {G S M : Type 0} → (G → Rules S M) → ManagerValue G M → ℕ
 open_matches rules desk = count_by (λ m. not (is_over rules desk m)) desk.matches
 
--- the words for this number of matches that are not over
 abbrev pub open_words : ℕ → List ℕ
 open_words zero = []
 open_words (suc zero) = codes ", match not ended"
 open_words (suc (suc more)) = codes ", " ++ (decimal (suc (suc more)) ++ codes " matches not ended")
 
--- the line, as JSON or in words, for so many calls that left so many matches that are not over, and so many in all
+-- the line, as JSON or as plain text, for these numbers of calls, of matches that are not over, and of all matches
 abbrev pub replayed_line : Bool → ℕ → ℕ → ℕ → List ℕ
 replayed_line false calls count matches = codes "replayed " ++ (decimal calls ++ (codes " calls" ++ (open_words count ++ line_feed ∷ [])))
 replayed_line true calls count matches =
     codes "{\"verdict\":\"replayed\",\"calls\":" ++ (decimal calls ++ (codes ",\"not_ended\":" ++ (decimal count ++ (codes ",\"records\":" ++ (decimal matches ++ codes "}\n")))))
 
--- the output for so many calls that left this desk: their line, and the records of its matches
+-- the output after this many calls led to this desk: their line, and the records of the matches
 abbrev pub replayed_text : {G S M : Type 0} → Bool → (G → Rules S M) → ManagerValue G M → ℕ → List ℕ
 replayed_text is_json rules desk calls = replayed_line is_json calls (open_matches rules desk) (length desk.matches) ++ records rules desk desk.matches
 
--- ---- what is read
+-- ---- reading
 
--- the limit of an account's bytes
 abbrev pub max_account : ℕ
 max_account = 268435456
 
@@ -57,11 +53,11 @@ abbrev pub begins_as_record : List ℕ → Bool
 begins_as_record [] = false
 begins_as_record (byte ∷ line) = byte == 123
 
--- the text that is kept of a line: none of a record's
+-- the text that is stored for a line: none for a record
 abbrev pub line_text : List ℕ → List ℕ
 line_text line = if begins_as_record line then [] else line ++ 13 ∷ 10 ∷ []
 
--- the line before the others of the first group
+-- appends the line to the front of the first group
 abbrev pub into_first : List ℕ → List (List (List ℕ)) → List (List (List ℕ))
 into_first line [] = (line ∷ []) ∷ []
 into_first line (group ∷ more) = (line ∷ group) ∷ more
@@ -75,66 +71,63 @@ abbrev pub is_none : {X : Type 0} → List X → Bool
 is_none [] = true
 is_none (x ∷ more) = false
 
--- the groups that have lines
 abbrev pub with_lines : List (List (List ℕ)) → List (List (List ℕ))
 with_lines all = filter (λ group. not (is_none group)) all
 
--- these accounts, or one without lines where there are none
+-- these call logs, or one without lines if there are none
 abbrev pub at_least_one : List (List (List ℕ)) → List (List (List ℕ))
 at_least_one [] = [] ∷ []
 at_least_one (account ∷ more) = account ∷ more
 
--- the accounts of an input: the groups of its lines. An input without any is an account without lines.
+-- the call logs of an input: the groups of its lines. An input without lines is one empty call log.
 abbrev pub accounts : List ℕ → List (List (List ℕ))
 accounts input = at_least_one (with_lines (groups (lines input)))
 
--- the lines are an account on a desk of these games, and this is the output for it
+-- the lines are a call log that a desk with these games accepts, and this is the output for it
 abbrev pub IsReplayed : {G S M : Type 0} → Bool → (G → Rules S M) → List G → List (List ℕ) → List ℕ → Type 0
 IsReplayed {G} {S} {M} is_json rules games account output =
     (desk : ManagerValue G M) × (calls : ℕ) × IsAccount (reply rules) (after rules) (no_matches games) account desk calls × (output ≡ replayed_text is_json rules desk calls)
 
--- each of these is an account on a desk of its own, and this is the output for all
+-- each of these is a call log that a new desk accepts, and this is the output for all
 abbrev pub AreReplayed : {G S M : Type 0} → Bool → (G → Rules S M) → List G → List (List (List ℕ)) → List ℕ → Type 0
 AreReplayed is_json rules games [] output = output ≡ []
 AreReplayed is_json rules games (account ∷ more) output = (first rest : List ℕ) × (output ≡ first ++ rest) × IsReplayed is_json rules games account first × AreReplayed is_json rules games more rest
 
--- a text without lines is no account, unless an input that had none ends there
+-- a group without lines is not a call log, unless it is the only one and the input ends there
 abbrev pub is_skipped : List ℕ → Bool → ℕ → Bool
 is_skipped text is_last before = length text == 0 && not (is_last && before == 0)
 
--- the output for lines up to a record, or up to the end
+-- the output for the lines up to a record or to the end of the input
 abbrev pub IsEnded : {G S M : Type 0} → Bool → (G → Rules S M) → List G → Bool → List (List ℕ) → List ℕ → Type 0
 IsEnded is_json rules games true account output = output ≡ []
 IsEnded is_json rules games false account output = IsReplayed is_json rules games account output
 
--- ---- what is refused
+-- ---- refusing
 
--- the number of lines of these accounts
 abbrev pub line_count : List (List (List ℕ)) → ℕ
 line_count all = sum_by length all
 
--- the bytes of an account, with two for the end of each line
+-- the size of a call log, with two bytes for the end of each line
 abbrev pub account_size : List (List ℕ) → ℕ
 account_size account = sum_by (λ line. length line + 2) account
 
--- the fault for lines that are refused, behind so many lines of other accounts
+-- the program's error for a refused call log after this many lines of other logs
 abbrev pub replay_fault : ℕ → ReplayFault → Fault
 replay_fault before ReplayMemory = Memory
 replay_fault before (ReplayNoEntry place why) = NoEntry (before + place)
 replay_fault before (ReplayDiffers place right) = Differs (before + place)
 
--- the number of the fault's line has 64 bits
+-- the line number of the error fits into 64 bits
 abbrev pub IsNumbered : ℕ → ReplayFault → Type 0
 IsNumbered before ReplayMemory = Unit {0}
 IsNumbered before (ReplayNoEntry place why) = before + place ≤ last_count
 IsNumbered before (ReplayDiffers place right) = before + place ≤ last_count
 
--- the object for a line of this number that is refused
 abbrev pub refused_line : List ℕ → ℕ → List ℕ
 refused_line verdict line = codes "{\"verdict\":\"" ++ (verdict ++ (codes "\",\"line\":" ++ (decimal line ++ codes "}\n")))
 
--- The output for lines that are refused, behind so many lines of other accounts: the verdict as JSON, or the right line in place of the
--- first wrong one, if that holds a call.
+-- The output for a refused call log after this many lines of other logs: the verdict as JSON, or the correct line instead of the first
+-- wrong one, if that has a call.
 abbrev pub refused_output : Bool → ℕ → ReplayFault → List ℕ
 refused_output is_json before ReplayMemory = []
 refused_output true before (ReplayNoEntry place why) = refused_line (codes "no_entry") (before + place)
@@ -142,28 +135,28 @@ refused_output false before (ReplayNoEntry place why) = []
 refused_output true before (ReplayDiffers place right) = refused_line (codes "differs") (before + place)
 refused_output false before (ReplayDiffers place right) = right.items ++ line_feed ∷ []
 
--- the lines are refused for the first wrong one, if there is memory, and this is the output for them
+-- the call log is refused at the first wrong line, unless memory runs out, and this is the output
 abbrev pub IsRefusedAccount : {G S M : Type 0} → Bool → (G → Rules S M) → List G → ℕ → List (List ℕ) → Fault → List ℕ → Type 0
 IsRefusedAccount is_json rules games before account fault output =
     (why : ReplayFault) × (fault ≡ replay_fault before why) × (output ≡ refused_output is_json before why) × (why ≢ ReplayMemory → IsFirstFault (reply rules) (after rules) (no_matches games) account why)
 
--- the output for these lines, whether they are an account or are refused
+-- the output for these lines, whether they are accepted or refused
 abbrev pub IsReplayOutput : {G S M : Type 0} → Bool → (G → Rules S M) → List G → ℕ → List (List ℕ) → List ℕ → Type 0
 IsReplayOutput is_json rules games before account output = IsReplayed is_json rules games account output ⊎ ((fault : Fault) × IsRefusedAccount is_json rules games before account fault output)
 
--- Why these lines give no account, by the writer before and after: they are refused, and the output for that was written; or a write
--- failed, and a part of the output was written.
+-- Why these lines are not accepted, and what was written: they are refused, and the output for that was written; or a write failed, and
+-- a prefix of the output was written.
 abbrev pub AccountFails : {G S M W : Type 0} → (W → Option (List ℕ)) → Bool → (G → Rules S M) → List G → ℕ → List (List ℕ) → Counting W → Counting W → Fault → Type 0
 AccountFails contents is_json rules games before account writer writer' fault =
     ((output : List ℕ) × IsRefusedAccount is_json rules games before account fault output × Appends (contents writer.stream) (contents writer'.stream) output × (writer'.faults ≡ writer.faults))
     ⊎ ((fault ≡ WriteFault) × (writer'.faults ≡ one_more writer.faults)
     × ((output : List ℕ) × (taken : ℕ) × IsReplayOutput is_json rules games before account output × (taken ≤ length output) × Appends (contents writer.stream) (contents writer'.stream) (take taken output)))
 
--- why an account does not grow to so many bytes
+-- why a call log does not reach this size
 abbrev pub StopsLongAccount : Fault → ℕ → Type 0
 StopsLongAccount fault size = (fault ≡ Memory) ⊎ ((fault ≡ InputTooLong) × (max_account < size))
 
--- Why the input is read no further, by its lines so far, those of the open account, and the bytes that are left.
+-- Why reading the input stops, given its lines so far, those of the last call log, and the bytes that are left.
 abbrev pub StopsInput : {R : Type 0} → Fault → List (List ℕ) → List (List ℕ) → List ℕ → Counting R → Counting R → Type 0
 StopsInput ReadFault seen account left reader reader' = HasOpenLine left (λ count. (count ≤ max_line) × StopsReading count reader reader')
 StopsInput InputTooLong seen account left reader reader' =
@@ -175,8 +168,8 @@ StopsInput fault seen account left reader reader' = ⊥
 abbrev pub HasLines : List ℕ → List (List ℕ) → List ℕ → Type 0
 HasLines text seen left = BeginsWithLines text seen left ⊎ ((lines text ≡ seen) × (left ≡ []))
 
--- Why the accounts of an input were not all replayed, by the bytes that were given and the streams before and after. The output for the
--- accounts before one was written. Then the input was read no further, or this account failed.
+-- Why not all call logs of an input were replayed, given the bytes that were read, and the streams before and after. The output for the
+-- earlier logs was written. Then reading stopped, or the next log failed.
 abbrev pub ReplayFails : {G S M R W : Type 0} → (W → Option (List ℕ)) → Bool → (G → Rules S M) → List G → List ℕ → Fault → Counting R → Counting R → Counting W → Counting W → Type 0
 ReplayFails {W = W} contents is_json rules games given fault reader reader' writer writer' =
     (seen : List (List ℕ)) × (left : List ℕ) × (done : List (List (List ℕ))) × (account : List (List ℕ)) × (rest : List (List (List ℕ))) × (output : List ℕ) × (mid : Counting W)

@@ -1,4 +1,4 @@
--- What a fault of a script says about its streams.
+-- What an error of a script says about its streams.
 use Rattle.std.specs.Prelude.{◌≡◌, ℕ, ◌<◌, ◌≤◌, List, length, take, Option}
 use Rattle.std.specs.Io.KnownBytes.{Appends, IsAtEnd}
 use Rattle.game_core.specs.Counting.{Counting, one_more}
@@ -6,12 +6,11 @@ use Rattle.whole_streams.specs.Streams.{StopsReading}
 use Rattle.command_faults.specs.declared.fault.Fault.{Fault}
 use Rattle.command_faults.specs.declared.fault.Fault.TheVariants.{ReadFault, InputTooLong, Memory, WriteFault}
 
--- the limit of a script's bytes
 abbrev pub max_script : ℕ
 max_script = 1048576
 
--- What a fault says about the reader before and after, and about the writer. This many bytes of the script were given, and this is
--- the output for them. Only a failed write leaves something written: a prefix of the output.
+-- What an error says about the reader before and after, and about the writer. This many bytes of the script were read, and this is the
+-- output for them. Only a failed write leaves something written: a prefix of the output.
 abbrev pub ScriptFails : {R W : Type 0} → (R → Option (List ℕ)) → (W → Option (List ℕ)) → List ℕ → Fault → ℕ → Counting R → Counting R → Counting W → Counting W → Type 0
 ScriptFails remaining contents output ReadFault given reader reader' writer writer' = (given ≤ max_script) × StopsReading given reader reader' × (writer' ≡ writer)
 ScriptFails remaining contents output InputTooLong given reader reader' writer writer' = (max_script < given) × (reader'.faults ≡ reader.faults) × (writer' ≡ writer)

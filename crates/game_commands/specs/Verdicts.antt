@@ -10,20 +10,19 @@ use Rattle.desk_text.specs.AccountLines.{is_account_line}
 use Rattle.game_commands.specs.declared.verdicts.Verdict.{Verdict}
 use Rattle.game_commands.specs.declared.verdicts.Verdict.TheVariants.{Lawful, Unlawful, Account}
 
--- The verdict on a line. By its form it is one of an account. Otherwise it is a lawful record, or fails a first test.
+-- The verdict on a line. It is a line of a call log by its form, or a lawful record, or it fails a first test.
 abbrev pub IsVerdict : {S M : Type 0} → Rules S M → List ℕ → Verdict → Type 0
 IsVerdict g text Account = is_account_line text ≡ true
 IsVerdict g text Lawful = (is_account_line text ≡ false) × IsLawfulRecord g text
 IsVerdict g text (Unlawful fault) = (is_account_line text ≡ false) × (fault ≢ Memory) × (¬ IsLawfulRecord g text) × FailsFirst g text fault
 
--- the verdicts on these texts, one for each
 abbrev pub AreVerdicts : {S M : Type 0} → Rules S M → List (List ℕ) → List Verdict → Type 0
 AreVerdicts g [] [] = Unit {0}
 AreVerdicts g [] (verdict ∷ verdicts) = ⊥
 AreVerdicts g (text ∷ texts) [] = ⊥
 AreVerdicts g (text ∷ texts) (verdict ∷ verdicts) = IsVerdict g text verdict × AreVerdicts g texts verdicts
 
--- The output for a verdict, as JSON or in words. In words it is empty for a line of an account.
+-- The output for a verdict, as JSON or as plain text. As plain text it is empty for a line of a call log.
 abbrev pub verdict_line : Bool → Verdict → List ℕ
 verdict_line false Lawful = codes "lawful" ++ line_feed ∷ []
 verdict_line false (Unlawful fault) = codes "not lawful: " ++ fault_text fault ++ line_feed ∷ []
@@ -39,7 +38,7 @@ abbrev pub is_unlawful : Verdict → Bool
 is_unlawful (Unlawful fault) = true
 is_unlawful verdict = false
 
--- the number of lines that are no lawful records. Lines of accounts don't count.
+-- the number of lines that are neither lawful records nor lines of call logs
 abbrev pub count_unlawful : List Verdict → ℕ
 count_unlawful verdicts = count_by is_unlawful verdicts
 
@@ -47,6 +46,5 @@ abbrev pub is_skipped : Verdict → Bool
 is_skipped Account = true
 is_skipped verdict = false
 
--- the number of lines of accounts
 abbrev pub count_skipped : List Verdict → ℕ
 count_skipped verdicts = count_by is_skipped verdicts

@@ -1,4 +1,4 @@
-//! The output for a script: an answer for each line of the input, and then the records of the matches.
+//! The output for a script: an answer to each line of the input, and then the records of the matches.
 ghost use Rattle.std.specs.Prelude.{◌≡◌, ◌++◌, ◌∷◌, [], IfOk, OnOk, is_some};
 ghost use Rattle.std.specs.Str.Lines.{lines};
 ghost use Rattle.game_core.specs.Bytes.{line_feed};
@@ -16,13 +16,14 @@ use std::alloc::{AllocError, Global};
 /// The output for a script, and the number of its bad lines.
 #[derive(Drop)]
 pub struct Answers {
-    /// The answers to the lines in their order, and then the records in order of opening. Each has a line feed.
+    /// The answers to the lines, and then the records in the order in which the matches were opened. Each ends with a line
+    /// feed.
     pub text: Vec<u8>,
     pub bad_lines: u64,
 }
 
-/// Appends the answer to one line. Returns whether the line has a call.
-fn answer_line<O: Object<Call = Call, Reply = Reply>>(
+/// Appends the answer to one line. Returns whether the line has a valid call.
+pub(crate) fn answer_line<O: Object<Call = Call, Reply = Reply>>(
     alloc: Global,
     object: &mut O,
     line: &[u8],
@@ -43,7 +44,6 @@ fn answer_line<O: Object<Call = Call, Reply = Reply>>(
     Ok(true)
 }
 
-/// The answers to the lines of an input, in their order.
 fn answer_input<O: Object<Call = Call, Reply = Reply>>(
     alloc: Global,
     object: &mut O,
@@ -66,7 +66,7 @@ fn answer_input<O: Object<Call = Call, Reply = Reply>>(
     Ok(Answers { text, bad_lines })
 }
 
-/// Appends the record of each match to `out`, in order of opening, each with a line feed.
+/// Appends the record of each match to `out`, in the order in which the matches were opened, each with a line feed.
 pub fn push_records<G: Game>(
     alloc: Global,
     manager: &Manager<G>,
@@ -83,7 +83,7 @@ pub fn push_records<G: Game>(
     Ok(())
 }
 
-/// The answers to a script and the records of its matches, on a manager of these games.
+/// Runs a script on a new desk with these games.
 pub fn answer_script<G: Game + Drop>(
     alloc: Global,
     games: Vec<G>,

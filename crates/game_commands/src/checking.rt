@@ -1,4 +1,4 @@
-//! The check of records.
+//! Checks records.
 ghost use Rattle.std.specs.Prelude.{◌≡◌, ℕ, List, IfErr, IfOk, OnOk};
 ghost use Rattle.std.specs.Io.KnownBytes.{Consumes, Appends, IsAtEnd};
 ghost use Rattle.std.specs.Str.Lines.{lines};
@@ -19,10 +19,9 @@ use std::io::{Read, Write};
 use whole_streams::laws::lines_are_taken;
 use whole_streams::{LineBuffer, NextLine, read_to_end, write_all};
 
-/// The limit of a record's bytes, if the input is one record: 16 MiB.
+/// The largest size of a record, in bytes, if the input is one record: 16 MiB.
 const MAX_RECORD: usize = 16_777_216;
 
-/// Writes a verdict.
 fn write_verdict<W: Write>(
     alloc: Global,
     is_json: bool,
@@ -37,7 +36,7 @@ fn write_verdict<W: Write>(
     Ok(write_all(writer, line.as_bytes())?)
 }
 
-/// The fault for a record that is not lawful. As JSON the verdict is written before.
+/// Returns the error for a record that is not lawful. With JSON it first writes the verdict.
 fn tell_unlawful<W: Write>(
     alloc: Global,
     is_json: bool,
@@ -55,8 +54,8 @@ fn tell_unlawful<W: Write>(
     }
 }
 
-/// Reads a record, checks it by the game, and writes that it is lawful. For an unlawful record the fault is the first test that it fails, and
-/// only JSON is written. A text that is not JSON is kept as evidence.
+/// Reads a record, checks it against the game, and writes that it is lawful. If it is not, the error names the first test that failed, and
+/// the verdict is written only as JSON. A text that is not JSON is stored as evidence.
 pub fn check_record<G: Game, R: Read, W: Write>(
     alloc: Global,
     is_json: bool,
@@ -89,7 +88,7 @@ pub fn check_record<G: Game, R: Read, W: Write>(
     }
 }
 
-/// Writes the verdict on a line, and returns it. In words nothing is written for a line of an account.
+/// Writes the verdict on a line, and returns it. In plain text, nothing is written for a line of a call log.
 fn check_line<G: Game, W: Write>(
     alloc: Global,
     is_json: bool,
@@ -110,14 +109,14 @@ fn check_line<G: Game, W: Write>(
 /// How many lines were not lawful, and how many were skipped.
 #[derive(Clone, Copy)]
 pub struct LineCounts {
-    /// The number of lines that are no lawful records, without those of accounts.
+    /// The number of lines that are neither lawful records nor lines of call logs.
     pub unlawful: u64,
-    /// The number of lines of accounts.
+    /// The number of lines of call logs.
     pub skipped: u64,
 }
 
-/// Checks each line of the input as a record of the game, and writes its verdict before the next line is read. Lines of accounts are
-/// skipped. One line is in memory at a time.
+/// Checks each line of the input as a record of the game, and writes its verdict before it reads the next line. Skips the lines of call logs.
+/// Only one line is in memory at a time.
 pub fn check_records<G: Game, R: Read, W: Write>(
     alloc: Global,
     is_json: bool,

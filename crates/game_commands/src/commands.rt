@@ -1,9 +1,13 @@
 //! The commands for one game, over an input and standard output.
-ghost use Rattle.std.specs.Prelude.{◌≡◌, ◌≢◌, ◌⊎◌, ◌∷◌, [], IfErr, IfOk, OnOk};
-ghost use Rattle.game_commands.specs.Commands.{Answers, AnswersInput, Fails, FailsInput, HasNoGame, HoldsOfGame};
+ghost use Rattle.std.specs.Prelude.{◌≡◌, ◌≢◌, ◌⊎◌, ◌∷◌, [], ℕ, List, IfErr, IfOk, OnOk};
+ghost use Rattle.std.specs.Io.KnownBytes.{Appends, Consumes, IsAtEnd};
+ghost use Rattle.std.specs.Str.Lines.{lines};
+ghost use Rattle.game_commands.specs.Commands.{Answers, AnswersInput, DeskFails, Fails, FailsInput, HasNoGame, HoldsOfGame};
+ghost use Rattle.game_commands.specs.Script.{bad_lines, script_output};
 
 use crate::checking::{check_record, check_records};
 use crate::evidence::Evidence;
+use crate::interactive::run_interactive;
 use crate::replaying::replay_accounts;
 use crate::rules::{game_of, rules_text};
 use crate::script::run_script;
@@ -15,7 +19,6 @@ use std::alloc::{AllocError, Global};
 use std::io::{Read, Write};
 use std::rt::Files;
 
-/// The fault, unless the count is 0.
 fn fail_if_any(count: u64, fault: Fault) -> Result<(), Fault>
     ensures none { OnOk result (count ≡ 0) }
     ensures some { IfErr result (λ given. (count ≢ 0) × (given ≡ fault)) }
@@ -26,7 +29,6 @@ fn fail_if_any(count: u64, fault: Fault) -> Result<(), Fault>
     }
 }
 
-/// A list of this game alone. Its number is 0.
 fn alone<G: Drop>(alloc: Global, game: G) -> Result<Vec<G>, AllocError>
     ensures { IfOk result (λ games. games.items ≡ game ∷ []) }
 {
@@ -35,7 +37,33 @@ fn alone<G: Drop>(alloc: Global, game: G) -> Result<Vec<G>, AllocError>
     Ok(games)
 }
 
-/// Performs a command for this game.
+/// Runs a script on a new desk with these games, and returns the number of bad lines. If `is_interactive`, answers each line at
+/// once.
+fn run_desk<G: Game + Drop, R: Read, W: Write>(
+    alloc: Global,
+    is_interactive: bool,
+    reader: &mut Counted<R>,
+    writer: &mut Counted<W>,
+    games: Vec<G>,
+    evidence: &mut Evidence,
+) -> Result<u64, Fault>
+    ensures output { IfOk result (λ bad. (input : List ℕ)
+        × Consumes (R.remaining reader.old.stream) (R.remaining reader.new.stream) input
+        × IsAtEnd (R.remaining reader.new.stream)
+        × Appends (W.contents writer.old.stream) (W.contents writer.new.stream) (script_output G.rules games.items input)
+        × (bad ≡ bad_lines (lines input))) }
+    ensures no_fault { OnOk result ((reader.new.faults ≡ reader.old.faults) × (writer.new.faults ≡ writer.old.faults)) }
+    ensures fails { IfErr result (λ fault. (given : List ℕ)
+        × Consumes (R.remaining reader.old.stream) (R.remaining reader.new.stream) given
+        × DeskFails R.remaining W.contents is_interactive G.rules games.items fault given reader.old reader.new writer.old writer.new) }
+{
+    if is_interactive {
+        run_interactive(alloc, reader, writer, games)
+    } else {
+        run_script(alloc, reader, writer, games, evidence)
+    }
+}
+
 fn perform<G: Game + Drop, R: Read, W: Write>(
     alloc: Global,
     request: GameRequest<'_>,
@@ -45,12 +73,19 @@ fn perform<G: Game + Drop, R: Read, W: Write>(
     evidence: &mut Evidence,
 ) -> Result<(), Fault>
     ensures answers { OnOk result (Answers R.remaining W.contents request.entry.is_json G.rules game request.entry.task.command 0 reader.old reader.new writer.old writer.new) }
-    ensures fails { IfErr result (λ fault. Fails R.remaining W.contents request.entry.is_json G.rules game request.entry.task.command fault reader.old reader.new writer.old writer.new) }
+    ensures fails { IfErr result (λ fault. Fails R.remaining W.contents request.entry G.rules game fault reader.old reader.new writer.old writer.new) }
 {
-    let GameRequest { task, is_json } = request;
+    let GameRequest { task, is_json, .. } = request;
     match task.command {
         GameCommand::Desk => {
-            let count = run_script(alloc, reader, writer, alone(alloc, game)?, evidence)?;
+            let count = run_desk(
+                alloc,
+                request.is_interactive,
+                reader,
+                writer,
+                alone(alloc, game)?,
+                evidence,
+            )?;
             fail_if_any(count, Fault::BadLines(count))
         }
         GameCommand::Verify => check_record(alloc, is_json, &game, reader, writer, evidence),
@@ -65,7 +100,7 @@ fn perform<G: Game + Drop, R: Read, W: Write>(
     }
 }
 
-/// Performs a task's command for this game. Its input is the file that is named, or the reader.
+/// Runs a command for this game. The input is the file that the request names, or else the reader.
 fn perform_on<F: Files, G: Game + Drop, R: Read, W: Write>(
     files: &F,
     alloc: Global,
@@ -88,7 +123,7 @@ fn perform_on<F: Files, G: Game + Drop, R: Read, W: Write>(
     }
 }
 
-/// Performs a task for the game of its source.
+/// Loads the game of the request, and runs the command.
 pub fn for_game<F: Files, R: Read, W: Write>(
     files: &F,
     alloc: Global,

@@ -1,30 +1,30 @@
-//! What a command leaves for the words about its end.
+//! What a command stores, so that `explanations` can explain its result.
 
 use described_games::DescriptionFault;
 use desk_text::ReplayFault;
 use game_core::Limits;
 use std::alloc::Global;
 
-/// What explains the fault of a command, or says what it skipped. `explanations` has the words. There is none if it is out of memory.
+/// The cause of a command's error, or what it skipped. It is `Nothing` if the command is out of memory.
 #[derive(Drop)]
 pub enum Evidence {
     Nothing,
-    /// The words about a refused command line.
+    /// The explanation of a refused command line.
     CommandLine(String),
-    /// A text that describes no game within these limits, and its fault.
+    /// A text that does not describe a game within these limits, and its first error.
     Description(Vec<u8>, Limits, DescriptionFault),
     /// A script with a bad line.
     Script(Vec<u8>),
-    /// A text that is no JSON where one record was expected.
+    /// A text that is not JSON, but should be a record.
     Record(Vec<u8>),
-    /// A refused account, and the number of lines before it.
+    /// A refused call log, and the number of lines before it.
     Account(Vec<u8>, u64, ReplayFault),
-    /// The number of lines of accounts that were skipped.
+    /// The number of lines of call logs that were skipped.
     SkippedLines(u64),
 }
 
 impl Evidence {
-    /// That of a text that describes no game within these limits.
+    /// The evidence for a text that does not describe a game within these limits.
     pub fn of_description(
         alloc: Global,
         limits: Limits,

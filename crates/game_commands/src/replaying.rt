@@ -1,4 +1,4 @@
-//! Reading accounts, and making their calls again.
+//! Reads call logs and replays them.
 ghost use Rattle.std.specs.Prelude.{◌≡◌, ◌≢◌, ◌≤◌, ◌+◌, ◌++◌, ◌∷◌, [], ℕ, false, List, length, IfOk, IfErr, IsErr, OnOk, string_bytes};
 ghost use Rattle.std.specs.Io.KnownBytes.{Consumes, Appends};
 ghost use Rattle.std.specs.Str.Lines.{lines};
@@ -18,10 +18,10 @@ use std::mem;
 use whole_streams::laws::lines_are_taken;
 use whole_streams::{LineBuffer, NextLine, write_all};
 
-/// The limit of an account's bytes: 256 MiB, with two for the end of each line.
+/// The largest size of a call log in bytes: 256 MiB. The end of each line counts as two bytes.
 const MAX_ACCOUNT: usize = 268_435_456;
 
-/// The number of matches that are not over: in an account whose last calls are missing, at least one.
+/// The number of matches that are not over. If a call log lacks its last calls, there is at least one.
 fn open_matches<G: Game>(manager: &Manager<G>) -> usize
     ensures { result ≡ open_matches G.rules manager.now }
 {
@@ -35,7 +35,8 @@ fn open_matches<G: Game>(manager: &Manager<G>) -> usize
     count
 }
 
-/// The line with the number of calls that were made, of the matches that are not over, and, as JSON, of all matches.
+/// The output line for a replayed call log, with the number of calls and of matches that are not over. As JSON, it also has the number of
+/// all matches.
 fn replayed_line(
     alloc: Global,
     is_json: bool,
@@ -57,7 +58,6 @@ fn replayed_line(
     }
 }
 
-/// The number of calls that were made, whether a match is not over, and the records of the matches.
 fn replayed_text<G: Game + Drop>(
     alloc: Global,
     is_json: bool,
@@ -73,15 +73,14 @@ fn replayed_text<G: Game + Drop>(
     Ok(text)
 }
 
-/// The object for a line of this number that is refused.
 fn refused_line(alloc: Global, verdict: &str, line: u64) -> Result<String, AllocError>
     ensures { IfOk result (λ text. string_bytes text ≡ refused_line verdict.now line) }
 {
     format!(in alloc; "{{\"verdict\":\"{verdict}\",\"line\":{line}}}\n")
 }
 
-/// The output for lines that are refused, after so many lines of other accounts: the verdict as JSON, or else the right line, if there is
-/// one.
+/// The output for a refused call log, which follows `before` lines of other logs: the verdict as JSON, or else the correct line, if there
+/// is one.
 fn refused_output(
     alloc: Global,
     is_json: bool,
@@ -107,7 +106,7 @@ fn refused_output(
     }
 }
 
-/// The program's fault for lines that are refused, after so many lines of other accounts.
+/// The program's error for a refused call log, which follows `before` lines of other logs.
 fn replay_fault(before: u64, fault: &ReplayFault) -> Fault
     requires { IsNumbered before fault.now }
     ensures { result ≡ replay_fault before fault.now }
@@ -119,18 +118,18 @@ fn replay_fault(before: u64, fault: &ReplayFault) -> Fault
     }
 }
 
-/// An account that is read line by line, up to the next record.
+/// A call log that is being read. The next record ends it.
 #[derive(Drop)]
 struct OpenAccount {
     /// Its lines so far, each with a carriage return and a line feed.
     text: Vec<u8>,
-    /// The number of lines of the accounts before it.
+    /// The number of lines of earlier call logs.
     before: u64,
-    /// Whether the verdict on it is written as JSON.
+    /// Whether to write the verdict as JSON.
     is_json: bool,
 }
 
-/// Keeps a refused account as evidence, unless it is refused for memory, and returns the fault.
+/// Writes the output for a refused call log, stores the log as evidence, unless memory ran out, and returns the error.
 fn refuse(
     alloc: Global,
     account: OpenAccount,
@@ -157,8 +156,8 @@ fn refuse(
     Err(refused)
 }
 
-/// Makes the calls of an account again on a manager of these games, and returns their number. The output is that number and the records of
-/// the matches, or what `refuse` writes. There is none if it is out of memory.
+/// Replays a call log on a new desk with these games, and returns the number of calls. If the log is refused, the output is that of
+/// `refuse`. If memory runs out, there is no output.
 fn answer<G: Game + Drop>(
     alloc: Global,
     games: Vec<G>,
@@ -184,8 +183,8 @@ fn answer<G: Game + Drop>(
 }
 
 impl OpenAccount {
-    /// Adds a line, if the account then has at most 256 MiB, unless it begins as a record does, with a brace. No line of an account does.
-    /// Returns whether it begins so.
+    /// Appends a line, unless it begins with a brace, as records do and lines of call logs do not. Returns whether it begins with a brace.
+    /// The error is that the log then has more than 256 MiB, or out of memory.
     fn push(&mut self, line: &[u8]) -> Result<bool, Fault>
         requires { length self.old.text.items ≤ max_account }
         ensures told { IfOk result (λ is_record. is_record ≡ begins_as_record line.now) }
@@ -207,8 +206,8 @@ impl OpenAccount {
         Ok(false)
     }
 
-    /// Makes the calls of the account again, writes what they give, and goes on to the next account. Without lines it is none, unless it is
-    /// the only one of the input.
+    /// Replays the call log, writes the output for it, and begins the next log. A log without lines is skipped, unless it is the only one
+    /// of the input.
     fn end<G: Game, W: Write>(
         &mut self,
         alloc: Global,
@@ -244,8 +243,8 @@ impl OpenAccount {
     }
 }
 
-/// Reads the accounts of an input, each up to the next line that begins as a record does, makes their calls again, each on a manager of its
-/// own, and writes what they give before more is read.
+/// Reads the call logs of an input, which end at the lines that begin as records do, and replays each on a new desk. Writes the output for
+/// a log before it reads the next one.
 pub fn replay_accounts<R: Read, W: Write, G: Game>(
     alloc: Global,
     is_json: bool,

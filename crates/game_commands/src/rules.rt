@@ -1,4 +1,4 @@
-//! The game of a command, from its rules.
+//! Loads the game of a command.
 ghost use Rattle.std.specs.Prelude.{◌≡◌, ◌⊎◌, IfErr, IfOk};
 ghost use Rattle.std.specs.Cow.{cow_slice_items};
 ghost use Rattle.described_games.specs.Games.{IsDescribed};
@@ -6,7 +6,7 @@ ghost use Rattle.command_faults.specs.declared.fault.Fault.TheVariants.{BadPlaye
 ghost use Rattle.game_commands.specs.Commands.{HasNoText, HasNoSourceText, IsRefused, IsTextOf, IsSourceText, limits_of};
 
 use crate::evidence::Evidence;
-use command_faults::{Fault, NamedFile, file_text};
+use command_faults::{Fault, MaxBytes, NamedFile, file_text};
 use described_games::{DescriptionFault, countdown_rules, described_game};
 use game_core::{Countdown, Limits};
 use kif_text::KifFault;
@@ -16,7 +16,7 @@ use std::alloc::Global;
 use std::borrow::CowSlice;
 use std::rt::Files;
 
-/// The text of a description. A file is read whole, within these limits.
+/// The text of a description. A file must fit within these limits.
 pub fn rules_text<'a, F: Files>(
     files: &F,
     alloc: Global,
@@ -29,13 +29,14 @@ pub fn rules_text<'a, F: Files>(
     match rules {
         RulesSource::Text(text) => Ok(CowSlice::Borrowed(text.as_bytes())),
         RulesSource::File(path) => {
-            let text = file_text(files, alloc, NamedFile::Rules, path, limits.bytes())?;
+            let limit = MaxBytes::of_description(limits);
+            let text = file_text(files, alloc, NamedFile::Rules, path, limit)?;
             Ok(CowSlice::Owned(text))
         }
     }
 }
 
-/// The game of a description within these limits. If the text describes none, it is kept as evidence.
+/// The game that a text describes within these limits. If the text does not describe one, it is stored as evidence.
 pub fn game_of(
     alloc: Global,
     limits: Limits,
@@ -55,7 +56,7 @@ pub fn game_of(
     }
 }
 
-/// The fault for a players' description that is not KIF. It is kept as evidence.
+/// The error for a file of players' rules that is not KIF. The text is stored as evidence.
 pub fn player_rules_fault(text: Vec<u8>, fault: KifFault, evidence: &mut Evidence) -> Fault
     ensures { (result ≡ Memory) ⊎ (result ≡ BadPlayerRules) }
 {
@@ -68,7 +69,7 @@ pub fn player_rules_fault(text: Vec<u8>, fault: KifFault, evidence: &mut Evidenc
     }
 }
 
-/// The limits of a game's description. Countdown's is within the usual ones.
+/// The limits for a game's description. Countdown has the usual limits.
 pub fn limits_of(game: GameSource<'_>) -> Limits
     ensures { result ≡ limits_of game.entry }
 {
@@ -78,7 +79,7 @@ pub fn limits_of(game: GameSource<'_>) -> Limits
     }
 }
 
-/// The text of a game's rules for players. Countdown's is written here.
+/// The text of a game's rules for players. Countdown's rules are in the program.
 pub fn source_text<'a, F: Files>(
     files: &F,
     alloc: Global,

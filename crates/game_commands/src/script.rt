@@ -13,11 +13,11 @@ use std::alloc::Global;
 use std::io::{Read, Write};
 use whole_streams::{read_to_end, write_all};
 
-/// The limit of a script's bytes.
-const MAX_SCRIPT: usize = 1_048_576;
+pub(crate) const MAX_SCRIPT: usize = 1_048_576;
 
-/// Reads a whole script, answers each line on a manager of these games, and writes the answers and then the record of each match in
-/// order of opening. Returns the number of bad lines. A script with a bad line is kept as evidence.
+/// Reads a whole script, answers each line on a new desk with these games, and writes the answers and then the record of each
+/// match, in the order in which the matches were opened. Returns the number of bad lines. A script with a bad line is stored as
+/// evidence.
 pub fn run_script<R: Read, W: Write, G: Game + Drop>(
     alloc: Global,
     reader: &mut Counted<R>,

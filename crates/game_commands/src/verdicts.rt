@@ -1,4 +1,4 @@
-//! The verdicts on the lines of a file of records, and their lines of output.
+//! The verdicts on the lines of a file of records, and the output for them.
 ghost use Rattle.std.specs.Prelude.{◌≡◌, ◌≤◌, ◌-◌, ◌∷◌, [], IfOk, length, slice_get, string_bytes};
 ghost use Rattle.game_commands.specs.Verdicts.{IsVerdict, count_skipped, count_unlawful, verdict_line};
 
@@ -8,18 +8,18 @@ use match_record::VerifyFault;
 use record_check::verify;
 use std::alloc::{AllocError, Global};
 
-/// The verdict on a line of a file of records and accounts.
+/// The verdict on a line of a file of records and call logs.
 #[derive(Clone, Copy)]
 pub enum Verdict {
-    /// A lawful record.
+    /// The line is a lawful record.
     Lawful,
-    /// No lawful record, by the first test that it fails.
+    /// The line is not a lawful record. This is the first test that failed.
     Unlawful(VerifyFault),
-    /// A line of an account, by its form.
+    /// The line has the form of a line of a call log.
     Account,
 }
 
-/// The verdict on a line.
+/// Checks a line as a record of the game, unless it has the form of a line of a call log.
 pub fn verdict_on<G: Game>(alloc: Global, game: &G, text: &[u8]) -> Result<Verdict, AllocError>
     ensures { IfOk result (IsVerdict (G.rules game.now) text.now) }
 {
@@ -33,7 +33,7 @@ pub fn verdict_on<G: Game>(alloc: Global, game: &G, text: &[u8]) -> Result<Verdi
     }
 }
 
-/// The output for a verdict. In words it is empty for a line of an account.
+/// The output for a verdict. In plain text it is empty for a line of a call log.
 pub fn verdict_line(alloc: Global, is_json: bool, verdict: Verdict) -> Result<String, AllocError>
     ensures { IfOk result (λ line. string_bytes line ≡ verdict_line is_json verdict) }
 {
@@ -53,7 +53,7 @@ pub fn verdict_line(alloc: Global, is_json: bool, verdict: Verdict) -> Result<St
     }
 }
 
-/// 1 if the line is no lawful record, and 0 otherwise.
+/// 1 if the line is neither a lawful record nor a line of a call log, and 0 otherwise.
 pub fn count_unlawful(verdict: Verdict) -> u64
     ensures count { result ≡ count_unlawful (verdict ∷ []) }
     ensures small { result ≤ 1 }
@@ -64,7 +64,7 @@ pub fn count_unlawful(verdict: Verdict) -> u64
     }
 }
 
-/// 1 if the line is one of an account, and 0 otherwise.
+/// 1 if the line is one of a call log, and 0 otherwise.
 pub fn count_skipped(verdict: Verdict) -> u64
     ensures count { result ≡ count_skipped (verdict ∷ []) }
     ensures small { result ≤ 1 }

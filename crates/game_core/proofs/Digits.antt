@@ -1,4 +1,4 @@
--- Digits, and the number that they write, digit by digit.
+-- The number that digits write, digit by digit.
 use Rattle.std.proofs.Common.{◌≡◌, ℕ, zero, suc, ◌+◌, ◌-◌, ◌*◌, None, take, ◌<◌, true, false, List, [], ◌∷◌, length, get_or, refl, sym, ◌∙◌, arith}
 use Rattle.std.specs.Prelude.{nat_lt, nat_le}
 use Rattle.std.specs.List.{list_all}
@@ -24,14 +24,13 @@ digit_at (x ∷ xs) (suc i) e within = digit_at xs i (parts (is_ascii_digit x) (
 digit_less : (b : ℕ) → is_ascii_digit b ≡ true → b - 48 ≡ digit_value b
 digit_less b e = grind (arith, nat_tests)
 
--- one more digit
 pub next_number : (digits : List ℕ) (i n r : ℕ) → are_digits digits ≡ true → i < length digits → n ≡ digits_value 10 (take i digits)
     → r ≡ get_or digits i 0 - 48 → n * 10 + r ≡ digits_value 10 (take (i + 1) digits)
 next_number digits i n r e within so_far more =
     let last : r ≡ digit_value (get_or digits i 0) = more ∙ digit_less (get_or digits i 0) (digit_at digits i (numeral_parts digits e).1 within) in
     (λ j. so_far j * 10 + last j) ∙ sym (digits_value_more 10 digits i within)
 
--- if the number so far is too great, so is the whole number
+-- if the number read so far is too large, so is the whole number
 pub too_great : (digits : List ℕ) (i n limit : ℕ) → n ≡ digits_value 10 (take i digits) → limit < n
     → None ≡ number_up_to digits limit
 too_great digits i n limit so_far above =

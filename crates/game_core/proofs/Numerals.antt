@@ -1,4 +1,4 @@
--- The decimal text of a number, as digits.
+-- The digits of a number's decimal text.
 use Rattle.std.proofs.Common.{◌≡◌, ℕ, ◌+◌, ◌<◌, ◌%◌, ◌^◌, not, ◌==◌, nat_lt, true, List, [], ◌∷◌, ◌++◌, length, length-append, refl, arith}
 use Rattle.std.specs.List.{list_all}
 use Rattle.std.specs.Char.{is_ascii_digit}
@@ -7,7 +7,6 @@ use Rattle.std.proofs.lemmas.Fmt.{decimal_by_steps}
 pub use Rattle.std.proofs.lemmas.Bool.{and_from as both, and_parts as parts}
 use Rattle.std.proofs.lemmas.Bool.Decides.{nat_tests}
 
--- some digits, and nothing else
 pub record AreDigits (ds : List ℕ) : Type 0 where
   pub some : 0 < length ds
   pub digits : list_all is_ascii_digit ds ≡ true

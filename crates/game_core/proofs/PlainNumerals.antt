@@ -1,4 +1,4 @@
--- Decimal digits without leading zeros are what a number is printed as.
+-- A plain numeral is the printed number, and a printed number is a plain numeral.
 use Rattle.std.proofs.Common.{◌≡◌, ℕ, zero, suc, ◌<◌, ◌^◌, ◌||◌, ◌==◌, not, Bool, true, false, nat_le, List, length, refl, sym, ap, arith, rules}
 use Rattle.std.specs.Prelude.{slice_index}
 use Rattle.std.specs.List.{list_all}
@@ -17,13 +17,9 @@ AllDigits ds = list_all is_ascii_digit ds ≡ true
 digits_are_numerals : IsNumeralModel AllDigits (digits_value 10)
 digits_are_numerals = numerals_by_value AllDigits (search rules)
 
-one_or_more : (n : ℕ) (b : Bool) → (nat_le n 0) ≡ false → 0 < n
-one_or_more n b some = grind (arith, nat_tests)
-
 leads_alone : (n b : ℕ) → (n == 1 || not (b == 48)) ≡ true → b ≡ 48 → n ≡ 1
 leads_alone n b plain is_zero = grind (arith, nat_tests)
 
--- a plain numeral is its number, printed
 pub plain_is_decimal : (ds : List ℕ) → is_plain_numeral ds ≡ true → digits_value 10 ds < 2 ^ 64 → ds ≡ decimal (digits_value 10 ds)
 plain_is_decimal ds plain small =
     let p = parts _ (length ds == 1 || not (slice_index ds 0 == 48)) plain in
@@ -41,12 +37,10 @@ plain_first : (n : ℕ) → n < 2 ^ 64 → (length (decimal n) == 1 || not (slic
 plain_first zero small = either_left (length (decimal 0) == 1) (not (slice_index (decimal 0) 0 == 48)) (ap (λ ds. length ds == 1) (decimal_digit 0 (omega arith)))
 plain_first (suc n) small = either_right (length (decimal (suc n)) == 1) (not (slice_index (decimal (suc n)) 0 == 48)) (no_zero (slice_index (decimal (suc n)) 0) (first_decimal (suc n) (omega arith) small))
 
--- a printed number is a plain numeral
 pub decimal_is_plain : (n : ℕ) → n < 2 ^ 64 → is_plain_numeral (decimal n) ≡ true
 decimal_is_plain n small =
     let ds = decimal_is_digits n small in
     both _ (length (decimal n) == 1 || not (slice_index (decimal n) 0 == 48)) (both _ (list_all is_ascii_digit (decimal n)) (is_some (length (decimal n)) ds.some) ds.digits) (plain_first n small)
 
--- of that number
 pub decimal_value : (n : ℕ) → n < 2 ^ 64 → digits_value 10 (decimal n) ≡ n
 decimal_value n small = (decimal_is_IsNumeral n small).1

@@ -1,4 +1,4 @@
--- The bytes of KIF text, by name, and their kinds.
+-- Names of the bytes of KIF text, and their kinds.
 use Rattle.std.specs.Prelude.{ℕ, Bool, not, ◌&&◌, ◌||◌, ◌==◌, nat_le, ◌+◌, if◌then◌else◌}
 
 abbrev pub tab : ℕ
@@ -25,10 +25,10 @@ semicolon = 59
 abbrev pub is_white : ℕ → Bool
 is_white b = b == space || b == tab || b == carriage_return || b == line_feed
 
--- visible ASCII except the parentheses and the semicolon
+-- a visible ASCII character except parentheses and the semicolon
 abbrev pub is_atom_byte : ℕ → Bool
 is_atom_byte b = nat_le 33 b && nat_le b 126 && not (b == left_parenthesis) && not (b == right_parenthesis) && not (b == semicolon)
 
--- an ASCII capital becomes its small letter, and each other byte stays
+-- the lower-case letter of an ASCII capital; any other byte stays as it is
 abbrev pub lower : ℕ → ℕ
 lower b = if nat_le 65 b && nat_le b 90 then b + 32 else b

@@ -1,4 +1,4 @@
--- The canonical text of an expression: one space between the members of a list, none inside its parentheses.
+-- The canonical text of an expression: one space between the members of a list, and no space inside its parentheses.
 use Rattle.std.specs.Prelude.{ℕ, ◌≡◌, List, [], ◌∷◌, ◌++◌}
 use Rattle.game_core.specs.Bytes.{space, left_parenthesis, right_parenthesis}
 use Rattle.game_core.specs.Expression.{Expression, atom, list, Expressions, none, more, IsProper, folded}
@@ -20,6 +20,6 @@ abbrev mutual
 abbrev pub IsCanonicalText : List ℕ → Type 0
 IsCanonicalText text = (x : Expression) × IsProper x × (text ≡ canonical x)
 
--- the canonical text of a proper expression without capitals
+-- a folded text: the canonical text of a proper expression in lower case
 abbrev pub IsFoldedText : List ℕ → Type 0
 IsFoldedText text = (x : Expression) × IsProper x × (folded x ≡ x) × (text ≡ canonical x)

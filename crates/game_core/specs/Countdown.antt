@@ -1,5 +1,4 @@
--- The game of Countdown: two roles take one or two from a heap in turn, and the role that finds it empty
--- loses.
+-- The game of Countdown: two roles in turn take one or two from a heap, and the role that finds it empty loses.
 use Rattle.std.specs.Prelude.{ℕ, zero, suc, ◌-◌, ◌==◌, nat_le, ◌≤◌, if◌then◌else◌, List, [], ◌∷◌, ◌++◌, Option, Some, None, slice_index_or, codes}
 use Rattle.std.specs.Fmt.{decimal}
 use Rattle.game_core.specs.declared.countdown.Position.{Position}
@@ -9,7 +8,6 @@ use Rattle.game_core.specs.declared.countdown.Take.{Take}
 use Rattle.game_core.specs.declared.countdown.Take.TheVariants.{Noop, One, Two}
 use Rattle.game_core.specs.Play.{Rules}
 
--- the largest heap of a new game
 abbrev pub max_heap : ℕ
 max_heap = 100
 
@@ -19,7 +17,6 @@ count_of Noop = 0
 count_of One = 1
 count_of Two = 2
 
--- the role of a side
 abbrev pub role_of : Side → ℕ
 role_of Red = 0
 role_of Blue = 1
@@ -28,7 +25,6 @@ abbrev pub other_side : Side → Side
 other_side Red = Blue
 other_side Blue = Red
 
--- the side of a role
 abbrev pub side_of : ℕ → Side
 side_of zero = Red
 side_of (suc r) = Blue
@@ -37,11 +33,10 @@ abbrev pub side_name : Side → List ℕ
 side_name Red = codes "red"
 side_name Blue = codes "blue"
 
--- the term that says whose turn it is
 abbrev pub turn_text : Side → List ℕ
 turn_text side = codes "(turn " ++ side_name side ++ codes ")"
 
--- the moves of the role on turn, at this heap
+-- the moves of the role on turn
 abbrev pub takes : ℕ → List Take
 takes heap = if nat_le 2 heap then One ∷ (Two ∷ []) else (One ∷ [])
 
@@ -60,11 +55,11 @@ next_position p joint = record { heap = p.heap - count_of (slice_index_or joint 
 abbrev pub position_texts : Position → List (List ℕ)
 position_texts p = (codes "(heap " ++ decimal p.heap ++ codes ")") ∷ (turn_text p.on_turn ∷ [])
 
--- the role on turn has lost at an empty heap
+-- the role on turn loses if the heap is empty
 abbrev pub goal_at : Position → ℕ → Option ℕ
 goal_at p role = if p.heap == 0 then (if role_of p.on_turn == role then Some 0 else Some 100) else None
 
--- the game that begins with a heap of n
+-- the game whose heap has n at first
 abbrev pub countdown : ℕ → Rules Position Take
 countdown n = record {
   roles = 2;

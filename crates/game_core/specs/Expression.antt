@@ -1,4 +1,4 @@
--- The plain expression: what a KIF expression is, apart from where it lies in memory.
+-- The plain expression: a KIF expression as a tree, wherever it lies in memory.
 use Rattle.std.specs.Prelude.{ℕ, suc, ◌≡◌, ◌<◌, ◌≤◌, max, map, length, List, [], ◌∷◌, true}
 use Rattle.game_core.specs.Bytes.{is_atom_byte, lower}
 
@@ -21,7 +21,7 @@ abbrev mutual
   depth_all none = 0
   depth_all (more x xs) = max (depth x) (depth_all xs)
 
--- ASCII capitals in atoms turned to small letters
+-- the expression with the ASCII capitals of its atoms turned to lower case
 abbrev mutual
   pub folded : Expression → Expression
   folded (atom w) = atom (map lower w)
@@ -35,11 +35,9 @@ abbrev pub AreAtomBytes : List ℕ → Type 0
 AreAtomBytes [] = Unit {0}
 AreAtomBytes (b ∷ bs) = (is_atom_byte b ≡ true) × AreAtomBytes bs
 
--- a run of at least one atom byte
 abbrev pub IsAtom : List ℕ → Type 0
 IsAtom w = (0 < length w) × AreAtomBytes w
 
--- the atoms are runs of atom bytes
 abbrev mutual
   pub HasAtoms : Expression → Type 0
   HasAtoms (atom w) = IsAtom w
@@ -49,10 +47,10 @@ abbrev mutual
   AllHaveAtoms none = Unit {0}
   AllHaveAtoms (more x xs) = HasAtoms x × AllHaveAtoms xs
 
--- the limit of nested lists in a proper expression
+-- the largest number of lists that nest in a proper expression
 abbrev pub max_depth : ℕ
 max_depth = 64
 
--- an expression that some text spells, and that is read back from its text
+-- some text spells the expression, and reading its own text gives it back
 abbrev pub IsProper : Expression → Type 0
 IsProper x = HasAtoms x × (depth x ≤ max_depth)

@@ -1,5 +1,5 @@
--- What shows that the texts of a game are lawful: tests that compute, and what each shows. Where a test has no variable to look at, `refl`
--- shows that it passes. Its proofs stand here, since the laws of a game may import from no other folder.
+-- Tests that show that the texts of a game are lawful, with a lemma for each about what it shows. If a test has no free variable,
+-- `refl` proves that it passes. The proofs are in this file because the laws of a game may import only from specs.
 use Rattle.std.specs.Prelude.{ℕ, ◌≡◌, ◌≢◌, ◌<◌, ◌%◌, ◌+◌, ◌^◌, ◌⊎◌, ◌==◌, ◌&&◌, ◌||◌, not, nat_lt, nat_le, bytes_eq, Bool, true, false, List, [], ◌∷◌, ◌++◌, length, map, max, All, AllPairs}
 use Rattle.std.specs.List.{list_all}
 use Rattle.std.specs.Fmt.{decimal}
@@ -21,11 +21,10 @@ use Rattle.game_core.specs.Texts.{IsBefore, AreInByteOrder}
 abbrev pub is_folded_byte : ℕ → Bool
 is_folded_byte b = is_atom_byte b && lower b == b
 
--- an atom without capitals
 abbrev pub is_folded_atom : List ℕ → Bool
 is_folded_atom w = nat_lt 0 (length w) && list_all is_folded_byte w
 
--- the atoms of an expression are without capitals
+-- all atoms of an expression are in lower case
 abbrev mutual
   pub has_folded_atoms : Expression → Bool
   has_folded_atoms (atom w) = is_folded_atom w
@@ -35,7 +34,7 @@ abbrev mutual
   have_folded_atoms none = true
   have_folded_atoms (more x xs) = has_folded_atoms x && have_folded_atoms xs
 
--- the text of a list of atoms, as `(take 1)`
+-- the text of a list of atoms, for example `(take 1)`
 abbrev pub after_atom : List (List ℕ) → List ℕ
 after_atom [] = right_parenthesis ∷ []
 after_atom (w ∷ ws) = space ∷ (w ++ after_atom ws)
@@ -43,14 +42,14 @@ after_atom (w ∷ ws) = space ∷ (w ++ after_atom ws)
 abbrev pub list_text : List ℕ → List (List ℕ) → List ℕ
 list_text w ws = left_parenthesis ∷ (w ++ after_atom ws)
 
--- the test of a text against another that it has to come before
+-- the test that a text comes before another
 abbrev pub is_before : List ℕ → List ℕ → Bool
 is_before [] [] = false
 is_before [] (b ∷ bs) = true
 is_before (a ∷ as') [] = false
 is_before (a ∷ as') (b ∷ bs) = nat_lt a b || (a == b && is_before as' bs)
 
--- the test of each member against each later one
+-- the test of each member with each later one
 abbrev pub test_pairs : {A : Type 0} → (A → A → Bool) → List A → Bool
 test_pairs p [] = true
 test_pairs p (x ∷ xs) = list_all (p x) xs && test_pairs p xs
@@ -108,7 +107,7 @@ mutual
       let rest = all_are_folded xs both.1 in
       ((here.0, rest.0), cc (here.1, rest.1))
 
--- what shows that a text is folded: of an expression, of an atom, and of a list of atoms
+-- what a passed test shows of an expression, of an atom, and of a list of atoms
 
 pub expression_is_folded : (x : Expression) → (nat_le (depth x) max_depth && has_folded_atoms x) ≡ true → IsFoldedText (canonical x)
 expression_is_folded x is =
@@ -143,7 +142,6 @@ list_is_folded w ws is =
     let shallow : nat_le (depth (list (atoms_of (w ∷ ws)))) max_depth ≡ true = rw (no_depth ws) refl in
     subst IsFoldedText whole (expression_is_folded (list (atoms_of (w ∷ ws))) (and_from _ _ shallow (have_atoms (w ∷ ws) is)))
 
--- each of these texts is folded
 abbrev pub AreFoldedTexts : List (List ℕ) → Type 0
 AreFoldedTexts [] = Unit {0}
 AreFoldedTexts (t ∷ ts) = IsFoldedText t × AreFoldedTexts ts
@@ -152,7 +150,7 @@ pub texts_are_canonical : (texts : List (List ℕ)) → AreFoldedTexts texts →
 texts_are_canonical [] folded = All-nil IsCanonicalText
 texts_are_canonical (t ∷ ts) folded = let here = folded.0 in All-cons IsCanonicalText t ts (here.0, here.1, here.3) (texts_are_canonical ts folded.1)
 
--- what the test of pairs shows: of texts in their order, and of members with other texts
+-- what the test of pairs shows: the texts are in order, or the members have different texts
 
 passed : {A : Type 0} (p : A → Bool) (P : A → Type 0) → ((x : A) → p x ≡ true → P x) → (xs : List A) → list_all p xs ≡ true → All P xs
 passed p P shows xs is k d within = shows _ (AllPass-from_list_all p xs is k d within)
@@ -189,6 +187,5 @@ texts_differ s t is = other_text s t (is_other (bytes_eq s t) is)
 pub members_differ : {A : Type 0} (text : A → List ℕ) (xs : List A) → test_pairs (λ x y. not (bytes_eq (text x) (text y))) xs ≡ true → AllPairs (λ x y. x ≢ y) xs
 members_differ text xs is = pairs_passed (λ x y. not (bytes_eq (text x) (text y))) (λ x y. x ≢ y) (λ x y other same. texts_differ (text x) (text y) other (ap text same)) xs is
 
--- texts from which their owners can be told belong to one owner each
 pub one_for_each_text : {A : Type 0} (text : A → List ℕ) (owner : List ℕ → A) → (x y : A) → owner (text x) ≡ x → owner (text y) ≡ y → text x ≡ text y → x ≡ y
 one_for_each_text text owner x y of_x of_y same = sym of_x ∙ (ap owner same ∙ of_y)

@@ -5,11 +5,9 @@ use Rattle.std.specs.Str.Parse.{digits_value}
 use Rattle.game_core.specs.Expression.{IsAtom}
 use Rattle.game_core.specs.Numerals.{is_plain_numeral, plain_number}
 
--- the text of a number is an atom
 abbrev pub NumbersAreAtoms : Type 0
 NumbersAreAtoms = (n : ℕ) → n < 2 ^ 64 → IsAtom (decimal n)
 
--- the text of a number is a plain numeral of that number
 abbrev pub NumbersArePlain : Type 0
 NumbersArePlain = (n : ℕ) → n < 2 ^ 64 → (is_plain_numeral (decimal n) ≡ true) × (digits_value 10 (decimal n) ≡ n)
 

@@ -1,9 +1,9 @@
--- What a game is, and where joint moves lead in it.
+-- What a game is, and which states joint moves lead to.
 use Rattle.std.specs.Prelude.{ℕ, Bool, false, List, [], ◌∷◌, Option, Contains, length, slice_index_or, AllPairs, codes, Some, ◌≡◌, ◌≢◌, ◌<◌, ◌≤◌, All}
 use Rattle.game_core.specs.Canonical.{IsCanonicalText, IsFoldedText}
 use Rattle.game_core.specs.Texts.{AreInByteOrder}
 
--- the limit of roles in a game
+-- the largest number of roles of a game
 abbrev pub max_roles : ℕ
 max_roles = 16
 
@@ -11,8 +11,8 @@ max_roles = 16
 abbrev pub max_goal : ℕ
 max_goal = 100
 
--- The rules of a game with states of type S and moves of type M. Roles are numbered from 0. IsState and
--- IsMove say which values of these types belong to this game.
+-- The rules of a game with states of type S and moves of type M. Roles are numbered from 0. IsState and IsMove say which values of the
+-- two types belong to the game.
 pub record Rules (S M : Type 0) : Type 1 where
   pub roles : ℕ
   pub role_name : ℕ → List ℕ
@@ -43,22 +43,21 @@ pub record IsLawful {S M : Type 0} (g : Rules S M) : Type 0 where
   pub legal_differ : (s : S) (r : ℕ) → g.IsState s → r < g.roles → AllPairs (λ m n. m ≢ n) (g.legal s r)
   pub move_texts_folded : (m : M) → g.IsMove m → IsFoldedText (g.move_text m)
   pub one_move_for_each_text : (m n : M) → g.IsMove m → g.IsMove n → g.move_text m ≡ g.move_text n → m ≡ n
-  -- in a match's errors the text `?` stands for an unreadable answer
+  -- a match writes `?` as the text of an unreadable answer
   pub no_question : (m : M) → g.IsMove m → g.move_text m ≢ codes "?"
   pub state_texts_canonical : (s : S) → g.IsState s → All IsCanonicalText (g.state_text s)
   pub state_texts_ordered : (s : S) → g.IsState s → AreInByteOrder (g.state_text s)
   pub goal_in_range : (s : S) (r v : ℕ) → g.IsState s → r < g.roles → g.goal s r ≡ Some v → v ≤ max_goal
 
--- the state after these joint moves, starting at the state s
+-- the state after these joint moves, from the state s
 abbrev pub play_from : {S M : Type 0} → Rules S M → S → List (List M) → S
 play_from g s [] = s
 play_from g s (j ∷ js) = play_from g (g.next s j) js
 
--- the state after these joint moves
 abbrev pub play : {S M : Type 0} → Rules S M → List (List M) → S
 play g turns = play_from g g.initial turns
 
--- each turn from the state s on is legal: the game goes on, and each role makes a legal move
+-- each turn, from the state s, is legal: the state before it is not terminal, and each role makes a legal move
 abbrev pub AreLegalFrom : {S M : Type 0} → Rules S M → S → List (List M) → Type 0
 AreLegalFrom g s [] = Unit {0}
 AreLegalFrom g s (j ∷ js) = (g.terminal s ≡ false) × IsJoint g s j × AreLegalFrom g (g.next s j) js

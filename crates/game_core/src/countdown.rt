@@ -8,11 +8,10 @@ use std::borrow::CowSlice;
 
 const ROLES: usize = 2;
 
-/// The largest heap of a new game.
 const MAX_HEAP: u8 = 100;
 
-/// Two roles, `red` and `blue`, take one or two from a heap in turn, red first. The role that finds
-/// it empty has goal 0, the other 100.
+/// Two roles, `red` and `blue`, take one or two from a heap in turn; red begins. The role that must move when the heap is
+/// empty loses: its goal is 0, the other role's is 100.
 #[derive(Drop)]
 pub struct Countdown {
     pub size: u8,
@@ -20,26 +19,25 @@ pub struct Countdown {
     pub ghost few: { size ≤ max_heap },
 }
 
-/// A move: to take none, one or two.
+/// A move.
 #[derive(Clone, Copy, Debug, PartialEq, Eq)]
 pub enum Take {
-    /// `noop`: the move of the role that is not on turn.
+    /// `noop`: the only move of the role that is not on turn.
     Noop,
     /// `(take 1)`.
     One,
-    /// `(take 2)`: with a heap of at least 2.
+    /// `(take 2)`, if the heap has at least 2.
     Two,
 }
 
-/// The two roles: red is role 0, blue role 1.
+/// The two roles. Red is role 0 and begins; blue is role 1.
 #[derive(Clone, Copy, Debug, PartialEq, Eq)]
 pub enum Side {
-    /// The role that begins.
     Red,
     Blue,
 }
 
-/// What is left of the heap, and whose turn it is.
+/// A state: the size of the heap, and whose turn it is.
 #[derive(Clone, Copy, Debug, PartialEq, Eq)]
 pub struct Position {
     pub heap: u8,
@@ -47,7 +45,7 @@ pub struct Position {
 }
 
 impl Countdown {
-    /// The game that begins with a heap of `size`: `Some` for 1 to 100.
+    /// Returns the game whose heap has `size` at first, for a `size` of 1 to 100.
     pub fn new(size: u8) -> Option<Countdown>
         ensures some { IsSome result ↔ ((1 ≤ size) × (size ≤ max_heap)) }
         ensures value { IfSome result (λ g. g.size ≡ size) }
@@ -113,7 +111,7 @@ impl Side {
         }
     }
 
-    /// The term that says whose turn it is.
+    /// The term that says whose turn it is, in the text of a state.
     fn term(self) -> &'static [u8]
         ensures { result.now ≡ turn_text self }
     {

@@ -1,4 +1,4 @@
-//! Streams whose failures are counted.
+//! Streams that count their calls and their failures.
 ghost use Rattle.std.specs.Prelude.{◌≡◌, ◌≤◌};
 ghost use Rattle.std.specs.Io.{ReadsAtMost, WritesAtMost};
 ghost use Rattle.std.specs.Io.KnownBytes.{ReadConsumes, WriteAppends};
@@ -8,15 +8,15 @@ use std::io;
 use std::io::{Read, Write};
 use std::marker::Model;
 
-/// The limit of reads for one input, and of writes for one output. A stream that never ends is given up there.
+/// The largest number of reads of one input, or of writes of one output. After these, callers give up a stream that does not end.
 pub const MAX_STREAM_CALLS: u32 = 200_000;
 
-/// A stream that counts its failed reads and writes. Each `Err` is a failure, interruptions included, and so is each write that
-/// takes 0 of some bytes. The count stops at 2^64 - 1.
+/// A stream that counts its failed reads and writes. A failure is an `Err`, interruptions included, or a write of some bytes
+/// that takes none of them. The count stops at 2^64 - 1.
 ///
-/// All calls are counted too, for contracts alone: clauses about the number of reads or writes cite that count.
+/// Contracts also count all calls, for clauses about the number of reads or writes.
 ///
-/// It does not implement `Read` and `Write`: their provided methods would not keep the count.
+/// `Counted` does not implement `Read` and `Write`, because their provided methods would not keep the count.
 #[derive(Drop)]
 pub struct Counted<S> {
     inner: S,
@@ -33,7 +33,7 @@ impl<S> Model for Counted<S> {
 }
 
 impl<S> Counted<S> {
-    /// The stream, with no failure counted yet.
+    /// Wraps a stream. No failure is counted yet.
     pub fn new(stream: S) -> Counted<S>
         ensures stream { result.stream ≡ stream }
         ensures none_yet { result.faults ≡ 0 }
@@ -46,14 +46,14 @@ impl<S> Counted<S> {
         }
     }
 
-    /// The failures since `new`.
+    /// The number of failures since `new`.
     pub fn faults(&self) -> u64
         ensures { result ≡ self.now.faults }
     {
         self.failed
     }
 
-    /// Returns the stream.
+    /// Gives the stream back.
     pub fn end(self) -> S
         ensures { result ≡ self.stream }
     {
@@ -67,7 +67,7 @@ impl<S> Counted<S> {
 }
 
 impl<S: Read> Counted<S> {
-    /// Calls `read` of the stream once and returns its result.
+    /// Calls the stream's `read` once and returns its result.
     pub fn read(&mut self, buffer: &mut [u8]) -> io::Result<usize>
         ensures bound { ReadsAtMost result buffer.new }
         ensures bytes { ReadConsumes (S.remaining self.old.stream) (S.remaining self.new.stream) result buffer.new }
@@ -85,7 +85,7 @@ impl<S: Read> Counted<S> {
 }
 
 impl<S: Write> Counted<S> {
-    /// Calls `write` of the stream once and returns its result.
+    /// Calls the stream's `write` once and returns its result.
     pub fn write(&mut self, bytes: &[u8]) -> io::Result<usize>
         ensures bound { WritesAtMost result bytes.now }
         ensures bytes { WriteAppends (S.contents self.old.stream) (S.contents self.new.stream) result bytes.now }

@@ -6,12 +6,11 @@ ghost use Rattle.game_core.specs.Play.{Rules, IsJoint, IsLawful};
 use std::alloc::{AllocError, Global};
 use std::borrow::CowSlice;
 
-/// A game with simultaneous moves and full information, as GDL describes them. In each state that is
-/// not terminal, each role makes one move, and the joint move leads to the next state.
+/// A game with simultaneous moves and full information, as GDL describes them. In each state that is not terminal, each role
+/// makes one move, and the joint move leads to the next state.
 ///
-/// The calls return what the functions of `rules` say, so a result depends on the values of the
-/// arguments alone. Roles are numbered from 0. A call that may need memory returns `AllocError` if an
-/// allocation is refused, and for no other reason.
+/// The methods return what the functions of `rules` say, so a result depends only on the arguments. Roles are numbered from
+/// 0. A method returns `AllocError` only if an allocation is refused.
 pub trait Game {
     type State: Drop;
 
@@ -19,11 +18,11 @@ pub trait Game {
 
     ghost rules: { Self → Rules Self.State Self.Move };
 
-    /// How many roles play: 1 to 16.
+    /// The number of roles: 1 to 16.
     fn roles(&self) -> usize
         ensures { result ≡ (rules self.now).roles };
 
-    /// The role's name in canonical text, without capitals.
+    /// The role's name in canonical text, in lower case.
     fn role_name(&self, role: usize) -> &[u8]
         requires { role < (rules self.now).roles }
         ensures { result.now ≡ (rules self.now).role_name role };
@@ -32,7 +31,7 @@ pub trait Game {
     fn initial(&self, alloc: Global) -> Result<Self::State, AllocError>
         ensures { IfOk result (λ s. s ≡ (rules self.now).initial) };
 
-    /// The role's legal moves, each once. The first is played for a role that makes no legal move.
+    /// The role's legal moves, each once. The first one replaces the move of a role that makes no legal move.
     fn legal(
         &self,
         alloc: Global,
@@ -43,7 +42,7 @@ pub trait Game {
         requires role { role < (rules self.now).roles }
         ensures { IfOk result (λ v. v.items ≡ (rules self.now).legal state.now role) };
 
-    /// The state after a joint move: one legal move for each role, in the order of the roles.
+    /// The state after a joint move, which has one legal move for each role.
     fn next(
         &self,
         alloc: Global,
@@ -59,7 +58,7 @@ pub trait Game {
         requires { (rules self.now).IsState state.now }
         ensures { IfOk result (λ b. b ≡ (rules self.now).terminal state.now) };
 
-    /// The role's goal value, 0 to 100. It is `Some` exactly if the role has exactly one goal.
+    /// The role's goal value, 0 to 100. It is `None` if the role does not have exactly one goal.
     fn goal(
         &self,
         alloc: Global,
@@ -70,13 +69,12 @@ pub trait Game {
         requires role { role < (rules self.now).roles }
         ensures { IfOk result (λ o. o ≡ (rules self.now).goal state.now role) };
 
-    /// The move in canonical text, without capitals. Moves with equal texts are equal.
+    /// The move in canonical text, in lower case. Moves with equal texts are equal.
     fn move_text(&self, taken: &Self::Move) -> &[u8]
         requires { (rules self.now).IsMove taken.now }
         ensures { result.now ≡ (rules self.now).move_text taken.now };
 
-    /// The state's terms in canonical text, each once, in byte order. They are borrowed if the game
-    /// keeps them.
+    /// The state's terms in canonical text, each once, in byte order. A game that keeps these texts lends them.
     fn state_text(
         &self,
         alloc: Global,
@@ -85,12 +83,12 @@ pub trait Game {
         requires { (rules self.now).IsState state.now }
         ensures { IfOk result (λ v. map cow_slice_items v.items ≡ (rules self.now).state_text state.now) };
 
-    /// A copy of the state.
+    /// Copies the state.
     fn copy_state(&self, alloc: Global, state: &Self::State) -> Result<Self::State, AllocError>
         requires { (rules self.now).IsState state.now }
         ensures { IfOk result (λ t. t ≡ state.now) };
 
-    /// A copy of the move.
+    /// Copies the move.
     fn copy_move(&self, alloc: Global, taken: &Self::Move) -> Result<Self::Move, AllocError>
         requires { (rules self.now).IsMove taken.now }
         ensures { IfOk result (λ m. m ≡ taken.now) };

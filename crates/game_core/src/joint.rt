@@ -3,7 +3,7 @@ ghost use Rattle.std.specs.Prelude.{◌≡◌, ◌<◌, length, slice_get, Some}
 
 use std::marker::Model;
 
-/// A joint move: one move for each role, in the order of the roles. Contracts see it as the list.
+/// A joint move: one move for each role, in the order of the roles. Contracts see a list.
 #[derive(Drop)]
 pub struct Joint<M> {
     pub moves: Vec<M>,

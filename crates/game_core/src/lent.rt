@@ -1,11 +1,11 @@
-//! Games that are lent.
+//! Borrowed games.
 
 use crate::game::Game;
 use std::alloc::{AllocError, Global};
 use std::borrow::CowSlice;
 use std::marker::Model;
 
-/// A borrowed game, so that many matches play by the same tables. Contracts see the game itself.
+/// A borrowed game, so that many matches share one game. Contracts see the game itself.
 #[derive(Drop)]
 pub struct Lent<'a, G> {
     game: &'a G,
@@ -20,7 +20,7 @@ impl<'a, G> Model for Lent<'a, G> {
 impl<'a, G> Lent<'a, G> {
     ghost use Rattle.std.specs.Prelude.{◌≡◌};
 
-    /// Lends the game.
+    /// Borrows the game.
     pub fn new(game: &'a G) -> Lent<'a, G>
         ensures { result ≡ game.now }
     {

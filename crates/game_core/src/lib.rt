@@ -1,6 +1,4 @@
 //! What a game is, and the types that all other crates use: texts, joint moves, counted streams.
-//!
-//! Free functions take the allocator first, methods take it after `self`.
 #![tactic(auto)]
 
 mod countdown;

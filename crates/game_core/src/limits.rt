@@ -1,53 +1,53 @@
-//! How large games, their descriptions and expressions may be.
+//! Limits of games, descriptions and expressions.
 ghost use Rattle.std.specs.Prelude.{◌≡◌};
 ghost use Rattle.game_core.specs.Limits.{max_bytes, max_sentences, max_atomic_sentences};
 
-/// The limit of roles in a game.
+/// The largest number of roles of a game.
 pub const MAX_ROLES: usize = 16;
 
 /// The highest goal value.
 pub const MAX_GOAL: u8 = 100;
 
-/// The limit of nested lists in a proper expression.
+/// The largest number of lists that nest in a proper expression.
 pub const MAX_DEPTH: usize = 64;
 
-/// The limits of a description in text.
+/// Which limits a description must keep.
 #[derive(Clone, Copy)]
 pub enum Limits {
-    /// The limits for whoever asks for no others.
+    /// The limits of ordinary games.
     Usual,
-    /// The limits for whoever asks for large games.
+    /// The limits of large games.
     Large,
 }
 
 impl Limits {
-    /// The limit of bytes: 1,048,576, or 4,194,304 for large games.
+    /// The largest number of bytes: 1,048,576, or 16,777,216 for large games.
     pub fn bytes(self) -> usize
         ensures { result ≡ max_bytes self }
     {
         match self {
             Limits::Usual => 1_048_576,
-            Limits::Large => 4_194_304,
+            Limits::Large => 16_777_216,
         }
     }
 
-    /// The limit of sentences: 8,192, or 65,536 for large games.
+    /// The largest number of sentences: 8,192, or 262,144 for large games.
     pub fn sentences(self) -> usize
         ensures { result ≡ max_sentences self }
     {
         match self {
             Limits::Usual => 8192,
-            Limits::Large => 65_536,
+            Limits::Large => 262_144,
         }
     }
 
-    /// The limit of distinct atomic sentences: 16,384, or 65,536 for large games.
+    /// The largest number of distinct atomic sentences: 16,384, or 262,144 for large games.
     pub fn atomic_sentences(self) -> usize
         ensures { result ≡ max_atomic_sentences self }
     {
         match self {
             Limits::Usual => 16_384,
-            Limits::Large => 65_536,
+            Limits::Large => 262_144,
         }
     }
 }

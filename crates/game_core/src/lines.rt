@@ -1,8 +1,8 @@
-//! Lines of a text.
+//! Text lines.
 ghost use Rattle.std.specs.Prelude.{◌≡◌};
 ghost use Rattle.std.specs.Str.Lines.{strip_carriage_return};
 
-/// A line without one carriage return at its end.
+/// Removes one carriage return at the end of the line, if there is one.
 pub fn without_return(line: &[u8]) -> &[u8]
     ensures { result.now ≡ strip_carriage_return line.now }
 {

@@ -2,21 +2,21 @@
 ghost use Rattle.std.specs.Prelude.{◌≡◌, ◌^◌, ◌<◌, IsTrue};
 ghost use Rattle.game_core.specs.Numerals.{are_digits, is_plain_numeral, number_up_to, plain_number};
 
-/// Whether a word is one or more decimal digits.
+/// Whether a word consists of one or more decimal digits.
 pub fn are_digits(word: &[u8]) -> bool
     ensures { result ≡ are_digits word.now }
 {
     !word.is_empty() && word.iter().all(|byte| byte.is_ascii_digit())
 }
 
-/// Whether a word is decimal digits without leading zeros.
+/// Whether a word consists of decimal digits without leading zeros.
 pub fn is_plain_numeral(word: &[u8]) -> bool
     ensures { result ≡ is_plain_numeral word.now }
 {
     are_digits(word) && (word.len() == 1 || word[0] != b'0')
 }
 
-/// The number that the digits write, if it is within the limit. There may be any number of digits.
+/// The number that the digits write, or `None` if it exceeds the limit. Any number of digits is allowed.
 pub fn number_up_to(digits: &[u8], limit: usize) -> Option<usize>
     requires digits { IsTrue (are_digits digits.now) }
     requires small { limit < 2 ^ 32 }
@@ -32,7 +32,7 @@ pub fn number_up_to(digits: &[u8], limit: usize) -> Option<usize>
     Some(number)
 }
 
-/// The number that a word writes in decimal digits without leading zeros, if it is within the limit.
+/// The number that a word writes without leading zeros, or `None` if the word is not such a number or exceeds the limit.
 pub fn plain_number(word: &[u8], limit: usize) -> Option<usize>
     requires { limit < 2 ^ 32 }
     ensures { result ≡ plain_number word.now limit }

@@ -9,17 +9,17 @@ use crate::joint::Joint;
 use std::alloc::{AllocError, Global};
 use thiserror::Error;
 
-/// Why a list of joint moves is no play of a game. It names the first turn at fault, and that turn's
-/// first fault in the order of this list. Turns and roles are numbered from 0.
+/// Why a list of joint moves cannot be played. The error names the first turn that is wrong, and the first of these errors
+/// that the turn has. Turns and roles are numbered from 0.
 #[derive(Clone, Copy, Debug, PartialEq, Eq, Error)]
 pub enum PlayFault {
     /// The state before this turn is terminal.
     #[error("turn {turn} comes after the end of the game")]
     AfterEnd { turn: usize },
-    /// The turn does not have one move for each role.
+    /// The turn does not have exactly one move for each role.
     #[error("turn {turn} has not one move for each role")]
     WrongWidth { turn: usize },
-    /// The move of this role is not legal. It is the lowest such role.
+    /// This role's move is not legal, and all lower roles' moves are.
     #[error("the move of role {role} in turn {turn} is not legal")]
     Illegal { turn: usize, role: usize },
     /// Out of memory.
@@ -57,7 +57,7 @@ fn is_legal<G: Game>(
     Ok(false)
 }
 
-/// The lowest role with a move that is not legal in the state, if there is one.
+/// The lowest role whose move is not legal in the state.
 fn first_illegal<G: Game>(
     alloc: Global,
     game: &G,
@@ -77,8 +77,7 @@ fn first_illegal<G: Game>(
     Ok(None)
 }
 
-/// Replays joint moves from the game's initial state. Returns the state after them, or the first
-/// fault.
+/// Replays joint moves from the initial state. Returns the state after them, or the first error.
 pub fn play_list<G: Game>(
     alloc: Global,
     game: &G,

@@ -12,8 +12,7 @@ use std::cmp::Ordering;
 use std::hash::{Hash, Hasher};
 use std::marker::Model;
 
-/// A text: any bytes, though most texts of a match are ASCII. Contracts see its bytes. Comparison and
-/// hashing use them too.
+/// A text: any bytes, mostly ASCII. Contracts see its bytes; comparison and hashing use them too.
 #[derive(Drop)]
 pub struct Text {
     pub bytes: Vec<u8>,
@@ -28,7 +27,7 @@ impl Model for Text {
 }
 
 impl Text {
-    /// A copy of these bytes.
+    /// Copies these bytes.
     pub fn from_slice(alloc: Global, bytes: &[u8]) -> Result<Text, AllocError>
         ensures { IfOk result (λ t. t ≡ bytes.now) }
     {
@@ -36,7 +35,7 @@ impl Text {
         Ok(Text { bytes })
     }
 
-    /// Takes over the bytes of a string.
+    /// Takes the bytes of a string.
     pub fn from_string(text: String) -> Text
         ensures { result ≡ string_bytes text }
     {

@@ -4,7 +4,7 @@ ghost use Rattle.std.specs.Prelude.{◌≡◌, ◌<◌, length, slice_get, Some}
 use crate::text::Text;
 use std::marker::Model;
 
-/// Texts in order. Contracts see them as the list of their bytes.
+/// Texts in order. Contracts see a list of byte lists.
 #[derive(Drop)]
 pub struct Texts {
     pub items: Vec<Text>,
@@ -19,14 +19,14 @@ impl Model for Texts {
 }
 
 impl Texts {
-    /// The texts in their order.
+    /// The texts in order.
     pub fn as_slice(&self) -> &[Text]
         ensures { result.now ≡ self.now }
     {
         self.items.as_slice()
     }
 
-    /// The text at this place, numbered from 0.
+    /// The text with this number, counted from 0.
     pub fn at(&self, place: usize) -> &Text
         requires { place < length self.now }
         ensures { slice_get self.now place ≡ Some result.now }

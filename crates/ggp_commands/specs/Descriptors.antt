@@ -1,12 +1,10 @@
--- The number of matches at once that descriptors allow.
+-- How many matches at once the descriptors allow.
 use Rattle.std.specs.Prelude.{◌<◌, ◌≤◌, ◌+◌, ◌*◌, ◌⊎◌, ℕ}
 
--- The descriptors are enough for these matches at once: one for each player, and 16 for everything else. A single match may always be
--- played.
+-- The descriptors suffice for this many matches at once: one for each player, and 16 for everything else. One match is always allowed.
 abbrev pub Allows : ℕ → ℕ → ℕ → Type 0
 Allows descriptors players matches = (matches ≤ 1) ⊎ (matches * players + 16 ≤ descriptors)
 
--- the largest number of matches at once that the descriptors allow
 pub record IsLargest (descriptors players matches : ℕ) : Type 0 where
   pub some : 1 ≤ matches
   pub allowed : Allows descriptors players matches

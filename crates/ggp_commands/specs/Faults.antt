@@ -1,4 +1,4 @@
--- The program's fault where a part of its work fails.
+-- The program's error for an error of one of its parts.
 use Rattle.std.specs.Prelude.{ℕ, Bool, true, false, if◌then◌else◌, Result, Ok, Err}
 use Rattle.match_play.specs.declared.playing.MatchFault.{MatchFault}
 use Rattle.match_play.specs.declared.playing.MatchFault.TheVariants.{Refused as MatchRefused, NotEnded, Shortage as MatchShortage, Memory as MatchMemory}
@@ -17,7 +17,7 @@ use Rattle.command_faults.specs.declared.fault.Fault.{Fault}
 use Rattle.command_faults.specs.declared.fault.Fault.TheVariants.{WrongUse, Memory, WriteFault, NoAnswer, NotSent, Refused, MatchNotEnded, Shortage, NoRecords, NotLawful, UnlawfulRecords, NoEntry, Differs, BadLines, BadAnswers}
 use Rattle.command_faults.specs.Faults.{status_of as plain_status}
 
--- The fault is an answer: no. The command did all that it had to do, and what it judged or asked is not as it should be.
+-- The error is the answer no: the command has finished, and what it checked is not as it should be.
 abbrev pub is_no : Fault → Bool
 is_no NoAnswer = true
 is_no (NotLawful fault) = true
@@ -28,12 +28,11 @@ is_no (BadLines count) = true
 is_no (BadAnswers count) = true
 is_no fault = false
 
--- The program's status for a fault. The Bool says whether the command line has `--why`.
+-- The exit status for an error. The Bool says whether the command line has `--why`.
 abbrev pub status_of : Bool → Fault → ℕ
 status_of false fault = plain_status fault
 status_of true fault = if is_no fault then 1 else 2
 
--- a refused command line is a wrong use
 abbrev pub argument_fault : ArgumentFault → Fault
 argument_fault ArgumentMemory = Memory
 argument_fault fault = WrongUse
@@ -60,7 +59,7 @@ command_fault (CommandNotSent shortage) = NotSent shortage
 command_fault CommandWriteFault = WriteFault
 command_fault CommandMemory = Memory
 
--- the fault of a task with this number of matches without a record, or of bad answers, or of one that ended with a fault
+-- the error of a task with this number of matches without a record, or of bad answers, or of one that ended with an error
 abbrev pub task_fault : MatchTask → Result ℕ Fault → Fault
 task_fault (Check plan) (Ok count) = BadAnswers count
 task_fault task (Ok count) = NoRecords count

@@ -14,26 +14,27 @@ use Rattle.command_faults.specs.declared.fault.Fault.TheVariants.{BadPlayerRules
 use Rattle.command_faults.specs.declared.files.NamedFile.TheVariants.{PlayerRules}
 use Rattle.command_faults.specs.Faults.{IsFileFault}
 
--- the rules are the sentences that this text spells, printed without capitals
+-- the rules are the sentences that this text spells, printed in lower case
 abbrev pub AreSpelled : List ℕ → List ℕ → Type 0
 AreSpelled text rules = (sentences : Expressions) × SpellsAll text sentences × (rules ≡ rules_text (all_folded sentences))
 
--- the game's own sentences in print, or if a file of other rules is given, those of a text
+-- the game's own printed sentences, or, if a file of other rules is named, those of any text
 abbrev pub AreRulesFor : {F : Type 0} → Option F → PackedGame → List ℕ → Type 0
 AreRulesFor player_rules game rules = MatchOption player_rules (rules ≡ rules_text (expressions (sentences_of game))) (λ file. (text : List ℕ) × AreSpelled text rules)
 
--- The game is the one that the plan's text describes, of a file any text, and these are the rules for its players.
+-- The game is the one that the options describe, and these are the rules for its players. A file may have any text.
 abbrev pub IsLoadedGame : GameOptions → PackedGame → List ℕ → Type 0
 IsLoadedGame plan game rules = ((text : List ℕ) × IsSourceText plan.game text × IsDescribed (limits_of plan.game) text game) × AreRulesFor plan.player_rules game rules
 
--- the fault for the players' rules in a file: it can't be read, or is not KIF
+-- the error for the players' rules in a file: it cannot be read, or is not KIF
 abbrev pub IsPlayerRulesFault : Fault → Type 0
 IsPlayerRulesFault fault = IsFileFault PlayerRules fault ⊎ (fault ≡ BadPlayerRules)
 
--- the fault for the players' rules: without a file of them, only out of memory
+-- the error for the players' rules; without a file it can only be out of memory
 abbrev pub HasNoRules : {F : Type 0} → Option F → Fault → Type 0
 HasNoRules player_rules fault = MatchOption player_rules (fault ≡ Memory) (λ file. IsPlayerRulesFault fault)
 
--- Why a plan is not playable: there is no text of its game, or the text describes none, or there are no rules for the players.
+-- Why there is nothing to play: there is no text of the game, or the text does not describe one, or there are no rules for the
+-- players.
 abbrev pub IsNotLoadedGame : GameOptions → Fault → Type 0
 IsNotLoadedGame plan fault = HasNoSourceText plan.game fault ⊎ (((text : List ℕ) × IsSourceText plan.game text × IsRefused (limits_of plan.game) text fault) ⊎ HasNoRules plan.player_rules fault)

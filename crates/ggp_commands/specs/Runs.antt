@@ -15,8 +15,8 @@ use Rattle.command_line.specs.declared.tasks.RunPlan.{RunPlan}
 use Rattle.command_faults.specs.declared.fault.Fault.{Fault}
 use Rattle.command_faults.specs.declared.fault.Fault.TheVariants.{Refused, WriteFault}
 
--- From one content of a stream to the other the record of a match was written, and its account if the plan wants it. The match has this
--- plan and is of this game. Its players were reached at the addresses of their roles, and got the game's rules.
+-- The record of a match was written, and its call log if the plan asks for it. The match has this plan and is of this game. Its players
+-- were reached at the addresses of their roles, and got the game's rules.
 abbrev pub WritesRun : {P : Type 0} → (RolePlace → PlayerAddress → P → Type 0) → (P → Option (List Handed)) → PlayableGame → RunPlan → Option (List ℕ) → Option (List ℕ) → Type 0
 WritesRun is_reached handed game run old new = (line : List ℕ) × (history : _) × IsPlannedMatch is_reached handed game 0 run.plan line history
     × Appends old new (match_text line history run.has_history)
@@ -25,8 +25,8 @@ WritesRun is_reached handed game run old new = (line : List ℕ) × (history : _
 abbrev pub IsRefusedFor : PlayableGame → MatchPlan → Refusal → Type 0
 IsRefusedFor game plan reason = (setup : Setup) × IsSetupOf plan setup × (packed_refusal game.game.now setup ≡ Some reason)
 
--- What a single match that ended with this fault has written: a beginning of its record and account where a write failed, and otherwise
--- nothing. If it was refused, then for this reason.
+-- What a single match has written that ended with this error: a prefix of its output if a write failed, and otherwise nothing. If the
+-- match was refused, it was for this reason.
 abbrev pub WritesRunUpTo : {P : Type 0} → (RolePlace → PlayerAddress → P → Type 0) → (P → Option (List Handed)) → PlayableGame → RunPlan → Option (List ℕ) → Option (List ℕ) → Fault → Type 0
 WritesRunUpTo is_reached handed game run old new WriteFault = (line : List ℕ) × (history : _) × IsPlannedMatch is_reached handed game 0 run.plan line history
     × AppendsPart old new (match_text line history run.has_history)

@@ -17,37 +17,36 @@ use Rattle.match_season.specs.Seasons.{WritesAllBut, WritesUpTo}
 use Rattle.match_season.specs.declared.season_output.SeasonFault.{SeasonFault}
 use Rattle.ggp_commands.specs.Faults.{season_fault}
 
--- the task has a schedule for its input
 abbrev pub has_schedule : MatchTask → Bool
 has_schedule (Season plan) = true
 has_schedule task = false
 
--- From one content of a stream to the other the output of each of these matches was written, as the form asks, but for the missing ones.
--- Each match is of this game. Its players were reached at the addresses of their roles, and got the game's rules.
+-- The outputs of these matches were written, as the form asks, except for the missing ones. Each match is of this game. Its players were
+-- reached at the addresses of their roles, and got the game's rules.
 abbrev pub WritesPlans : {P : Type 0} → (RolePlace → PlayerAddress → P → Type 0) → (P → Option (List Handed)) → PlayableGame → SeasonForm → List MatchPlan → ℕ → Option (List ℕ) → Option (List ℕ) → Type 0
 WritesPlans is_reached handed game form plans missing old new = WritesAllBut (IsOutputOf is_reached handed game plans form.has_history) form.order missing (length plans) old new
 
--- What was written of these matches up to this fault: the outputs, as `match_season` says.
+-- What was written about these matches up to this error, as `match_season` specifies it.
 abbrev pub WritesPlansUpTo : {P : Type 0} → (RolePlace → PlayerAddress → P → Type 0) → (P → Option (List Handed)) → PlayableGame → SeasonForm → List MatchPlan → Fault → Option (List ℕ) → Option (List ℕ) → Type 0
 WritesPlansUpTo is_reached handed game form plans fault old new =
     (why : SeasonFault) × (fault ≡ season_fault why) × WritesUpTo (IsOutputOf is_reached handed game plans form.has_history) form.order (length plans) old new why
 
--- This is written from one content of the output to the other, or to the file that is named for it, and then the output stays as it is.
+-- This is written to the output; or it is written to the named file, and the output does not change.
 abbrev pub GoesTo : {F : Type 0} → Option F → (Option (List ℕ) → Option (List ℕ) → Type 0) → Option (List ℕ) → Option (List ℕ) → Type 0
 GoesTo file Writes old new = MatchOption file (Writes old new) (λ name. (new ≡ old) × ((before : Option (List ℕ)) × (after : Option (List ℕ)) × Writes before after))
 
--- The output of each match to play was written, to the output or the file of records, but for the missing ones.
+-- The outputs of the matches to play were written, to the output or to the file of records, except for the missing ones.
 abbrev pub WritesSeason : {P : Type 0} → (RolePlace → PlayerAddress → P → Type 0) → (P → Option (List Handed)) → PlayableGame → SeasonPlan → List ℕ → ℕ → Option (List ℕ) → Option (List ℕ) → Type 0
 WritesSeason is_reached handed game season schedule missing old new = (plans : List MatchPlan) × AreToPlay game.game.now season.strikes season.done season.records schedule plans
     × GoesTo season.records (WritesPlans is_reached handed game season.form plans missing) old new
 
--- The season was played, and then the name of the file that its records were added to did not name it any more. That is a write fault.
+-- The season was played, but then the path of the file of records no longer named the file. That is a write fault.
 abbrev pub LosesFile : {P : Type 0} → (RolePlace → PlayerAddress → P → Type 0) → (P → Option (List Handed)) → PlayableGame → SeasonPlan → List ℕ → Fault → Option (List ℕ) → Option (List ℕ) → Type 0
 LosesFile is_reached handed game season schedule fault old new = (is_some season.records ≡ true) × (fault ≡ WriteFault)
     × ((missing : ℕ) × WritesSeason is_reached handed game season schedule missing old new)
 
--- What a season that ended with this fault has written: nothing if it has no matches to play, all if it then lost its file of records, and
--- otherwise the outputs up to that fault.
+-- What a season has written that ended with this error: nothing if there are no plans, everything if it then lost its file of records, and
+-- otherwise the outputs up to that error.
 abbrev pub WritesSeasonUpTo : {P : Type 0} → (RolePlace → PlayerAddress → P → Type 0) → (P → Option (List Handed)) → PlayableGame → SeasonPlan → List ℕ → Option (List ℕ) → Option (List ℕ) → Fault → Type 0
 WritesSeasonUpTo is_reached handed game season schedule old new fault =
     ((HasNoPlans game.game.now season.strikes season.done season.records schedule fault × (new ≡ old))

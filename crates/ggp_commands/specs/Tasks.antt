@@ -29,35 +29,34 @@ use Rattle.ggp_commands.specs.LoadedGame.{IsNotLoadedGame, IsLoadedGame}
 use Rattle.ggp_commands.specs.Runs.{WritesRun, WritesRunUpTo}
 use Rattle.ggp_commands.specs.Schedules.{WritesSeason, WritesSeasonUpTo}
 
--- From one content of a stream to the other the task wrote the output of its match, or of each match to play of its schedule but for the
--- missing ones, or the table of its check. The number is that of the missing matches, or of the bad answers in the table.
+-- The task wrote the output of its match, or of each match to play except the missing ones, or the table of its check. The number is that of
+-- the missing matches, or of the bad answers in the table.
 abbrev pub WritesTask : (H : Type 0) → {P : Type 0} → (RolePlace → PlayerAddress → P → Type 0) → (P → Option (List Handed)) → PlayableGame → MatchTask → List ℕ → ℕ → Option (List ℕ) → Option (List ℕ) → Type 0
 WritesTask H is_reached handed game (Run run) input count old new = (count ≡ 0) × WritesRun is_reached handed game run old new
 WritesTask H is_reached handed game (Season season) input count old new = WritesSeason is_reached handed game season input count old new
 WritesTask H is_reached handed game (Check plan) input count old new = WritesCheck H is_reached handed game plan count old new
 
--- What a task that ended with this fault has written.
+-- What a task has written that ended with this error.
 abbrev pub WritesTaskUpTo : (H : Type 0) → {P : Type 0} → (RolePlace → PlayerAddress → P → Type 0) → (P → Option (List Handed)) → PlayableGame → MatchTask → List ℕ → Option (List ℕ) → Option (List ℕ) → Fault → Type 0
 WritesTaskUpTo H is_reached handed game (Run run) input old new fault = WritesRunUpTo is_reached handed game run old new fault
 WritesTaskUpTo H is_reached handed game (Season season) input old new fault = WritesSeasonUpTo is_reached handed game season input old new fault
 WritesTaskUpTo H is_reached handed game (Check plan) input old new fault = (why : CheckFault) × (fault ≡ check_fault why) × EndsEarly H is_reached handed game plan why old new
 
--- The task ended with this fault: out of memory before it began, or later.
+-- The task ended with this error: out of memory before it began, or later.
 abbrev pub EndsTask : (H : Type 0) → {P : Type 0} → (RolePlace → PlayerAddress → P → Type 0) → (P → Option (List Handed)) → PlayableGame → MatchTask → List ℕ → Option (List ℕ) → Option (List ℕ) → Fault → Type 0
 EndsTask H is_reached handed game task input old new fault = ((fault ≡ Memory) × (new ≡ old)) ⊎ WritesTaskUpTo H is_reached handed game task input old new fault
 
--- This is the input of a task with matches: the whole schedule of a season, or any text if a file is named for it, and then the reader stays
--- as it is. Any other task reads nothing.
+-- This is the input of a task: for a season the whole schedule, or any text if a file is named, and then the reader does not change. Other
+-- tasks read nothing.
 abbrev pub ReadsInput : {R : Type 0} → (R → Option (List ℕ)) → MatchTask → List ℕ → Counting R → Counting R → Type 0
 ReadsInput remaining (Season season) input reader reader' =
     MatchOption season.schedule (Consumes (remaining reader.stream) (remaining reader'.stream) input × IsAtEnd (remaining reader'.stream)) (λ path. reader' ≡ reader)
 ReadsInput remaining task input reader reader' = (input ≡ []) × (reader' ≡ reader)
 
--- the limit of bytes of a schedule
 abbrev pub max_schedule : ℕ
 max_schedule = 16777216
 
--- Why the input of a task can't be had: only that of a season, which is read.
+-- Why the input of a task cannot be read. Only a season has an input.
 abbrev pub HasNoInput : {R : Type 0} → (R → Option (List ℕ)) → MatchTask → Fault → Counting R → Counting R → Type 0
 HasNoInput remaining (Season season) fault reader reader' = MatchOption season.schedule
     ((why : InputFault) × (given : List ℕ) × (fault ≡ input_fault why)
@@ -65,30 +64,30 @@ HasNoInput remaining (Season season) fault reader reader' = MatchOption season.s
     (λ path. IsFileFault Input fault × (reader' ≡ reader))
 HasNoInput remaining task fault reader reader' = ⊥
 
--- Why there is no log: only a file that is named for it can't be opened.
+-- Why there is no log: the named file cannot be opened.
 abbrev pub HasNoLog : {F : Type 0} → Option F → Fault → Type 0
 HasNoLog log fault = MatchOption log ⊥ (λ file. IsFileFault Log fault)
 
--- Why a task was not begun: it has no game with rules for its players, or then no log, or then no input.
+-- Why a task did not begin: it has no game with rules for its players, or no log, or no input.
 abbrev pub IsNotBegun : {R : Type 0} → (R → Option (List ℕ)) → GameOptions → MatchTask → Fault → Counting R → Counting R → Type 0
 IsNotBegun remaining plan task fault reader reader' =
     ((IsNotLoadedGame plan fault ⊎ HasNoLog plan.log fault) × (reader' ≡ reader)) ⊎ HasNoInput remaining task fault reader reader'
 
--- The task was performed on the game of its plan and its input. The number is that of the missing matches, or of the bad answers.
+-- The task was run on its game and its input. The number is that of the missing matches, or of the bad answers.
 abbrev pub Plays : (H : Type 0) → {P R W : Type 0} → (RolePlace → PlayerAddress → P → Type 0) → (P → Option (List Handed)) → (R → Option (List ℕ)) → (W → Option (List ℕ)) → GameOptions → MatchTask → Counting R → Counting R → Counting W → Counting W → ℕ → Type 0
 Plays H is_reached handed remaining contents plan task reader reader' writer writer' count = (game : PlayableGame) × (input : List ℕ)
     × IsLoadedGame plan game.game.now game.rules.now × ReadsInput remaining task input reader reader'
     × WritesTask H is_reached handed game task input count (contents writer.stream) (contents writer'.stream)
 
--- Why the task was not performed, or not well. Without its game or its input it was not begun, and nothing was written. Otherwise matches
--- are missing or answers bad, and the fault has their number, or it ended with the fault.
+-- Why the task was not run or not successful. Without its game or its input it did not begin, and wrote nothing. Otherwise the error has the
+-- number of missing matches or of bad answers, or the task ended with the error.
 abbrev pub FailsToPlay : (H : Type 0) → {P R W : Type 0} → (RolePlace → PlayerAddress → P → Type 0) → (P → Option (List Handed)) → (R → Option (List ℕ)) → (W → Option (List ℕ)) → GameOptions → MatchTask → Counting R → Counting R → Counting W → Counting W → Fault → Type 0
 FailsToPlay H is_reached handed remaining contents plan task reader reader' writer writer' fault = (IsNotBegun remaining plan task fault reader reader' × (writer' ≡ writer))
     ⊎ (((count : ℕ) × (count ≢ 0) × (fault ≡ task_fault task (Ok count)) × Plays H is_reached handed remaining contents plan task reader reader' writer writer' count)
     ⊎ ((game : PlayableGame) × (input : List ℕ) × IsLoadedGame plan game.game.now game.rules.now × ReadsInput remaining task input reader reader'
     × EndsTask H is_reached handed game task input (contents writer.stream) (contents writer'.stream) fault))
 
--- What a task that ended well has read and written.
+-- What a task has read and written that succeeded.
 abbrev pub Performs : (H : Type 0) → {P R F W : Type 0} → (RolePlace → PlayerAddress → P → Type 0) → (P → Option (List Handed)) → (R → Option (List ℕ)) → (F → Option (List ℕ)) → (W → Option (List ℕ)) → Task → Counting R → Counting R → Counting W → Counting W → Type 0
 Performs H is_reached handed remaining file_remaining contents (Show text) reader reader' writer writer' = (reader' ≡ reader) × Appends (contents writer.stream) (contents writer'.stream) (string_bytes text)
 Performs H is_reached handed remaining file_remaining contents (Game request) reader reader' writer writer' =
@@ -99,7 +98,7 @@ Performs H is_reached handed remaining file_remaining contents (Abort plan) read
     (reader' ≡ reader) × Appends (contents writer.stream) (contents writer'.stream) (aborted_lines plan.is_json plan.players.items)
 Performs H is_reached handed remaining file_remaining contents (Host plan task) reader reader' writer writer' = Plays H is_reached handed remaining contents plan task reader reader' writer writer' 0
 
--- What a task that ended with this fault has read and written.
+-- What a task has read and written that ended with this error.
 abbrev pub Fails : (H : Type 0) → {P R F W : Type 0} → (RolePlace → PlayerAddress → P → Type 0) → (P → Option (List Handed)) → (R → Option (List ℕ)) → (F → Option (List ℕ)) → (W → Option (List ℕ)) → Task → Counting R → Counting R → Counting W → Counting W → Fault → Type 0
 Fails H is_reached handed remaining file_remaining contents (Show text) reader reader' writer writer' fault =
     (reader' ≡ reader) × (fault ≡ WriteFault) × AppendsPart (contents writer.stream) (contents writer'.stream) (string_bytes text)

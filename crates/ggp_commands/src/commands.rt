@@ -35,16 +35,16 @@ use std::thread::Threads;
 use std::time::Clock;
 use whole_streams::{Pieces, write_all};
 
-/// The lines of a command on standard error, and what has to be explained there when it ends.
+/// The standard error of a command, and what to explain there when the command ends.
 #[derive(Drop)]
 struct Reports<E> {
     errors: E,
     evidence: Evidence,
 }
 
-/// Performs the command of the words after the program's name, and returns the program's status. A fault is one line on `errors`, after
-/// the lines that explain it. A failed write to `errors` is skipped. On a terminal `errors` also shows the progress of matches. `--why`
-/// counts only if the terminals of `around` say that it is there.
+/// Runs the command with these arguments, and returns the exit status. If it fails, it writes an explanation and the error to `errors`.
+/// Failed writes to `errors` are ignored. On a terminal `errors` also shows the progress of matches. `--why` has an effect only if the
+/// terminals of `around` say that the command line has it.
 pub fn command<H, S, R: Read, W: Write, E: Write + Send + Drop>(
     around: &Surroundings<'_, H, S>,
     words: &[String],
@@ -83,7 +83,7 @@ where
     end(performed, around.terminals.why, &mut errors)
 }
 
-/// Performs a task, unless two of its files and streams are one file. It is reported which file a fault is about.
+/// Runs a task, unless it uses one file in two ways that conflict. Reports which file an error is about.
 fn perform<H, S, R: Read, W: Write, E: Write + Send>(
     around: &Surroundings<'_, H, S>,
     task: &Task<'_>,
@@ -107,12 +107,11 @@ where
     performed
 }
 
-/// The words as texts.
 fn texts<'a>(alloc: Global, words: &'a [String]) -> Result<Vec<&'a str>, AllocError> {
     words.iter().map(|word| word.as_str()).collect(alloc)
 }
 
-/// Reports the fault of a command, if it has one. Returns the program's status.
+/// Reports the error of a command, if it has one. Returns the exit status.
 fn end<E: Write>(performed: Result<(), Fault>, why: bool, errors: &mut E) -> u8
     ensures none { OnOk performed (result ≡ 0) }
     ensures some { IfErr performed (λ fault. result ≡ status_of why fault) }
@@ -123,7 +122,8 @@ fn end<E: Write>(performed: Result<(), Fault>, why: bool, errors: &mut E) -> u8
     }
 }
 
-/// Writes the fault's line, as far as the stream takes it. Returns the program's status. `why` says whether the command line has `--why`.
+/// Writes the error as a line; errors of the stream are ignored. Returns the exit status. `why` says whether the command line has `--why`
+/// or `--json`.
 pub fn report<E: Write>(errors: &mut E, fault: Fault, why: bool) -> u8
     ensures { result ≡ status_of why fault }
 {
@@ -132,7 +132,7 @@ pub fn report<E: Write>(errors: &mut E, fault: Fault, why: bool) -> u8
     status_of(fault, why)
 }
 
-/// The task in the words. The words about a refusal are kept as evidence.
+/// The task of these arguments. If they are refused, stores the message as evidence.
 fn task_of<'a>(
     alloc: Global,
     words: &'a [&'a str],
@@ -152,7 +152,7 @@ fn task_of<'a>(
     }
 }
 
-/// The game of a plan with the rules for its players, where its log goes, and the input of a task on it.
+/// Loads the game with the rules for its players, opens the log, and reads the input of the task.
 fn prepared<F: Files, R: Read>(
     files: &F,
     alloc: Global,
@@ -171,7 +171,7 @@ fn prepared<F: Files, R: Read>(
     Ok((loaded_game, log, input))
 }
 
-/// Plays the matches of a task. Hands the output back, so its content is known.
+/// Plays the matches of a task. Returns the output too, so that its content is known.
 fn play<'w, N: WriterBrand, H, S, R: Read, W: Write, E: Write + Send>(
     around: &Surroundings<'_, H, S>,
     plan: &GameOptions<'_>,
@@ -217,7 +217,7 @@ where
     (task_end(task, held), writer)
 }
 
-/// Performs a task. Hands the output back, so its content is known.
+/// Runs a task. Returns the output too, so that its content is known.
 fn perform_task<'w, N: WriterBrand, H, S, R: Read, W: Write, E: Write + Send>(
     around: &Surroundings<'_, H, S>,
     task: &Task<'_>,
@@ -272,7 +272,6 @@ where
     }
 }
 
-/// Writes a text.
 fn show<W: Write>(text: &str, writer: &mut Counted<W>) -> Result<(), Fault>
     ensures whole { OnOk result (Appends (W.contents writer.old.stream) (W.contents writer.new.stream) text.now) }
     ensures at_fault { IfErr result (λ fault. (fault ≡ WriteFault) × AppendsPart (W.contents writer.old.stream) (W.contents writer.new.stream) text.now) }

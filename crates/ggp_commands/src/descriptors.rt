@@ -1,4 +1,4 @@
-//! The number of matches at once that the program's descriptors allow.
+//! How many matches at once the limit of file descriptors allows.
 ghost use Rattle.std.specs.Prelude.{◌≡◌, ◌⊎◌, ◌<◌, ℕ, IfNone, IfSome, min};
 ghost use Rattle.ggp_commands.specs.Descriptors.{Allows, IsLargest};
 
@@ -10,11 +10,11 @@ use std::io::Write;
 use std::rt::Files;
 use whole_streams::Pieces;
 
-/// The number of descriptors for everything but the players' connections: the streams, the files, the look-ups of hosts.
+/// The number of descriptors that are needed besides the players' connections: for the streams, the files, and looking up hosts.
 const KEPT: u64 = 16;
 
-/// The largest number of matches of `players` players that the descriptors allow at once, with one connection for each player: at
-/// least 1.
+/// The largest number of simultaneous matches with this many players that the descriptors allow, with one connection for each player.
+/// It is at least 1.
 fn allowed_matches(descriptors: u64, players: u64) -> u64
     ensures { IsLargest descriptors players result }
 {
@@ -25,8 +25,7 @@ fn allowed_matches(descriptors: u64, players: u64) -> u64
     }
 }
 
-/// The form of a season of `matches` matches with as many of them at once as the descriptors allow. `None` if they allow the form as it
-/// is.
+/// The form of a season with fewer matches at once, if the descriptors do not allow the given form, and otherwise `None`.
 #[tactic(auto, using(crate::proofs::LargestNumbers::fewer_allowed))]
 fn smaller_form(
     form: SeasonForm,
@@ -49,7 +48,7 @@ fn smaller_form(
     })
 }
 
-/// The season's form with as many matches at once as the descriptors allow. Reports if these are fewer.
+/// The form of a season with as many matches at once as the descriptors allow. Reports if these are fewer than in the given form.
 pub fn allowed_form<F: Files, E: Write>(
     files: &F,
     alloc: Global,

@@ -1,4 +1,4 @@
-//! The lines that explain a command's fault, or say what it skipped.
+//! Explains the error of a command, or what the command skipped.
 
 use command_faults::Printable;
 use command_line::{MatchTask, RunPlan};
@@ -12,20 +12,20 @@ use std::fmt::Write as _;
 use std::io::Write;
 use whole_streams::Pieces;
 
-/// What lines are about.
+/// What to explain.
 #[derive(Drop)]
 pub enum Subject<'a> {
-    /// The evidence of a fault.
+    /// The evidence for an error.
     Evidence(&'a Evidence),
-    /// Each match of a schedule that breaks a rule of openings.
+    /// The matches of a schedule that the desk refuses to open.
     Schedule(&'a [u8]),
-    /// The rules of openings that the match of a run or of a check breaks, in a game of so many roles.
+    /// Why the desk refuses to open the match of a run or of a check, in a game with this many roles.
     Opening(&'a MatchTask<'a>, usize),
-    /// The rule of a match's id, if this id breaks it.
+    /// Why this match id is invalid, if it is.
     Id(&'a str),
 }
 
-/// Appends the lines about this evidence to `lines`. The error means that memory was refused.
+/// Appends the explanation of this evidence to `lines`. The error is out of memory.
 fn push_evidence(alloc: Global, evidence: &Evidence, lines: &mut String) -> Result<(), AllocError> {
     match evidence {
         Evidence::Nothing => {}
@@ -43,12 +43,11 @@ fn push_evidence(alloc: Global, evidence: &Evidence, lines: &mut String) -> Resu
     Ok(())
 }
 
-/// An id as a line shows it. An id that is not lawful does not become lawful by this.
+/// Escapes an id so that it fits on one line. An invalid id does not become valid.
 fn one_line(alloc: Global, id: &str) -> Result<String, AllocError> {
     format!(in alloc; "{}", Printable(id))
 }
 
-/// Appends the lines about this subject to `lines`. The error means that memory was refused.
 fn push_lines(alloc: Global, subject: &Subject<'_>, lines: &mut String) -> Result<(), AllocError> {
     match subject {
         Subject::Evidence(evidence) => return push_evidence(alloc, *evidence, lines),
@@ -69,7 +68,7 @@ fn push_lines(alloc: Global, subject: &Subject<'_>, lines: &mut String) -> Resul
     Ok(())
 }
 
-/// The lines as they are shown: what they have of words from outside has no control characters.
+/// Replaces control characters in lines that may quote files or arguments.
 fn shown(alloc: Global, lines: &str) -> Result<String, AllocError> {
     let mut shown = String::new(alloc);
     for line in lines.lines() {
@@ -78,7 +77,7 @@ fn shown(alloc: Global, lines: &str) -> Result<String, AllocError> {
     Ok(shown)
 }
 
-/// Writes the lines about this subject if they are wanted, as far as the stream takes them, or nothing if they are out of memory.
+/// Writes the explanation if it is wanted. Errors of the stream are ignored. If memory runs out, nothing is written.
 pub fn explain<E: Write>(alloc: Global, are_wanted: bool, subject: &Subject<'_>, errors: &mut E) {
     let mut lines = String::new(alloc);
     if are_wanted && push_lines(alloc, subject, &mut lines).is_ok() {

@@ -1,4 +1,4 @@
-//! The program's fault where a part of its work fails.
+//! The program's error for an error of one of its parts.
 ghost use Rattle.std.specs.Prelude.{◌≡◌, ◌≢◌, Err, IfErr, IsOk, MatchResult, Ok, OnErr, OnOk};
 ghost use Rattle.command_faults.specs.Faults.{IsFileFault};
 ghost use Rattle.command_faults.specs.declared.files.NamedFile.TheVariants.{Records};
@@ -13,7 +13,7 @@ use player_check::CheckFault;
 use player_commands::CommandFault;
 use process_streams::RecordsFault;
 
-/// The program's status for a fault. With `--why` it is 1 if the answer is no, and 2 if it could not be told.
+/// The exit status for an error. With `--why` it is 1 if the answer is no, and 2 if there is no answer.
 pub fn status_of(fault: Fault, why: bool) -> u8
     ensures { result ≡ status_of why fault }
 {
@@ -30,7 +30,7 @@ pub fn status_of(fault: Fault, why: bool) -> u8
     }
 }
 
-/// The program's fault where a command line is refused.
+/// The program's error if a command line is refused.
 pub fn argument_fault(fault: ArgumentFault<'_>) -> Fault
     ensures { result ≡ argument_fault fault.entry }
 {
@@ -40,7 +40,7 @@ pub fn argument_fault(fault: ArgumentFault<'_>) -> Fault
     }
 }
 
-/// The program's fault where a match fails.
+/// The program's error if a match has no record.
 pub fn match_fault(fault: MatchFault) -> Fault
     ensures { result ≡ match_fault fault }
 {
@@ -52,7 +52,7 @@ pub fn match_fault(fault: MatchFault) -> Fault
     }
 }
 
-/// The program's fault where a season fails.
+/// The program's error if a season is not played to its end.
 pub fn season_fault(fault: SeasonFault) -> Fault
     ensures { result ≡ season_fault fault }
 {
@@ -62,7 +62,7 @@ pub fn season_fault(fault: SeasonFault) -> Fault
     }
 }
 
-/// The program's fault where records can't be added to a file.
+/// The program's error if records cannot be appended to a file.
 pub fn records_fault(fault: RecordsFault) -> Fault
     ensures { IsFileFault Records result }
 {
@@ -77,7 +77,7 @@ pub fn records_fault(fault: RecordsFault) -> Fault
     Fault::File(NamedFile::Records, why)
 }
 
-/// The program's fault where the check of a player fails.
+/// The program's error if the check of a player fails.
 pub fn check_fault(fault: CheckFault) -> Fault
     ensures { result ≡ check_fault fault }
 {
@@ -88,7 +88,7 @@ pub fn check_fault(fault: CheckFault) -> Fault
     }
 }
 
-/// The end of a command to players.
+/// The result of a command that sends single messages to players.
 pub fn command_end(performed: Result<(), CommandFault>) -> Result<(), Fault>
     ensures { MatchResult performed (λ _. IsOk result) (λ why. result ≡ Err (command_fault why)) }
 {
@@ -102,7 +102,7 @@ pub fn command_end(performed: Result<(), CommandFault>) -> Result<(), Fault>
     }
 }
 
-/// The end of a task, by the number of its matches without a record, or of bad answers in its check.
+/// The result of a task, given its number of matches without a record, or of bad answers in its check.
 pub fn task_end(task: &MatchTask<'_>, held: Result<u64, Fault>) -> Result<(), Fault>
     ensures all { OnOk result (held ≡ Ok 0) }
     ensures some { OnErr result (held ≢ Ok 0) }

@@ -1,11 +1,8 @@
-//! The commands of the program `ggp_manager`: those of `game_commands`, a match between players, the matches of a schedule, a question
-//! to a player, ABORT to players, and the check of a player.
+//! The commands of the program `ggp_manager`: those of `game_commands`; `run`, `season` and `check`, which play matches; and `info`
+//! and `abort`, which send single messages to players.
 //!
-//! `command` reads the words of a command line and performs the command, over any streams, any runtime and any players that can be
-//! reached. A fault is one line on the stream for errors, and a status. `Sockets` of `network_players` reaches players over HTTP. The
-//! program adds only its runtime.
-//!
-//! Free functions take the allocator first, behind a handle for threads, waiting or the network.
+//! `command` runs the command of a command line over any streams, runtime and players; the program passes its own. Free functions take
+//! the allocator first, after a handle for threads, waiting or the network.
 #![tactic(auto)]
 
 mod commands;

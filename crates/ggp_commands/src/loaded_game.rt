@@ -4,7 +4,7 @@ ghost use Rattle.described_games.specs.Games.{IsDescribed};
 ghost use Rattle.game_commands.specs.Commands.{IsRefused};
 ghost use Rattle.ggp_commands.specs.LoadedGame.{AreRulesFor, AreSpelled, HasNoRules, IsLoadedGame, IsNotLoadedGame, IsPlayerRulesFault};
 
-use command_faults::{Fault, MAX_PLAYER_RULES, NamedFile, file_text};
+use command_faults::{Fault, MAX_PLAYER_RULES, MaxBytes, NamedFile, file_text};
 use command_line::GameOptions;
 use game_commands::{Evidence, game_of, limits_of, player_rules_fault, source_text};
 use game_core::Limits;
@@ -14,7 +14,7 @@ use packed_rules::PackedGame;
 use std::alloc::Global;
 use std::rt::Files;
 
-/// The game to play, and the rules in START.
+/// The game to play, and the rules that START sends.
 #[derive(Drop)]
 pub struct LoadedGame {
     game: PackedGame,
@@ -31,7 +31,6 @@ impl LoadedGame {
     }
 }
 
-/// The players' rules in a file.
 fn rules_in<F: Files>(
     files: &F,
     alloc: Global,
@@ -41,14 +40,15 @@ fn rules_in<F: Files>(
     ensures spelled { IfOk result (λ rules. (text : List ℕ) × AreSpelled text rules) }
     ensures fault { IfErr result IsPlayerRulesFault }
 {
-    let text = file_text(files, alloc, NamedFile::PlayerRules, path, MAX_PLAYER_RULES)?;
+    let limit = MaxBytes::fixed(MAX_PLAYER_RULES);
+    let text = file_text(files, alloc, NamedFile::PlayerRules, path, limit)?;
     match other_rules(alloc, &text) {
         Ok(rules) => Ok(rules),
         Err(fault) => Err(player_rules_fault(text, fault, evidence)),
     }
 }
 
-/// The players' rules: those of the file, if one is named, and otherwise the game's own.
+/// The rules for the players: those of the file, if one is named, or else the game's own.
 fn rules_for<F: Files>(
     files: &F,
     alloc: Global,
@@ -83,7 +83,7 @@ fn loaded_game_of<F: Files>(
     Ok(LoadedGame { game, rules })
 }
 
-/// The game of a plan, and the rules for its players.
+/// Loads the game that the options name, and the rules for its players.
 pub fn load<F: Files>(
     files: &F,
     alloc: Global,

@@ -1,4 +1,4 @@
-//! Where the log goes.
+//! Where the log is written.
 ghost use Rattle.std.specs.Prelude.{IfErr};
 ghost use Rattle.ggp_commands.specs.Tasks.{HasNoLog};
 
@@ -8,7 +8,7 @@ use std::alloc::Global;
 use std::io::ErrorKind;
 use std::rt::Files;
 
-/// Where the log goes.
+/// Where the log is written.
 #[derive(Drop)]
 pub enum LogTarget<L> {
     Nowhere,
@@ -17,7 +17,7 @@ pub enum LogTarget<L> {
     File(L),
 }
 
-/// Opens the file that is named for the log. A dash stands for standard error.
+/// Opens the log file. A dash means standard error.
 pub fn log_target<F: Files>(
     files: &F,
     alloc: Global,

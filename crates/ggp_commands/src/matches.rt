@@ -1,4 +1,4 @@
-//! The matches of a game, and the reports on them.
+//! Plays matches of a game, and reports on them.
 ghost use Rattle.std.specs.Prelude.{◌≡◌, ◌⊎◌, ℕ, List, Option, Some, false, IfErr, IfOk, OnOk};
 ghost use denote.Param.Send.{IsSend, IsSync};
 ghost use Rattle.ggp_commands.specs.Faults.{check_fault};
@@ -20,7 +20,7 @@ use crate::faults::{check_fault, match_fault, season_fault};
 use crate::log_target::LogTarget;
 use crate::records_file::{mend_records, records_file, tell_state};
 use crate::surroundings::{Surroundings, Terminals};
-use command_faults::{Fault, NamedFile, file_text};
+use command_faults::{Fault, MaxBytes, NamedFile, file_text};
 use command_line::{MatchTask, RunPlan, SeasonPlan, VERSION};
 use game_core::{Counted, Game};
 use match_log::{
@@ -45,18 +45,16 @@ use std::time::Clock;
 use std::{fmt, thread};
 use whole_streams::{Pieces, read_to_end, write_all};
 
-/// The reports on matches while they run.
+/// The reports on running matches.
 #[derive(Drop)]
 struct Console {
     notices: Notices,
     progress: Progress,
-    /// Whether standard error shows the progress.
     shows_progress: bool,
     terminals: Terminals,
 }
 
 impl Console {
-    /// The progress, if it is shown.
     fn shown_progress(&self) -> Option<&Progress> {
         if self.shows_progress {
             Some(&self.progress)
@@ -65,7 +63,6 @@ impl Console {
         }
     }
 
-    /// Reports the number of matches to play.
     fn plan<R: Wait>(&self, rt: &R, count: usize) {
         self.progress.plan(count);
         if self.shows_progress {
@@ -74,7 +71,7 @@ impl Console {
     }
 }
 
-/// The reports of matches without a record: a line on standard error, and an object of the log.
+/// Reports matches without a record: as a line on standard error, and in the log.
 #[derive(Drop)]
 struct MissingRecords<'a, R> {
     rt: &'a R,
@@ -92,7 +89,7 @@ impl<R: Wait> ReportsMissing for MissingRecords<'_, R> {
     }
 }
 
-/// A task with matches, its game and its input.
+/// A task with its game and its input.
 #[derive(Clone, Copy)]
 pub struct ReadyTask<'t> {
     pub task: &'t MatchTask<'t>,
@@ -100,7 +97,7 @@ pub struct ReadyTask<'t> {
     pub input: &'t [u8],
 }
 
-/// Plays a match, and writes its record, and its account if the plan wants it.
+/// Plays a match, and writes its record, and its call log if the plan asks for it.
 fn run<H, S, W: Write>(
     around: &Surroundings<'_, H, S>,
     run: &RunPlan<'_>,
@@ -129,10 +126,9 @@ where
     Ok(write_all(writer, ended.text.as_slice())?)
 }
 
-/// The limit of bytes of a schedule.
-const MAX_SCHEDULE: usize = 16_777_216;
+const MAX_SCHEDULE: u32 = 16_777_216;
 
-/// The input of a task: the schedule of a season, from the file that is named or the reader, and nothing for other tasks.
+/// Reads the input of a task: the schedule of a season, from its file or the reader, and nothing for other tasks.
 pub fn input_of<F: Files, R: Read>(
     files: &F,
     alloc: Global,
@@ -145,14 +141,17 @@ pub fn input_of<F: Files, R: Read>(
 {
     match task {
         MatchTask::Season(plan) => match plan.schedule {
-            None => Ok(read_to_end(alloc, reader, MAX_SCHEDULE)?),
-            Some(path) => file_text(files, alloc, NamedFile::Input, path, MAX_SCHEDULE),
+            None => Ok(read_to_end(alloc, reader, MAX_SCHEDULE as usize)?),
+            Some(path) => {
+                let limit = MaxBytes::fixed(MAX_SCHEDULE);
+                file_text(files, alloc, NamedFile::Input, path, limit)
+            }
         },
         MatchTask::Run(_) | MatchTask::Check(_) => Ok(Vec::new(alloc)),
     }
 }
 
-/// Plays matches of a season, and writes their records. Returns the number of those without a record.
+/// Plays matches of a season, and writes their records. Returns the number of matches without a record.
 #[tactic(auto, using(crate::proofs::SeasonEnds::same_output))]
 fn play_plans<'s, H, S, W: Write>(
     around: &Surroundings<'s, H, S>,
@@ -197,8 +196,8 @@ where
     }
 }
 
-/// Plays the matches of a season that the file at this path has no records of, and adds theirs to it. Returns the number of those without a
-/// record.
+/// Plays the matches of a season that have no record in the file at this path, and appends their records to it. Returns the number of
+/// matches without a record.
 fn play_into_file<H, S>(
     around: &Surroundings<'_, H, S>,
     form: SeasonForm,
@@ -242,7 +241,7 @@ where
     }
 }
 
-/// Plays the matches of a schedule, and writes their records. Returns the number of those without a record.
+/// Plays the matches of a schedule, and writes their records. Returns the number of matches without a record.
 fn season<H, S, W: Write>(
     around: &Surroundings<'_, H, S>,
     season: SeasonPlan<'_>,
@@ -269,7 +268,6 @@ where
     }
 }
 
-/// Checks a player, and writes its table. Returns the number of bad answers.
 fn check<H, S, W: Write>(
     around: &Surroundings<'_, H, S>,
     plan: &CheckPlan<'_>,
@@ -296,7 +294,7 @@ where
     }
 }
 
-/// Performs a task on a game, and reports on its matches. Returns the number of matches without a record, or of bad answers.
+/// Runs a task on a game. Returns the number of matches without a record, or of bad answers.
 fn perform_match_task<H, S, W: Write>(
     around: &Surroundings<'_, H, S>,
     ready: ReadyTask<'_>,
@@ -352,7 +350,7 @@ where
     }
 }
 
-/// Performs the task while a thread writes the reports. Returns what the task returns.
+/// Runs the task while another thread writes the reports. Returns the result of the task.
 fn perform_beside_notices<H, S, W: Write, E: Write + Send, L: Write + Drop + Send>(
     around: &Surroundings<'_, H, S>,
     ready: ReadyTask<'_>,
@@ -369,7 +367,7 @@ where
     ensures at_fault { IfErr result (EndsTask H (is_logged_reached H (S.is_reached around.now.reach.now)) (logged_handed H S.Player.handed) ready.entry.game ready.entry.task.now ready.entry.input.now (W.contents writer.old.stream) (W.contents writer.new.stream)) }
 {
     let rt = around.rt;
-    // The closure returns the output, so its content is known behind the scope.
+    // The closure returns the output, so that its content is known after the scope.
     let (performed, _writer) = thread::scope(
         thread::scope_env(),
         rt,
@@ -393,9 +391,9 @@ where
     performed
 }
 
-/// Plays matches of a game and reports on them: each message in the log, and the progress if `errors` is a terminal without the log. No
-/// match waits for a reader of the reports. Returns the number of matches without a record, or of bad answers. Hands the output back, so
-/// its content is known.
+/// Plays matches of a game and reports on them: the log has each message, and `errors` shows the progress if it is a terminal and does not
+/// have the log. No match waits until a report is written. Returns the number of matches without a record, or of bad answers. Returns the
+/// output too, so that its content is known.
 pub fn play_with_reports<
     'w,
     N: WriterBrand,

@@ -1,4 +1,4 @@
-//! The file that the records of a season are added to.
+//! The file to which the records of a season are appended.
 ghost use Rattle.std.specs.Prelude.{IfErr};
 ghost use Rattle.command_faults.specs.Faults.{IsFileFault};
 ghost use Rattle.command_faults.specs.declared.files.NamedFile.TheVariants.{Records};
@@ -16,13 +16,12 @@ use std::io::Write;
 use std::rt::Files;
 use whole_streams::Pieces;
 
-/// Reports something of the file at this path.
 fn tell<E: Write>(errors: &mut E, path: &str, what: &str) {
     let mut pieces = Pieces { stream: errors };
     let _ = writeln!(pieces, "ggp_manager: {} {what}", Printable(path));
 }
 
-/// Reports what became of the file while records were added to it.
+/// Reports what happened to the file while records were appended to it.
 pub fn tell_state<E: Write>(errors: &mut E, path: &str, state: RecordsState) {
     match state {
         RecordsState::Kept => {}
@@ -44,7 +43,7 @@ pub fn tell_state<E: Write>(errors: &mut E, path: &str, state: RecordsState) {
     }
 }
 
-/// Reports that the end of a file was cut off, and was moved to another file: the record in this line with its account, or a last line.
+/// Reports that the end of a file was moved to another file: the record in this line with its call log, or an incomplete last line.
 fn tell_torn<E: Write>(errors: &mut E, path: &str, first: Option<u64>, torn: &str) {
     let (path, torn) = (Printable(path), Printable(torn));
     let mut pieces = Pieces { stream: errors };
@@ -60,7 +59,7 @@ fn tell_torn<E: Write>(errors: &mut E, path: &str, first: Option<u64>, torn: &st
     };
 }
 
-/// Reports a record in the middle of a file whose account is not whole.
+/// Reports a record in the middle of a file that has an incomplete call log.
 fn tell_partial<E: Write>(errors: &mut E, path: &str, line: u64) {
     let mut pieces = Pieces { stream: errors };
     let _ = writeln!(
@@ -70,7 +69,7 @@ fn tell_partial<E: Write>(errors: &mut E, path: &str, line: u64) {
     );
 }
 
-/// Reports why the file of records can't be used. Returns the program's fault.
+/// Reports why records cannot be appended to the file. Returns the program's error.
 fn refused<E: Write>(errors: &mut E, path: &str, fault: RecordsFault) -> Fault
     ensures { IsFileFault Records result }
 {
@@ -81,13 +80,13 @@ fn refused<E: Write>(errors: &mut E, path: &str, fault: RecordsFault) -> Fault
             path,
             "is no file of records: it does not begin with {",
         ),
-        Fault::File(_, why) => tell_of_file(errors, path, why.words()),
+        Fault::File(_, why) => tell_of_file(errors, path, why),
         _ => {}
     }
     fault_of_program
 }
 
-/// Opens the file of records to add to.
+/// Opens the file for appending records.
 pub fn records_file<'a, F: LockedFiles, E: Write>(
     files: &'a F,
     alloc: Global,
@@ -103,8 +102,8 @@ pub fn records_file<'a, F: LockedFiles, E: Write>(
     }
 }
 
-/// The line of the last record in the file at this path, if its account is to be whole and is not. A record before it whose account is not
-/// whole is a fault.
+/// The line number of the last record in the file, if its call log is incomplete. An earlier record with an incomplete call log is an
+/// error.
 fn last_partial<F: Files, E: Write>(
     files: &F,
     alloc: Global,
@@ -129,8 +128,8 @@ fn last_partial<F: Files, E: Write>(
     }
 }
 
-/// Moves the end of the file of records that is cut off to another file, and reports it: a last line without its line feed, and if records
-/// have accounts, the last record whose account is not whole.
+/// Moves the incomplete end of the file to another file, and reports it: a last line without a line feed, or, if records have call logs, a
+/// last record with an incomplete one.
 pub fn mend_records<F: LockedFiles, E: Write>(
     file: &mut RecordsFile<'_, F, <F as Files>::File>,
     files: &F,

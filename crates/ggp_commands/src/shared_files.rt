@@ -1,4 +1,4 @@
-//! The files and streams of a command: which are one file, and which of them a fault is about.
+//! The files and streams of a command: finds files that are used in two ways, and says which file an error is about.
 
 use command_faults::{Fault, FileFault, NamedFile, Printable, tell_of_file};
 use command_line::{GameOptions, MatchTask, SeasonPlan, Task};
@@ -11,7 +11,7 @@ use std::io::Write;
 use std::rt::Files;
 use whole_streams::Pieces;
 
-/// What a file or stream of a command is for.
+/// What a command uses a file or stream for.
 #[derive(Clone, Copy)]
 enum Role {
     Input,
@@ -40,7 +40,7 @@ impl Role {
         }
     }
 
-    /// What a fault says that the file was named for.
+    /// The use of the file, as errors name it.
     fn named(self) -> NamedFile {
         match self {
             Role::Rules => NamedFile::Rules,
@@ -59,14 +59,13 @@ impl Role {
     }
 }
 
-/// A file or stream of a command, by the path at which the system shows it.
+/// A file or stream that a command uses, with its path. Standard streams have a path in `/proc`.
 #[derive(Clone, Copy)]
 struct Used<'a> {
     role: Role,
     path: &'a str,
 }
 
-/// Adds a file if it is named.
 fn push<'a>(used: &mut Vec<Used<'a>>, role: Role, path: Option<&'a str>) -> Result<(), AllocError> {
     if let Some(path) = path {
         used.push(Used { role, path })?;
@@ -74,7 +73,6 @@ fn push<'a>(used: &mut Vec<Used<'a>>, role: Role, path: Option<&'a str>) -> Resu
     Ok(())
 }
 
-/// The file of a game's rules, if one is named.
 fn rules_file<'a>(game: GameSource<'a>) -> Option<&'a str> {
     match game {
         GameSource::Described(RulesSource::File(path), _) => Some(path),
@@ -82,7 +80,7 @@ fn rules_file<'a>(game: GameSource<'a>) -> Option<&'a str> {
     }
 }
 
-/// The file of a log. A dash stands for standard error.
+/// The log file. A dash means standard error, which is not a file.
 fn log_file(log: Option<&str>) -> Option<&str> {
     match log {
         Some("-") => None,
@@ -90,7 +88,6 @@ fn log_file(log: Option<&str>) -> Option<&str> {
     }
 }
 
-/// Adds the files and streams of a season but for those of its game.
 fn push_season<'a>(used: &mut Vec<Used<'a>>, plan: &SeasonPlan<'a>) -> Result<(), AllocError> {
     match plan.schedule {
         Some(path) => push(used, Role::NamedInput, Some(path))?,
@@ -100,7 +97,7 @@ fn push_season<'a>(used: &mut Vec<Used<'a>>, plan: &SeasonPlan<'a>) -> Result<()
     push(used, Role::Records, plan.records)
 }
 
-/// The files that a command reads or writes. Standard input is among them where only this program's own commands read it.
+/// The files and streams that a command uses. Standard input is listed only for `replay` and `season`.
 fn used_by<'a>(alloc: Global, task: &Task<'a>) -> Result<Vec<Used<'a>>, AllocError> {
     let mut used = Vec::new(alloc);
     push(&mut used, Role::Output, Some(OUTPUT))?;
@@ -136,7 +133,7 @@ fn used_by<'a>(alloc: Global, task: &Task<'a>) -> Result<Vec<Used<'a>>, AllocErr
     Ok(used)
 }
 
-/// Whether the file at this path is empty, as a shell makes the file of its output.
+/// Whether the file at this path is empty. The shell creates or empties the file of `>` before the program begins.
 fn is_empty<F: Files>(files: &F, path: &str) -> bool {
     match fs::metadata(files, path) {
         Ok(found) => found.len() == 0,
@@ -144,8 +141,8 @@ fn is_empty<F: Files>(files: &F, path: &str) -> bool {
     }
 }
 
-/// Whether two uses of one file destroy it or what is written. Matches can be over by the file that records are added to, and by one that
-/// standard output is added to.
+/// Whether using one file in these two ways would destroy it or the output. `--done` and `--records` may name the same file, and standard
+/// output may be appended to the file of `--done`.
 fn are_at_odds<F: Files>(files: &F, one: Used<'_>, other: Used<'_>) -> bool {
     if !one.role.is_written() && !other.role.is_written() {
         return false;
@@ -155,11 +152,10 @@ fn are_at_odds<F: Files>(files: &F, one: Used<'_>, other: Used<'_>) -> bool {
         (Role::Output, Role::Done) if !is_empty(files, other.path) => return false,
         _ => {}
     }
-    // Two files with one name that are not there yet are made as one file.
+    // Two files with the same path that do not exist yet will become one file.
     one.path == other.path || is_one_file(files, one.path, other.path)
 }
 
-/// Reports that two uses are of one file.
 fn tell_shared<F: Files, E: Write>(files: &F, one: Used<'_>, other: Used<'_>, errors: &mut E) {
     let emptied = if is_empty(files, other.path) {
         ", and is empty now, as `>` of the shell makes it"
@@ -176,7 +172,7 @@ fn tell_shared<F: Files, E: Write>(files: &F, one: Used<'_>, other: Used<'_>, er
     );
 }
 
-/// Refuses a command if two of its files and streams are one regular file, and one of the two is written.
+/// Refuses a command that writes to a regular file and uses the same file in another way.
 pub fn refuse_shared<F: Files, E: Write>(
     files: &F,
     alloc: Global,
@@ -195,7 +191,7 @@ pub fn refuse_shared<F: Files, E: Write>(
     Ok(())
 }
 
-/// Reports which file a fault is about, unless it was reported where the fault was found.
+/// Reports which file an error is about, unless that was already reported.
 pub fn tell_file<E: Write>(alloc: Global, task: &Task<'_>, fault: Fault, errors: &mut E) {
     let Fault::File(named, why) = fault else {
         return;
@@ -212,7 +208,7 @@ pub fn tell_file<E: Write>(alloc: Global, task: &Task<'_>, fault: Fault, errors:
             _ => false,
         };
         if is_it {
-            tell_of_file(errors, file.path, why.words());
+            tell_of_file(errors, file.path, why);
         }
     }
 }

@@ -1,8 +1,8 @@
-//! What surrounds a command: the runtime, how players are reached, and where the program's streams go.
+//! What a command needs from its caller.
 
 use std::alloc::Global;
 
-/// Whether standard error and standard output go to a terminal, and whether the command line has `--why`.
+/// Whether standard error and standard output are terminals, and whether the command line has `--why` or `--json`.
 #[derive(Clone, Copy)]
 pub struct Terminals {
     pub errors: bool,
@@ -11,13 +11,13 @@ pub struct Terminals {
 }
 
 impl Terminals {
-    /// Whether standard error says what a program may not expect there.
+    /// Whether to explain errors on standard error. A program that reads it gets only the error itself, unless it asks for more.
     pub fn explain(self) -> bool {
         self.errors || self.why
     }
 }
 
-/// What surrounds a command.
+/// What a command needs: the runtime, an allocator, and a way to reach players.
 #[derive(Drop)]
 pub struct Surroundings<'a, H, S> {
     pub rt: &'a H,

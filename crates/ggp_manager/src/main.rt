@@ -20,12 +20,12 @@ use std::thread::Threads;
 use std::time::Clock;
 use std::{env, io};
 
-/// The words after the program's name.
+/// The arguments after the program's name.
 fn command_line(rt: &HostRuntime) -> io::Result<Vec<String>> {
     Ok(env::args(rt)?.skip(1).collect(rt.alloc())?)
 }
 
-/// The number of places that a command's matches may have: `season` has one for each match of its schedule, every other command one.
+/// How many matches a command may play: for `season` one for each match of the schedule, for all other commands one.
 fn places(words: &[String]) -> usize
     ensures { 0 < result }
 {
@@ -35,7 +35,7 @@ fn places(words: &[String]) -> usize
     }
 }
 
-/// The fault where the command line can't be read.
+/// The error for a command line that cannot be read.
 fn fault_of(error: &io::Error) -> Fault {
     match error.kind() {
         ErrorKind::OutOfMemory => Fault::Memory,
@@ -43,12 +43,12 @@ fn fault_of(error: &io::Error) -> Fault {
     }
 }
 
-/// Reports a fault before any command. Returns the program's status.
+/// Reports an error that occurred before any command. Returns the program's exit status.
 fn ended<E: Write>(errors: &mut E, fault: Fault, why: bool) -> ExitCode {
     ExitCode::from(report(errors, fault, why))
 }
 
-/// What a command gets of the process beside its runtime and network.
+/// What a command gets from the process besides its runtime and network.
 #[derive(Drop)]
 struct Process<I, O, E> {
     alloc: Global,
@@ -58,7 +58,7 @@ struct Process<I, O, E> {
     errors: E,
 }
 
-/// Performs the command of the words. Returns the program's status.
+/// Runs the command in the arguments. Returns the program's exit status.
 fn perform<H, S, I: Read + Drop, O: Write + Drop, E: Write + Send + Drop>(
     rt: &H,
     reach: &S,

@@ -1,4 +1,4 @@
--- What is assembled from the parts of a description is its game.
+-- The game made from the parts of a description is the description's game.
 use Rattle.std.proofs.Common.{◌≡◌, ◌≢◌, ℕ, ◌≤◌, true, List, [], ◌∷◌, length, map, refl, sym, ap, ◌∙◌, arith, subst}
 use Rattle.std.proofs.lemmas.List.{length-map}
 use Rattle.game_core.specs.Expression.{Expression}
@@ -70,7 +70,6 @@ moves-read xs t roles terms p e =
     ap (are_terms_in_any (expressions xs)) e
     ∙ terms-spelled (expressions xs) t.moves (λ u h. head-terms (expressions xs) Move (description_of xs) u (heads-read xs) (sym (p.table.moves u) ∙ h))
 
--- the game of tables that are those of the description
 pub game-of-tables : (xs : List Expression) (t : NameTable) (g : GameTables) → IsLawful (loaded_game g) → AreGameParts (description_of xs) t g.roles g.rest g.turn
     → g.states ≡ t.states → g.moves ≡ t.moves → g.init ≡ state_mentions InitHead t.states 0 t.heads → g.next ≡ state_mentions NextHead t.states 0 t.heads → g.terminal ≡ atom_number t Terminal → g.atoms ≡ length t.heads → IsGameOf (description_of xs) (loaded_game g)
 game-of-tables xs t g lawful p states moves init next terminal atoms =

@@ -86,7 +86,7 @@ pub among-all-new : (seen xs : List (List ℕ)) (t : List ℕ) → is_among (wit
 among-all-new seen [] t = sym (or-false (is_among seen t))
 among-all-new seen (x ∷ xs) t = among-all-new (with_new bytes_eq seen x) xs t ∙ ap (λ b. b || is_among xs t) (among-new seen x t) ∙ or_assoc (is_among seen t) (bytes_eq x t) (is_among xs t)
 
--- a sorted set has the texts that were added
+-- sorting a set keeps its texts
 pub sorted-same : (ks js xs : List (List ℕ)) (t : List ℕ) → IsPermutation ks js → ks ≡ with_all_new bytes_eq [] xs → is_among js t ≡ is_among xs t
 sorted-same ks js xs t moved e =
     sym (among-permuted ks js t moved) ∙ ap (λ ys. is_among ys t) e ∙ among-all-new [] xs t

@@ -95,7 +95,6 @@ mutual
   any-spoken-true names of_state row b (More l ls) is (inl h) = or-left _ _ (spoken-true names of_state row b l is h)
   any-spoken-true names of_state row b (More l ls) is (inr h) = or-right _ _ (any-spoken-true names of_state row b ls is h)
 
--- a rule whose body speaks derives its head
 rule-derives : (names : NameTable) (of_state : Bool) (row : ℕ → Bool) (r : TextRule) (d : Description) → IsRuleOf r d → any_true (numbered [] []) row (all_exposed of_state (all_resolved names r.body)) ≡ true → derived (numbered [] []) row (exposed_rules of_state (resolved_rules names d)) (atom_number names r.head) ≡ true
 rule-derives names of_state row r [] h is = absurd h
 rule-derives names of_state row r (q ∷ qs) (inl e) is =
@@ -104,14 +103,13 @@ rule-derives names of_state row r (q ∷ qs) (inl e) is =
     or-left _ _ (and-both (nat_eq (atom_number names q.head) (atom_number names r.head)) _ (number-same _ _ (ap (λ (x : TextRule). atom_number names x.head) (sym e))) (and-true body ∙ is'))
 rule-derives names of_state row r (q ∷ qs) (inr h) is = or-right _ _ (rule-derives names of_state row r qs h is)
 
--- what depends on something given is set
 pub depends-set : (names : NameTable) (d : Description) (of_state : Bool) (row : ℕ → Bool) (a : Derived) → IsDependence names d of_state row → DependsOnGiven Derived (List ℕ) of_state d a → row (atom_number names a) ≡ true
 depends-set names d of_state row a eq (at_once b r is head given) =
     ap (λ x. row (atom_number names x)) (sym head) ∙ eq.equation (atom_number names r.head) ∙ rule-derives names of_state row r d is (any-given-true names of_state row r.body given)
 depends-set names d of_state row a eq (through b c r is head speaks rest) =
     ap (λ x. row (atom_number names x)) (sym head) ∙ eq.equation (atom_number names r.head) ∙ rule-derives names of_state row r d is (any-spoken-true names of_state row c r.body (depends-set names d of_state row c eq rest) speaks)
 
--- why a body speaks
+-- why the body of a rule contains a given sentence or an atom that is set
 abbrev Spoken : NameTable → Bool → (ℕ → Bool) → TextLiteral → Type 0
 Spoken names of_state row l = (speaks_of_given of_state l ≡ true) ⊎ ((c : Derived) × SpeaksOf c l × (row (atom_number names c) ≡ true))
 
@@ -194,7 +192,6 @@ set-below names d of_state row number have numbered' eq (suc k) a below is =
         let f = ap number head in
         through a h.0 r is head h.1 (rest h.0 (omega (arith, lower, f, below)) h.2)
 
--- what is set depends on something given
 pub set-depends : (names : NameTable) (d : Description) (of_state : Bool) (row : ℕ → Bool) (a : Derived) → HaveHeads names d → IsAcyclic d → IsDependence names d of_state row → row (atom_number names a) ≡ true → DependsOnGiven Derived (List ℕ) of_state d a
 set-depends names d of_state row a have acyclic eq is = set-below names d of_state row acyclic.0 have acyclic.1 eq (suc (acyclic.0 a)) a (omega arith) is
 
@@ -246,7 +243,6 @@ depends-in names d on_moves on_given size (Goal r n) lm lg m g h = lm _ (depends
 depends-in names d on_moves on_given size Terminal lm lg m g h = lm _ (depends-set names d false on_moves Terminal m h)
 depends-in names d on_moves on_given size (Other t) lm lg m g h = absurd h
 
--- no head is barred where none is found
 pub barred-none : (names : NameTable) (d : Description) (on_moves on_given : List Bool) → length on_moves ≡ length names.heads → length on_given ≡ length names.heads → IsDependence names d false (bit on_moves) → IsDependence names d true (bit on_given) → StandFrom names 0 names.heads → has_barred on_moves on_given 0 names.heads ≡ false → ¬ (HasBarredHead d)
 barred-none names d on_moves on_given wide wide' m g stand none h =
     let lt = depends-in names d (bit on_moves) (bit on_given) (length names.heads) h.0 (λ n e. let k = past on_moves n e in omega (arith, k, wide)) (λ n e. let k = past on_given n e in omega (arith, k, wide')) m g h.1 in

@@ -40,7 +40,7 @@ rule-agree w number u v r a sound ranked lower true is =
     let e = ap number (sound r.head a is) in
     all-agree w u v r.body (all_atoms-weaken (λ b. number b < number r.head) (λ b. u b ≡ v b) r.body (λ b below. lower b (omega (arith, e))) ranked)
 
--- two assignments that agree on lower atoms derive the same at a
+-- two assignments that agree on lower atoms derive the same truth for a
 pub derived-agree : {A T : Type 0} (w : Situation A T) (number : A → ℕ) (u v : A → Bool) (rules : List (Rule A T)) (a : A) → ((x y : A) → w.same x y ≡ true → x ≡ y) → IsNumbering number rules → ((b : A) → number b < number a → u b ≡ v b) → derived w u rules a ≡ derived w v rules a
 derived-agree w number u v [] a sound ranked lower = refl
 derived-agree w number u v (r ∷ rs) a sound ranked lower =
@@ -48,7 +48,6 @@ derived-agree w number u v (r ∷ rs) a sound ranked lower =
     let first = rule-agree w number u v r a sound ranked.0 lower (w.same r.head a) refl in
     cc
 
--- two fits agree below each number
 fits-below : {A T : Type 0} (w : Situation A T) (number : A → ℕ) (u v : A → Bool) (rules : List (Rule A T)) → ((x y : A) → w.same x y ≡ true → x ≡ y) → IsNumbering number rules → Fits w rules u → Fits w rules v → (k : ℕ) (a : A) → number a < k → u a ≡ v a
 fits-below w number u v rules sound ranked fu fv zero a below = absurd (omega arith)
 fits-below w number u v rules sound ranked fu fv (suc k) a below =
@@ -58,7 +57,7 @@ fits-below w number u v rules sound ranked fu fv (suc k) a below =
 pub fits-unique : {A T : Type 0} (w : Situation A T) (number : A → ℕ) (u v : A → Bool) (rules : List (Rule A T)) → ((x y : A) → w.same x y ≡ true → x ≡ y) → IsNumbering number rules → Fits w rules u → Fits w rules v → (a : A) → u a ≡ v a
 fits-unique w number u v rules sound ranked fu fv a = fits-below w number u v rules sound ranked fu fv (suc (number a)) a (omega arith)
 
--- the truth of an atom, as far as this many steps find it
+-- the truth of an atom, found in at most this many steps
 abbrev pub found : {A T : Type 0} → Situation A T → List (Rule A T) → ℕ → A → Bool
 found w rules zero a = false
 found w rules (suc k) a = derived w (found w rules k) rules a
@@ -69,7 +68,6 @@ found-same w number rules sound ranked (suc j) zero a lj lk = absurd (omega arit
 found-same w number rules sound ranked (suc j) (suc k) a lj lk =
     derived-agree w number (found w rules j) (found w rules k) rules a sound ranked (λ b lower. found-same w number rules sound ranked j k b (omega arith) (omega arith))
 
--- what the steps find by an atom's number fits
 found-fits : {A T : Type 0} (w : Situation A T) (number : A → ℕ) (rules : List (Rule A T)) → ((x y : A) → w.same x y ≡ true → x ≡ y) → IsNumbering number rules → Fits w rules (λ a. found w rules (suc (number a)) a)
 found-fits w number rules sound ranked a =
     derived-agree w number (found w rules (number a)) (λ b. found w rules (suc (number b)) b) rules a sound ranked

@@ -1,4 +1,4 @@
--- The loaded game is that of the description.
+-- The loaded game is the description's game.
 use Rattle.std.proofs.Common.{◌≡◌, ℕ, zero, suc, ◌+◌, ◌<◌, ◌≤◌, Bool, true, false, ◌||◌, if◌then◌else◌, bytes_eq, List, [], ◌∷◌, ◌++◌, length, get_or, take, map, filter, set, Option, Some, None, refl, sym, ap, ◌∙◌, arith, length-set, subst}
 use Rattle.std.specs.Prelude.{slice_get}
 use Rattle.std.specs.List.{list_any}
@@ -40,15 +40,14 @@ use Rattle.ground_rules.proofs.Goals.{goal-answer}
 use Rattle.ground_rules.specs.Internal.SplitRules.{SpeakOfNoMoves, IsNoHead, IsAnswer}
 use Rattle.ground_rules.proofs.TwoPasses.{pass-append, still-pass, kept-bit}
 
--- both parts of the rules
 abbrev pub all_rules : GameTables → List (Rule ℕ ℕ)
 all_rules g = g.rest ++ g.turn
 
--- the truth of the derived atoms by one pass over all rules
+-- the truth of the derived atoms, from one pass over all rules
 abbrev pub row_of : GameTables → List Bool → List ℕ → List Bool
 row_of g state joint = row_after (numbered state joint) (unset g.atoms) (all_rules g)
 
--- the tables are those that the description gives
+-- the tables are the description's
 pub record IsBuilt (d : Description) (table : NameTable) (rank : ℕ → ℕ) (g : GameTables) : Type 0 where
   pub heads' : table.heads ≡ heads d
   pub roles : table.roles ≡ role_names d
@@ -70,7 +69,7 @@ pub record IsBuilt (d : Description) (table : NameTable) (rank : ℕ → ℕ) (g
   pub has_moves : (t : List ℕ) → is_among (head_terms Move d) t ≡ true → is_among table.moves t ≡ true
   pub acyclic : IsAcyclic d
 
--- heads stand at their places
+-- the place of each head is its number
 stand-from : (table : NameTable) (n : ℕ) (hs : List Derived) → ((k : ℕ) (d : Derived) → k < length hs → atom_number table (get_or hs k d) ≡ n + k) → StandFrom table n hs
 stand-from table n [] at = tt
 stand-from table n (a ∷ as') at = (at 0 a (omega arith) ∙ omega arith, stand-from table (n + 1) as' (λ k d lt. let e = at (suc k) d (omega (arith, lt)) in omega (arith, e)))
@@ -110,7 +109,6 @@ are-in : (pick : Derived → Option (List ℕ)) (terms : List (List ℕ)) (hs : 
 are-in pick terms [] h = tt
 are-in pick terms (a ∷ as') h = are-in-by pick terms a (pick a) (texts_by pick as') refl h.0 (are-in pick terms as' h.1)
 
--- the terms of the picked heads are in the table
 pub picked-in : (kind : TermKind) (d : Description) (terms : List (List ℕ)) (pick : Derived → Option (List ℕ)) (make : List ℕ → Derived) → IsPick pick make → ((t : List ℕ) → is_among (terms_in kind (make t)) t ≡ true) → ((t : List ℕ) → is_among (head_terms kind d) t ≡ true → is_among terms t ≡ true) → AreIn terms (texts_by pick (heads d))
 picked-in kind d terms pick make is about has =
     are-in pick terms (heads d) (each-head kind (λ a. (t : List ℕ) → pick a ≡ Some t → place bytes_eq terms t < length terms) d (λ a inside t e.
@@ -142,11 +140,10 @@ past [] (suc k) h = absurd cc
 past (b ∷ bs) zero h = omega arith
 past (b ∷ bs) (suc k) h = let lt = past bs k h in omega (arith, lt)
 
--- a true atom is a head
 true-is-head : (table : NameTable) (v : Derived → Bool) (row : List Bool) → IsByRow table v row → length row ≡ length table.heads → (a : Derived) → v a ≡ true → list_any (same_derived a) table.heads ≡ true
 true-is-head table v row by size a h = let lt = past row (atom_number table a) (sym (by a) ∙ h) in within-any same_derived table.heads a (omega (arith, lt, size))
 
--- by the pass, for a situation by names and one by numbers that agree
+-- the row of a pass over the numbered rules agrees with a fit of the description
 pub record IsRead (d : Description) (table : NameTable) (v : Derived → Bool) (row : List Bool) : Type 0 where
   pub by : IsByRow table v row
   pub size : length row ≡ length table.heads
@@ -183,7 +180,7 @@ text-within : (terms ts : List (List ℕ)) (t : List ℕ) → AreIn terms ts →
 text-within terms [] t inside h = absurd cc
 text-within terms (s ∷ ts) t inside h = within-by terms s t ts (bytes_eq t s) refl inside.0 (text-within terms ts t inside.1) h
 
--- a picked text is set where the fit says so
+-- a picked text is set if and only if its head is true in the fit
 set-is : (d : Description) (table : NameTable) (v : Derived → Bool) (row : List Bool) (pick : Derived → Option (List ℕ)) (make : List ℕ → Derived) (t : List ℕ) → IsRead d table v row → table.heads ≡ heads d → IsPick pick make → ((t : List ℕ) → is_among (terms_in State (make t)) t ≡ true)
     → ((s : List ℕ) → is_among (head_terms State d) s ≡ true → is_among table.states s ≡ true) → are_in_order table.states ≡ true
     → is_among (picked (marked (unset (length table.states)) row (mentions_by pick table.states 0 table.heads)) table.states) t ≡ v (make t)
@@ -235,7 +232,6 @@ all-names g = names-front g (length g.roles) (omega arith) ∙ take_all (length 
 game-names : (d : Description) (table : NameTable) (rank : ℕ → ℕ) (g : GameTables) → IsBuilt d table rank g → names g.roles ≡ table.roles
 game-names d table rank g built = ap names built.role_tables ∙ table-names table table.roles
 
--- no term and no move
 agrees-empty : (table : NameTable) (n : ℕ) → Agrees table (situation [] [] []) (numbered (unset n) [])
 agrees-empty table n = record {
   same = λ a b. refl;
@@ -289,18 +285,17 @@ role-is d table rank g r built lt =
     let e : role_at g r ≡ role_table table (get_or table.roles r []) = ap (λ rs. get_or rs r no_role) built.role_tables ∙ table-at table table.roles r lt' in
     e ∙ ap (role_table table) (sym (ap (λ (x : RoleTable). x.name) e))
 
--- the two passes are the one
+-- the two passes, one after the other, give the row of one pass over all rules
 turn-is : (d : Description) (table : NameTable) (rank : ℕ → ℕ) (g : GameTables) (s : StateRows) (joint : List ℕ) → IsBuilt d table rank g → s.kept ≡ kept_row g s.row → turn_row g s joint ≡ row_of g s.row joint
 turn-is d table rank g s joint built kept =
     let w = numbered s.row joint in
     ap (λ row. row_after w row g.turn) (kept ∙ sym (still-pass s.row joint (unset g.atoms) g.rest built.no_moves))
     ∙ sym (pass-append w (unset g.atoms) g.rest g.turn)
 
--- two rows say the same of the answers
+-- two rows agree on the answers
 abbrev pub SayTheSame : NameTable → List Bool → List Bool → Type 0
 SayTheSame table u v = (a : Derived) → IsAnswer a → bit u (atom_number table a) ≡ bit v (atom_number table a)
 
--- what is kept says what the one pass says of the answers
 kept-says : (d : Description) (table : NameTable) (rank : ℕ → ℕ) (g : GameTables) (s : StateRows) → IsBuilt d table rank g → IsSettled g s → SayTheSame table s.kept (row_of g s.row [])
 kept-says d table rank g s built is a answer =
     ap (λ row. bit row (atom_number table a)) is.kept
@@ -339,7 +334,7 @@ same-goals table role u v n (Legal r m ∷ as') stand same = same-goals table ro
 same-goals table role u v n (Terminal ∷ as') stand same = same-goals table role u v (n + 1) as' stand.1 same
 same-goals table role u v n (Other t ∷ as') stand same = same-goals table role u v (n + 1) as' stand.1 same
 
--- the game answers what any fit of the description says
+-- the game's answers are those of every fit of the description
 pub game-of : (d : Description) (table : NameTable) (rank : ℕ → ℕ) (g : GameTables) → IsBuilt d table rank g → IsLawful (loaded_game g) → IsGameOf d (loaded_game g)
 game-of d table rank g built lawful = record {
   roles = all-names g ∙ game-names d table rank g built ∙ built.roles;

@@ -1,4 +1,4 @@
--- The goal of a role, by the fit.
+-- The goal of a role, according to the fit.
 use Rattle.std.proofs.Common.{◌≡◌, ℕ, ◌+◌, ◌≤◌, ◌⊎◌, inl, inr, Bool, true, false, ◌&&◌, ◌||◌, if◌then◌else◌, nat_eq, bytes_eq, List, [], ◌∷◌, filter, refl, sym, ap, ◌∙◌, arith}
 use Rattle.std.specs.List.{list_any}
 use Rattle.rule_sentences.specs.declared.sentence.Derived.{Derived}
@@ -13,7 +13,7 @@ use Rattle.numbered_rules.specs.Numbered.{bit}
 use Rattle.ground_rules.specs.Internal.Resolved.{NameTable, atom_number, goal_heads}
 use Rattle.ground_rules.proofs.Mentions.{StandFrom, IsByRow}
 
--- each goal head stands at its place, and the places rise
+-- each goal head is at its place, and the places increase
 abbrev AreGoalsFrom : NameTable → List ℕ → ℕ → List GoalHead → Type 0
 AreGoalsFrom names role n [] = Unit {0}
 AreGoalsFrom names role n (g ∷ gs) = (n ≤ g.atom) × (atom_number names (Goal role g.value) ≡ g.atom) × AreGoalsFrom names role (g.atom + 1) gs
@@ -101,7 +101,6 @@ answer names v role n (g ∷ k ∷ gs) from true' all = λ m h.
     let same : atom_number names (Goal role g.value) ≡ atom_number names (Goal role k.value) = ap (λ x. atom_number names (Goal role x)) (e ∙ sym f) in
     omega (arith, same, from.1, from.2.0, from.2.1)
 
--- the goal by the row is that of the fit
 pub goal-answer : (names : NameTable) (v : Derived → Bool) (row : List Bool) (role : List ℕ) → IsByRow names v row → StandFrom names 0 names.heads → ((a : Derived) → v a ≡ true → list_any (same_derived a) names.heads ≡ true)
     → IsGoalAnswer v role (only_goal row (goal_heads role 0 names.heads))
 goal-answer names v row role by stand known =

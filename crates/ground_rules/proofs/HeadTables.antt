@@ -10,7 +10,6 @@ use Rattle.ground_rules.specs.Internal.Resolved.{NameTable, place}
 use Rattle.ground_rules.proofs.TablePlaces.{Decides, place-within}
 use Rattle.ground_rules.proofs.Transfer.{HaveHeads, derived-decides}
 
--- a place below a length of one more is a place before, or the last
 last_or : (k n : ℕ) → k < n + 1 → (k < n) ⊎ (k ≡ n)
 last_or k n lt = elim (cases_order k n) [ inl e ↦ inr e | inr f ↦ elim f [ inl g ↦ inl g | inr g ↦ absurd (omega arith) ] ]
 
@@ -48,7 +47,7 @@ have-heads names (r ∷ rs) seen e =
 pub heads-there : (names : NameTable) (d : Description) → names.heads ≡ heads d → HaveHeads names d
 heads-there names d e = have-heads names d [] e
 
--- each of the list stands at its own place
+-- the first place of each member is its own index
 abbrev pub AreOnce : {A : Type 0} → (A → A → Bool) → List A → Type 0
 AreOnce {A} same xs = (k : ℕ) (d : A) → k < length xs → place same xs (get_or xs k d) ≡ k
 

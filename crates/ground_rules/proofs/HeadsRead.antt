@@ -1,4 +1,4 @@
--- What is known of the heads of a description that was read.
+-- What holds for the heads of a description that was read.
 use Rattle.std.proofs.Common.{◌≡◌, ℕ, ◌≤◌, Bool, true, false, ◌&&◌, if◌then◌else◌, nat_le, List, [], ◌∷◌, map, Option, Some, None, option_map, refl, ap, ◌∙◌, arith, subst}
 use Rattle.std.specs.Prelude.{option_and_then}
 use Rattle.std.specs.List.{cons_option}
@@ -44,7 +44,6 @@ one-in (more f none) t e = absurd cc
 one-in (more f (more x none)) t e = or-right _ _ (or-left _ _ (text-in x t e))
 one-in (more f (more x (more y xs))) t e = absurd cc
 
--- both values are there
 both-are : {A B C : Type 0} (f : A → B → C) (o : Option A) (p : Option B) (z : C) → both f o p ≡ Some z → (x : A) × (y : B) × (o ≡ Some x) × (p ≡ Some y) × (f x y ≡ z)
 both-are {A} {B} {C} f (Some x) (Some y) z e = (x, y, refl, refl, some-is (f x y) z e)
   where
@@ -60,7 +59,6 @@ mapped-is {A} {B} f (Some x) z e = (x, refl, some-is (f x) z e)
     some-is s u g = cc
 mapped-is f None z e = absurd cc
 
--- what two arguments are
 two-are : {A : Type 0} (read : Expression → Option A) (xs : Expressions) (p : List ℕ × A) → two_arguments read xs ≡ Some p → (f x y : Expression) × (xs ≡ more f (more x (more y none))) × (term_text x ≡ Some p.0) × (read y ≡ Some p.1)
 two-are read none p e = absurd cc
 two-are read (more f none) p e = absurd cc
@@ -125,7 +123,7 @@ alone-head TerminalWord text xs a e = transported xs Terminal a (some-is _ _ e) 
 alone-head PlainWord text xs a e = let m = mapped-is _ (term_text (atom text)) (IsDerived a) e in transported xs (Other m.0) a m.2 tt
 alone-head w text xs a e = absurd cc
 
--- what is known from some expressions is known from more
+-- what holds for some expressions also holds for more of them
 more-known : (xs ys : Expressions) (a : Derived) → ((t : List ℕ) → is_term_in_any xs t ≡ true → is_term_in_any ys t ≡ true) → HeadFrom xs a → HeadFrom ys a
 more-known xs ys (Role r) f h = f r h
 more-known xs ys (Init t) f h = f t h

@@ -1,4 +1,4 @@
--- The tables of a loaded game pass the tests that its laws rest on.
+-- The tables of a loaded game pass the tests from which its laws follow.
 use Rattle.std.proofs.Common.{◌≡◌, ℕ, ◌+◌, ◌<◌, ◌≤◌, Bool, true, false, if◌then◌else◌, nat_eq, nat_le, bytes_eq, List, [], ◌∷◌, ◌++◌, length, map, Option, Some, None, refl, sym, ap, ◌∙◌, arith}
 use Rattle.std.proofs.lemmas.Bool.{false_from_ne_true, or_from}
 use Rattle.std.proofs.lemmas.Bool.Decides.{nat_tests, Decides-ltb}
@@ -44,7 +44,7 @@ distinct-terms names pick make terms n (a ∷ as') is stand inside = by-pick (pi
         and-both _ _ ((Decides-ltb (place bytes_eq terms s) (length terms)).1 inside.0)
         (and-both _ _ (not-false _ (no-term names pick make terms s n (n + 1) as' is (omega arith) stand.1 inside.0 at)) (rest inside.1))
 
--- what is known of a head that was read from these expressions
+-- what holds for a head that was read from these expressions
 abbrev pub HeadFrom : Expressions → Derived → Type 0
 HeadFrom xs (Role r) = is_term_in_any xs r ≡ true
 HeadFrom xs (Init t) = is_term_in_any xs t ≡ true
@@ -77,7 +77,7 @@ role-tables xs table (r ∷ rs) from stand inside =
     and-both _ _ (ap (have_distinct_terms (length table.moves)) (legal-mentions table.moves r 0 table.heads) ∙ distinct-terms table (legal_pick r) (Legal r) table.moves 0 table.heads (legal-picks r) stand (inside r))
     (and-both _ _ (goals xs r 0 table.heads from) (role-tables xs table rs from stand inside))
 
--- the texts of heads that were read are those of terms
+-- the texts of heads that were read are texts of terms
 among-by : (xs : Expressions) (ts us : List (List ℕ)) (t : List ℕ) → (is_among ts t ≡ true → is_term_in_any xs t ≡ true) → (is_among us t ≡ true → is_term_in_any xs t ≡ true) → is_among (ts ++ us) t ≡ true → is_term_in_any xs t ≡ true
 among-by xs [] us t f g h = g h
 among-by xs (x ∷ ts) us t f g h = or-elim (bytes_eq x t) (is_among (ts ++ us) t) _ (λ e. f (or-left _ _ e)) (λ e. among-by xs ts us t (λ k. f (or-right _ _ k)) g e) h

@@ -1,4 +1,4 @@
--- The size of a description against the limits.
+-- Tests of a description's size.
 use Rattle.std.proofs.Common.{◌≡◌, ℕ, ◌<◌, ◌≤◌, true, false, ◌&&◌, nat_le, List, [], ◌∷◌, length, map, refl, sym, ap, ◌∙◌, arith}
 use Rattle.std.proofs.lemmas.Bool.Decides.{nat_tests}
 use Rattle.game_core.specs.Limits.{max_sentences, max_atomic_sentences}
@@ -56,7 +56,6 @@ few-moves t d (n ∷ ns) same =
     let rest = few-moves t d ns same in
     cc
 
--- the moves decide the rest
 pub small-by-moves : (limits : Limits) (n : ℕ) (t : NameTable) (d : Description) → t.heads ≡ heads d → t.roles ≡ role_names d → is_small_so_far limits n d ≡ true → is_small limits n d ≡ have_few_moves_by (map (role_table t) t.roles)
 small-by-moves limits n t d same roles so_far =
     let e : have_few_moves_by (map (role_table t) t.roles) ≡ have_few_moves (role_names d) d = few-moves t d t.roles same ∙ ap (λ ns. have_few_moves ns d) roles in

@@ -1,4 +1,4 @@
--- What the tables of a game say, by the fit.
+-- What the tables of a game say, according to the fit.
 use Rattle.std.proofs.Common.{◌≡◌, ◌≢◌, ℕ, zero, suc, ◌+◌, ◌<◌, ◌≤◌, Bool, true, false, ◌&&◌, ◌||◌, if◌then◌else◌, nat_eq, bytes_eq, List, [], ◌∷◌, ◌++◌, length, get_or, set, map, filter, Option, Some, None, refl, sym, ap, ◌∙◌, arith, length-set, get_or-set_other}
 use mathlib.Core.Bool.{or-false, or-true, or_assoc}
 use Rattle.std.proofs.lemmas.Grind.{get_or-set_at}
@@ -17,7 +17,7 @@ use Rattle.ground_rules.specs.Internal.Resolved.{NameTable, atom_number, with_me
 use Rattle.ground_rules.proofs.TablePlaces.{place-at, place-one}
 use Rattle.ground_rules.proofs.Situations.{text-decides, text_of}
 
--- whether some true mention is of this term
+-- whether some true mention has this term
 abbrev pub hits : List Bool → List Mention → ℕ → Bool
 hits row [] k = false
 hits row (m ∷ ms) k = (bit row m.atom && nat_eq m.term k) || hits row ms k
@@ -54,12 +54,12 @@ past-bit (b ∷ bs) (suc k) le = past-bit bs k (omega (arith, le))
 pub marked-bit : (n : ℕ) (row : List Bool) (ms : List Mention) (k : ℕ) → k < n → bit (marked (unset n) row ms) k ≡ hits row ms k
 marked-bit n row ms k lt = marked-hits (unset n) row ms k (omega (arith, length-replicate n false, lt)) ∙ ap (λ b. b || hits row ms k) (unset-bit n k)
 
--- the heads from this number on stand at their places
+-- the place of each head, from this number, is its number
 abbrev pub StandFrom : NameTable → ℕ → List Derived → Type 0
 StandFrom names n [] = Unit {0}
 StandFrom names n (a ∷ as') = (atom_number names a ≡ n) × StandFrom names (n + 1) as'
 
--- a test by the row is that of the fit
+-- the row agrees with the fit
 abbrev pub IsByRow : NameTable → (Derived → Bool) → List Bool → Type 0
 IsByRow names v row = (a : Derived) → v a ≡ bit row (atom_number names a)
 
@@ -69,7 +69,7 @@ place-test terms t s lt =
     (λ e. text-same s t (sym (place-one bytes_eq text-decides terms t s lt (number-sound _ _ e))))
     (λ e. number-same _ _ (ap (place bytes_eq terms) (sym (text-sound s t e))))
 
--- the texts that some heads are about: pick gives the text of such a head, make the head of a text
+-- the texts of some kind of heads: pick gives the text of such a head, and make gives the head with a text
 pub record IsPick (pick : Derived → Option (List ℕ)) (make : List ℕ → Derived) : Type 0 where
   pub made : (a : Derived) (t : List ℕ) → pick a ≡ Some t → a ≡ make t
   pub picked : (t : List ℕ) → pick (make t) ≡ Some t
@@ -82,7 +82,6 @@ abbrev pub texts_by : (Derived → Option (List ℕ)) → List Derived → List 
 texts_by pick [] = []
 texts_by pick (a ∷ as') = with_text (pick a) (texts_by pick as')
 
--- these texts are in the table
 abbrev pub AreIn : List (List ℕ) → List (List ℕ) → Type 0
 AreIn terms [] = Unit {0}
 AreIn terms (t ∷ ts) = (place bytes_eq terms t < length terms) × AreIn terms ts

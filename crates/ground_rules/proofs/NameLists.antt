@@ -1,4 +1,4 @@
--- Lists of names, one after another.
+-- Lists of names, one name after another.
 use Rattle.std.proofs.Common.{◌≡◌, ◌≢◌, ℕ, ◌+◌, ◌<◌, Bool, true, false, not, ◌&&◌, ◌||◌, bytes_eq, List, [], ◌∷◌, ◌++◌, drop, length, get_or, refl, sym, ap, ◌∙◌, append_assoc, append-nil}
 use mathlib.Core.Bool.{and-false}
 use Rattle.std.proofs.lemmas.List.{at_drop_more}
@@ -28,7 +28,6 @@ pub among-any : (xs : List (List ℕ)) (t : List ℕ) → is_among xs t ≡ list
 among-any [] t = refl
 among-any (x ∷ xs) t = let e = eq-swap x t in let f = among-any xs t in cc
 
--- a name that is there already
 pub repeated : (xs ys : List (List ℕ)) (n : List ℕ) → list_any (bytes_eq n) xs ≡ true → are_different (xs ++ n ∷ ys) ≡ false
 repeated [] ys n h = absurd cc
 repeated (x ∷ xs) ys n h = by-head (bytes_eq n x) refl (repeated xs ys n) h
@@ -41,7 +40,7 @@ neither : (xs : List (List ℕ)) (n x : List ℕ) → is_among xs x ≡ false �
 neither [] n x h ne = rw ne refl
 neither (y ∷ ys) n x h ne = rw (or-false-left (bytes_eq y x) _ h) (neither ys n x (or-false-right (bytes_eq y x) _ h) ne)
 
--- a name that is new
+-- a new name
 pub not-repeated : (xs : List (List ℕ)) (n : List ℕ) → are_different xs ≡ true → list_any (bytes_eq n) xs ≡ false → are_different (xs ++ n ∷ []) ≡ true
 not-repeated [] n h new = refl
 not-repeated (x ∷ xs) n h new =
@@ -49,7 +48,6 @@ not-repeated (x ∷ xs) n h new =
     (not-false _ (neither xs n x (not-true _ (and-left (not (is_among xs x)) _ h)) (or-false-left (bytes_eq n x) _ new)))
     (not-repeated xs n (and-right (not (is_among xs x)) _ h) (or-false-right (bytes_eq n x) _ new))
 
--- the names up to this rule, and those from it on
 pub names-at : (seen whole : List (List ℕ)) (rs : List CodeRule) (i : ℕ) (d : CodeRule) → i < length rs → seen ++ role_names (rules_of (drop i rs)) ≡ whole → seen ++ name_in (get_or rs i d).head ++ role_names (rules_of (drop (i + 1) rs)) ≡ whole
 names-at seen whole rs i d lt e = append_assoc seen (name_in (get_or rs i d).head) (role_names (rules_of (drop (i + 1) rs))) ∙ ap (λ xs. seen ++ role_names xs) (sym (at_drop_more rules_of rs i d lt)) ∙ e
 
@@ -61,14 +59,12 @@ pub new-by : (there new : Bool) → new ≡ not there → new ≡ true → there
 new-by true new e f = let g : false ≡ true = sym e ∙ f in absurd cc
 new-by false new e f = refl
 
--- the name of this rule is one of the names
 pub name-between : (seen whole rest here : List (List ℕ)) (n : List ℕ) → here ≡ n ∷ [] → seen ++ here ++ rest ≡ whole → seen ++ n ∷ rest ≡ whole
 name-between seen whole rest here n is e = sym (append_assoc seen (n ∷ []) rest) ∙ ap (λ x. seen ++ x ++ rest) (sym is) ∙ e
 
 pub no-name-between : (seen whole rest here : List (List ℕ)) → here ≡ [] → seen ++ here ++ rest ≡ whole → seen ++ rest ≡ whole
 no-name-between seen whole rest here is e = ap (λ x. x ++ rest) (sym (append-nil seen)) ∙ ap (λ x. seen ++ x ++ rest) (sym is) ∙ e
 
--- the set after a new name
 pub new-name : (seen : List (List ℕ)) (n : List ℕ) → list_any (bytes_eq n) seen ≡ false → with_new bytes_eq seen n ≡ seen ++ n ∷ []
 new-name seen n h = rw h refl
 

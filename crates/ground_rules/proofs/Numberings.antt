@@ -79,7 +79,6 @@ needs-below size n (r ∷ rs) x h = elim (among-split x (if nat_eq r.head n then
   | inr b ↦ needs-below size n rs x b
 ]
 
--- the needs are those that the rules give
 pub record AreNeedsOf (needs : List (List ℕ)) (size : ℕ) (rules : List (Rule ℕ ℕ)) : Type 0 where
   pub wide : length needs ≡ size
   pub each : (n : ℕ) → n < size → needs_at needs n ≡ needs_of size n rules
@@ -90,7 +89,7 @@ need-in needs size rules n i are lt at = subst (λ (xs : List ℕ). Among (slice
 pub needs-graph : (needs : List (List ℕ)) (size : ℕ) (rules : List (Rule ℕ ℕ)) → AreNeedsOf needs size rules → IsGraph needs
 needs-graph needs size rules are n i lt at = let b = needs-below size n rules (slice_index (needs_at needs n) i) (need-in needs size rules n i are lt at) in omega (arith, b, are.wide)
 
--- the rank of an atom by the places of the heads; what is no head comes first
+-- the rank of an atom; an atom that is not a head has the lowest rank
 abbrev pub rank_by : ℕ → List ℕ → ℕ → ℕ
 rank_by size places a = if nat_lt a size then suc (slice_index places a) else 0
 
@@ -147,7 +146,6 @@ rules-lower names d needs order places have are ranking k e lt =
           omega (arith, down, f)),
     )
 
--- rules sorted by the places of their heads are ranked
 pub ranked-from : (size : ℕ) (places : List ℕ) (rs : List CodeRule) (low : ℕ) → All (IsLower size places) (rules_of rs) → IsNonDecreasingBy (λ (r : CodeRule). slice_index places r.head) rs → ((d : CodeRule) → 0 < length rs → low ≤ rank_by size places (get_or rs 0 d).head) → AreRankedFrom (rank_by size places) low size (rules_of rs)
 ranked-from size places [] low lower sorted first = tt
 ranked-from size places (r ∷ rs) low lower sorted first =
@@ -185,7 +183,6 @@ mutual
   all-text-atoms names P End h = tt
   all-text-atoms names P (More l ls) h = (text-atoms names P l h.0, all-text-atoms names P ls h.1)
 
--- the ranks number the description
 pub ranks-number : (names : NameTable) (places : List ℕ) (d : Description) → All (IsLower (length names.heads) places) (resolved_rules names d) → IsNumbering (λ a. rank_by (length names.heads) places (atom_number names a)) d
 ranks-number names places [] lower = tt
 ranks-number names places (r ∷ rs) lower =
@@ -242,7 +239,6 @@ needs-lower names number (r ∷ rs) n b lt numbered h =
       | inr j ↦ needs-lower names number rs n b lt numbered.1 j
     ]
 
--- a numbering of the description numbers the heads
 pub acyclic-graph : (names : NameTable) (d : Description) (needs : List (List ℕ)) → AreNeedsOf needs (length names.heads) (resolved_rules names d) → IsAcyclic d → IsGraphAcyclic needs
 acyclic-graph names d needs are acyclic = (
   λ n. acyclic.0 (name_at names n),

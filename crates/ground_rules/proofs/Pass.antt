@@ -10,7 +10,7 @@ use Rattle.numbered_rules.specs.Numbered.{bit, row_after, unset}
 use Rattle.ground_rules.specs.Internal.Ranked.{AreRankedFrom}
 use Rattle.ground_rules.proofs.Fits.{all-agree, all_atoms-weaken}
 
--- the rules speak of atoms of lower rank than this
+-- the rules contain only atoms of lower rank than this
 abbrev pub AreBelow : (ℕ → ℕ) → ℕ → List (Rule ℕ ℕ) → Type 0
 AreBelow rank low [] = Unit {0}
 AreBelow rank low (r ∷ rs) = AllAtomsAre (λ a. rank a < low) r.body × AreBelow rank low rs
@@ -86,6 +86,5 @@ bit-unset zero a = refl
 bit-unset (suc n) zero = refl
 bit-unset (suc n) (suc a) = bit-unset n a
 
--- the pass from an empty row fits
 pub pass-fits : (w : Situation ℕ ℕ) (rank : ℕ → ℕ) (atoms : ℕ) (rs : List (Rule ℕ ℕ)) → ((x y : ℕ) → w.same x y ≡ nat_eq x y) → AreRankedFrom rank 0 atoms rs → Fits w rs (bit (row_after w (unset atoms) rs))
 pass-fits w rank atoms rs same ranked a = pass w rank 0 atoms [] rs (unset atoms) same (length-replicate atoms false) tt ranked (bit-unset atoms) a

@@ -48,7 +48,6 @@ dependence-of d t of_state rules atoms row ranked size is =
 dependence-length : (t : NameTable) (of_state : Bool) (rules : List (Rule ℕ ℕ)) (atoms : ℕ) (row : List Bool) → atoms ≡ length t.heads → row ≡ row_after (numbered [] []) (unset atoms) (exposed_rules of_state rules) → length row ≡ length t.heads
 dependence-length t of_state rules atoms row size is = ap length is ∙ row-length (numbered [] []) (unset atoms) (exposed_rules of_state rules) ∙ length-replicate atoms false ∙ size
 
--- the rows tell whether a head is barred
 pub barred-test : (d : Description) (t : NameTable) (rules : List (Rule ℕ ℕ)) (atoms : ℕ) (on_moves on_given : List Bool) (b : Bool) → IsTableOf d t → IsAcyclic d → AreRankedOf d t rules → atoms ≡ length t.heads
     → on_moves ≡ row_after (numbered [] []) (unset atoms) (exposed_rules false rules) → on_given ≡ row_after (numbered [] []) (unset atoms) (exposed_rules true rules) → b ≡ has_barred on_moves on_given 0 t.heads → IsTestOf b (HasBarredHead d)
 barred-test d t rules atoms on_moves on_given b table acyclic ranked size is is' e =

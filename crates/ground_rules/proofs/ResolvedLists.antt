@@ -1,4 +1,4 @@
--- Lists with numbers in the place of names.
+-- Lists in which numbers replace names.
 use Rattle.std.proofs.Common.{◌≡◌, ◌≤◌, ℕ, List, [], ◌∷◌, map, take, length, refl, ap, ◌∙◌}
 use Rattle.std.proofs.lemmas.List.{take_all}
 use Rattle.rule_sentences.specs.declared.sentence.Literal.{Literal as CodeLiteral}

@@ -1,4 +1,4 @@
--- A situation by names and the same by numbers.
+-- A situation with names, and the same one with numbers.
 use Rattle.std.proofs.Common.{◌≡◌, ℕ, zero, suc, ◌<◌, Bool, true, false, not, ◌&&◌, ◌||◌, if◌then◌else◌, nat_eq, bytes_eq, List, [], ◌∷◌, length, get_or, map, refl, sym, ap, ◌∙◌, arith}
 use mathlib.Core.Bool.{or-false}
 use Rattle.std.specs.Prelude.{slice_get}
@@ -26,7 +26,6 @@ bit-past : (row : List Bool) (n : ℕ) → bit [] n ≡ false
 bit-past row zero = refl
 bit-past row (suc n) = refl
 
--- a picked text is one whose place is set
 pub picked-bit : (row : List Bool) (ts : List (List ℕ)) (t : List ℕ) → length row ≡ length ts → are_different ts ≡ true → is_among (picked row ts) t ≡ bit row (place bytes_eq ts t)
 picked-bit [] ts t size differ = sym (bit-past [] (place bytes_eq ts t))
 picked-bit (b ∷ bs) [] t size differ = absurd (omega (arith, size))
@@ -47,7 +46,6 @@ no-role (n ∷ ns) (x ∷ xs) r m h = rw (or-false-left (bytes_eq n r) _ h) (no-
 abbrev pub text_of : List (List ℕ) → GroundMove → List ℕ
 text_of terms m = get_or terms m.term []
 
--- places of texts that differ
 pub different-place : (ts : List (List ℕ)) (k : ℕ) → are_different ts ≡ true → k < length ts → place bytes_eq ts (get_or ts k []) ≡ k
 different-place [] k differ lt = absurd (omega (arith, lt))
 different-place (x ∷ xs) zero differ lt = rw (text-same x x refl) refl
@@ -76,7 +74,6 @@ same-term ts k m differ lt =
     let at = different-place ts k differ lt in
     place-same bytes_eq text-decides ts (get_or ts k []) m (omega (arith, at, lt)) ∙ ap (λ j. nat_eq j (place bytes_eq ts m)) at
 
--- a role makes the move whose term stands at its place
 pub makes-bit : (ns ts : List (List ℕ)) (js : List GroundMove) (r m : List ℕ) → length js ≡ length ns → are_different ns ≡ true → are_different ts ≡ true → ((k : ℕ) (d : GroundMove) → k < length js → (get_or js k d).term < length ts)
     → makes ns (map (text_of ts) js) r m ≡ is_number (slice_get (map (λ (j : GroundMove). j.term) js) (place bytes_eq ns r)) (place bytes_eq ts m)
 makes-bit [] ts [] r m size differ differ' within = refl

@@ -26,7 +26,7 @@ one-by same d z zs x y true false is is' rest lt e = absurd (omega (arith, e))
 one-by same d z zs x y false true is is' rest lt e = absurd (omega (arith, e))
 one-by same d z zs x y false false is is' rest lt e = rest (omega (arith, lt)) (omega (arith, e))
 
--- two names at one place within the table are one
+-- two names with the same place within the table are equal
 pub place-one : {A : Type 0} (same : A → A → Bool) → Decides same → (xs : List A) (x y : A) → place same xs x < length xs → place same xs x ≡ place same xs y → x ≡ y
 place-one same d [] x y lt e = absurd (omega (arith, lt))
 place-one same d (z ∷ zs) x y lt e = one-by same d z zs x y (same x z) (same y z) refl refl (place-one same d zs x y) lt e
@@ -36,12 +36,12 @@ at-by : {A : Type 0} (same : A → A → Bool) → Decides same → (z : A) (zs 
 at-by same dec z zs x d true is rest lt = sym (dec.sound x z is)
 at-by same dec z zs x d false is rest lt = rest (omega (arith, lt))
 
--- the name at its place
+-- the name at a name's place is that name
 pub place-at : {A : Type 0} (same : A → A → Bool) → Decides same → (xs : List A) (x d : A) → place same xs x < length xs → get_or xs (place same xs x) d ≡ x
 place-at same dec [] x d lt = absurd (omega (arith, lt))
 place-at same dec (z ∷ zs) x d lt = at-by same dec z zs x d (same x z) refl (place-at same dec zs x d) lt
 
--- names are the same where their places are, if one of them is in the table
+-- if one of two names is in the table, the names are equal if and only if their places are
 pub place-same : {A : Type 0} (same : A → A → Bool) → Decides same → (xs : List A) (x y : A) → place same xs x < length xs → same x y ≡ nat_eq (place same xs x) (place same xs y)
 place-same same d xs x y lt =
     bool-same (same x y) (nat_eq (place same xs x) (place same xs y))

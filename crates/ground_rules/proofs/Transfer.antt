@@ -21,7 +21,6 @@ use Rattle.ground_rules.proofs.TablePlaces.{Decides, place-same}
 pub derived-decides : Decides same_derived
 derived-decides = record { sound = derived-sound; itself = derived-same }
 
--- a situation by names and one by numbers agree
 pub record Agrees (names : NameTable) (w : Situation Derived (List ℕ)) (u : Situation ℕ ℕ) : Type 0 where
   pub same : (a b : Derived) → w.same a b ≡ same_derived a b
   pub numbers : (m n : ℕ) → u.same m n ≡ nat_eq m n
@@ -50,7 +49,6 @@ all-resolved : (names : NameTable) (w : Situation Derived (List ℕ)) (u : Situa
 all-resolved names w u row agree End = refl
 all-resolved names w u row agree (More l ls) = let e = truth-resolved names w u row agree l in let f = all-resolved names w u row agree ls in cc
 
--- the heads are in the table
 abbrev pub HaveHeads : NameTable → Description → Type 0
 HaveHeads names [] = Unit {0}
 HaveHeads names (r ∷ rs) = (atom_number names r.head < length names.heads) × HaveHeads names rs
@@ -63,7 +61,6 @@ derived-resolved names w u row agree (r ∷ rs) have a =
     let rest = derived-resolved names w u row agree rs have.1 a in
     cc
 
--- some rule derives the atom
 deriving-rule : (u : Situation ℕ ℕ) (row : ℕ → Bool) (rs : List (Rule ℕ ℕ)) (a : ℕ) → derived u row rs a ≡ true → (r : Rule ℕ ℕ) × Contains rs r × ((u.same r.head a && all_true u row r.body) ≡ true)
 deriving-rule u row [] a h = absurd cc
 deriving-rule u row (r ∷ rs) a h = by-first (u.same r.head a && all_true u row r.body) refl (deriving-rule u row rs a) h
@@ -77,14 +74,13 @@ derives u row [] r a k lt at is = absurd (omega (arith, lt))
 derives u row (q ∷ rs) r a zero lt at is = or-left _ _ (ap (λ x. u.same x.head a && all_true u row x.body) at ∙ is)
 derives u row (q ∷ rs) r a (suc k) lt at is = or-right _ _ (derives u row rs r a k (omega (arith, lt)) at is)
 
--- the order of the rules doesn't matter
+-- the order of the rules does not matter
 pub derived-permuted : (u : Situation ℕ ℕ) (row : ℕ → Bool) (rs ss : List (Rule ℕ ℕ)) (a : ℕ) → IsPermutation rs ss → derived u row rs a ≡ derived u row ss a
 derived-permuted u row rs ss a moved =
     bool-same (derived u row rs a) (derived u row ss a)
     (λ h. let q = deriving-rule u row rs a h in let c = Contains-permutation rs ss q.0 moved q.1 in derives u row ss q.0 a c.0 c.1 c.2 q.2)
     (λ h. let q = deriving-rule u row ss a h in let c = Contains-permutation ss rs q.0 (IsPermutation-sym rs ss moved) q.1 in derives u row rs q.0 a c.0 c.1 c.2 q.2)
 
--- the row of a pass over the ranked rules is the fit
 pub fit-is-row : (names : NameTable) (d : Description) (w : Situation Derived (List ℕ)) (u : Situation ℕ ℕ) (rank : ℕ → ℕ) (atoms : ℕ) (rs : List (Rule ℕ ℕ)) (v : Derived → Bool)
     → Agrees names w u → HaveHeads names d → IsAcyclic d → IsPermutation (resolved_rules names d) rs → AreRankedFrom rank 0 atoms rs → Fits w d v
     → (a : Derived) → v a ≡ bit (row_after u (unset atoms) rs) (atom_number names a)

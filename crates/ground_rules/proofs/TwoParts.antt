@@ -1,4 +1,4 @@
--- The rules that do not depend on moves come first: a ranking of both parts, and what the parts keep.
+-- Rules that do not depend on moves come first: the two parts together have a ranking.
 use Rattle.std.proofs.Common.{ℕ, ◌+◌, ◌<◌, ◌≤◌, ◌≡◌, Bool, true, false, not, ◌&&◌, ◌||◌, if◌then◌else◌, nat_eq, List, [], ◌∷◌, ◌++◌, length, refl, ap, sym, ◌∙◌, arith, filter, subst}
 use Rattle.std.proofs.lemmas.Bool.{false_from_ne_true}
 use Rattle.std.proofs.lemmas.List.Sorted.{IsPermutation-filter_both, IsPermutation-trans}
@@ -24,7 +24,7 @@ use Rattle.ground_rules.proofs.HeadTables.{heads-there}
 use Rattle.ground_rules.proofs.Dependences.{exposed-ranked, set-depends}
 use Rattle.ground_rules.proofs.RankedRules.{dependence-of}
 
--- a rule whose head is not set exposes nothing that is set
+-- no rule whose head is not set contains, once exposed, an atom that is set
 abbrev pub AreClosed : (ℕ → Bool) → List (Rule ℕ ℕ) → Type 0
 AreClosed on [] = Unit {0}
 AreClosed on (r ∷ rs) = (on r.head ≡ false → any_true (numbered [] []) on (all_exposed false r.body) ≡ false) × AreClosed on rs
@@ -40,7 +40,7 @@ closed on (r ∷ rs) f = (
   closed on rs (λ a off. or-false-right _ (derived (numbered [] []) on (exposed_rules false rs) a) (f a off)),
 )
 
--- what a body that exposes nothing speaks of
+-- what a literal contains if exposing it gives nothing true
 mutual
   off-atoms : (on : ℕ → Bool) (l : Literal ℕ ℕ) → truth (numbered [] []) on (exposed false l) ≡ false → AtomsAre (λ a. on a ≡ false) l
   off-atoms on (Holds a) h = h
@@ -100,7 +100,6 @@ mutual
   all-off-lower rank top on n End h k = tt
   all-off-lower rank top on n (More l ls) h k = (off-lower rank top on n l h.0 k.0, all-off-lower rank top on n ls h.1 k.1)
 
--- the rules whose heads are set, ranked from the top on
 ranked-turn : (rank : ℕ → ℕ) (top : ℕ) (on : ℕ → Bool) (atoms low from : ℕ) (rs : List (Rule ℕ ℕ)) → from ≤ top + low → AreRankedFrom rank low atoms rs → AreRankedFrom (lifted rank top on) from atoms (filter (λ r. on r.head) rs)
 ranked-turn rank top on atoms low from [] le h = tt
 ranked-turn rank top on atoms low from (r ∷ rs) le h = by (on r.head) refl (λ x le'. ranked-turn rank top on atoms (rank r.head) x rs le' h.3)
@@ -115,7 +114,7 @@ ranked-turn rank top on atoms low from (r ∷ rs) le h = by (on r.head) refl (λ
         )
     by false is rest = rest from (omega (arith, le, h.0))
 
--- a number that no rank of a head passes
+-- a number above the ranks of all heads
 abbrev ranks-sum : (ℕ → ℕ) → List (Rule ℕ ℕ) → ℕ
 ranks-sum rank [] = 0
 ranks-sum rank (r ∷ rs) = rank r.head + ranks-sum rank rs
@@ -158,7 +157,6 @@ no-head on (r ∷ rs) n off = by (on r.head) refl (no-head on rs n off)
     by true is rest = ((λ e. let f = ap on e in absurd cc), rest)
     by false is rest = rest
 
--- no move bears on an answer
 answer-off : (d : Description) (t : NameTable) (row : List Bool) (a : Derived) → ¬ (HasBarredHead d) → (bit row (atom_number t a) ≡ true → DependsOnGiven Derived (List ℕ) false d a) → IsAnswer a → bit row (atom_number t a) ≡ false
 answer-off d t row (Legal r m) free set is = false_from_ne_true _ (λ h. free (Legal r m, set h))
 answer-off d t row (Goal r n) free set is = false_from_ne_true _ (λ h. free (Goal r n, set h))
@@ -168,7 +166,7 @@ answer-off d t row (Init u) free set is = absurd is
 answer-off d t row (Next u) free set is = absurd is
 answer-off d t row (Other u) free set is = absurd is
 
--- the rules whose heads the row of dependence leaves, and those whose heads it sets
+-- the rules whose heads are not set in the row of dependence, and those whose heads are
 split-of : (d : Description) (t : NameTable) (rules : List (Rule ℕ ℕ)) (atoms : ℕ) (row : List Bool) → IsTableOf d t → IsAcyclic d → ¬ (HasBarredHead d) → AreRankedOf d t rules → atoms ≡ length t.heads → row ≡ row_after (numbered [] []) (unset atoms) (exposed_rules false rules)
     → AreSplitOf d t (filter (λ r. not (bit row r.head)) rules) (filter (λ r. bit row r.head) rules)
 split-of d t rules atoms row table acyclic free ranked size is =
@@ -190,7 +188,6 @@ split-of d t rules atoms row table acyclic free ranked size is =
     not-not true = refl
     not-not false = refl
 
--- the parts by the rules of the code
 rules-filter : (p : ℕ → Bool) (rs : List CodeRule) → rules_of (filter (λ r. p r.head) rs) ≡ filter (λ r. p r.head) (rules_of rs)
 rules-filter p [] = refl
 rules-filter p (r ∷ rs) = by (p r.head) (rules-filter p rs)
@@ -199,7 +196,6 @@ rules-filter p (r ∷ rs) = by (p r.head) (rules-filter p rs)
     by true rest = ap (λ xs. rule_of r ∷ xs) rest
     by false rest = rest
 
--- the parts of the rules of the code
 pub split-by : (d : Description) (t : NameTable) (rules rest turn : List CodeRule) (row : List Bool) → IsTableOf d t → IsAcyclic d → ¬ (HasBarredHead d) → AreRankedOf d t (rules_of rules) → row ≡ row_after (numbered [] []) (unset (length t.heads)) (exposed_rules false (rules_of rules))
     → rest ≡ filter (λ r. not (bit row r.head)) rules → turn ≡ filter (λ r. bit row r.head) rules → AreSplitOf d t (rules_of rest) (rules_of turn)
 split-by d t rules rest turn row table acyclic free ranked is rest_is turn_is =

@@ -1,4 +1,4 @@
--- A pass in two parts: what no move bears on, and the rest.
+-- A pass in two parts: rules that do not depend on moves, and the others.
 use Rattle.std.proofs.Common.{ℕ, ◌≡◌, Bool, true, false, not, if◌then◌else◌, List, [], ◌∷◌, ◌++◌, refl, ap, ◌∙◌, set, get_or-set_other}
 use Rattle.ground_rules.specs.Lawfulness.Bools.{or-false-left, or-false-right}
 use Rattle.numbered_rules.specs.Literals.{Literal, Literals, Holds, InState, Does, Distinct, Not, Or, End, More, Rule}
@@ -35,14 +35,14 @@ all-still state joint v (More l ls) h =
     let f = all-still state joint v ls (or-false-right (speaks_of_given false l) _ h) in
     cc
 
--- a pass over rules that speak of no move is the same whatever the moves are
+-- a pass over rules that contain no does sentence does not depend on the moves
 pub still-pass : (state : List Bool) (joint : List ℕ) (row : List Bool) (rs : List (Rule ℕ ℕ)) → SpeakOfNoMoves rs → row_after (numbered state joint) row rs ≡ row_after (numbered state []) row rs
 still-pass state joint row [] h = refl
 still-pass state joint row (r ∷ rs) h =
     ap (λ (t : Bool). row_after (numbered state joint) (if t then set row r.head true else row) rs) (all-still state joint (bit row) r.body h.0)
     ∙ still-pass state joint (raised (numbered state []) row r) rs h.1
 
--- a pass leaves what is no head of its rules
+-- a pass keeps the truth of all atoms that are not heads of its rules
 pub kept-bit : (w : Situation ℕ ℕ) (row : List Bool) (rs : List (Rule ℕ ℕ)) (n : ℕ) → IsNoHead n rs → bit (row_after w row rs) n ≡ bit row n
 kept-bit w row [] n h = refl
 kept-bit w row (r ∷ rs) n h = kept-bit w (raised w row r) rs n h.1 ∙ one (all_true w (bit row) r.body)

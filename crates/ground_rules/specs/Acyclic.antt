@@ -2,7 +2,7 @@
 use Rattle.std.specs.Prelude.{ℕ, ◌<◌, List, [], ◌∷◌}
 use Rattle.numbered_rules.specs.Literals.{Rule, AllAtomsAre}
 
--- each derived atom in a rule's literals has a lower number than the head
+-- each derived atom in a rule's literals has a lower number than the rule's head
 abbrev pub IsNumbering : {A T : Type 0} → (A → ℕ) → List (Rule A T) → Type 0
 IsNumbering number [] = Unit {0}
 IsNumbering number (r ∷ rs) = AllAtomsAre (λ a. number a < number r.head) r.body × IsNumbering number rs

@@ -5,7 +5,7 @@ use Rattle.rule_sentences.specs.declared.sentence.Derived.TheVariants.{Role, Ini
 use Rattle.numbered_rules.specs.Literals.{Literal, Literals, Holds, InState, Does, Distinct, Not, Or, End, More, Rule}
 use Rattle.rule_sentences.specs.Descriptions.{Description}
 
--- whether the literal speaks of a does sentence, or, where these count, of a true sentence
+-- the literal contains a does sentence or, if of_state is set, a true sentence
 abbrev mutual
   pub speaks_of_given : {A T : Type 0} → Bool → Literal A T → Bool
   speaks_of_given of_state (Holds a) = false
@@ -19,7 +19,7 @@ abbrev mutual
   any_speaks_of_given of_state End = false
   any_speaks_of_given of_state (More l ls) = speaks_of_given of_state l || any_speaks_of_given of_state ls
 
--- the derived atom stands in the literal
+-- the literal contains the derived atom
 abbrev mutual
   pub SpeaksOf : {A T : Type 0} → A → Literal A T → Type 0
   SpeaksOf b (Holds a) = a ≡ b
@@ -37,7 +37,7 @@ abbrev pub IsRuleOf : {A T : Type 0} → Rule A T → List (Rule A T) → Type 0
 IsRuleOf r [] = ⊥
 IsRuleOf r (q ∷ qs) = (r ≡ q) ⊎ IsRuleOf r qs
 
--- a depends on a given sentence: some rule with this head speaks of one, or of an atom that depends on one
+-- a depends on a given sentence: some rule with the head a contains one, or contains an atom that depends on one
 pub data DependsOnGiven (A T : Type 0) (of_state : Bool) (rules : List (Rule A T)) : A → Type 0 where
   at_once : (a : A) (r : Rule A T) → IsRuleOf r rules → r.head ≡ a → any_speaks_of_given of_state r.body ≡ true → DependsOnGiven A T of_state rules a
   through : (a b : A) (r : Rule A T) → IsRuleOf r rules → r.head ≡ a → AnySpeaksOf b r.body → DependsOnGiven A T of_state rules b → DependsOnGiven A T of_state rules a
@@ -52,6 +52,6 @@ IsBarred d (Role r) = ⊥
 IsBarred d (Next t) = ⊥
 IsBarred d (Other t) = ⊥
 
--- some head depends on what it may not depend on
+-- some head depends on something that it may not depend on
 abbrev pub HasBarredHead : Description → Type 0
 HasBarredHead d = (a : Derived) × IsBarred d a

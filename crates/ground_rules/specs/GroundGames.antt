@@ -1,4 +1,4 @@
--- What a ground game keeps: the sentences of its description, and its tables.
+-- What a ground game consists of: the sentences of its description, and its tables.
 use Rattle.std.specs.Prelude.{ℕ, List, map}
 use Rattle.game_core.specs.Expression.{Expression}
 use Rattle.kif_text.specs.View.{view}
@@ -8,11 +8,9 @@ use Rattle.numbered_rules.specs.Literals.{Rule}
 use Rattle.numbered_rules.specs.Numbered.{rules_of}
 use Rattle.ground_rules.specs.LoadedGame.{GameTables}
 
--- the sentences of the description
 abbrev pub sentences_of : GroundGame → List Expression
 sentences_of g = map view g.vocabulary.description.items
 
--- the tables of a vocabulary and both parts of the rules
 abbrev pub tables_with : Vocabulary → List (Rule ℕ ℕ) → List (Rule ℕ ℕ) → GameTables
 tables_with v rest turn = record { roles = v.roles.items; states = v.states.items; moves = v.moves.items; rest = rest; turn = turn; atoms = v.atoms; init = v.init.items; next = v.next.items; terminal = v.terminal }
 

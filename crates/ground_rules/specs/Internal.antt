@@ -1,4 +1,4 @@
--- Cited only by private functions and proofs.
+-- Definitions that only private functions and proofs use.
 pub mod Ranked
 pub mod Resolved
 pub mod Barred

@@ -1,4 +1,4 @@
--- What the calls of a loaded game return by its tables, whatever keeps them.
+-- What a loaded game answers according to its tables, whatever form they have.
 use Rattle.std.specs.Prelude.{ℕ, ◌≡◌, ◌<◌, Bool, List, [], map, slice_index_or, length}
 use Rattle.game_core.specs.Play.{Rules}
 use Rattle.ground_rules.specs.declared.tables.Mention.{Mention}
@@ -9,21 +9,21 @@ use Rattle.ground_rules.specs.Roles.{RoleTable, no_role}
 use Rattle.ground_rules.specs.Lookups.{marked, chosen, only_goal, picked}
 use Rattle.numbered_rules.specs.Numbered.{bit, numbered, row_after, unset}
 
--- the tables of a game, over numbers for its derived atoms, the terms of its states and those of its moves
+-- the tables of a game, with numbers for derived atoms, terms of states and terms of moves
 pub record GameTables : Type 0 where
   pub roles : List RoleTable
-  -- the texts of the terms of states, and of those of moves, by their numbers
+  -- the texts of the terms of states and of moves; the index is the term's number
   pub states : List (List ℕ)
   pub moves : List (List ℕ)
-  -- the rules with heads that do not depend on moves, in the order of a ranking of their heads
+  -- the rules whose heads do not depend on moves, in the order of a ranking
   pub rest : List (Rule ℕ ℕ)
   -- the other rules, in the order of a ranking
   pub turn : List (Rule ℕ ℕ)
-  -- how many derived atoms are heads
+  -- the number of derived atoms that are heads
   pub atoms : ℕ
   pub init : List Mention
   pub next : List Mention
-  -- the derived atom `terminal`, or one that is never true
+  -- the derived atom `terminal`, or an atom that is never true
   pub terminal : ℕ
 
 abbrev pub role_at : GameTables → ℕ → RoleTable
@@ -36,7 +36,7 @@ terms_of joint = map (λ m. m.term) joint
 abbrev pub kept_row : GameTables → List Bool → List Bool
 kept_row g row = row_after (numbered row []) (unset g.atoms) g.rest
 
--- the state of this row
+-- the state with this row of terms
 abbrev pub settled : GameTables → List Bool → StateRows
 settled g row = record { row = row; kept = kept_row g row }
 
@@ -44,7 +44,7 @@ settled g row = record { row = row; kept = kept_row g row }
 abbrev pub turn_row : GameTables → StateRows → List ℕ → List Bool
 turn_row g s joint = row_after (numbered s.row joint) s.kept g.turn
 
--- the row has a value for each term of a state, and beside it stands the truth of the derived atoms that do not depend on moves
+-- the state has a truth value for each term, and the truth of the derived atoms that do not depend on moves
 pub record IsSettled (g : GameTables) (s : StateRows) : Type 0 where
   pub size : length s.row ≡ length g.states
   pub kept : s.kept ≡ kept_row g s.row

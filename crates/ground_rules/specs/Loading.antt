@@ -10,12 +10,12 @@ use Rattle.rule_sentences.specs.SentenceFaults.{description_of, AreSentences, Is
 use Rattle.ground_rules.specs.Acyclic.{IsAcyclic}
 use Rattle.ground_rules.specs.Dependence.{HasBarredHead}
 
--- the description has roles, with different names
+-- the description has roles, and their names are different
 pub record HasRoles (d : Description) : Type 0 where
   pub some' : role_names d ≢ []
   pub differ : are_different (role_names d) ≡ true
 
--- the first fault of a description with this number of sentences, by these limits
+-- the first error of a description with this number of sentences within these limits
 abbrev pub IsDescriptionFault : Limits → ℕ → Description → LoadFault → Type 0
 IsDescriptionFault limits n d NoRole = role_names d ≡ []
 IsDescriptionFault limits n d RoleTwice = (role_names d ≢ []) × (are_different (role_names d) ≡ false)
@@ -27,14 +27,14 @@ IsDescriptionFault limits n d (Variable i) = ⊥
 IsDescriptionFault limits n d (BadForm i) = ⊥
 IsDescriptionFault limits n d (Misplaced i) = ⊥
 
--- a description with this number of sentences, without fault by these limits
+-- a description with this number of sentences has no error within these limits
 pub record IsSound (limits : Limits) (n : ℕ) (d : Description) : Type 0 where
   pub roles : HasRoles d
   pub small : is_small limits n d ≡ true
   pub acyclic : IsAcyclic d
   pub independent : ¬ (HasBarredHead d)
 
--- the first fault of expressions by these limits; the expressions have no capitals
+-- the first error of expressions within these limits; the expressions are in lower case
 abbrev pub IsLoadFault : Limits → List Expression → LoadFault → Type 0
 IsLoadFault limits xs (Variable i) = IsSentenceFault xs (Variable i)
 IsLoadFault limits xs (BadForm i) = IsSentenceFault xs (BadForm i)

@@ -1,4 +1,4 @@
--- What a role's tables hold.
+-- The tables of a role.
 use Rattle.std.specs.Prelude.{ℕ, List, []}
 use Rattle.ground_rules.specs.declared.tables.Mention.{Mention}
 use Rattle.ground_rules.specs.declared.tables.GoalHead.{GoalHead}

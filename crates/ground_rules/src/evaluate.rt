@@ -8,8 +8,8 @@ use numbered_rules::Row;
 use numbered_rules::numbered::{Literal, Rule};
 use std::alloc::{AllocError, Global};
 
-/// Whether the literal is true, by the row of the derived atoms, the state's row by term, and the
-/// terms of the moves by role.
+/// Whether the literal is true. `row` has the truth of the derived atoms, `state` that of the terms, and `joint` the term of
+/// each role's move.
 #[cycle(holds)]
 fn holds(literal: &Literal, row: &Row, state: &Row, joint: &[usize]) -> bool
     ensures { result ≡ truth (numbered state.now joint.now) (bit row.now) (view literal.now) }
@@ -36,7 +36,7 @@ fn any_holds(literals: &Vec<Literal>, row: &Row, state: &Row, joint: &[usize]) -
     false
 }
 
-/// Whether this role makes the move with this term. `joint` has the term of each role's move.
+/// Whether the role makes the move with this term. `joint` has the term of each role's move.
 pub fn makes(joint: &[usize], role: usize, term: usize) -> bool
     ensures { result ≡ (numbered [] joint.now).does role term }
 {
@@ -58,7 +58,7 @@ fn all_hold(literals: &[Literal], row: &Row, state: &Row, joint: &[usize]) -> bo
     true
 }
 
-/// The row after a pass over the rules in their order. A rule with true literals sets its head.
+/// Goes over the rules once, in order, and returns the row. A rule whose literals are all true sets its head.
 pub fn pass(rules: &[Rule], row: Row, state: &Row, joint: &[usize]) -> Row
     ensures { result ≡ row_after (numbered state.now joint.now) row (rules_of rules.now) }
 {
@@ -71,8 +71,8 @@ pub fn pass(rules: &[Rule], row: Row, state: &Row, joint: &[usize]) -> Row
     row
 }
 
-/// The truth of each derived atom, by one pass over the rules. If the rules stand in the order of a
-/// ranking of their heads, this is the fit.
+/// The truth of each derived atom, from one pass over the rules. If the rules are in the order of a ranking of their heads,
+/// the result is the fit.
 pub fn evaluate(
     alloc: Global,
     rules: &[Rule],

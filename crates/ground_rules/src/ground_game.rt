@@ -14,7 +14,7 @@ use numbered_rules::split::SplitRules;
 use std::alloc::{AllocError, Global};
 use std::borrow::CowSlice;
 
-/// The game of a ground description, with its rules in the order of a ranking.
+/// The game of a ground description. Its rules are in the order of a ranking.
 #[derive(Drop)]
 pub struct GroundGame {
     vocabulary: Vocabulary,
@@ -122,7 +122,7 @@ impl GroundGame {
     ghost use Rattle.ground_rules.specs.LoadedGame.{loaded_game, settled};
     ghost use Rattle.ground_rules.specs.GroundGames.{sentences_of, tables_of};
 
-    /// The state with this row of terms.
+    /// Makes the state with this row of terms.
     fn settle(&self, alloc: Global, row: Row) -> Result<GroundState, AllocError>
         ensures { IfOk result (λ s. s ≡ settled (tables_of self.now) row) }
     {
@@ -130,7 +130,7 @@ impl GroundGame {
         Ok(GroundState { row, kept })
     }
 
-    /// The game of a description, from its parts.
+    /// Makes a game from the parts of its description.
     pub(crate) fn new(
         alloc: Global,
         description: Vec<Expr>,
@@ -149,14 +149,14 @@ impl GroundGame {
         Ok(GroundGame { vocabulary, rules })
     }
 
-    /// The sentences of the description, without capitals.
+    /// The sentences of the description, in lower case.
     pub fn description(&self) -> &[Expr]
         ensures { map expression result.now ≡ sentences_of self.now }
     {
         self.vocabulary.description.as_slice()
     }
 
-    /// All that the game looks up, apart from its rules.
+    /// The game without its rules: all the tables that it looks up.
     pub fn vocabulary(&self) -> &Vocabulary
         ensures { result.now ≡ self.now.vocabulary }
     {
@@ -170,7 +170,7 @@ impl GroundGame {
         &self.rules
     }
 
-    /// The vocabulary alone, for another form of the game.
+    /// Gives up the rules and returns the vocabulary, for another form of the game.
     pub fn into_vocabulary(self) -> Vocabulary
         ensures { result ≡ self.vocabulary }
     {

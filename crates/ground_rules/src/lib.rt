@@ -1,13 +1,12 @@
-//! Games by their rules: ground GDL descriptions.
+//! Games that a ground GDL description defines.
 //!
-//! `load` makes the game of a description, which is a list of KIF expressions, or names its first
-//! fault. `load_within` does the same by limits that the caller gives. What it makes is a `Game` of `game_core`, for all that plays games.
+//! `load` makes a `Game` from a description, which is a list of KIF expressions, or names its first error. `load_within`
+//! does the same with limits that the caller gives.
 //!
-//! A state keeps the truth of the derived atoms that do not depend on moves, so `legal`, `terminal` and
-//! `goal` only look it up. `next` starts from there and evaluates the other rules. Then it evaluates
-//! those that do not depend on moves in the new state. Each rule is evaluated once, after those that it
-//! depends on, so the cost of a turn is linear in the description. `load` recurses into nested lists, so
-//! an expression should nest no more lists than the doc of `kif_text::Expr` says.
+//! A state keeps the truth of the derived atoms that do not depend on moves, so `legal`, `terminal` and `goal` only look it
+//! up. `next` starts from these atoms and evaluates the other rules. In the new state it then evaluates the rules that do
+//! not depend on moves. Each rule is evaluated once, after the rules that it depends on, so a turn takes time linear in the
+//! description. `load` recurses into nested lists, so keep to the nesting that `kif_text::Expr` recommends.
 #![tactic(auto)]
 
 mod evaluate;

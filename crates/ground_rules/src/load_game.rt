@@ -1,4 +1,4 @@
-//! From expressions to a game.
+//! Makes games from expressions.
 ghost use Rattle.std.specs.Prelude.{map};
 ghost use Rattle.game_core.specs.Expression.{folded};
 ghost use Rattle.kif_text.specs.View.{view as expression};
@@ -11,7 +11,7 @@ use kif_text::{Expr, folded_copies};
 use rule_sentences::{LoadFault, fold_each, read_rules};
 use std::alloc::Global;
 
-/// The game of a description without capitals, or its first fault by these limits.
+/// Makes the game of a description in lower case, or returns its first error within these limits.
 fn load_folded(
     alloc: Global,
     limits: Limits,
@@ -24,9 +24,8 @@ fn load_folded(
     Ok(GroundGame::new(alloc, description, parts)?)
 }
 
-/// The game of a ground description: facts and rules of GDL without variables, in any case of
-/// letters, within the usual limits. Sentences are numbered from 0. Faults are found in the order of
-/// `LoadFault`, each over all sentences before the next.
+/// Makes the game of a ground description: facts and rules of GDL without variables, in upper or lower case, within the
+/// usual limits. Sentences are numbered from 0. `LoadFault` says in which order errors are found.
 pub fn load(alloc: Global, sentences: &[Expr]) -> Result<GroundGame, LoadFault>
     ensures { IsLoadAnswer (map folded (map expression sentences.now)) result }
 {
@@ -34,7 +33,7 @@ pub fn load(alloc: Global, sentences: &[Expr]) -> Result<GroundGame, LoadFault>
     load_folded(alloc, Limits::Usual, description)
 }
 
-/// What `load` returns, by these limits. The game keeps these sentences, whereas `load` makes copies.
+/// Does what `load` does, within these limits. The game keeps these sentences, whereas `load` copies them.
 pub fn load_within(
     alloc: Global,
     limits: Limits,

@@ -1,4 +1,4 @@
-//! From a description to the parts of its game.
+//! Makes the parts of a game from its description.
 ghost use Rattle.std.specs.Prelude.{◌≡◌, ◌⊎◌, true, false, IfOk, IfErr, map, length, []};
 ghost use Rattle.rule_sentences.specs.SentenceViews.{rules_of};
 ghost use Rattle.ground_rules.specs.Acyclic.{IsAcyclic};
@@ -56,7 +56,7 @@ fn have_few_moves(roles: &[Role]) -> bool
     true
 }
 
-/// Whether the head may not stand if it depends on moves (`on_moves`), or on the state or moves (`on_given`).
+/// Whether the head may not depend on moves although it does (`on_moves`), or not on the state or moves (`on_given`).
 fn is_barred(head: &Derived, on_moves: bool, on_given: bool) -> bool
     ensures { result ≡ barred_by head.now on_moves on_given }
 {
@@ -78,8 +78,8 @@ fn has_barred(heads: &[Derived], on_moves: &Row, on_given: &Row) -> bool
     false
 }
 
-/// The tables of names of a description with this number of sentences, or its first fault in roles or
-/// size. The numbers of moves are tested later.
+/// The tables of names of a description with this number of sentences, or its first error in roles or size. The numbers of
+/// moves are tested later.
 fn names_of(
     alloc: Global,
     limits: Limits,
@@ -126,7 +126,7 @@ fn ranked_rules(
     }
 }
 
-/// Whether some head depends on what it may not depend on. The row says which heads depend on moves.
+/// Whether some head depends on something that it may not depend on. The row says which heads depend on moves.
 fn has_barred_head(
     alloc: Global,
     names: &Names,
@@ -140,7 +140,7 @@ fn has_barred_head(
     Ok(has_barred(names.heads.as_slice(), on_moves, &on_given))
 }
 
-/// The rules with heads that do not depend on moves, and the others. Both stand in the order of a ranking.
+/// Splits the rules: those whose heads do not depend on moves, and the others. Each part is in the order of a ranking.
 fn split_rules(
     alloc: Global,
     names: &Names,
@@ -156,7 +156,7 @@ fn split_rules(
     Ok(split(alloc, rules, &on_moves)?)
 }
 
-/// The parts of a game: the tables of names, and roles and rules with numbers for their names.
+/// The parts of a game: the tables of names, and the roles and rules with numbers for their names.
 #[derive(Drop)]
 pub struct GameParts {
     pub names: Names,
@@ -164,7 +164,7 @@ pub struct GameParts {
     pub rules: SplitRules,
 }
 
-/// The parts of the game of a description with this number of sentences, or its first fault by these limits.
+/// Makes the parts of the game of a description with this number of sentences, or returns its first error within the limits.
 pub fn game_parts(
     alloc: Global,
     limits: Limits,

@@ -1,4 +1,4 @@
-//! What a game looks up in a row of truth values.
+//! Looks up the answers of a game in a row of truth values.
 ghost use Rattle.std.specs.Prelude.{◌≡◌, length, map, IfOk};
 ghost use Rattle.std.specs.Cow.{cow_slice_items};
 ghost use Rattle.ground_rules.specs.Lookups.{marked, chosen, only_goal, picked};
@@ -11,7 +11,7 @@ use numbered_rules::Row;
 use std::alloc::{AllocError, Global};
 use std::borrow::CowSlice;
 
-/// A row of `terms` values, with the terms of the true mentions set.
+/// Makes a row of `terms` values, in which the terms of the true mentions are set.
 pub fn mark(alloc: Global, mentions: &[Mention], row: &Row, terms: usize) -> Result<Row, AllocError>
     ensures { IfOk result (λ marks. marks ≡ marked (unset terms) row.now mentions.now) }
 {
@@ -24,7 +24,7 @@ pub fn mark(alloc: Global, mentions: &[Mention], row: &Row, terms: usize) -> Res
     Ok(marks)
 }
 
-/// The moves with true heads.
+/// The moves whose heads are true.
 pub fn choose(alloc: Global, heads: &[Mention], row: &Row) -> Result<Vec<GroundMove>, AllocError>
     ensures { IfOk result (λ v. v.items ≡ chosen row.now heads.now) }
 {
@@ -37,7 +37,7 @@ pub fn choose(alloc: Global, heads: &[Mention], row: &Row) -> Result<Vec<GroundM
     Ok(moves)
 }
 
-/// The value of the true head, if exactly one head is true.
+/// The value of the true head, or `None` unless exactly one head is true.
 pub fn find_goal(heads: &[GoalHead], row: &Row) -> Option<u8>
     ensures { result ≡ only_goal row.now heads.now }
 {
@@ -53,7 +53,7 @@ pub fn find_goal(heads: &[GoalHead], row: &Row) -> Option<u8>
     found
 }
 
-/// The texts of the terms that are set, in their order. They are borrowed.
+/// The texts of the terms that are set, in order.
 pub fn pick<'a>(
     alloc: Global,
     row: &Row,

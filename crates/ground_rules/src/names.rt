@@ -1,5 +1,5 @@
-//! The names of a description: its roles, the derived atoms at its heads and the terms of its states
-//! and moves, each numbered by its place in a table.
+//! The names of a description: its roles, the derived atoms in its heads, and the terms of its states and moves. Each is
+//! numbered by its place in a table.
 ghost use Rattle.std.specs.Prelude.{◌≡◌, ℕ, not, true, IfOk, IfErr, OnOk, [], bytes_eq, ◌≢◌};
 ghost use Rattle.game_core.specs.declared.limits.Limits.{Limits};
 ghost use Rattle.rule_sentences.specs.SentenceViews.{rules_of};
@@ -16,7 +16,6 @@ use rule_sentences::LoadFault;
 use rule_sentences::sentence::{Derived, Rule};
 use std::alloc::{AllocError, Global};
 
-/// Adds a text to a set. Returns whether it is new there.
 fn add_text(set: &mut IndexSet<Text>, text: &Text) -> Result<bool, AllocError>
     ensures set { OnOk result (set.new.keys ≡ with_new bytes_eq set.old.keys text.now) }
     ensures new { IfOk result (λ new. new ≡ not (list_any (bytes_eq text.now) set.old.keys)) }
@@ -37,7 +36,6 @@ fn add_head(heads: &mut IndexSet<Derived>, atom: &Derived) -> Result<(), AllocEr
     Ok(())
 }
 
-/// The name in a role sentence.
 fn role_name(head: &Derived) -> Option<&Text>
     ensures { option_to_list (option_copied result) ≡ name_in head.now }
 {
@@ -47,7 +45,7 @@ fn role_name(head: &Derived) -> Option<&Text>
     }
 }
 
-/// The names in the role facts, in their order.
+/// The names in the role facts, in order.
 pub fn role_names(alloc: Global, rules: &[Rule]) -> Result<IndexSet<Text>, LoadFault>
     ensures names { IfOk result (λ s. s.keys ≡ role_names (rules_of rules.now)) }
     ensures differ { IfOk result (λ _. are_different (role_names (rules_of rules.now)) ≡ true) }
@@ -68,7 +66,7 @@ pub fn role_names(alloc: Global, rules: &[Rule]) -> Result<IndexSet<Text>, LoadF
     Ok(names)
 }
 
-/// The heads, each once, by its first appearance.
+/// The heads, each once, in the order of first appearance.
 pub fn heads(alloc: Global, rules: &[Rule]) -> Result<IndexSet<Derived>, AllocError>
     ensures { IfOk result (λ s. s.keys ≡ heads (rules_of rules.now)) }
 {
@@ -79,7 +77,7 @@ pub fn heads(alloc: Global, rules: &[Rule]) -> Result<IndexSet<Derived>, AllocEr
     Ok(heads)
 }
 
-/// Which terms of heads are meant: those that stand for states, or those that stand for moves.
+/// The terms that describe states, or those that name moves.
 #[derive(Clone, Copy)]
 pub enum TermKind {
     State,
@@ -117,14 +115,14 @@ pub fn into_texts(alloc: Global, set: IndexSet<Text>) -> Result<Vec<Text>, Alloc
     set.into_iter().collect(alloc)
 }
 
-/// The place of the text in the set, or the number of texts if it is not there.
+/// The place of the text in the set, or the number of texts if the set does not have it.
 pub fn place_of_text(set: &IndexSet<Text>, text: &Text) -> usize
     ensures { result ≡ place bytes_eq set.now.keys text.now }
 {
     set.get_index_of(text).unwrap_or(set.len())
 }
 
-/// The place of the atom among the heads, or the number of heads if it is not there.
+/// The place of the atom among the heads, or the number of heads if it is not a head.
 pub fn place_of_head(heads: &IndexSet<Derived>, atom: &Derived) -> usize
     ensures { result ≡ place same_derived heads.now.keys atom.now }
 {

@@ -1,4 +1,4 @@
-//! Numbers in place of names.
+//! Replaces names with numbers.
 ghost use Rattle.std.specs.Prelude.{◌≡◌, IfOk};
 ghost use Rattle.rule_sentences.specs.Sentences.{literal_of};
 ghost use Rattle.rule_sentences.specs.SentenceViews.{view, views, rules_of};
@@ -12,7 +12,7 @@ use numbered_rules::numbered;
 use rule_sentences::sentence::{Atomic, Derived, Literal, Rule};
 use std::alloc::{AllocError, Global};
 
-/// The tables of names. A name is numbered by its place.
+/// The tables of names. The number of a name is its place in its table.
 #[derive(Drop)]
 pub struct Names {
     pub roles: IndexSet<Text>,

@@ -2,8 +2,8 @@
 use numbered_rules::Row;
 use std::marker::Model;
 
-/// A state of a ground game: a row with a truth value for each term, and a row with the truth of the
-/// derived atoms that do not depend on moves. Contracts see the rows.
+/// A state: a truth value for each term, and the truth of the derived atoms that do not depend on moves. Contracts see both
+/// rows.
 #[derive(Drop)]
 pub struct GroundState {
     pub(crate) row: Row,
@@ -18,7 +18,7 @@ impl Model for GroundState {
     ghost view = { λ s. record { row = s.row; kept = s.kept } };
 }
 
-/// A move of a ground game, by the number of its term.
+/// A move, as the number of its term.
 #[derive(Clone, Copy)]
 pub struct GroundMove {
     pub term: usize,

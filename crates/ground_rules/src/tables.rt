@@ -1,4 +1,4 @@
-//! The tables of a game, and how they are made from the heads of its rules.
+//! The tables of a game, made from the heads of its rules.
 ghost use Rattle.std.specs.Prelude.{◌≡◌, IfOk};
 ghost use Rattle.std.specs.Option.{option_copied};
 ghost use Rattle.ground_rules.specs.Internal.Resolved.{state_term, state_mentions, legal_mentions, goal_heads};
@@ -10,7 +10,7 @@ use rule_sentences::sentence::Derived;
 use std::alloc::{AllocError, Global};
 use std::marker::Model;
 
-/// A term and the derived atom that says something about it.
+/// A term, and the derived atom that makes it true: `init`, `next` or `legal`.
 #[derive(Clone, Copy)]
 pub struct Mention {
     pub term: usize,
@@ -24,7 +24,7 @@ pub struct GoalHead {
     pub atom: usize,
 }
 
-/// What is known of a role. Its legal heads stand by their first appearance.
+/// What the tables have about a role. Its legal heads are in the order of first appearance.
 #[derive(Drop)]
 pub struct Role {
     pub name: Text,
@@ -63,14 +63,13 @@ impl Role {
     }
 }
 
-/// Which heads give the terms of a state: those of the first state, or of the state after a turn.
+/// The heads that give the terms of a state: `init` for the first state, `next` for the state after a turn.
 #[derive(Clone, Copy)]
 pub(crate) enum StateHead {
     Init,
     Next,
 }
 
-/// The term in the head, if it is of this kind.
 fn state_term(head: &Derived, kind: StateHead) -> Option<&Text>
     ensures { option_copied result ≡ state_term kind head.now }
 {
@@ -82,7 +81,7 @@ fn state_term(head: &Derived, kind: StateHead) -> Option<&Text>
     }
 }
 
-/// The heads of this kind, each with its term and its place among the heads.
+/// The heads of this kind, each with its term and its place among all heads.
 pub(crate) fn state_mentions(
     alloc: Global,
     heads: &[Derived],
@@ -101,7 +100,7 @@ pub(crate) fn state_mentions(
     Ok(mentions)
 }
 
-/// The `legal` heads about a role, each with the term of its move and its place among the heads.
+/// The `legal` heads of a role, each with the term of its move and its place among all heads.
 pub(crate) fn legal_mentions(
     alloc: Global,
     heads: &[Derived],
@@ -122,7 +121,7 @@ pub(crate) fn legal_mentions(
     Ok(mentions)
 }
 
-/// The `goal` heads about a role, each with its value and its place among the heads.
+/// The `goal` heads of a role, each with its value and its place among all heads.
 pub(crate) fn goal_heads(
     alloc: Global,
     heads: &[Derived],

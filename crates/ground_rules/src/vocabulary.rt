@@ -1,4 +1,4 @@
-//! All that the game of a description looks up, apart from its rules.
+//! The tables that a game looks up, without its rules.
 ghost use Rattle.std.specs.Prelude.{◌≤◌, ◌<◌, ◌^◌, length, IsTrue, IfOk, map};
 ghost use Rattle.game_core.specs.Play.{max_roles};
 ghost use Rattle.kif_text.specs.View.{view as expression, views};
@@ -17,20 +17,20 @@ use kif_text::Expr;
 use rule_sentences::sentence::Derived;
 use std::alloc::{AllocError, Global};
 
-/// The sentences of a description, and the tables of names that they give.
+/// The sentences of a description, and the tables made from them.
 #[derive(Drop)]
 pub struct Vocabulary {
     pub description: Vec<Expr>,
     pub roles: Vec<Role>,
-    /// The texts of the terms of states by their numbers, in byte order.
+    /// The texts of the terms of states, in byte order. The index is the number of the term.
     pub states: Vec<Text>,
-    /// The texts of the terms of moves by their numbers.
+    /// The texts of the terms of moves. The index is the number of the term.
     pub moves: Vec<Text>,
-    /// How many derived atoms are heads.
+    /// The number of derived atoms that are heads.
     pub atoms: usize,
     pub init: Vec<Mention>,
     pub next: Vec<Mention>,
-    /// The derived atom `terminal`, or one that is never true.
+    /// The number of the derived atom `terminal`, or of an atom that is never true.
     pub terminal: usize,
     ghost few_atoms: { atoms < 2 ^ 63 },
     ghost some_role: { 1 ≤ length roles.items },
@@ -47,7 +47,7 @@ pub struct Vocabulary {
 impl Vocabulary {
     ghost use Rattle.ground_rules.specs.Internal.Vocabularies.{IsVocabularyOf};
 
-    /// The vocabulary of a description, from its names and roles.
+    /// Makes a vocabulary from the names and roles of a description.
     pub(crate) fn new(
         alloc: Global,
         description: Vec<Expr>,

@@ -1,4 +1,4 @@
--- The length that fields say, field by field.
+-- The length in the fields, field by field.
 use Rattle.std.proofs.Common.{◌≡◌, ℕ, ◌+◌, ◌<◌, Bool, true, false, cond, List, [], ◌∷◌, ◌++◌, map, drop, get_or, length, Option, Some, None, refl, sym, ap, ◌∙◌, arith}
 use Rattle.std.specs.Prelude.{◌==◌, if◌then◌else◌}
 use Rattle.std.specs.List.{list_all, list_any}
@@ -12,19 +12,17 @@ use Rattle.http_exchange.specs.declared.wire_fault.FrameFault.TheVariants.{Trans
 use Rattle.game_core.specs.Numerals.{are_digits}
 use Rattle.std.proofs.lemmas.Bool.{and_parts as both}
 
--- one more length
 abbrev agree : BodyLength → List ℕ → BodyLength
 agree wrong value = wrong
 agree unsaid value = if are_digits value then said (digits_value 10 value) else wrong
 agree (said n) value = if writes_number n value then said n else wrong
 
--- one more field
 abbrev one : BodyLength → Header → BodyLength
 one before field =
     if has_name transfer_encoding field.0 then wrong
     else (if has_name content_length field.0 then agree before field.1 else before)
 
--- the result after all these fields too
+-- the result after these fields too
 abbrev pub after : BodyLength → List Header → BodyLength
 after before [] = before
 after before (field ∷ fields) = after (one before field) fields
@@ -72,9 +70,7 @@ after_all (field ∷ fields) =
     step false e true f false g rest = rw (e, f, g) (after_wrong fields ∙ either (list_any has_coding fields) wrong)
     step false e false f d g rest = rw (e, f) rest
 
--- ---- why fields give no length
-
--- the fault of these fields too
+-- the error after these fields too
 abbrev pub fault_after : BodyLength → List Header → FrameFault
 fault_after before [] = NoLength
 fault_after before (field ∷ fields) = cond (is_wrong (one before field)) (field_fault field) (fault_after (one before field) fields)
@@ -99,8 +95,6 @@ all_faults fields = sym (faults_behind [] fields)
 not_wrong : (before : Option (List ℕ)) (x y : FrameFault) → cond (is_wrong (length_of before)) x y ≡ y
 not_wrong None x y = refl
 not_wrong (Some digits) x y = refl
-
--- ---- the steps of the loop over the fields
 
 next : {X : Type 0} (view : X → Header) (before : BodyLength) (headers : List X) (i : ℕ) (d : X) → i < length headers
     → after before (map view (drop i headers)) ≡ after (one before (view (get_or headers i d))) (map view (drop (i + 1) headers))

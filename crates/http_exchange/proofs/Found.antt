@@ -1,4 +1,4 @@
--- A body that is found is carried, and one that is carried is found.
+-- A body that is found is carried, and a body that is carried is found.
 use Rattle.std.proofs.Common.{◌≡◌, ℕ, ◌+◌, ◌-◌, ◌≤◌, Bool, true, false, cond, List, ◌++◌, length, take, drop, Option, Some, None, refl, sym, ap, subst, ◌∙◌, arith, inl, inr, length-take}
 use Rattle.std.specs.Prelude.{◌⊎◌, nat_lt, nat_le, slice_range}
 use Rattle.std.proofs.lemmas.List.{take-append-drop, take_all}
@@ -22,7 +22,7 @@ use Rattle.http_exchange.specs.declared.wire_fault.WireFault.TheVariants.{WriteF
 use Rattle.http_exchange.specs.declared.wire_fault.WireFault.TheVariants as faults
 use Rattle.http_exchange.proofs.Heads.{placed, none_in_nothing, reads_on, reads_cut, framed_alone, refused_first}
 
--- ---- carried, so found
+-- ---- Carried, so found
 
 found_said : (kind : HttpKind) (n size : ℕ) (fault : FrameFault) (given rest body : List ℕ) (ended : Bool) → (n ≤ max_body kind) × (n ≤ length rest) × (body ≡ take n rest)
     → length given ≡ size + length rest → rest ≡ drop size given → IsFound (look_past (framed_by kind size fault (said n)) (length given) ended) given body
@@ -63,7 +63,7 @@ carried_is_found kind given ended body look c is =
     subst (λ (l : Look). IsFound l given body) (sym (is.2 ∙ ap (λ (h : Head). look_past h (length given) ended) head))
     (found_by kind (body_length parts.fields) parts.size (length_fault parts.fields) given c.rest body ended c.follows at.1 at.0)
 
--- ---- found, so carried
+-- ---- Found, so carried
 
 chosen : (b : Bool) (x y z : Look) → z ≡ cond b x y → ((b ≡ true) × (z ≡ x)) ⊎ ((b ≡ false) × (z ≡ y))
 chosen true x y z h = inl (refl, h)
@@ -78,7 +78,7 @@ not_more s e h = cc
 same_body : (a b s e : ℕ) → looks.Body s e ≡ looks.Body a b → (s ≡ a) × (e ≡ b)
 same_body a b s e h = (cc, cc)
 
--- the place of a body that is found, by what the fields say
+-- the place of a body that is found, according to the fields
 StandsAt : HttpKind → BodyLength → ℕ → ℕ → Bool → ℕ → ℕ → Type 0
 StandsAt kind wrong size have ended s e = ⊥
 StandsAt kind (said n) size have ended s e = (n ≤ max_body kind) × (size + n ≤ have) × (s ≡ size) × (e ≡ size + n)
@@ -144,7 +144,6 @@ follows_from Reply unsaid size s e given rest ended stands at whole =
     (stands.0, omega arith, ap (λ k. take (e - s) (drop k given)) stands.2 ∙ ap (take (e - s)) (sym at) ∙ take_all (e - s) rest all)
 follows_from Request unsaid size s e given rest ended stands at whole = stands
 
--- the first line was taken
 first_line_taken : (r : Option FrameFault) (head : Head) (have : ℕ) (ended : Bool) (s e : ℕ) → looks.Body s e ≡ look_past (unless_refused r head) have ended
     → (r ≡ None) × (looks.Body s e ≡ look_past head have ended)
 first_line_taken None head have ended s e h = (refl, h)
@@ -155,7 +154,7 @@ first_line_taken (Some refusal) head have ended s e h =
       | inr other ↦ absurd (not_refused refusal s e (past _ other))
     ]
 
--- a head at the front stands before the rest of all the bytes
+-- a head in the front comes before all remaining bytes
 reads_all : (kind : HttpKind) (given : List ℕ) (parts : Parts) (rest : List ℕ) → Reads kind (front given) parts rest
     → Reads kind given parts (rest ++ drop max_head given)
 reads_all kind given parts rest reads =
@@ -203,7 +202,7 @@ found_is_carried kind given ended s e is =
           ]
     ]
 
--- ---- no other body, and no fault
+-- ---- No other body, and no error
 
 carried_looks : (kind : HttpKind) (given : List ℕ) (ended : Bool) (body : List ℕ) (c : Carried kind given ended body)
     → Looks kind given ended (look_past (framed kind c.head) (length given) ended)

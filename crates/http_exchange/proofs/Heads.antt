@@ -1,4 +1,4 @@
--- Heads at the front of bytes, of replies and of requests alike.
+-- Heads at the front of bytes, for replies and requests.
 use Rattle.std.proofs.Common.{◌≡◌, ℕ, zero, suc, ◌+◌, ◌-◌, ◌<◌, ◌≤◌, Bool, true, false, cond, List, [], ◌∷◌, ◌++◌, length, take, drop, Option, Some, None, refl, sym, ap, subst, ◌∙◌, arith, inl, inr, length-append, append_assoc, length-take}
 use Rattle.std.specs.Prelude.{◌⊎◌, nat_le}
 use Rattle.std.proofs.lemmas.List.{append-nil, drop_at, take_all}
@@ -37,7 +37,6 @@ split Request bytes parts rest reads = record {
   before_any = λ more. (reads.0, (reads.1.0, refl), reads.2);
 }
 
--- bytes have at most one head
 pub one_head : (kind : HttpKind) (bytes : List ℕ) (p q : Parts) (r s : List ℕ) → Reads kind bytes p r → Reads kind bytes q s → (p ≡ q) × (r ≡ s)
 one_head Reply bytes p q r s a b =
     let same = response_unique bytes a.0 b.0 r s a.1 b.1 in
@@ -46,7 +45,6 @@ one_head Request bytes p q r s a b =
     let same = request_unique bytes a.0 b.0 r s a.1 b.1 in
     (a.2 ∙ ap request_parts same.0 ∙ sym b.2, same.1)
 
--- a head is not empty
 some_response : (h : ResponseHead) → 0 < length (print_response h)
 unfolding print_response
 some_response h = simp length-append (omega arith)
@@ -59,7 +57,7 @@ some_text : (kind : HttpKind) (bytes : List ℕ) (parts : Parts) (rest : List �
 some_text Reply bytes parts rest reads = subst (λ (n : ℕ). 0 < n) (sym (ap (λ (p : Parts). p.size) reads.2)) (some_response reads.0)
 some_text Request bytes parts rest reads = subst (λ (n : ℕ). 0 < n) (sym (ap (λ (p : Parts). p.size) reads.2)) (some_request reads.0)
 
--- where the rest stands
+-- where the rest begins
 pub placed : (kind : HttpKind) (bytes : List ℕ) (parts : Parts) (rest : List ℕ) → Reads kind bytes parts rest
     → (rest ≡ drop parts.size bytes) × (length bytes ≡ parts.size + length rest)
 placed kind bytes parts rest reads =
@@ -72,14 +70,13 @@ none_in_nothing kind parts rest reads =
     let whole = (placed kind [] parts rest reads).1 in
     omega arith
 
--- the bytes may go on
+-- more bytes do not change the head
 pub reads_on : (kind : HttpKind) (bytes : List ℕ) (parts : Parts) (rest more : List ℕ) → Reads kind bytes parts rest
     → Reads kind (bytes ++ more) parts (rest ++ more)
 reads_on kind bytes parts rest more reads =
     let s = split kind bytes parts rest reads in
     subst (λ (l : List ℕ). Reads kind l parts (rest ++ more)) (sym (ap (λ l. l ++ more) s.is ∙ append_assoc s.text rest more)) (s.before_any (rest ++ more))
 
--- the first n of longer bytes
 pub front_split : (xs : List ℕ) (n : ℕ) (ys : List ℕ) → take n (xs ++ ys) ≡ take n xs ++ take (n - length xs) ys
 front_split [] zero ys = refl
 front_split [] (suc n) ys = let same : suc n ≡ suc n - 0 = omega arith in ap (λ k. take k ys) same
@@ -88,7 +85,7 @@ front_split (x ∷ xs) (suc n) ys =
     let same : suc n - suc (length xs) ≡ n - length xs = omega arith in
     ap (λ (l : List ℕ). x ∷ l) (front_split xs n ys ∙ ap (λ k. take n xs ++ take k ys) (sym same))
 
--- the bytes may be cut after the head
+-- cutting the bytes after the head does not change it
 pub reads_cut : (kind : HttpKind) (n : ℕ) (bytes : List ℕ) (parts : Parts) (rest : List ℕ) → Reads kind bytes parts rest → parts.size ≤ n
     → Reads kind (take n bytes) parts (take (n - parts.size) rest)
 reads_cut kind n bytes parts rest reads small =
@@ -99,7 +96,6 @@ reads_cut kind n bytes parts rest reads small =
     ap (take n) s.is ∙ front_split s.text n rest ∙ ap (λ l. l ++ take (n - length s.text) rest) whole ∙ ap (λ k. s.text ++ take (n - k) rest) s.size in
     subst (λ (l : List ℕ). Reads kind l parts (take (n - parts.size) rest)) (sym cut) (s.before_any (take (n - parts.size) rest))
 
--- what a first line makes of a head, if it is refused
 pub refused_first : (r : FrameFault) (head : Head) → (unless_refused (Some r) head ≡ Bad Method) ⊎ (unless_refused (Some r) head ≡ Refused r)
 refused_first BadHead head = inl refl
 refused_first (BadStatus status) head = inr refl
@@ -110,7 +106,7 @@ refused_first NoLength head = inr refl
 refused_first TooLong head = inr refl
 refused_first CutShort head = inr refl
 
--- ---- where a body starts
+-- ---- Where a body starts
 
 starts_by : (b : Bool) (size n m : ℕ) → size ≤ n → StartsWithin n (cond b (Whole (record { start = size; length = Some m })) (Refused TooLong))
 starts_by true size n m h = h
@@ -145,7 +141,7 @@ starts kind bytes head is =
           ]
     ]
 
--- ---- a verdict on a head stays
+-- ---- A result for a head stays the same
 
 front_on : (bytes more : List ℕ) → front (bytes ++ more) ≡ front bytes ++ take (max_head - length bytes) more
 front_on bytes more = front_split bytes max_head more
@@ -183,7 +179,6 @@ head_stays kind bytes more head is =
           ]
     ]
 
--- what is known of bytes is known of more bytes
 pub known_on : (kind : HttpKind) (bytes more : List ℕ) (head : Head) → IsKnown kind bytes head → IsKnown kind (bytes ++ more) head
 known_on kind bytes more head known = elim known [ inl nothing ↦ inl nothing | inr is ↦ head_stays kind bytes more head is ]
 

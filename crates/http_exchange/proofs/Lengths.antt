@@ -1,4 +1,4 @@
--- Digits without leading zeros are those of one number.
+-- Digits without leading zeros determine their number, and the number determines them.
 use Rattle.std.proofs.Common.{◌≡◌, ◌≢◌, ℕ, ◌+◌, ◌*◌, ◌<◌, true, List, [], ◌∷◌, ◌++◌, reverse, get_or, refl, sym, ap, subst, ◌∙◌, arith}
 use Rattle.std.specs.Prelude.{◌==◌, ⊤}
 use Rattle.std.specs.List.{list_all}
@@ -20,7 +20,7 @@ digit_positive b e h = grind (arith, nat_tests)
 digit_one : (b c : ℕ) → is_ascii_digit b ≡ true → is_ascii_digit c ≡ true → digit_value b ≡ digit_value c → b ≡ c
 digit_one b c e f h = grind (arith, nat_tests)
 
--- the number of digits that are written backwards
+-- the number whose digits are written backwards
 backwards : List ℕ → ℕ
 backwards [] = 0
 backwards (x ∷ xs) = backwards xs * 10 + digit_value x
@@ -34,7 +34,7 @@ backwards_is [] = refl
 backwards_is (x ∷ xs) =
     ap (digits_value 10) (reverse_cons x xs) ∙ digits_value_push 10 (reverse xs) x ∙ ap (λ n. n * 10 + digit_value x) (backwards_is xs)
 
--- the last of them, if there is one, is not 0
+-- the last digit, if there is one, is not 0
 EndsAboveZero : List ℕ → Type 0
 EndsAboveZero [] = ⊤
 EndsAboveZero (x ∷ []) = x ≢ 48
@@ -104,7 +104,7 @@ one_number xs ys e f first other same =
     let turned = one_backwards (reverse xs) (reverse ys) (all_reverse xs e) (all_reverse ys f) (ends_reverse xs first) (ends_reverse ys other) (sym (number xs) ∙ same ∙ number ys) in
     sym (reverse-reverse xs) ∙ ap reverse turned ∙ reverse-reverse ys
 
--- Digits without leading zeros are the same if and only if they write the same number.
+-- Digits without leading zeros are equal if and only if they write the same number.
 pub same_number : (xs ys : List ℕ) → list_all is_ascii_digit xs ≡ true → list_all is_ascii_digit ys ≡ true
     → get_or xs 0 0 ≢ 48 → get_or ys 0 0 ≢ 48 → bytes_eq xs ys ≡ (digits_value 10 xs == digits_value 10 ys)
 same_number xs ys e f first other =

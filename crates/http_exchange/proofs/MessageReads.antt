@@ -1,4 +1,4 @@
--- Steps of the reading of a message.
+-- The steps of reading a message.
 use Rattle.std.proofs.Common.{◌≡◌, ℕ, ◌+◌, ◌<◌, ◌≤◌, Bool, true, false, cond, List, ◌++◌, length, Option, Some, None, refl, sym, ap, subst, ◌∙◌, arith, inr}
 use Rattle.std.specs.Prelude.{nat_le, nat_lt}
 use Rattle.std.specs.Io.KnownBytes.{Consumes}
@@ -23,7 +23,7 @@ use Rattle.http_exchange.specs.declared.wire_fault.WireFault.{WireFault}
 use Rattle.http_exchange.specs.declared.wire_fault.WireFault.TheVariants.{WriteFault, ReadFault, BadHead, BadStatus, BadLength, TooLong, CutShort, TooManyReads, Memory}
 use Rattle.http_exchange.proofs.Heads.{known_on}
 
--- the bytes given so far, and then by one more read
+-- the bytes so far, and then those of one more read
 pub reached : (a b c : Option (List ℕ)) (held given now : List ℕ) (ended : Bool) → Consumes a b held → Gives b c given ended
     → now ≡ held ++ given → Gives a c now ended
 reached a b c held given now ended before gives grew = record {
@@ -31,7 +31,6 @@ reached a b c held given now ended before gives grew = record {
   at_end = gives.at_end;
 }
 
--- the reading stops for the reason why a read failed
 pub read_stops : {S : Type 0} (kind : HttpKind) (fault : WireFault) (a b c : Option (List ℕ)) (held : List ℕ) (first before after : Counting S)
     → Consumes a b held → WantsMore kind held → first.faults ≤ before.faults → ReadOnceStops fault b c before after
     → (given : List ℕ) × (ended : Bool) × Gives a c given ended × ReadStops kind fault given ended first after
@@ -67,8 +66,6 @@ pub want_of_memory : {S : Type 0} (kind : HttpKind) (fault : WireFault) (given :
     → ReadStops kind fault given ended old new
 want_of_memory kind fault given ended old new is = subst (λ (f : WireFault). ReadStops kind f given ended old new) (sym is) tt
 
--- ---- at the end of the stream no more is needed
-
 neither : (b : Bool) (x y : Look) → (looks.More ≡ x → ⊥) → (looks.More ≡ y → ⊥) → looks.More ≡ cond b x y → ⊥
 neither true x y p q h = p h
 neither false x y p q h = q h
@@ -93,25 +90,24 @@ not_ended : (head : Head) (have : ℕ) (ended : Bool) → looks.More ≡ look_pa
 not_ended head have true h = absurd (no_more_past head have h)
 not_ended head have false h = refl
 
--- the result for the bytes, by the result for their number
+-- the result for the bytes, from the result for their number
 pub looks_at : (kind : HttpKind) (seen now : List ℕ) (head : Head) (have : ℕ) (ended : Bool) (look : Look) → seen ≡ now → have ≡ length now
     → HeadIs kind seen head → look ≡ look_past head have ended → Looks kind now ended look
 looks_at kind seen now head have ended look same count is said =
     (head, subst (λ (l : List ℕ). HeadIs kind l head) same is, said ∙ ap (λ n. look_past head n ended) count)
 
--- one more call is counted
 pub one_more_call : (calls first before after : ℕ) → CallsMade calls first before → after ≡ one_more before → CallsMade (calls + 1) first after
 one_more_call calls first before after made is below =
     let one : 1 + before ≤ after = omega arith in
     let so_far : calls + first ≤ before = made (omega arith) in
     omega arith
 
--- what was known of the bytes held is known of the bytes now
+-- what was known about the earlier bytes is known about the bytes now
 pub known_after : (kind : HttpKind) (held given now seen : List ℕ) (head : Head) → now ≡ held ++ given → seen ≡ now → IsKnown kind held head → IsKnown kind seen head
 known_after kind held given now seen head grew same known =
     subst (λ (l : List ℕ). IsKnown kind l head) (sym (same ∙ grew)) (known_on kind held given head known)
 
--- one more read that asks for more
+-- one more read, after which more bytes are needed
 pub read_keeps : {S : Type 0} (kind : HttpKind) (a b c : Option (List ℕ)) (held now seen : List ℕ) (head : Head) (have : ℕ) (ended : Bool) (first before after : Counting S) (call : ℕ)
     → Consumes a b held → first.faults ≤ before.faults → CallsMade call first.calls before.calls
     → Grows b c held now ended before after → seen ≡ now → have ≡ length now → HeadIs kind seen head → looks.More ≡ look_past head have ended

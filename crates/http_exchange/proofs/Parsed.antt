@@ -1,4 +1,4 @@
--- From the parser's result for the front of the bytes to what the bytes say of the head.
+-- From the parser's result for the front of the bytes to what the bytes say about the head.
 use Rattle.std.proofs.Common.{◌≡◌, ◌≢◌, ℕ, true, false, ◌<◌, ◌≤◌, Bool, cond, List, length, map, take, drop, Some, None, refl, sym, ap, subst, ◌∙◌, arith, inl, inr, length-take}
 use Rattle.std.specs.Prelude.{◌==◌, not}
 use Rattle.std.proofs.lemmas.Bool.Decides.{nat_tests}
@@ -114,8 +114,6 @@ request_hopeless bytes text error is_front over invalid exceeds =
   where
     exceeding : RequestExceeds 64 text → HasManyFields Request text
     exceeding it = (it.0, it.1, it.2, request_parts it.3, (it.3, it.4, refl), many (request_parts it.3) it.3.fields refl it.5)
-
--- ---- the first line
 
 pub bad_status : (code : ℕ) (head : Head) → code ≢ good_status → Refused (BadStatus code) ≡ unless_refused (cond (code == good_status) None (Some (BadStatus code))) head
 bad_status code head differs =

@@ -14,8 +14,6 @@ use Rattle.http_exchange.specs.declared.head.HeadPart.{HeadPart}
 use Rattle.http_exchange.specs.declared.look.Look.TheVariants.{More}
 use Rattle.http_exchange.proofs.Heads.{head_stays, framed_alone, not_hopeless}
 
--- ---- numbers: once more is not asked for, more bytes change nothing
-
 look_from_stays : (start : ℕ) (size : Option ℕ) (have more : ℕ) (ended : Bool) → look_from start size have false ≢ More
     → look_from start size (have + more) ended ≡ look_from start size have false
 look_from_stays start (Some n) have more ended h =
@@ -49,7 +47,7 @@ look_past_stays (Bad part) have more ended h = refl
 look_past_stays (Refused refusal) have more ended h = refl
 look_past_stays (Whole frame) have more ended h = look_from_stays frame.start frame.length have more ended h
 
--- if an unfinished head gives a final result, it fills the front
+-- if an unfinished head gives a result other than `More`, it fills the front
 full : (have : ℕ) → look_past Unfinished have false ≢ More → max_head ≤ have
 full have h =
     filled (nat_le max_head have) refl
@@ -58,14 +56,12 @@ full have h =
     filled true e = grind (arith, nat_tests)
     filled false e = absurd (h (rw e refl))
 
--- ---- heads
-
 same_front : (kind : HttpKind) (bytes more : List ℕ) (head : Head) → max_head ≤ length bytes → HeadIs kind bytes head → HeadIs kind (bytes ++ more) head
 same_front kind bytes more head long is =
     let same : front (bytes ++ more) ≡ front bytes = take-append-le max_head bytes more long in
     rw same is
 
--- the heads give one result, for any number of bytes; of bad ones the parts may differ
+-- both heads give the same result for any number of bytes; for bad heads the parts may differ
 abbrev AreAlike : Head → Head → Type 0
 AreAlike other head = (have : ℕ) (ended : Bool) → look_past other have ended ≡ look_past head have ended
 
@@ -75,7 +71,7 @@ alike other head same have ended = ap (λ (h : Head). look_past h have ended) sa
 both_bad : (other head : Head) (one another : HeadPart) → other ≡ Bad one → head ≡ Bad another → AreAlike other head
 both_bad other head one another is also have ended = alike other (Bad one) is have ended ∙ sym (alike head (Bad another) also have ended)
 
--- bytes have one result, unless they are undecided
+-- bytes have only one result, unless they are undecided
 head_alone : (kind : HttpKind) (bytes : List ℕ) (head other : Head) → HeadIs kind bytes head → HeadIs kind bytes other → AreAlike other head ⊎ IsUndecided kind bytes
 head_alone kind bytes head other is also =
     elim is [

@@ -24,7 +24,7 @@ use Rattle.http_exchange.proofs.Lengths.{all_reverse}
 use Rattle.game_core.specs.Numerals.{are_digits}
 use Rattle.std.proofs.lemmas.Bool.{and_parts as both}
 
--- ---- the length
+-- ---- The length
 
 all_digits : (digits : List ℕ) → AllDigits 10 digits → list_all is_ascii_digit digits ≡ true
 all_digits [] h = refl
@@ -65,13 +65,13 @@ agreed_alone digits e =
     let same : (digits_value 10 digits == digits_value 10 digits) ≡ true = grind (arith, nat_tests) in
     rw (e, same) refl
 
--- a length alone, as it stands in a field
+-- the length as it is written in a field
 length_alone : (n : ℕ) → n < 2 ^ 64 → agreed (trim_ows (32 ∷ decimal n) ∷ []) ≡ said n
 length_alone n small =
     let digits = digits_of_decimal n small in
     ap (λ (v : List ℕ). agreed (v ∷ [])) (trimmed (decimal n) digits.0) ∙ agreed_alone (decimal n) digits.1 ∙ ap said digits.2
 
--- ---- fields
+-- ---- Fields
 
 abbrev plain : List ℕ → List ℕ → Field
 plain name value = record { name = name; raw = 32 ∷ value; end = crlf }
@@ -99,7 +99,7 @@ all_more : (a : Field) (fs : List Field) → IsField a → All IsField fs → Al
 all_more a fs p q zero d within = p
 all_more a fs p q (suc k) d within = q k d (omega arith)
 
--- ---- the reply
+-- ---- The reply
 
 abbrev described : List ℕ → List Field
 described digits = plain (codes "Content-Type") (codes "text/acl") ∷ (plain (codes "Content-Length") digits ∷ [])
@@ -115,7 +115,6 @@ reply_head_of digits = record {
   last = crlf;
 }
 
--- the head of a reply, part by part
 reply_printed : (digits : List ℕ) → print_response (reply_head_of digits)
     ≡ line (codes "HTTP/1.0 200 OK") ++ ((field (codes "Content-Type") (codes "text/acl") ++ (field (codes "Content-Length") digits ++ [])) ++ line [])
 unfolding print_response line
@@ -137,7 +136,7 @@ reply_size : (digits : List ℕ) → length (print_response (reply_head_of digit
 unfolding line
 reply_size digits = ap length (reply_printed digits) ∙ simp (length-append, field_size) (omega arith)
 
--- ---- what follows the head
+-- ---- What follows the head
 
 follows_exactly : (kind : HttpKind) (body more : List ℕ) (ended : Bool) → length body ≤ max_body kind → Follows kind (said (length body)) (body ++ more) ended body
 follows_exactly kind body more ended small =
@@ -178,7 +177,7 @@ reply_is_carried body more ended small =
       follows = subst (λ (l : BodyLength). Follows Reply l (body ++ more) ended body) (sym (length_alone n fits)) (follows_exactly Reply body more ended small);
     }
 
--- ---- the request
+-- ---- The request
 
 abbrev request_head_of : List ℕ → List ℕ → RequestHead
 request_head_of player digits = record {
@@ -191,7 +190,6 @@ request_head_of player digits = record {
   last = crlf;
 }
 
--- the head of a request, part by part
 request_printed : (player digits : List ℕ) → print_request (request_head_of player digits)
     ≡ line (codes "POST / HTTP/1.0")
     ++ ((field (codes "Accept") (codes "text/delim") ++ (field (codes "Sender") (codes "GAMESERVER") ++ (field (codes "Receiver") player
@@ -222,7 +220,6 @@ request_fields player digits bytes e =
     (all_more _ receiver (is_plain (codes "Sender") (codes "GAMESERVER") (omega arith) refl refl)
     (all_more _ (described digits) (is_plain (codes "Receiver") player (omega arith) refl (list_all-from_AllPass is_value_byte player bytes)) (described_fields digits e)))
 
--- the target is text
 target_is_ascii : (i : ℕ) → get_or (codes "/") i 0 < 128
 target_is_ascii zero = lit< tt
 target_is_ascii (suc i) = lit< tt

@@ -1,4 +1,4 @@
--- The length of the body, by the fields of a head.
+-- The length of a body, from the fields of a head.
 use Rattle.std.specs.Prelude.{ℕ, Bool, true, false, ◌&&◌, ◌==◌, if◌then◌else◌, List, [], ◌∷◌, ◌++◌, map, filter, codes}
 use Rattle.std.specs.List.{list_all, list_any}
 use Rattle.std.specs.Char.{to_ascii_lowercase}
@@ -8,11 +8,11 @@ use Rattle.game_core.specs.Numerals.{are_digits}
 use Rattle.http_exchange.specs.declared.wire_fault.FrameFault.{FrameFault}
 use Rattle.http_exchange.specs.declared.wire_fault.FrameFault.TheVariants.{TransferEncoding, NoNumber, TwoLengths, NoLength}
 
--- a name, and a value without the white space around it
+-- a name, and a value without surrounding white space
 abbrev pub Header : Type 0
 Header = List ℕ × List ℕ
 
--- the name is this one in any ASCII case; it is given in small letters
+-- the name is this one, in upper or lower case; it is given in lower case
 abbrev pub has_name : List ℕ → List ℕ → Bool
 has_name small name = bytes_eq (map to_ascii_lowercase name) small
 
@@ -22,21 +22,20 @@ transfer_encoding = codes "transfer-encoding"
 abbrev pub content_length : List ℕ
 content_length = codes "content-length"
 
--- digits that write this number
 abbrev pub writes_number : ℕ → List ℕ → Bool
 writes_number n value = are_digits value && digits_value 10 value == n
 
--- no length; a length in bytes; or fields that can't be accepted
+-- no length, a length in bytes, or fields that are refused
 pub data BodyLength : Type 0 where
   unsaid : BodyLength
   said : ℕ → BodyLength
   wrong : BodyLength
 
--- the values of all lengths that the fields give
+-- the values of all lengths in the fields
 abbrev pub lengths : List Header → List (List ℕ)
 lengths fields = map (λ (field : Header). field.1) (filter (λ (field : Header). has_name content_length field.0) fields)
 
--- Lengths agree if all are digits of the same number, whatever their leading zeros.
+-- Lengths agree if all are digits of the same number. Leading zeros do not matter.
 abbrev pub agreed : List (List ℕ) → BodyLength
 agreed [] = unsaid
 agreed (value ∷ values) =
@@ -58,12 +57,12 @@ is_wrong unsaid = false
 is_wrong (said n) = false
 is_wrong wrong = true
 
--- why fields behind these ones give no length rightly
+-- why the fields, after the ones in the first list, have no usable length
 abbrev pub fault_behind : List Header → List Header → FrameFault
 fault_behind before [] = NoLength
 fault_behind before (field ∷ fields) =
     if is_wrong (body_length (before ++ (field ∷ []))) then field_fault field else fault_behind (before ++ (field ∷ [])) fields
 
--- Why the fields give no length rightly: the first of them with which they give none any more says it.
+-- Why the fields have no usable length: the reason is the first field after which they have none.
 abbrev pub length_fault : List Header → FrameFault
 length_fault fields = fault_behind [] fields

@@ -16,8 +16,7 @@ use Rattle.http_exchange.specs.declared.wire_fault.FrameFault.{FrameFault}
 use Rattle.http_exchange.specs.declared.wire_fault.WireFault.{WireFault}
 use Rattle.http_exchange.specs.declared.wire_fault.WireFault.TheVariants.{Memory}
 
--- The bytes that a stream gave, by the bytes left before and the bytes left now. A stream that has ended
--- has none left.
+-- The bytes that the stream gave between two moments, from the bytes that are left at each. A stream that has ended has none left.
 pub record Gives (old new : Option (List ℕ)) (given : List ℕ) (ended : Bool) : Type 0 where
   pub consumed : Consumes old new given
   pub at_end : ended ≡ true → IsAtEnd new
@@ -26,44 +25,44 @@ pub record Gives (old new : Option (List ℕ)) (given : List ℕ) (ended : Bool)
 abbrev pub WritesText : {S : Type 0} → (S → Option (List ℕ)) → Counting S → Counting S → List ℕ → Type 0
 WritesText contents old new text = (old.faults ≤ new.faults) × Appends (contents old.stream) (contents new.stream) text
 
--- a part of this text was written before the fault
+-- a part of this text was written before the error
 abbrev pub BreaksOff : {S : Type 0} → (S → Option (List ℕ)) → Counting S → Counting S → List ℕ → WireFault → Type 0
 BreaksOff contents old new text fault =
     (taken : ℕ) × (taken < length text) × Appends (contents old.stream) (contents new.stream) (take taken text)
     × WriteStops fault old new
 
--- the bytes that the stream gave carry the body
+-- the bytes from the stream carry the body
 abbrev pub TakesBody : {S : Type 0} → HttpKind → (S → Option (List ℕ)) → Counting S → Counting S → List ℕ → Type 0
 TakesBody kind remaining old new body =
     (given : List ℕ) × (ended : Bool) × Gives (remaining old.stream) (remaining new.stream) given ended
     × Carried kind given ended body
 
--- the bytes that the stream gave explain this fault
+-- the bytes from the stream explain this error
 abbrev pub TakesNone : {S : Type 0} → HttpKind → (S → Option (List ℕ)) → Counting S → Counting S → WireFault → Type 0
 TakesNone kind remaining old new fault =
     (given : List ℕ) × (ended : Bool) × Gives (remaining old.stream) (remaining new.stream) given ended
     × ReadStops kind fault given ended old new
 
--- The bytes that the stream gave are refused with this fault, and this was received, both by what they say of the head. So a status is
--- exactly that of the head.
+-- The bytes from the stream are refused with this error, and this much was received, according to what they say about the head. So a
+-- status in these is exactly the head's status.
 abbrev pub TellsRefusal : {S : Type 0} → HttpKind → (S → Option (List ℕ)) → Counting S → Counting S → WireFault → Received → Type 0
 TellsRefusal kind remaining old new fault received =
     (given : List ℕ) × (ended : Bool) × Gives (remaining old.stream) (remaining new.stream) given ended
     × (head : Head) × HeadIs kind given head × (received ≡ receipt head (length given))
     × (refusal : FrameFault) × (Refused refusal ≡ look_past head (length given) ended) × (fault ≡ fault_of refusal)
 
--- the request was written, and the bytes that came back carry this body
+-- the request was written, and the bytes of the reply carry this body
 abbrev pub BringsReply : {S : Type 0} → (S → Option (List ℕ)) → (S → Option (List ℕ)) → Counting S → Counting S → List ℕ → List ℕ → Type 0
 BringsReply {S} contents remaining old new request reply =
     (sent : Counting S) × WritesText contents old sent request × TakesBody Reply remaining sent new reply
 
--- the request was written, and the bytes that came back are refused with this fault
+-- the request was written, and the bytes of the reply are refused with this error
 abbrev pub BringsRefusal : {S : Type 0} → (S → Option (List ℕ)) → (S → Option (List ℕ)) → Counting S → Counting S → List ℕ → WireFault → Received → Type 0
 BringsRefusal {S} contents remaining old new request fault received =
     (sent : Counting S) × WritesText contents old sent request × TellsRefusal Reply remaining sent new fault received
 
--- The exchange failed: there was no memory and nothing was done, or a part of the request was written, or all of it, and the bytes that came
--- back explain the fault.
+-- The exchange failed: there was no memory and nothing was done, or only a part of the request was written, or all of it was, and the
+-- bytes of the reply explain the error.
 abbrev pub BringsNone : {S : Type 0} → (S → Option (List ℕ)) → (S → Option (List ℕ)) → Counting S → Counting S → List ℕ → WireFault → Type 0
 BringsNone {S} contents remaining old new request fault =
     ((fault ≡ Memory) × (new ≡ old))

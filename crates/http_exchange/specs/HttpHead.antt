@@ -1,4 +1,4 @@
--- The heads of messages, by the grammar of `httparse`, and what they say of the body.
+-- The heads of messages, by the grammar of `httparse`, and what they say about the body.
 use Rattle.std.specs.Prelude.{◌≡◌, ◌≢◌, ℕ, ◌<◌, ◌≤◌, ◌⊎◌, ◌==◌, nat_le, if◌then◌else◌, List, [], ◌∷◌, ◌++◌, length, take, map, codes, Option, Some, None}
 use Rattle.std.specs.Str.{bytes_eq}
 use Rattle.httparse.specs.Grammar.{ResponseHead, ReadsResponse, MayBecomeResponse, print_response, status_code, RequestHead, ReadsRequest, MayBecomeRequest, print_request}
@@ -14,24 +14,22 @@ use Rattle.http_exchange.specs.declared.head.HeadPart.TheVariants.{Method, Field
 use Rattle.http_exchange.specs.declared.wire_fault.FrameFault.{FrameFault}
 use Rattle.http_exchange.specs.declared.wire_fault.FrameFault.TheVariants.{BadHead, BadStatus, NoLength, TooLong}
 
--- the limit of bytes in a head
+-- the largest number of bytes of a head
 abbrev pub max_head : ℕ
 max_head = 16384
 
--- the limit of fields in a head
+-- the largest number of fields of a head
 abbrev pub max_fields : ℕ
 max_fields = 64
 
--- the limit of bytes in a body
+-- the largest number of bytes of a body
 abbrev pub max_body : HttpKind → ℕ
 max_body Reply = 65536
 max_body Request = 2097152
 
--- the status that a reply must have
 abbrev pub good_status : ℕ
 good_status = 200
 
--- the method that a request must have
 abbrev pub post : List ℕ
 post = codes "POST"
 
@@ -55,44 +53,43 @@ request_parts head = record {
   fields = map name_and_value head.fields;
 }
 
--- the bytes are a head with these parts, and then the rest
+-- the bytes are a head with these parts, followed by the rest
 abbrev pub Reads : HttpKind → List ℕ → Parts → List ℕ → Type 0
 Reads Reply bytes parts rest = (head : ResponseHead) × ReadsResponse bytes head rest × (parts ≡ reply_parts head)
 Reads Request bytes parts rest = (head : RequestHead) × ReadsRequest bytes head rest × (parts ≡ request_parts head)
 
--- no head stands at the front of the bytes
+-- the bytes do not begin with a head
 abbrev pub HasNoHead : HttpKind → List ℕ → Type 0
 HasNoHead kind bytes = (parts : Parts) (rest : List ℕ) → ¬ (Reads kind bytes parts rest)
 
--- Some further bytes make the bytes a head, or the bytes end inside a request's target, which is
--- judged at its end.
+-- Some further bytes complete a head, or the bytes end inside a request's target, which is tested at its end.
 abbrev pub MayBecomeHead : HttpKind → List ℕ → Type 0
 MayBecomeHead Reply bytes = MayBecomeResponse bytes
 MayBecomeHead Request bytes = MayBecomeRequest bytes
 
--- no head with few enough fields stands at the front, whatever bytes follow
+-- whatever bytes follow, the bytes do not begin with a head that has few enough fields
 abbrev pub IsHopeless : HttpKind → List ℕ → Type 0
 IsHopeless kind bytes =
     (more : List ℕ) (parts : Parts) (rest : List ℕ) → Reads kind (bytes ++ more) parts rest
     → max_fields < length parts.fields
 
--- no head stands at the front, whatever bytes follow
+-- whatever bytes follow, the bytes do not begin with a head
 abbrev pub NeverHasHead : HttpKind → List ℕ → Type 0
 NeverHasHead kind bytes = (more : List ℕ) → HasNoHead kind (bytes ++ more)
 
--- with an empty line behind it, a part of the bytes from the front on is a head with too many fields
+-- some first part of the bytes, followed by an empty line, is a head with too many fields
 abbrev pub HasManyFields : HttpKind → List ℕ → Type 0
 HasManyFields kind bytes =
     (begun : List ℕ) × (others : List ℕ) × (bytes ≡ begun ++ others)
     × (parts : Parts) × Reads kind (begun ++ (line_feed ∷ [])) parts [] × (max_fields < length parts.fields)
 
--- This part of a hopeless head is not of HTTP: the number of fields, if too many are there; another part, if no bytes that follow make
--- the bytes a head.
+-- This part of a hopeless head is not valid HTTP: the number of fields, if there are too many; or another part, if no further bytes
+-- complete a head.
 abbrev pub IsBadIn : HttpKind → List ℕ → HeadPart → Type 0
 IsBadIn kind bytes part = (part ≡ FieldCount → HasManyFields kind bytes) × (part ≢ FieldCount → NeverHasHead kind bytes)
 
--- The body after a head of this size, by the length that the fields give, or by the fault that they have. Without a length, a reply's
--- body runs to the end of the stream.
+-- The body after a head of this size, according to the fields' length or error. Without a length, a reply's body continues to the end
+-- of the stream.
 abbrev pub framed_by : HttpKind → ℕ → FrameFault → BodyLength → Head
 framed_by kind size fault wrong = Refused fault
 framed_by kind size fault (said n) =
@@ -100,22 +97,22 @@ framed_by kind size fault (said n) =
 framed_by Reply size fault unsaid = Whole (record { start = size; length = None })
 framed_by Request size fault unsaid = Refused NoLength
 
--- a first line that is not of HTTP is so in its method
+-- a first line that is not valid HTTP has the error `Method`
 abbrev pub unless_refused : Option FrameFault → Head → Head
 unless_refused None head = head
 unless_refused (Some BadHead) head = Bad Method
 unless_refused (Some refusal) head = Refused refusal
 
--- what a whole head says: its first line is tested first, then its fields
+-- what a complete head says: its first line is tested first, then its fields
 abbrev pub framed : HttpKind → Parts → Head
 framed kind parts = unless_refused parts.refusal (framed_by kind parts.size (length_fault parts.fields) (body_length parts.fields))
 
--- the part of the bytes in which a head may stand
+-- the bytes that can belong to a head
 abbrev pub front : List ℕ → List ℕ
 front bytes = take max_head bytes
 
--- What the bytes so far say of the head. The three cases exclude one another, with one exception:
--- bytes that begin a head and are hopeless are only refused.
+-- What the bytes so far say about the head. The three cases exclude one another, with one exception: bytes that begin a head and are
+-- hopeless are only refused.
 abbrev pub HeadIs : HttpKind → List ℕ → Head → Type 0
 HeadIs kind bytes head =
     ((parts : Parts) × (rest : List ℕ) × Reads kind (front bytes) parts rest × (length parts.fields ≤ max_fields)

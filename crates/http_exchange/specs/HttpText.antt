@@ -1,4 +1,4 @@
--- The bytes of a request to a player, and of a player's reply.
+-- The bytes of a request to a player and of a player's reply.
 use Rattle.std.specs.Prelude.{ℕ, List, [], ◌∷◌, ◌++◌, length, codes}
 use Rattle.std.specs.Fmt.{decimal}
 use Rattle.game_core.specs.Bytes.{carriage_return, line_feed}
@@ -10,7 +10,7 @@ line_end = carriage_return ∷ (line_feed ∷ [])
 unfoldable pub line : List ℕ → List ℕ
 line text = text ++ line_end
 
--- a field of a head: its name, and its value
+-- a field of a head: its name and its value
 unfoldable pub field : List ℕ → List ℕ → List ℕ
 field name value = line (name ++ codes ": " ++ value)
 
@@ -22,7 +22,7 @@ described_body body =
     ++ line []
     ++ body
 
--- the request with that body to the player of that name
+-- the request with this body to the player with this name
 abbrev pub request_text : List ℕ → List ℕ → List ℕ
 request_text player body =
     line (codes "POST / HTTP/1.0")
@@ -31,6 +31,6 @@ request_text player body =
     ++ field (codes "Receiver") player
     ++ described_body body
 
--- the reply with that body
+-- the reply with this body
 abbrev pub reply_text : List ℕ → List ℕ
 reply_text body = line (codes "HTTP/1.0 200 OK") ++ described_body body

@@ -1,4 +1,4 @@
--- The result of looking at the bytes of a message so far, after each read.
+-- The result of inspecting the bytes of a message so far, after each read.
 use Rattle.std.specs.Prelude.{◌≡◌, ℕ, ◌+◌, Bool, List, length, Option, Some, None, nat_le, nat_lt, if◌then◌else◌}
 use Rattle.http_exchange.specs.HttpHead.{HeadIs, max_head, max_body}
 use Rattle.http_exchange.specs.declared.head.HttpKind.{HttpKind}
@@ -9,7 +9,7 @@ use Rattle.http_exchange.specs.declared.look.Look.{Look}
 use Rattle.http_exchange.specs.declared.look.Look.TheVariants as looks
 use Rattle.http_exchange.specs.declared.wire_fault.FrameFault.TheVariants.{BadHead, TooLong, CutShort}
 
--- a body of this length from start on, or one that runs to the end of the stream
+-- a body of this length from start, or one that continues to the end of the stream
 abbrev pub look_from : ℕ → Option ℕ → ℕ → Bool → Look
 look_from start (Some n) have ended =
     if nat_le (start + n) have then looks.Body start (start + n)
@@ -18,7 +18,7 @@ look_from start None have ended =
     if nat_lt (start + max_body Reply) have then looks.Refused TooLong
     else (if ended then looks.Body start have else looks.More)
 
--- the result for this many bytes with that head, whether the stream has ended or not
+-- the result for this many bytes with this head; the flag says whether the stream has ended
 abbrev pub look_past : Head → ℕ → Bool → Look
 look_past Unfinished have ended =
     if nat_le max_head have then looks.Refused TooLong else (if ended then looks.Refused CutShort else looks.More)

@@ -1,4 +1,4 @@
--- What was received of a reply that brought no body.
+-- How much of a reply came, if it had no usable body.
 use Rattle.std.specs.Prelude.{ℕ, ◌-◌, ◌==◌, if◌then◌else◌, min, Option, Some, None}
 use Rattle.http_exchange.specs.declared.head.Head.{Head}
 use Rattle.http_exchange.specs.declared.head.Head.TheVariants as heads
@@ -6,16 +6,16 @@ use Rattle.http_exchange.specs.declared.received.Received.{Received}
 use Rattle.http_exchange.specs.declared.received.Received.TheVariants as receipts
 use Rattle.http_exchange.specs.declared.wire_fault.FrameFault.TheVariants.{BadStatus, TransferEncoding, NoNumber, TwoLengths, TooLong}
 
--- bytes without a whole head
+-- bytes without a complete head
 abbrev pub head_receipt : ℕ → Received
 head_receipt have = if have == 0 then receipts.Nothing else receipts.Head have
 
--- bytes of a body, and its length, if the head gives one
+-- bytes of a body, and its length, if the head has one
 abbrev pub body_receipt : Option ℕ → ℕ → Received
 body_receipt (Some n) come = receipts.Body (min n come) n
 body_receipt None come = receipts.OpenBody come
 
--- what was received, by what the bytes say of the head, and by their number
+-- how far a reply came, from what its bytes say about the head and from their number
 abbrev pub receipt : Head → ℕ → Received
 receipt heads.Unfinished have = head_receipt have
 receipt (heads.Whole frame) have = body_receipt frame.length (have - frame.start)

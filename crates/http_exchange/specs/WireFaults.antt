@@ -1,4 +1,4 @@
--- The meaning of each fault of reading or writing a message.
+-- The meaning of each error of reading or writing a message.
 use Rattle.std.specs.Prelude.{◌≡◌, ◌≢◌, ◌⊎◌, ℕ, ◌<◌, Bool, false, List, [], ⊤}
 use Rattle.std.specs.declared.io.ErrorKind.TheVariants.{Interrupted}
 use Rattle.game_core.specs.Counting.{Counting, CallsMade, last_count, max_stream_calls}
@@ -10,7 +10,7 @@ use Rattle.http_exchange.specs.declared.wire_fault.FrameFault.TheVariants as ref
 use Rattle.http_exchange.specs.declared.wire_fault.WireFault.{WireFault}
 use Rattle.http_exchange.specs.declared.wire_fault.WireFault.TheVariants.{WriteFault, ReadFault, BadHead, BadStatus, BadLength, TooLong, CutShort, TooManyReads, Memory}
 
--- the fault of a message that is refused
+-- the error of a message that is refused
 abbrev pub fault_of : FrameFault → WireFault
 fault_of refusals.BadHead = BadHead
 fault_of (refusals.BadStatus status) = BadStatus
@@ -21,7 +21,7 @@ fault_of refusals.NoLength = BadLength
 fault_of refusals.TooLong = TooLong
 fault_of refusals.CutShort = CutShort
 
--- the fault is that of bytes that are refused
+-- the error is that of bytes that are refused
 abbrev pub IsRefusal : WireFault → Type 0
 IsRefusal WriteFault = ⊥
 IsRefusal (ReadFault cause) = ⊥
@@ -29,16 +29,16 @@ IsRefusal TooManyReads = ⊥
 IsRefusal Memory = ⊥
 IsRefusal fault = ⊤
 
--- a failure was counted, unless the count was at its limit
+-- a failure was counted, unless the count had reached its highest value
 abbrev pub HasFailed : ℕ → ℕ → Type 0
 HasFailed old new = new < last_count → old < new
 
--- no bytes were given yet, or the given bytes ask for more
+-- there are no bytes yet, or the bytes need more
 abbrev pub WantsMore : HttpKind → List ℕ → Type 0
 WantsMore kind given = (given ≡ []) ⊎ Looks kind given false More
 
--- The meaning of a fault of reading, for the bytes given, the stream's end, and its counts before and
--- after. Each fault but the first three is that of a refusal.
+-- The meaning of an error of reading, for the bytes, the stream's end, and its counts before and after. All errors except the first
+-- three are those of a refusal.
 abbrev pub ReadStops : {S : Type 0} → HttpKind → WireFault → List ℕ → Bool → Counting S → Counting S → Type 0
 ReadStops kind (ReadFault cause) given ended old new =
     (cause ≢ Interrupted) × (ended ≡ false) × WantsMore kind given × HasFailed old.faults new.faults
@@ -48,7 +48,7 @@ ReadStops kind Memory given ended old new = ⊤
 ReadStops kind fault given ended old new =
     (refusal : FrameFault) × (fault ≡ fault_of refusal) × Looks kind given ended (Refused refusal)
 
--- the meaning of a fault of writing, for the stream's counts before and after
+-- the meaning of an error of writing, for the stream's counts before and after
 abbrev pub WriteStops : {S : Type 0} → WireFault → Counting S → Counting S → Type 0
 WriteStops WriteFault old new = HasFailed old.faults new.faults
 WriteStops TooManyReads old new = CallsMade max_stream_calls old.calls new.calls

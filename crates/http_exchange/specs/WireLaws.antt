@@ -1,4 +1,4 @@
--- Laws of looking at messages, and of the bodies that they carry.
+-- Laws of inspecting messages, and of the bodies that they carry.
 use Rattle.std.specs.Prelude.{◌≡◌, ◌≢◌, ◌≤◌, ◌⊎◌, ℕ, Bool, false, List, ◌++◌, length, slice_range}
 use Rattle.std.specs.List.{AllPass}
 use Rattle.httparse.specs.Grammar.{is_value_byte}
@@ -15,45 +15,41 @@ use Rattle.http_exchange.specs.declared.look.Look.TheVariants.{More, Body, Refus
 use Rattle.http_exchange.specs.declared.wire_fault.WireFault.{WireFault}
 use Rattle.http_exchange.specs.declared.wire_fault.WireFault.TheVariants.{Memory}
 
--- The bytes begin a head, or end inside a request's target, but nothing that follows can make a head with
--- few enough fields: there are too many fields already, or the target is no text.
+-- The bytes begin a head, or end inside a request's target, but no further bytes complete a head with few enough fields: there are too
+-- many fields already, or the target is not text.
 pub record IsUndecided (kind : HttpKind) (bytes : List ℕ) : Type 0 where
   pub unfinished : MayBecomeHead kind (front bytes)
   pub hopeless : IsHopeless kind (front bytes)
 
--- A result that asks for no more bytes stays the same when more bytes come, unless these are undecided. So
--- the order and the sizes of the reads don't matter.
+-- A result other than `More` stays the same when more bytes come, unless the bytes are undecided. So the order and the sizes of the
+-- reads do not matter.
 abbrev pub LooksStay : Type 0
 LooksStay =
     (kind : HttpKind) (bytes more : List ℕ) (ended : Bool) (look later : Look)
     → Looks kind bytes false look → look ≢ More → Looks kind (bytes ++ more) ended later
     → (later ≡ look) ⊎ IsUndecided kind (bytes ++ more)
 
--- if a body is found in the bytes, they carry it
 abbrev pub FoundIsCarried : Type 0
 FoundIsCarried =
     (kind : HttpKind) (given : List ℕ) (ended : Bool) (start end : ℕ)
     → Looks kind given ended (Body start end) → Carried kind given ended (slice_range given start end)
 
--- the result is the place of that body
+-- the result is the place of this body
 abbrev pub IsFound : Look → List ℕ → List ℕ → Type 0
 IsFound More given body = ⊥
 IsFound (Body start end) given body = body ≡ slice_range given start end
 IsFound (Refused refusal) given body = ⊥
 
--- if the bytes carry a body, the only result is its place
 abbrev pub CarriedIsFound : Type 0
 CarriedIsFound =
     (kind : HttpKind) (given : List ℕ) (ended : Bool) (body : List ℕ) (look : Look)
     → Carried kind given ended body → Looks kind given ended look → IsFound look given body
 
--- bytes carry at most one body
 abbrev pub CarriesOneAtMost : Type 0
 CarriesOneAtMost =
     (kind : HttpKind) (given : List ℕ) (ended : Bool) (one other : List ℕ)
     → Carried kind given ended one → Carried kind given ended other → one ≡ other
 
--- if the bytes carry a body, the only possible fault is out of memory
 abbrev pub CarriedHasNoFault : Type 0 → Type 0
 CarriedHasNoFault S =
     (kind : HttpKind) (given : List ℕ) (ended : Bool) (body : List ℕ) (fault : WireFault) (old new : Counting S)
@@ -64,12 +60,12 @@ abbrev pub ReplyIsCarried : Type 0
 ReplyIsCarried =
     (body more : List ℕ) (ended : Bool) → length body ≤ max_body Reply → Carried Reply (reply_text body ++ more) ended body
 
--- a player's name within this limit leaves room for the rest of a head
+-- a player's name within this limit leaves enough bytes for the rest of a head
 abbrev pub long_name : ℕ
 long_name = 16000
 
--- The request that is written carries its body, whatever follows it, if the player's name is within the
--- limit and has no control byte except the tab.
+-- The request that is written carries its body, whatever follows it, if the player's name is within the limit and has no control byte
+-- except tabs.
 abbrev pub RequestIsCarried : Type 0
 RequestIsCarried =
     (player body more : List ℕ) (ended : Bool) → AllPass is_value_byte player → length player ≤ long_name → length body ≤ max_body Request

@@ -1,4 +1,4 @@
-//! The length of the body, by the fields of a head.
+//! The length of a body, from the fields of a head.
 ghost use Rattle.std.specs.Prelude.{◌≡◌, All, IsTrue, IfErr, IfOk, IfSome, MatchResult, map, length};
 ghost use Rattle.std.specs.Char.{to_ascii_lowercase};
 ghost use Rattle.std.specs.Option.{option_copied};
@@ -16,7 +16,7 @@ const CONTENT_LENGTH: &[u8] = b"content-length";
 
 const TRANSFER_ENCODING: &[u8] = b"transfer-encoding";
 
-/// Whether a name is `small` in any ASCII case. `small` is in small letters.
+/// Whether a name is `small`, in upper or lower case. `small` is in lower case.
 fn has_name(name: &[u8], small: &[u8]) -> bool
     requires { map to_ascii_lowercase small.now ≡ small.now }
     ensures { result ≡ has_name small.now name.now }
@@ -24,7 +24,7 @@ fn has_name(name: &[u8], small: &[u8]) -> bool
     name.eq_ignore_ascii_case(small)
 }
 
-/// Whether a value is digits, and writes the same number as the value before it, if there is one.
+/// Whether a value is digits and, if there is an earlier value, writes the same number.
 fn agrees(before: Option<&[u8]>, value: &[u8]) -> bool
     requires { IfSome (option_copied before) (λ digits. IsTrue (are_digits digits)) }
     ensures { result ≡ agrees (option_copied before.entry) value.now }
@@ -35,7 +35,7 @@ fn agrees(before: Option<&[u8]>, value: &[u8]) -> bool
     }
 }
 
-/// What is wrong with a value that does not agree with the one before it.
+/// The error of a value that does not agree with the one before it.
 fn value_fault(value: &[u8]) -> FrameFault
     ensures { result ≡ value_fault value.now }
 {
@@ -46,7 +46,8 @@ fn value_fault(value: &[u8]) -> FrameFault
     }
 }
 
-/// The digits of the length that the fields agree on. `None` if no field gives one. The error says why they give none rightly.
+/// The digits of the length on which the fields agree, or `None` if no field has a length. The error says why the fields
+/// have no usable length.
 pub(crate) fn said_length<'b>(
     buf: &'b [u8],
     headers: &[HeaderSpan],

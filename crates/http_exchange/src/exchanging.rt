@@ -1,4 +1,4 @@
-//! An exchange with a player, and a player's side of it.
+//! Exchanges with a player, from the referee's side and from the player's.
 ghost use Rattle.std.specs.Prelude.{◌≡◌, ◌⊎◌, IfOk, OnOk, IfErr};
 ghost use Rattle.http_exchange.specs.Exchange.{BreaksOff, BringsNone, BringsRefusal, BringsReply, TakesBody, TakesNone, WritesText};
 ghost use Rattle.http_exchange.specs.HttpText.{reply_text, request_text};
@@ -15,11 +15,11 @@ use shared_text::SharedText;
 use std::alloc::Global;
 use std::io::{Read, Write};
 
-/// Sends a player a request with that body, and returns the body of the reply.
+/// Sends a player a request with this body, and returns the body of the reply.
 ///
-/// The player's name goes into the head as it is, so it may hold no line end. The bytes after the body of
-/// the reply are ignored, but may have been read. The stream is not flushed. A long part that the body shares with others is written
-/// from where it lies. Without a body `received` says how far the exchange came.
+/// The player's name is written into the head as it is, so it must not contain a line end. Bytes after the body of the reply
+/// are ignored, but may have been read. The stream is not flushed. A long part that the body shares with others is written
+/// without a copy. If there is no body, `received` says how far the exchange came.
 pub fn exchange_shared<S: Read + Write>(
     alloc: Global,
     stream: &mut Counted<S>,
@@ -37,7 +37,7 @@ pub fn exchange_shared<S: Read + Write>(
     receive(alloc, stream, HttpKind::Reply, received)
 }
 
-/// Sends a player a request with that body, as `exchange_shared` does, and returns the body of the reply.
+/// Sends a player a request with this body, as `exchange_shared` does, and returns the body of the reply.
 pub fn exchange<S: Read + Write>(
     alloc: Global,
     stream: &mut Counted<S>,
@@ -57,8 +57,7 @@ pub fn exchange<S: Read + Write>(
     )
 }
 
-/// Reads a request, and returns its body. The bytes after the body are ignored, but may have been read. It
-/// only reads the stream, and writes nothing.
+/// Reads a request and returns its body. Bytes after the body are ignored, but may have been read. Writes nothing.
 pub fn take_request<S: Read>(alloc: Global, stream: &mut Counted<S>) -> Result<Text, WireFault>
     ensures carries { IfOk result (λ body. TakesBody HttpKind.Request S.remaining stream.old stream.new body) }
     ensures fails { IfErr result (λ fault. TakesNone HttpKind.Request S.remaining stream.old stream.new fault) }
@@ -67,7 +66,7 @@ pub fn take_request<S: Read>(alloc: Global, stream: &mut Counted<S>) -> Result<T
     receive(alloc, stream, HttpKind::Request, &mut received)
 }
 
-/// Writes the reply with that body. The stream is not flushed.
+/// Writes a reply with this body. The stream is not flushed.
 pub fn give_reply<S: Write>(
     alloc: Global,
     stream: &mut Counted<S>,

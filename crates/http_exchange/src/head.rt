@@ -1,4 +1,4 @@
-//! The head of a message, and what it says of the body.
+//! The head of a message, and what it says about the body.
 ghost use Rattle.std.specs.Prelude.{◌≡◌, ◌<◌, ◌^◌, All, map, length};
 ghost use Rattle.httparse.specs.Spans.{IsHeaderWithin, header_bytes};
 ghost use Rattle.http_exchange.specs.BodyLength.{body_length, length_fault};
@@ -11,33 +11,32 @@ use game_core::numeral::number_up_to;
 use httparse::spans::{EMPTY_HEADER_SPAN, HeaderSpan, parse_request, parse_response};
 use httparse::{Error, Status};
 
-/// The kind of message that is read.
+/// Whether a message is a request or a reply.
 #[derive(Clone, Copy)]
 pub enum HttpKind {
     Reply,
     Request,
 }
 
-/// Where a body begins in the bytes, and its length, if the head gives one. Without a length the body
-/// runs to the end of the stream.
+/// Where a body begins, and its length, if the head has one. Without a length the body continues to the end of the stream.
 #[derive(Clone, Copy)]
 pub struct Frame {
     pub start: usize,
     pub length: Option<usize>,
 }
 
-/// The part of a head that is not of HTTP.
+/// The part of a head that is not valid HTTP.
 #[derive(Clone, Copy, PartialEq, Eq)]
 pub enum HeadPart {
-    /// The version is neither 1.0 nor 1.1, or a reply does not begin with it and a blank.
+    /// The version is neither 1.0 nor 1.1, or a reply does not begin with it and a space.
     Version,
-    /// No status of three digits follows the version, or a control byte follows the status.
+    /// After the version there is no status of three digits, or there is a control byte after the status.
     Status,
-    /// A request's method is not `POST`, or its target is no text.
+    /// A request's method is not `POST`, or its target is not text.
     Method,
-    /// A line before the empty one has no name with a colon right behind it.
+    /// A line before the empty one does not have a name directly followed by a colon.
     FieldName,
-    /// The value of a field has a control byte.
+    /// The value of a field contains a control byte.
     FieldValue,
     /// A line ends with neither CR LF nor LF.
     LineEnd,
@@ -46,7 +45,7 @@ pub enum HeadPart {
 }
 
 impl HeadPart {
-    /// What is wrong with this part.
+    /// The text of the error.
     pub(crate) fn words(self) -> &'static str {
         match self {
             HeadPart::Version => "it does not begin with HTTP/1.0 or HTTP/1.1 and a blank",
@@ -61,33 +60,31 @@ impl HeadPart {
     }
 }
 
-/// What the bytes read so far say of the head.
+/// What the bytes so far say about the head.
 #[derive(Clone, Copy)]
 pub enum Head {
-    /// More bytes may make them a head.
+    /// More bytes may complete a head.
     Unfinished,
     Whole(Frame),
-    /// This part is not of HTTP.
+    /// This part is not valid HTTP.
     Bad(HeadPart),
     Refused(FrameFault),
 }
 
-/// The limit of bytes in a head.
+/// The largest number of bytes of a head.
 pub(crate) const MAX_HEAD: usize = 16_384;
 
-/// The limit of fields in a head.
+/// The largest number of fields of a head.
 const MAX_FIELDS: usize = 64;
 
-/// The status that a reply must have.
 const GOOD_STATUS: u16 = 200;
 
-/// The method that a request must have.
 const POST: &[u8] = b"POST";
 
-/// The limit of bytes in the body of a reply.
+/// The largest number of bytes of a reply's body.
 pub(crate) const MAX_REPLY_BODY: usize = 65_536;
 
-/// The limit of bytes in the body of a request.
+/// The largest number of bytes of a request's body.
 const MAX_REQUEST_BODY: usize = 2_097_152;
 
 fn max_body(kind: HttpKind) -> usize
@@ -100,7 +97,7 @@ fn max_body(kind: HttpKind) -> usize
     }
 }
 
-/// What the fields of a head of this size say of the body.
+/// What the fields of a head of this size say about the body.
 fn framed(kind: HttpKind, size: usize, buf: &[u8], headers: &[HeaderSpan]) -> Head
     requires { All (IsHeaderWithin (length buf.now)) headers.now }
     ensures { result ≡ framed_by kind size (length_fault (map (header_bytes buf.now) headers.now)) (body_length (map (header_bytes buf.now) headers.now)) }
@@ -124,7 +121,6 @@ fn framed(kind: HttpKind, size: usize, buf: &[u8], headers: &[HeaderSpan]) -> He
     }
 }
 
-/// The part of a head that the parser refuses with this error.
 fn part_of(error: Error) -> HeadPart
     ensures { result ≡ part_of error }
 {
@@ -139,7 +135,7 @@ fn part_of(error: Error) -> HeadPart
     }
 }
 
-/// The part of the bytes in which a head may stand.
+/// The bytes that can belong to a head.
 fn front_of(bytes: &[u8]) -> &[u8]
     ensures { result.now ≡ front bytes.now }
 {
@@ -180,7 +176,7 @@ fn request_head(bytes: &[u8]) -> Head
     }
 }
 
-/// What the bytes read so far say of the head.
+/// What the bytes so far say about the head.
 fn head_at(kind: HttpKind, bytes: &[u8]) -> Head
     ensures { HeadIs kind bytes.now result }
 {
@@ -190,8 +186,7 @@ fn head_at(kind: HttpKind, bytes: &[u8]) -> Head
     }
 }
 
-/// What the bytes so far say of the head, given what a prefix of them said. Only an unfinished head is
-/// parsed again.
+/// What the bytes so far say about the head, if `before` is what fewer bytes said. Only an unfinished head is parsed again.
 pub(crate) fn head_after(kind: HttpKind, before: Head, bytes: &[u8]) -> Head
     requires { IsKnown kind bytes.now before }
     ensures head { HeadIs kind bytes.now result }

@@ -1,4 +1,4 @@
-//! The bytes of a request to a player, and of a player's reply.
+//! The bytes of a request to a player and of a player's reply.
 ghost use Rattle.std.specs.Prelude.{◌≡◌, ◌++◌, IfOk, OnOk};
 ghost use Rattle.http_exchange.specs.HttpText.{line, field, described_body, request_text, reply_text};
 
@@ -22,7 +22,7 @@ fn push_field(text: &mut Vec<u8>, name: &[u8], value: &[u8]) -> Result<(), Alloc
     push_line(text, value)
 }
 
-/// Adds the fields that describe a body, and the empty line.
+/// Appends the fields that describe a body, and the empty line.
 fn push_description(
     alloc: Global,
     text: &mut Vec<u8>,
@@ -36,7 +36,7 @@ fn push_description(
     push_line(text, b"")
 }
 
-/// The text of this head with a description of the body, and the body.
+/// The head, completed with a description of the body, and the body.
 fn with_body<'a>(
     alloc: Global,
     head: Vec<u8>,
@@ -49,7 +49,7 @@ fn with_body<'a>(
     body.behind(front)
 }
 
-/// The request with that body to the player of that name.
+/// The request with this body to the player with this name.
 pub(crate) fn request_text<'a>(
     alloc: Global,
     player: &[u8],
@@ -65,7 +65,7 @@ pub(crate) fn request_text<'a>(
     with_body(alloc, head, body)
 }
 
-/// The reply with that body.
+/// The reply with this body.
 pub(crate) fn reply_text<'a>(
     alloc: Global,
     body: &SharedText<'a>,

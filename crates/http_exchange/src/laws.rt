@@ -1,8 +1,7 @@
-//! Laws of exchanges, for any bytes.
+//! Laws of exchanges.
 ghost use Rattle.http_exchange.specs.WireLaws.{LooksStay, FoundIsCarried, CarriedIsFound, CarriesOneAtMost, CarriedHasNoFault, ReplyIsCarried, RequestIsCarried};
 
-/// A result that asks for no more bytes stays the same when more bytes come, unless the bytes are
-/// hopeless.
+/// A result other than `More` stays the same when more bytes come, unless the bytes are undecided.
 pub fn looks_stay()
     ensures { LooksStay }
 {}
@@ -12,7 +11,7 @@ pub fn found_is_carried()
     ensures { FoundIsCarried }
 {}
 
-/// If the bytes carry a body, the only result is the place of that body.
+/// If the bytes carry a body, the only possible result is the place of that body.
 pub fn carried_is_found()
     ensures { CarriedIsFound }
 {}
@@ -22,7 +21,7 @@ pub fn carries_one_at_most()
     ensures { CarriesOneAtMost }
 {}
 
-/// If the bytes carry a body, the only possible fault is out of memory.
+/// If the bytes carry a body, the only possible error is out of memory.
 pub fn carried_has_no_fault<S>()
     ensures { CarriedHasNoFault S }
 {}

@@ -1,10 +1,8 @@
-//! HTTP exchanges, one message each, over any stream.
+//! HTTP exchanges over any stream, each with one request and one reply.
 //!
-//! A player is an HTTP server. `exchange` sends it a request and reads its reply; `take_request` and
-//! `give_reply` are the player's side. A body is accepted only if it is whole, within the limits, and
-//! framed by one length or by the end of the stream. Each other outcome has a name.
-//!
-//! Free functions take the allocator first.
+//! A player is an HTTP server. `exchange` sends it a request and reads its reply; `take_request` and `give_reply` are the
+//! player's side. A body is accepted only if it is complete, within the limits, and ended by one length or by the end of the
+//! stream. Each other outcome has its own error.
 #![tactic(auto)]
 
 mod body_length;

@@ -1,4 +1,4 @@
-//! The result of looking at the bytes of a message so far.
+//! The result of inspecting the bytes of a message so far.
 ghost use Rattle.std.specs.Prelude.{◌≡◌, ◌≤◌};
 ghost use Rattle.http_exchange.specs.Internal.Heads.{StartsWithin};
 ghost use Rattle.http_exchange.specs.Looks.{look_from, look_past};
@@ -7,11 +7,11 @@ ghost use Rattle.http_exchange.specs.Internal.Heads.{BodyWithin};
 use crate::head::{Frame, Head, MAX_HEAD, MAX_REPLY_BODY};
 use crate::wire_fault::FrameFault;
 
-/// The result of looking at the bytes so far.
+/// The result of inspecting the bytes so far.
 #[derive(Clone, Copy)]
 pub enum Look {
     More,
-    /// The body is whole. It begins and ends at these places.
+    /// The body is complete. It begins and ends at these places.
     Body(usize, usize),
     Refused(FrameFault),
 }
@@ -44,7 +44,7 @@ fn look_from(frame: Frame, have: usize, ended: bool) -> Look
     }
 }
 
-/// The result of looking at `have` bytes with this head. `ended` says whether the stream has ended.
+/// The result for `have` bytes with this head. `ended` says whether the stream has ended.
 pub(crate) fn look_past(head: Head, have: usize, ended: bool) -> Look
     requires { StartsWithin have head }
     ensures value { result ≡ look_past head have ended }

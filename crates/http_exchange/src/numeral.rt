@@ -1,4 +1,4 @@
-//! Comparison of numbers in decimal digits, whatever their leading zeros.
+//! Compares numbers in decimal digits. Leading zeros do not matter.
 ghost use Rattle.std.specs.Prelude.{◌≡◌, ◌≢◌, ◌==◌, IsTrue, slice_index};
 ghost use Rattle.std.specs.List.{list_all};
 ghost use Rattle.std.specs.Char.{is_ascii_digit};

@@ -1,4 +1,4 @@
-//! What was received of a reply that brought no body. Only words are made of it.
+//! How much of a reply came, if it had no usable body. Only error messages use this.
 ghost use Rattle.std.specs.Prelude.{◌≡◌};
 ghost use Rattle.http_exchange.specs.Internal.Heads.{StartsWithin};
 ghost use Rattle.http_exchange.specs.Receipts.{receipt};
@@ -12,32 +12,32 @@ use std::fmt;
 pub enum Received {
     /// There was no connection for the exchange.
     Unconnected,
-    /// The request was not written whole.
+    /// The request was not written completely.
     Unsent,
     Nothing,
-    /// So many bytes, and the end of the head is not among them.
+    /// This many bytes came, without the end of the head.
     Head(usize),
-    /// The first of these numbers of bytes, of the second one.
+    /// This many bytes of the body came, out of the second number.
     Body(usize, usize),
-    /// So many bytes of a body that runs to the end of the stream.
+    /// This many bytes came of a body that continues to the end of the stream.
     OpenBody(usize),
     TransferEncoding,
-    /// A `Content-Length` that is no number.
+    /// A `Content-Length` is not a number.
     NoNumber,
-    /// Two lengths that differ.
+    /// Two lengths are different.
     TwoLengths,
-    /// A `Content-Length` above the limit of a body.
+    /// A `Content-Length` exceeds the limit of a body.
     LongLength,
-    /// A whole head with this status, which is not 200, among so many bytes.
+    /// A complete head with this status, which is not 200, in this many bytes.
     Status(u16, usize),
-    /// So many bytes, and this part of their head is not of HTTP.
+    /// This many bytes came, and this part of their head is not valid HTTP.
     BadHead(HeadPart, usize),
-    /// So many bytes, whose head is refused for another reason.
+    /// This many bytes came, and the head was refused for another reason.
     Refused(usize),
 }
 
 impl Received {
-    /// How many bytes came, where the words begin with their number.
+    /// The number of bytes, if the text begins with it.
     fn count(self) -> Option<usize> {
         match self {
             Received::Head(count)
@@ -50,7 +50,7 @@ impl Received {
         }
     }
 
-    /// The words behind that number, up to a length or a limit.
+    /// The text after that number, up to a length or a limit.
     fn words(self) -> &'static str {
         match self {
             Received::Unconnected => "no connection was made",
@@ -87,14 +87,14 @@ impl fmt::Display for Received {
     }
 }
 
-/// The same words.
+/// The same text.
 impl fmt::Debug for Received {
     fn fmt<W: fmt::Write>(&self, f: &mut fmt::Formatter<W>) -> fmt::Result {
         fmt::Display::fmt(self, f)
     }
 }
 
-/// What was received, by what the bytes say of the head and by their number.
+/// How far a reply came, from what its bytes say about the head and from their number.
 pub(crate) fn received_of(head: Head, have: usize) -> Received
     requires { StartsWithin have head }
     ensures { result ≡ receipt head have }

@@ -1,4 +1,4 @@
-//! How a message is read, by one read after another.
+//! Reads a message, one read after another.
 ghost use Rattle.std.specs.Prelude.{◌≡◌, ◌<◌, ◌≤◌, ◌⊎◌, false, length, slice_range, IfOk, IfErr};
 ghost use Rattle.http_exchange.specs.Exchange.{TakesBody, TakesNone, TellsRefusal};
 ghost use Rattle.http_exchange.specs.Internal.Reads.{ReadsOnce, ReadOnceFails};
@@ -12,7 +12,7 @@ use game_core::{Counted, MAX_STREAM_CALLS, Text};
 use std::alloc::{AllocError, Global};
 use std::io::{ErrorKind, Read};
 
-/// The room for one read, in bytes.
+/// The largest number of bytes of one read.
 const READ_SIZE: usize = 4_096;
 
 /// Calls `read` once. Returns whether the stream has ended.
@@ -42,7 +42,6 @@ fn read_once<S: Read>(
     }
 }
 
-/// A copy of the body, which is a part of the bytes.
 fn body_of(alloc: Global, bytes: &[u8], start: usize, end: usize) -> Result<Text, AllocError>
     requires ordered { start ≤ end }
     requires within { end ≤ length bytes.now }
@@ -51,7 +50,8 @@ fn body_of(alloc: Global, bytes: &[u8], start: usize, end: usize) -> Result<Text
     Text::from_slice(alloc, &bytes[start..end])
 }
 
-/// Reads a message, and returns its body. Bytes after the body may have been read too. Without a body `received` says how far it came.
+/// Reads a message and returns its body. It may read bytes after the body too. If there is no body, `received` says how far
+/// the message came.
 pub(crate) fn receive<S: Read>(
     alloc: Global,
     stream: &mut Counted<S>,

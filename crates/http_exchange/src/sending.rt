@@ -1,4 +1,4 @@
-//! How a message is written, by one write after another.
+//! Writes a message, one write after another.
 ghost use Rattle.std.specs.Prelude.{◌≡◌, ◌<◌, ◌≤◌, length, take, IfOk, OnOk, OnErr, IfErr, []};
 ghost use Rattle.std.specs.Io.KnownBytes.{Appends};
 ghost use Rattle.game_core.specs.Counting.{one_more};
@@ -10,7 +10,7 @@ use game_core::{Counted, MAX_STREAM_CALLS};
 use shared_text::SharedText;
 use std::io::{ErrorKind, Write};
 
-/// Calls `write` once. Returns how many bytes it took: 0 if it was interrupted.
+/// Calls `write` once. Returns how many bytes it took, or 0 if it was interrupted.
 fn write_once<S: Write>(stream: &mut Counted<S>, rest: &[u8]) -> Result<usize, WireFault>
     requires { 0 < length rest.now }
     ensures bound { IfOk result (λ taken. taken ≤ length rest.now) }
@@ -33,7 +33,7 @@ fn write_once<S: Write>(stream: &mut Counted<S>, rest: &[u8]) -> Result<usize, W
     }
 }
 
-/// Writes all bytes of a text. A write that was interrupted is repeated.
+/// Writes all bytes of a text. An interrupted write is repeated.
 pub(crate) fn send<S: Write>(
     stream: &mut Counted<S>,
     text: &SharedText<'_>,

@@ -1,4 +1,4 @@
-//! Why a message was not sent, or not accepted.
+//! Why a message was not sent or not accepted.
 ghost use Rattle.std.specs.Prelude.{◌≡◌};
 ghost use Rattle.http_exchange.specs.WireFaults.{fault_of};
 ghost use Rattle.http_exchange.specs.declared.wire_fault.WireFault.TheVariants.{Memory};
@@ -8,28 +8,27 @@ use std::error::Error;
 use std::fmt;
 use std::io::ErrorKind;
 
-/// Why an exchange returned no body, or a reply was not written. The stream can't be used after it:
-/// the bytes that it gave are not put back, and the bytes that it took stay written.
+/// Why an exchange returned no body, or a reply was not written. The stream cannot be used afterwards: bytes that were read
+/// are lost, and bytes that were written stay written.
 #[derive(Clone, Copy, PartialEq, Eq)]
 pub enum WireFault {
-    /// A write failed, except by an interruption, or took none of some bytes.
+    /// A write failed other than by an interruption, or took none of some bytes.
     WriteFault,
-    /// A read failed, except by an interruption.
+    /// A read failed other than by an interruption.
     ReadFault(ErrorKind),
-    /// No further bytes can make the bytes a head, or the head has more than 64 fields, or a
-    /// request's method is not `POST`.
+    /// No further bytes can make the bytes a head, the head has more than 64 fields, or a request's method is not `POST`.
     BadHead,
     /// A reply's status is not 200.
     BadStatus,
-    /// The fields don't give one length: there is a `Transfer-Encoding`, a length is no number, two
-    /// lengths differ, or a request has no length.
+    /// The fields do not have one length: there is a `Transfer-Encoding`, a length is not a number, two lengths are
+    /// different, or a request has no length.
     BadLength,
-    /// The head takes more than 16,384 bytes. Or the body takes more than 65,536 in a reply or
-    /// 2,097,152 in a request, by its length or as it came.
+    /// The head has more than 16,384 bytes. Or the body has more than 65,536 in a reply or 2,097,152 in a request, according
+    /// to its length or as it came.
     TooLong,
-    /// The stream ended inside the head, or before all bytes of the body's length had come.
+    /// The stream ended inside the head, or before the body was complete.
     CutShort,
-    /// 200,000 reads were made and more are needed, or 200,000 writes were made and bytes are left.
+    /// After 200,000 reads more are needed, or after 200,000 writes some bytes are left.
     TooManyReads,
     /// Out of memory.
     Memory,
@@ -52,7 +51,7 @@ impl fmt::Display for WireFault {
     }
 }
 
-/// The same words.
+/// The same text.
 impl fmt::Debug for WireFault {
     fn fmt<W: fmt::Write>(&self, f: &mut fmt::Formatter<W>) -> fmt::Result {
         fmt::Display::fmt(self, f)
@@ -73,12 +72,12 @@ impl From<AllocError> for WireFault {
 #[derive(Clone, Copy)]
 pub enum FrameFault {
     BadHead,
-    /// A reply has this status.
+    /// A reply has this status, which is not 200.
     BadStatus(u16),
     TransferEncoding,
-    /// A length is no number.
+    /// A length is not a number.
     NoNumber,
-    /// Two lengths differ.
+    /// Two lengths are different.
     TwoLengths,
     /// A request has no length.
     NoLength,

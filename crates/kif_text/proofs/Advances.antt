@@ -1,4 +1,4 @@
--- What one byte does to the reader, case by case.
+-- How one byte changes the reader's state, case by case.
 use Rattle.std.proofs.Common.{◌≡◌, ℕ, ◌<◌, List, [], ◌∷◌, ◌++◌, length, Bool, true, false, cond, not, ◌==◌, nat_le, Result, Ok, Err, refl, sym, ◌⊎◌, inl, inr, arith}
 use Rattle.std.proofs.lemmas.Bool.{eqb-true}
 use Rattle.std.proofs.lemmas.Bool.Decides.{nat_tests}
@@ -12,7 +12,7 @@ pub chosen : {A : Type 0} (b : Bool) (x y z : A) → cond b x y ≡ z → ((b �
 chosen true x y z e = inl (refl, e)
 chosen false x y z e = inr (refl, e)
 
--- where a chain succeeds, so does its first part
+-- if a chain succeeds, so does its first part
 pub bind_ok : {A B : Type 0} (r : Result A KifFault) (f : A → Result B KifFault) (y : B) → (r >>= f) ≡ Ok y → (x : A) × (r ≡ Ok x) × (f x ≡ Ok y)
 bind_ok (Ok x) f y e = (x, refl, e)
 bind_ok (Err d) f y e = absurd cc
@@ -32,7 +32,7 @@ err_is_ok d x e = cc
 nat_le-false : (m n : ℕ) → nat_le m n ≡ false → n < m
 nat_le-false m n e = grind (arith, nat_tests)
 
--- each way in which the reader takes the byte b at place i
+-- the ways in which the reader accepts the byte b at offset i
 pub data Advance (limit : ℕ) (s t : State) (i b : ℕ) : Type 0 where
   in_comment : s.comment ≡ true → t ≡ record { levels = s.levels; here = s.here; word = s.word; comment = not (b == line_feed) } → Advance limit s t i b
   in_word : s.comment ≡ false → is_atom_byte b ≡ true → t ≡ record { levels = s.levels; here = s.here; word = s.word ++ b ∷ []; comment = s.comment } → Advance limit s t i b
@@ -64,7 +64,7 @@ act_advance limit s i b t c w h =
       ]
     ]
 
--- a step that succeeds takes its byte in one of these ways
+-- a step that succeeds accepts its byte in one of these ways
 pub advance : (limit : ℕ) (s : State) (i b : ℕ) (t : State) → step limit s i b ≡ Ok t → Advance limit s t i b
 advance limit s i b t h =
     elim (chosen s.comment _ _ _ h) [

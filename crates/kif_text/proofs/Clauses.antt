@@ -1,4 +1,4 @@
--- What `read_all` and `read_one` ensure, from what the reader's steps give.
+-- The clauses of `read_all` and `read_one`, proved from the reader's steps.
 use Rattle.std.proofs.Common.{◌≡◌, ℕ, ◌≤◌, List, length, Result, Ok, Err, Vec, Global, Some, None, refl, ap, ◌∙◌}
 use Rattle.std.specs.Prelude.{IfOk, IfErr}
 use Rattle.std.specs.Result.{result_ok}
@@ -28,7 +28,6 @@ all_fault limit text (Ok v) le h = tt
 all_fault limit text (Err Memory) le h = le
 all_fault limit text (Err e) le h = read_fails limit text e le h
 
--- a text with such a fault spells nothing within the limits
 pub all_refused : (limit : ℕ) (text : List ℕ) (r : Result (Vec Expr Global) KifFault) → IfErr r (IsFaultUpTo limit any_number text) → IfErr r (λ e. (e ≡ Memory → ⊥) → (xs : Expressions) → SpellsUpTo limit text xs → ⊥)
 all_refused limit text (Ok v) h = tt
 all_refused limit text (Err e) h = λ not xs spells. all_not_refused limit text xs spells (e, not, h)

@@ -1,11 +1,11 @@
--- The bare text has a space in each place of a comment, and the text's byte in each other place.
+-- The bare text has a space for each byte of a comment, and the text's own bytes elsewhere.
 use Rattle.std.proofs.Common.{◌≡◌, ◌≢◌, ℕ, zero, suc, ◌<◌, ◌≤◌, List, [], ◌∷◌, length, get_or, Bool, true, false, not, ◌||◌, ◌==◌, cond, refl, sym, ap, subst, ◌∙◌, ◌⊎◌, inl, inr, arith}
 use Rattle.std.proofs.lemmas.Bool.{eqb-true, ne_eqb, eq-eqb, and_parts, and_from, true≢false}
 use Rattle.game_core.specs.Bytes.{line_feed, space, semicolon}
 use Rattle.kif_text.specs.Faults.{is_inside, bare_from}
 use Rattle.kif_text.specs.Laws.{InComment, BareHidesComments}
 
--- whether a comment goes on over place i of t, if one goes on before t or not
+-- whether offset i of t is in a comment; the flag says whether t begins inside one
 abbrev flag : Bool → List ℕ → ℕ → Bool
 flag v [] i = false
 flag v (b ∷ t) zero = is_inside v b
@@ -19,7 +19,7 @@ bare_at v (b ∷ t) (suc i) = bare_at (is_inside v b) t i
 abbrev NoLineFeed : List ℕ → ℕ → Type 0
 NoLineFeed t i = (j : ℕ) → j ≤ i → get_or t j 0 ≢ line_feed
 
--- a comment goes on over place i: it begins in t, or one goes on before t
+-- offset i is in a comment that begins in t, or that t begins inside
 abbrev Inside : Bool → List ℕ → ℕ → Type 0
 Inside v t i = InComment t i ⊎ ((v ≡ true) × NoLineFeed t i)
 
@@ -49,7 +49,6 @@ no_lf_cons : (b : ℕ) (t : List ℕ) (i : ℕ) → b ≢ line_feed → NoLineFe
 no_lf_cons b t i h k zero le = h
 no_lf_cons b t i h k (suc j) le = k j (omega (arith, le))
 
--- a comment that goes on over b
 inside_parts : (v : Bool) (b : ℕ) → is_inside v b ≡ true → ((v ≡ true) ⊎ (b ≡ semicolon)) × (b ≢ line_feed)
 inside_parts v b h =
     let p = and_parts (v || b == semicolon) (not (b == line_feed)) h in

@@ -1,10 +1,10 @@
--- What the reader takes nests no deeper than the limit.
+-- What the reader accepts nests no deeper than the limit.
 use Rattle.std.proofs.Common.{◌≡◌, ℕ, suc, ◌+◌, ◌≤◌, max, List, [], ◌∷◌, length, Ok, sym, subst, arith}
 use Rattle.game_core.specs.Expression.{Expression, atom, list, Expressions, none, more, depth, depth_all}
 use Rattle.kif_text.specs.Machine.{Open, State, start, and_last, with_word, step, run, finish_on, finish, read}
 use Rattle.kif_text.proofs.Advances.{Advance, in_comment, in_word, begins_comment, opens, closes, is_space, advance, bind_ok, ok_is}
 
--- what is read at each level nests no deeper than the limit leaves for it
+-- what has been read at each level nests no deeper than the limit allows there
 abbrev Nests : ℕ → List Open → Expressions → Type 0
 Nests limit [] here = depth_all here ≤ limit
 Nests limit (l ∷ ls) here = (depth_all here + suc (length ls) ≤ limit) × Nests limit ls l.before
@@ -46,7 +46,6 @@ nests_finish : (limit : ℕ) (ls : List Open) (xs all : Expressions) → finish_
 nests_finish limit [] xs all e h = subst (λ (ys : Expressions). depth_all ys ≤ limit) (ok_is xs all e) h
 nests_finish limit (l ∷ ls) xs all e h = absurd cc
 
--- what is read nests no deeper than the limit
 pub read_nests : (limit : ℕ) (text : List ℕ) (all : Expressions) → read limit text ≡ Ok all → depth_all all ≤ limit
 read_nests limit text all h =
     let last = bind_ok (run (step limit) start 0 text) finish all h in

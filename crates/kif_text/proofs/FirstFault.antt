@@ -1,4 +1,4 @@
--- The fault at which the reader stops is the first of the text.
+-- The error at which the reader stops is the text's first one.
 use Rattle.std.proofs.Common.{◌≡◌, ℕ, zero, suc, ◌+◌, ◌<◌, ◌≤◌, List, [], ◌∷◌, length, drop, get_or, Bool, true, false, not, ◌||◌, ◌==◌, nat_le, cond, Result, Ok, Err, refl, sym, ap, subst, ◌∙◌, ◌⊎◌, inl, inr, add-one, arith}
 use Rattle.std.proofs.lemmas.List.Sums.{count_by_more_no, count_by_more_yes}
 use Rattle.std.proofs.lemmas.Bool.{eqb-true, eqb-false, ne_eqb, eq-eqb, cases_lt, true≢false}
@@ -11,12 +11,12 @@ use Rattle.kif_text.specs.declared.fault.KifFault.{KifFault}
 use Rattle.kif_text.specs.declared.fault.KifFault.TheVariants.{BadByte, Unopened, TooDeep, Unclosed, Nothing, More, TooLong, Memory}
 use Rattle.kif_text.proofs.Advances.{Advance, in_comment, in_word, begins_comment, opens, closes, is_space, advance, bind_ok, chosen, good, bad, ok_is}
 
--- for each open list, innermost first: its parenthesis, and that the level stays above the one before it
+-- for each open list, innermost first: its parenthesis, and that the level has stayed above the one before it
 abbrev pub Opened : List ℕ → ℕ → List Open → Type 0
 Opened t i [] = Unit {0}
 Opened t i (l ∷ ls) = (l.at < i) × (get_or t l.at 0 ≡ left_parenthesis) × (level t l.at ≡ length ls) × ((j : ℕ) → l.at < j → j ≤ i → length ls < level t j) × Opened t i ls
 
--- what the reader knows after i bytes, with these open lists: the level, and that no fault stands so far
+-- what holds after i bytes with these open lists: the level, and that there is no error so far
 pub record Knows (one : Bool) (t : List ℕ) (i : ℕ) (ls : List Open) : Type 0 where
   pub count : opened t i ≡ closed t i + length ls
   pub few : length ls ≤ max_depth
@@ -36,7 +36,7 @@ lists_more t i (l ∷ ls) h le = (
   lists_more t i ls h.4 (omega arith),
 )
 
--- no fault stands at a place whose byte may stand there
+-- there is no error at an offset whose byte is allowed there
 not_here : (one : Bool) (t : List ℕ) (i : ℕ) (e : KifFault) → is_known (get_or t i 0) ≡ true → (get_or t i 0 ≡ right_parenthesis → 0 < level t i) → (get_or t i 0 ≡ left_parenthesis → level t i < max_depth) → ((k : ℕ) → StandsAt one t (More k) i → ⊥) → StandsAt one t e i → ⊥
 not_here one t i (BadByte k) known up down m h = true≢false (sym known ∙ subst (λ (x : ℕ). is_known (get_or t x 0) ≡ false) h.0 h.2)
 not_here one t i (Unopened k) known up down m h =
@@ -99,16 +99,14 @@ knows_close one t i l ls lt is m k =
       lists = lists_more t i ls k.lists.4 (omega (arith, o, c, k.count));
     }
 
--- a byte, and what the bare text has in its place
-
--- the byte of the bare text in the place of b
+-- the byte that the bare text has instead of b
 abbrev pub shown : Bool → ℕ → ℕ
 shown before b = cond (is_inside before b) space b
 
 pub differs : (p : ℕ → Bool) (b v : ℕ) → p b ≡ true → p v ≡ false → (b == v) ≡ false
 differs p b v h k = ne_eqb b v (λ e. true≢false (sym h ∙ ap p e ∙ k))
 
--- a byte that changes no level and is no fault
+-- a byte that changes no level and is not an error
 abbrev pub IsNeutral : ℕ → Type 0
 IsNeutral x = (is_known x ≡ true) × ((x == left_parenthesis) ≡ false) × ((x == right_parenthesis) ≡ false)
 
@@ -141,7 +139,7 @@ shown_at s b c h = (ap (λ (v : Bool). shown v b) c ∙ shown_plain b h, ap (λ 
 neutral_more : (one : Bool) (t : List ℕ) (i : ℕ) (ls : List Open) (x : ℕ) → i < length t → get_or t i 0 ≡ x → IsNeutral x → ((k : ℕ) → StandsAt one t (More k) i → ⊥) → Knows one t i ls → Knows one t (i + 1) ls
 neutral_more one t i ls x lt is n m k = knows_same one t i ls x lt is n.0 n.1 n.2 m k
 
--- what the reader knows stays true
+-- a successful step keeps `Knows`
 pub knows_advance : (one : Bool) (t : List ℕ) (i : ℕ) (s u : State) (b : ℕ) → Advance max_depth s u i b → i < length t → get_or t i 0 ≡ shown s.comment b → ((k : ℕ) → StandsAt one t (More k) i → ⊥) → Knows one t i s.levels → Knows one t (i + 1) u.levels × (u.comment ≡ is_inside s.comment b)
 knows_advance one t i s u b (in_comment c e) lt is m k =
     let x : shown s.comment b ≡ cond (not (b == line_feed)) space b = ap (λ (v : Bool). shown v b) c in
@@ -163,8 +161,6 @@ knows_advance one t i s u b (closes c a paren l ls lv e) lt is m k =
 knows_advance one t i s u b (is_space c a white e) lt is m k =
     let at = shown_at s b c (differs is_white b semicolon white refl) in
     (subst (λ (w : State). Knows one t (i + 1) w.levels) (sym e) (neutral_more one t i s.levels b lt (is ∙ at.0) (neutral_white b white) m k), ap (λ (w : State). w.comment) e ∙ c ∙ sym at.1)
-
--- the step that fails
 
 pub err_is : (d e : KifFault) → bad {A = State} d ≡ bad e → d ≡ e
 err_is d e h = cc
@@ -209,7 +205,6 @@ act_fails one t i s b e lt is k c a h =
           ])
     ]
 
--- the fault of a step that fails stands at its place
 pub step_fails : (one : Bool) (t : List ℕ) (i : ℕ) (s : State) (b : ℕ) (e : KifFault) → i < length t → get_or t i 0 ≡ shown s.comment b → Knows one t i s.levels → step max_depth s i b ≡ Err e → StandsAt one t e i
 step_fails one t i s b e lt is k h =
     elim (chosen s.comment _ _ _ h) [
@@ -219,8 +214,6 @@ step_fails one t i s b e lt is k h =
         | inr q ↦ act_fails one t i s b e lt is k p.0 q.0 q.1
       ]
     ]
-
--- the run
 
 pub drop_head : (i : ℕ) (t : List ℕ) (x : ℕ) (r : List ℕ) → drop i t ≡ x ∷ r → (i < length t) × (get_or t i 0 ≡ x) × (drop (suc i) t ≡ r)
 drop_head zero [] x r e = absurd cc
@@ -241,7 +234,6 @@ bind_err (Err d) f e h = inl (let same : d ≡ e = cc in ap bad same)
 pub no_more : (t : List ℕ) (i k : ℕ) → StandsAt false t (More k) i → ⊥
 no_more t i k h = true≢false (sym h.0)
 
--- a run that fails has met the first fault
 pub run_fails : (bs t : List ℕ) (i : ℕ) (s : State) (e : KifFault) → drop i t ≡ bare_from s.comment bs → Knows false t i s.levels → run (step max_depth) s i bs ≡ Err e → IsFirst false t e
 unfolding run
 run_fails [] t i s e d k h = absurd (ok_not_err s e h)
@@ -254,7 +246,7 @@ run_fails (b ∷ bs) t i s e d k h =
           run_fails bs t (i + 1) u e (ap (λ (j : ℕ). drop j t) (add-one i) ∙ at.2 ∙ ap (λ (v : Bool). bare_from v bs) (sym next.1)) next.0 (ap (λ (j : ℕ). run (step max_depth) u j bs) (add-one i) ∙ p.2))
     ]
 
--- a run that succeeds has met none
+-- if a run succeeds, there is no error so far
 pub run_knows : (bs t : List ℕ) (i : ℕ) (s u : State) → drop i t ≡ bare_from s.comment bs → i ≤ length t → Knows false t i s.levels → run (step max_depth) s i bs ≡ Ok u → Knows false t (length t) u.levels
 unfolding run
 run_knows [] t i s u d le k h =
@@ -267,8 +259,6 @@ run_knows (b ∷ bs) t i s u d le k h =
     let next = knows_advance false t i s p.0 b (advance max_depth s i b p.0 p.1) at.0 at.1 (no_more t i) k in
     run_knows bs t (i + 1) p.0 u (ap (λ (j : ℕ). drop j t) (add-one i) ∙ at.2 ∙ ap (λ (v : Bool). bare_from v bs) (sym next.1)) (omega (arith, at.0)) next.0 (ap (λ (j : ℕ). run (step max_depth) p.0 j bs) (add-one i) ∙ p.2)
 
--- the whole text
-
 pub length_bare : (bs : List ℕ) (v : Bool) → length (bare_from v bs) ≡ length bs
 length_bare [] v = refl
 length_bare (b ∷ bs) v = ap suc (length_bare bs (is_inside v b))
@@ -276,7 +266,6 @@ length_bare (b ∷ bs) v = ap suc (length_bare bs (is_inside v b))
 pub knows_none : (one : Bool) (t : List ℕ) → Knows one t 0 []
 knows_none one t = record { count = omega arith; few = omega arith; clear = λ e i lt h. omega arith; lists = tt }
 
--- where lists are open at the end, the last of them is named
 pub open_ends : (one : Bool) (t : List ℕ) (ls : List Open) (xs : Expressions) (e : KifFault) → Knows one t (length t) ls → finish_on ls xs ≡ Err e → (l : Open) × (e ≡ Unclosed l.at) × IsUnclosed t l.at
 open_ends one t [] xs e k h = absurd (forms_not_err xs e h)
 open_ends one t (l ∷ ls) xs e k h =
@@ -307,7 +296,7 @@ fault_of limit text (More i) le h = (le, h)
 fault_of limit text TooLong le h = absurd h.1
 fault_of limit text Memory le h = le
 
--- what is refused has that fault
+-- if a text is refused, it has that error
 pub read_fails : (limit : ℕ) (text : List ℕ) (e : KifFault) → length text ≤ limit → read max_depth text ≡ Err e → IsFaultUpTo limit false text e
 read_fails limit text e le h =
     elim (bind_err (run (step max_depth) start 0 text) finish e h) [

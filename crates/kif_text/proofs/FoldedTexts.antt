@@ -1,4 +1,4 @@
--- Folding: of the text, of a proper expression, and twice.
+-- Folding a text, folding a proper expression, and folding twice.
 use Rattle.std.proofs.Common.{◌≡◌, ℕ, suc, ◌+◌, map, List, [], ◌∷◌, ◌++◌, Bool, true, false, nat_le, cond, ◌&&◌, refl, sym, ap, ◌∙◌, arith}
 use Rattle.std.proofs.lemmas.List.{map-append, length-map}
 use Rattle.std.proofs.lemmas.Bool.Decides.{nat_tests}

@@ -6,7 +6,6 @@ use Rattle.game_core.specs.Expression.{Expression, more, folded, all_folded}
 use Rattle.kif_text.specs.View.{expressions, view, views}
 use Rattle.kif_text.specs.declared.expr.Expr.{Expr}
 
--- one more member is folded
 pub fold_one_more : (xs ys : List Expr) (i : ℕ) (x y : Expr) → i < length xs → i < length ys → x ≡ get_or ys i x → view y ≡ folded (view x)
     → map view ys ≡ map folded (take i (map view xs)) ++ drop i (map view xs)
     → map view (set ys i y) ≡ map folded (take (i + 1) (map view xs)) ++ drop (i + 1) (map view xs)
@@ -19,7 +18,6 @@ pub all_folded-expressions : (fs : List Expression) → expressions (map folded 
 all_folded-expressions [] = refl
 all_folded-expressions (f ∷ fs) = ap (more (folded f)) (all_folded-expressions fs)
 
--- all are folded
 pub folded_all : (xs ys : List Expr) (i : ℕ) → length xs ≤ i → map view ys ≡ map folded (take i (map view xs)) ++ drop i (map view xs) → views ys ≡ all_folded (views xs)
 folded_all xs ys i le h =
     let past : length (map view xs) ≤ i = omega (arith, length-map (xs) view) in

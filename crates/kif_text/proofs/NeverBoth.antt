@@ -1,4 +1,4 @@
--- A text spells expressions within the limits or has a fault, and never both.
+-- A text either spells expressions within the limits or has an error, never both.
 use Rattle.std.proofs.Common.{◌≡◌, ℕ, get_or, ◌<◌, ◌≤◌, Bool, List, [], ◌∷◌, length, Result, Ok, Err, refl, sym, subst, ◌∙◌, ◌⊎◌, inl, inr, false, arith}
 use Rattle.std.proofs.lemmas.Bool.{cases_lt, true≢false}
 use Rattle.std.proofs.lemmas.List.{get_or_past}
@@ -15,17 +15,17 @@ use Rattle.kif_text.proofs.Depth.{read_nests}
 use Rattle.kif_text.proofs.SpelledIsRead.{spelled_read}
 use Rattle.kif_text.proofs.FirstFault.{Knows, run_knows, knows_none, read_fails, run_fails, open_ends, bind_err}
 
--- a text that is read has no fault
+-- if a text is read, it has no error
 pub whole : (text : List ℕ) (ls : List Open) (xs ys : Expressions) → Knows false (bare text) (length (bare text)) ls → finish_on ls xs ≡ Ok ys → level (bare text) (length (bare text)) ≡ 0
 whole text [] xs ys k h = omega (arith, k.count)
 whole text (l ∷ ls) xs ys k h = absurd cc
 
--- a place whose byte is not 0 is within the text
+-- an offset whose byte is not 0 is within the text
 pub within : {v : ℕ} (t : List ℕ) (i at : ℕ) → i ≡ at → get_or t i 0 ≡ v → 0 < v → at < length t
 within t i at e h some =
     elim (cases_lt i (length t)) [ inl p ↦ omega arith | inr p ↦ absurd (omega (arith, h, some, get_or_past t i 0 p)) ]
 
--- a text without first fault whose lists are all closed has no fault
+-- a text that has no first error, and whose lists are all closed, has no error
 no_fault : (limit : ℕ) (text : List ℕ) (e : KifFault) → length text ≤ limit → IsClear false (bare text) (length (bare text)) → level (bare text) (length (bare text)) ≡ 0 → (e ≡ Memory → ⊥) → IsFaultUpTo limit false text e → ⊥
 no_fault limit text (BadByte i) le clear flat wanted h = clear (BadByte i) h.1.0 (omega (arith, h.1.1.0, h.1.1.1)) h.1.1
 no_fault limit text (Unopened i) le clear flat wanted h = clear (Unopened i) h.1.0 (within (bare text) i h.1.0 h.1.1.0 h.1.1.1 (omega arith)) h.1.1
@@ -39,7 +39,7 @@ no_fault limit text Memory le clear flat wanted h = wanted refl
 unclosed_not_memory : (i : ℕ) → Unclosed i ≡ Memory → ⊥
 unclosed_not_memory i e = cc
 
--- the steps themselves never run out of memory
+-- the machine's steps never run out of memory
 not_memory : (text : List ℕ) (e : KifFault) → read max_depth text ≡ Err e → e ≡ Memory → ⊥
 not_memory text e h is =
     elim (bind_err (run (step max_depth) start 0 text) finish e h) [
@@ -57,7 +57,6 @@ by_outcome limit text (Err e) h le = inr (e, not_memory text e h, read_fails lim
 too_long_not_memory : TooLong ≡ Memory → ⊥
 too_long_not_memory e = cc
 
--- a text past the limit has the fault of its length
 pub too_long : (limit : ℕ) (one : Bool) (text : List ℕ) → limit < length text → HasFault limit one text
 too_long limit one text lt = (TooLong, too_long_not_memory, lt)
 
@@ -65,7 +64,6 @@ either_all : (limit : ℕ) (text : List ℕ) → ((xs : Expressions) × SpellsUp
 either_all limit text =
     elim (cases_lt limit (length text)) [ inl p ↦ inr (too_long limit any_number text p) | inr p ↦ by_outcome limit text (read max_depth text) refl p ]
 
--- what a text spells within the limits is not refused
 pub all_not_refused : (limit : ℕ) (text : List ℕ) (xs : Expressions) → SpellsUpTo limit text xs → HasFault limit any_number text → ⊥
 all_not_refused limit text xs spells faulty =
     let h = spelled_read max_depth text xs spells.spelled spells.shallow in

@@ -1,4 +1,4 @@
--- A text has at most one fault, apart from out of memory.
+-- A text has at most one error apart from out of memory.
 use Rattle.std.proofs.Common.{◌≡◌, ℕ, ◌<◌, ◌≤◌, List, length, Bool, true, false, ◌||◌, ◌&&◌, ◌==◌, refl, sym, ap, subst, ◌∙◌, inl, inr, get_or, arith}
 use Rattle.std.proofs.lemmas.Bool.{cases_lt, eqb-true, and_parts, true≢false}
 use Rattle.game_core.specs.Bytes.{left_parenthesis, right_parenthesis, is_white, is_atom_byte}
@@ -9,8 +9,6 @@ use Rattle.kif_text.specs.declared.fault.KifFault.{KifFault}
 use Rattle.kif_text.specs.declared.fault.KifFault.TheVariants.{BadByte, Unopened, TooDeep, Unclosed, Nothing, More, TooLong, Memory}
 use Rattle.kif_text.proofs.FirstFault.{length_bare}
 use Rattle.kif_text.proofs.NeverBoth.{within}
-
--- two faults at one place
 
 abbrev Unknown : List ℕ → ℕ → Type 0
 Unknown t i = is_known (get_or t i 0) ≡ false
@@ -92,7 +90,7 @@ stands_once one t i (More a) (More b) h k = ap (λ (n : ℕ). More n) (h.1 ∙ s
 stands_once one t i (More a) e h k = absurd k
 stands_once one t i d e h k = absurd h
 
--- the first faults of a text are one
+-- a text has only one first error
 first_once : (one : Bool) (t : List ℕ) (d e : KifFault) → IsFirst one t d → IsFirst one t e → d ≡ e
 first_once one t d e h k =
     elim (cases_lt h.0 k.0) [
@@ -103,7 +101,7 @@ first_once one t d e h k =
       ]
     ]
 
--- a fault at some place is within the text
+-- the offset of an error is within the text
 stands_within : (one : Bool) (t : List ℕ) (i : ℕ) (e : KifFault) → StandsAt one t e i → i < length t
 stands_within one t i (BadByte at) h = omega (arith, h.0, h.1)
 stands_within one t i (Unopened at) h = within t at i h.0 h.1 (omega arith)
@@ -111,7 +109,7 @@ stands_within one t i (TooDeep at) h = within t at i h.0 h.1 (omega arith)
 stands_within one t i (More at) h = omega (arith, h.1, h.2)
 stands_within one t i e h = absurd h
 
--- faults at the end
+-- errors at the end of the text
 
 abbrev StandsAtEnd : List ℕ → KifFault → Type 0
 StandsAtEnd t (Unclosed at) = IsUnclosed t at
@@ -131,7 +129,7 @@ end_once t Nothing Nothing h k = refl
 end_once t Nothing e h k = absurd k
 end_once t d e h k = absurd h
 
--- what kind of fault it is
+-- the kinds of errors
 data Kind (limit : ℕ) (one : Bool) (text : List ℕ) (e : KifFault) : Type 0 where
   too_long : e ≡ TooLong → limit < length text → Kind limit one text e
   at_place : length text ≤ limit → IsFirst one (bare text) e → Kind limit one text e

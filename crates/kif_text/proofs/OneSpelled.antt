@@ -55,7 +55,7 @@ started_le t i (suc j) le =
 twice : (t : List ℕ) (i : ℕ) → starts t i ≡ true → started t (suc i) ≡ suc (started t i)
 twice t i h = ap (λ (v : Bool). cond v 1 0 + started t i) h ∙ omega arith
 
--- a text without first fault that holds one expression has no fault
+-- a text that has no first error, and that holds one expression, has no error
 clash : (text : List ℕ) (e : KifFault) → length text ≤ max_length → (e ≡ Memory → ⊥) → IsClear false (bare text) (length (bare text)) → level (bare text) (length (bare text)) ≡ 0 → started (bare text) (length (bare text)) ≡ 1 → IsFault true text e → ⊥
 clash text (BadByte i) le wanted clear flat n h = clear (BadByte i) h.1.0 (omega (arith, h.1.1.0, h.1.1.1)) h.1.1
 clash text (Unopened i) le wanted clear flat n h = clear (Unopened i) h.1.0 (within (bare text) i h.1.0 h.1.1.0 h.1.1.1 (omega arith)) h.1.1
@@ -70,7 +70,6 @@ clash text (More i) le wanted clear flat n h =
 clash text TooLong le wanted clear flat n h = omega (arith, h, le)
 clash text Memory le wanted clear flat n h = wanted refl
 
--- what a text spells alone within the limits is not refused
 pub one_not_refused : (text : List ℕ) (x : Expression) → SpellsOne text x → HasFault max_length one_expression text → ⊥
 one_not_refused text x spells faulty =
     let readable = spelled_read max_depth text (more x none) spells.spelled (omega (arith, spells.shallow)) in

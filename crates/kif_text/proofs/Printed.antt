@@ -1,4 +1,4 @@
--- The canonical text of a proper expression spells it, and nothing else.
+-- The canonical text of a proper expression spells it and nothing else.
 use Rattle.std.proofs.Common.{ℕ, List, [], ◌∷◌, ◌++◌, refl, sym, subst, append_assoc}
 use Rattle.std.proofs.lemmas.List.{append-nil}
 use Rattle.game_core.specs.Bytes.{space, left_parenthesis, right_parenthesis}
@@ -13,7 +13,6 @@ later_ends none = tt
 later_ends (more x xs) = refl
 
 mutual
-  -- x, and then whatever the rest spells
   one_spelled : (x : Expression) (rest : List ℕ) (xs : Expressions) → HasAtoms x → EndsAtom rest → Spells rest xs → Spells (canonical x ++ rest) (more x xs)
   one_spelled (atom w) rest xs h ends k = spells_atom w rest xs h ends k
   one_spelled (list ys) rest xs h ends k =

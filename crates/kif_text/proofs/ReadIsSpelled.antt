@@ -1,4 +1,4 @@
--- The text spells what the reader accepts.
+-- A text spells what the reader accepts.
 use Rattle.std.proofs.Common.{◌≡◌, ◌≢◌, ℕ, suc, ◌<◌, List, [], ◌∷◌, ◌++◌, length, Bool, true, false, not, ◌==◌, Ok, refl, sym, ap, subst, ◌∙◌, append_assoc, arith}
 use Rattle.std.proofs.lemmas.List.{append-nil}
 use Rattle.std.proofs.lemmas.Bool.{eqb-true, eqb-false}
@@ -8,7 +8,6 @@ use Rattle.kif_text.specs.Spelling.{EndsAtom, HasNoLineFeed, Spells, spells_none
 use Rattle.kif_text.specs.Machine.{Open, State, start, and_last, ◌>>=◌, with_word, step, run, finish_on, finish, read}
 use Rattle.kif_text.proofs.Advances.{Advance, in_comment, in_word, begins_comment, opens, closes, is_space, advance, bind_ok, ok_is}
 
--- the expressions xs, then ys
 abbrev pub join : Expressions → Expressions → Expressions
 join none ys = ys
 join (more x xs) ys = more x (join xs ys)
@@ -21,16 +20,13 @@ pub join_last : (xs : Expressions) (y : Expression) (ys : Expressions) → join 
 join_last none y ys = refl
 join_last (more x xs) y ys = ap (more x) (join_last xs y ys)
 
--- These lists are open, and these expressions are read at the innermost level. The rest of the text then
--- gives all.
+-- With these lists open, and these expressions read at the innermost level, the rest of the text completes all.
 abbrev pub Completes : List Open → Expressions → List ℕ → Expressions → Type 0
 Completes [] here rest all = (ys : Expressions) × SpellsText rest ys × (all ≡ join here ys)
 Completes (l ∷ ls) here rest all = (inner after : List ℕ) × (ys : Expressions) × (rest ≡ inner ++ right_parenthesis ∷ after) × Spells inner ys × Completes ls (and_last l.before (list (join here ys))) after all
 
 regroup : (a b c : List ℕ) (x y : ℕ) → x ∷ (a ++ y ∷ (b ++ c)) ≡ (x ∷ (a ++ y ∷ b)) ++ c
 regroup a b c x y = ap (λ (s : List ℕ). x ∷ s) (sym (append_assoc a (y ∷ b) c))
-
--- white bytes and comments
 
 white_completes : (ls : List Open) (here : Expressions) (b : ℕ) (t : List ℕ) (all : Expressions) → is_white b ≡ true → Completes ls here t all → Completes ls here (b ∷ t) all
 white_completes [] here b t all p h =
@@ -42,8 +38,6 @@ comment_completes [] here c t all p h =
     let s = h.1 in (h.0, (semicolon ∷ (c ++ line_feed ∷ s.0), s.1, ap (λ (r : List ℕ). semicolon ∷ (c ++ line_feed ∷ r)) s.2 ∙ regroup c s.0 s.1 semicolon line_feed, spells_comment c s.0 h.0 p s.3, s.4), h.2)
 comment_completes (l ∷ ls) here c t all p h =
     (semicolon ∷ (c ++ line_feed ∷ h.0), h.1, h.2, ap (λ (r : List ℕ). semicolon ∷ (c ++ line_feed ∷ r)) h.3 ∙ regroup c h.0 (right_parenthesis ∷ h.1) semicolon line_feed, spells_comment c h.0 h.2 p h.4, h.5)
-
--- atoms
 
 ends_front : (t front back : List ℕ) → t ≡ front ++ back → EndsAtom t → EndsAtom front
 ends_front t [] back e h = tt
@@ -60,8 +54,6 @@ atom_completes [] here w t all lt bytes ends h =
 atom_completes (l ∷ ls) here w t all lt bytes ends h =
     let front = ends_front t h.0 (right_parenthesis ∷ h.1) h.3 ends in
     (w ++ h.0, h.1, more (atom w) h.2, ap (λ (s : List ℕ). w ++ s) h.3 ∙ sym (append_assoc w h.0 (right_parenthesis ∷ h.1)), atom_spells w h.0 h.2 lt bytes front h.4, subst (λ (xs : Expressions). Completes ls (and_last l.before (list xs)) h.1 all) (join_last here (atom w) h.2) h.5)
-
--- lists
 
 list_spells : (inner t : List ℕ) (xs ys : Expressions) → Spells inner xs → Spells t ys → Spells (left_parenthesis ∷ (inner ++ right_parenthesis ∷ t)) (more (list xs) ys)
 list_spells inner t xs ys h k = spells_list inner t xs ys h k
@@ -81,14 +73,11 @@ close_completes : (l : Open) (ls : List Open) (here : Expressions) (t : List ℕ
 close_completes l ls here t all h =
     ([], t, none, refl, spells_none, subst (λ (xs : Expressions). Completes ls (and_last l.before (list xs)) t all) (sym (join_none here)) h)
 
--- the word before a byte that is not an atom byte
 word_completes : (ls : List Open) (here : Expressions) (w t : List ℕ) (all : Expressions) → AreAtomBytes w → EndsAtom t → Completes ls (with_word here w) t all → Completes ls here (w ++ t) all
 word_completes ls here [] t all bytes ends h = h
 word_completes ls here (b ∷ w) t all bytes ends h = atom_completes ls here (b ∷ w) t all (omega arith) bytes ends h
 
--- the run
-
--- the bytes that are read and not yet settled
+-- the bytes of an unfinished word or comment
 abbrev pub Pending : Bool → List ℕ → List ℕ → Type 0
 Pending true word p = (word ≡ []) × (c : List ℕ) × (p ≡ semicolon ∷ c) × HasNoLineFeed c
 Pending false word p = (p ≡ word) × AreAtomBytes word
@@ -101,7 +90,6 @@ no_lf_push : (c : List ℕ) (b : ℕ) → HasNoLineFeed c → b ≢ line_feed �
 no_lf_push [] b h e = (e, tt)
 no_lf_push (a ∷ c) b h e = (h.0, no_lf_push c b h.1 e)
 
--- one more byte of the pending ones
 shift : (p : List ℕ) (b : ℕ) (bs : List ℕ) → (p ++ b ∷ []) ++ bs ≡ p ++ b ∷ bs
 shift p b bs = append_assoc p (b ∷ []) bs
 
@@ -111,7 +99,6 @@ tail_alone c h = ([], semicolon ∷ c, refl, spells_none, (refl, h))
 and_last_join : (xs : Expressions) (y : Expression) → and_last xs y ≡ join xs (more y none)
 and_last_join xs y = sym (join_none (and_last xs y)) ∙ join_last xs y none
 
--- at the end of the text
 end_of_word : (here : Expressions) (word : List ℕ) (all : Expressions) → AreAtomBytes word → all ≡ with_word here word → Completes [] here word all
 end_of_word here [] all bytes e = (none, ([], [], refl, spells_none, tt), e ∙ sym (join_none here))
 end_of_word here (b ∷ w) all bytes e =
@@ -126,7 +113,7 @@ end_completes [] here word p all true pends h =
     let same : with_word here word ≡ here = ap (with_word here) pends.0 in
     (none, subst (λ (q : List ℕ). SpellsText q none) (sym pends.2) (tail_alone pends.1 pends.3), sym (ok_is _ _ h) ∙ same ∙ sym (join_none here))
 
--- from the state t, the rest of the text gives all
+-- from the state t, the rest of the text completes all
 abbrev pub Goes : State → List ℕ → Expressions → Type 0
 Goes t bs all = (q : List ℕ) → Pending t.comment t.word q → Completes t.levels t.here (q ++ bs) all
 
@@ -138,13 +125,12 @@ comment_advance ls here word p b bs all true e pends ih =
 comment_advance ls here word p b bs all false e pends ih =
     subst (λ (q : List ℕ). Completes ls here q all) (shift p b bs) (ih (p ++ b ∷ []) (pends.0, pends.1 ++ b ∷ [], ap (λ (q : List ℕ). q ++ b ∷ []) pends.2, no_lf_push pends.1 b pends.3 (eqb-false b line_feed e)))
 
--- a byte that is not an atom byte settles the word
 settled : (s : State) (p : List ℕ) (c : List ℕ) (all : Expressions) → s.comment ≡ false → Pending s.comment s.word p → EndsAtom c → Completes s.levels (with_word s.here s.word) c all → Completes s.levels s.here (p ++ c) all
 settled s p c all clear pends ends h =
     let at = subst (λ (v : Bool). Pending v s.word p) clear pends in
     subst (λ (q : List ℕ). Completes s.levels s.here (q ++ c) all) (sym at.0) (word_completes s.levels s.here s.word c all at.1 ends h)
 
--- one byte, in each way that the reader can take it
+-- one byte, in each way that the reader can accept it
 advanced : (limit : ℕ) (s t : State) (i b : ℕ) (bs p : List ℕ) (all : Expressions) → Advance limit s t i b → Pending s.comment s.word p → Goes t bs all → Completes s.levels s.here (p ++ b ∷ bs) all
 advanced limit s t i b bs p all (in_comment c e) pends ih =
     comment_advance s.levels s.here s.word p b bs all (b == line_feed) refl (subst (λ (v : Bool). Pending v s.word p) c pends) (subst (λ (u : State). Goes u bs all) e ih)
@@ -168,7 +154,7 @@ advanced limit s t i b bs p all (is_space c a w e) pends ih =
     let go = subst (λ (u : State). Goes u bs all) e ih in
     settled s p (b ∷ bs) all c pends a (white_completes s.levels (with_word s.here s.word) b bs all w (go [] (subst (λ (v : Bool). Pending v [] []) (sym c) (refl, tt))))
 
--- The result of the run is what the pending bytes and the rest give.
+-- the result of the run is what the pending bytes and the rest of the text spell
 run_found : (bs : List ℕ) (limit : ℕ) (s : State) (i : ℕ) (p : List ℕ) (all : Expressions) → Pending s.comment s.word p → (run (step limit) s i bs >>= finish) ≡ Ok all → Completes s.levels s.here (p ++ bs) all
 unfolding run
 run_found [] limit s i p all pends h =
@@ -180,7 +166,6 @@ run_found (b ∷ bs) limit s i p all pends h =
     let rest : (run (step limit) t (suc i) bs >>= finish) ≡ Ok all = ap (λ r. r >>= finish) first.2 ∙ last.2 in
     advanced limit s t i b bs p all (advance limit s i b t first.1) pends (λ q at. run_found bs limit t (suc i) q all at rest)
 
--- what is read is spelled
 pub read_found : (limit : ℕ) (text : List ℕ) (all : Expressions) → read limit text ≡ Ok all → SpellsText text all
 read_found limit text all h =
     let done = run_found text limit start 0 [] all (refl, tt) h in

@@ -1,4 +1,4 @@
--- What the reader of one expression accepts, and the fault for which it refuses.
+-- Which texts the reader of one expression accepts, and the error with which it refuses the others.
 use Rattle.std.proofs.Common.{◌≡◌, ℕ, suc, ◌+◌, ◌<◌, ◌≤◌, List, [], ◌∷◌, length, drop, get_or, Bool, true, false, Ok, Err, refl, sym, ap, subst, ◌∙◌, inl, inr, add-one, arith}
 use Rattle.game_core.specs.Expression.{Expression, Expressions, none, more, depth, max_depth}
 use Rattle.kif_text.specs.Spelling.{SpellsText, max_length}
@@ -13,7 +13,7 @@ use Rattle.kif_text.proofs.Depth.{read_nests}
 use Rattle.kif_text.proofs.FirstFault.{Knows, shown, knows_advance, step_fails, knows_none, drop_head, drop_none, bind_err, open_ends, length_bare, err_is, ok_not_err}
 use Rattle.kif_text.proofs.Starts.{KnowsOne, starts_is, second_is, first_is, one_advance}
 
--- a step that succeeds is a step of the other reader
+-- if a step of this reader succeeds, the same step of the other reader does
 plain : (limit : ℕ) (s : State) (i b : ℕ) (t : State) → one_step limit s i b ≡ Ok t → (is_second s b ≡ false) × (step limit s i b ≡ Ok t)
 plain limit s i b t h =
     elim (chosen (is_second s b) _ _ _ h) [
@@ -42,7 +42,7 @@ both_at t i s u b lt is k one h =
     let next = knows_advance true t i s u b move lt is (no_second t i s b is k one p.0) k in
     (next.0, subst (λ (j : ℕ). KnowsOne t j u) (sym (add-one i)) (one_advance t i s u b move is k p.0 one), next.1)
 
--- a run that succeeds has met no fault
+-- if a run succeeds, there is no error so far
 pub single_knows : (bs t : List ℕ) (i : ℕ) (s u : State) → drop i t ≡ bare_from s.comment bs → i ≤ length t → Knows true t i s.levels → KnowsOne t i s → run (one_step max_depth) s i bs ≡ Ok u → Knows true t (length t) u.levels × KnowsOne t (length t) u
 unfolding run
 single_knows [] t i s u d le k one h =
@@ -64,7 +64,6 @@ one_fails t i s b e lt is k one h =
       | inr p ↦ step_fails true t i s b e lt is k p.1
     ]
 
--- a run that fails has met the first fault
 pub single_fails : (bs t : List ℕ) (i : ℕ) (s : State) (e : KifFault) → drop i t ≡ bare_from s.comment bs → Knows true t i s.levels → KnowsOne t i s → run (one_step max_depth) s i bs ≡ Err e → IsFirst true t e
 unfolding run
 single_fails [] t i s e d k one h = absurd (ok_not_err s e h)
@@ -80,9 +79,6 @@ single_fails (b ∷ bs) t i s e d k one h =
 pub one_none : (t : List ℕ) → KnowsOne t 0 start
 one_none t = record { count = refl; few = omega arith; before = refl; quiet = λ z. refl }
 
--- the whole text
-
--- at the end all lists are closed, and each expression has begun outside all lists
 pub finished : (ls : List Open) (here all : Expressions) (word : List ℕ) → finish_on ls (with_word here word) ≡ Ok all → (count_of all ≡ total_on ls here word) × (ls ≡ [])
 finished [] here all word h = (ap count_of (sym (ok_is _ all h)), refl)
 finished (l ∷ ls) here all word h = absurd cc
@@ -92,7 +88,6 @@ last_is none x le h = absurd cc
 last_is (more y none) x le h = ap (λ (z : Expression). more z none) (ok_is y x h)
 last_is (more y (more z zs)) x le h = absurd (omega (arith, le))
 
--- the text spells what is read, and what is read nests no deeper than the limit
 pub single_found : (text : List ℕ) (x : Expression) → read_single text ≡ Ok x → SpellsText text (more x none) × (depth x ≤ max_depth)
 single_found text x h =
     let last = bind_ok (run (one_step max_depth) start 0 text >>= finish) last_of x h in
@@ -124,7 +119,7 @@ none_last none e h = (let same : Nothing ≡ e = cc in sym same, refl)
 none_last (more x none) e h = absurd cc
 none_last (more x (more y ys)) e h = absurd (not_none (none_last (more y ys) e h))
 
--- what is refused has that fault
+-- if a text is refused, it has that error
 pub single_fault : (text : List ℕ) (e : KifFault) → length text ≤ max_length → read_single text ≡ Err e → IsFault true text e
 single_fault text e le h =
     let t = bare text in
@@ -154,7 +149,7 @@ unclosed_not_memory at e = cc
 nothing_not_memory : Nothing ≡ Memory → ⊥
 nothing_not_memory e = cc
 
--- the steps themselves never run out of memory
+-- the machine's steps never run out of memory
 pub single_not_memory : (text : List ℕ) (e : KifFault) → length text ≤ max_length → read_single text ≡ Err e → e ≡ Memory → ⊥
 single_not_memory text e le h is =
     elim (bind_err (run (one_step max_depth) start 0 text >>= finish) last_of e h) [

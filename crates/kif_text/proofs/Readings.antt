@@ -44,7 +44,6 @@ true_le m n le = grind (arith, nat_tests)
 false_lt : (m n : ℕ) → n < m → nat_le m n ≡ false
 false_lt m n lt = grind (arith, nat_tests)
 
--- a text within the limit is read by the steps of the reader
 pub reading_within : (text : List ℕ) → length text ≤ max_length → reading text ≡ result_ok (read_single text)
 unfolding reading
 reading_within text le = rw (true_le (length text) max_length le) refl
@@ -53,7 +52,6 @@ pub reading_past : (text : List ℕ) → max_length < length text → reading te
 unfolding reading
 reading_past text lt = rw (false_lt (length text) max_length lt) refl
 
--- what is read is spelled
 pub reading_spelled : (text : List ℕ) (x : Expression) → reading text ≡ Some x → SpellsOne text x
 unfolding reading
 reading_spelled text x h =
@@ -71,38 +69,32 @@ spelled_found text x (Ok y) spells h =
     ap some same
 spelled_found text x (Err e) spells h = absurd (one_not_refused text x spells (e, single_not_memory text e spells.short h, single_fault text e spells.short h))
 
--- what is spelled is read
 pub spelled_reading : (text : List ℕ) (x : Expression) → SpellsOne text x → reading text ≡ Some x
 spelled_reading text x spells = reading_within text spells.short ∙ spelled_found text x (read_single text) spells refl
 
 pub reading_is_spelling : ReadingIsSpelling
 reading_is_spelling text x = (reading_spelled text x, spelled_reading text x)
 
--- what is read is proper
 pub reading_proper : (text : List ℕ) (x : Expression) → reading text ≡ Some x → IsProper x
 reading_proper text x h =
     let spells = reading_spelled text x h in
     ((spelled_has_atoms text (more x none) spells.spelled).0, spells.shallow)
 
--- its folded canonical text is a folded text
 pub reading_folded : (text : List ℕ) (x : Expression) → reading text ≡ Some x → IsFoldedText (canonical (folded x))
 reading_folded text x h = (folded x, folding_keeps_proper x (reading_proper text x h), folding_twice_is_once x, refl)
 
 pub reading_is_proper : ReadingIsProper
 reading_is_proper text x h = (reading_proper text x h, reading_folded text x h)
 
--- printing and folding it takes less than twice the text
 pub reading_under_double : ReadingUnderDouble
 reading_under_double text x h =
     let short = canonical_under_double text x (reading_spelled text x h).spelled in
     let same : length (canonical (folded x)) ≡ length (canonical x) = ap length (folding_commutes_with_printing x) ∙ length-map (canonical x) lower in
     (short, omega arith)
 
--- the canonical text of a proper expression is read as it
 pub canonical_reads_back : CanonicalReadsBack
 canonical_reads_back x proper le = spelled_reading (canonical x) x (record { short = le; spelled = canonical_spelled x proper.0; shallow = proper.1 })
 
--- a folded text is read as its own expression
 pub folded_text_reads_back : FoldedTextReadsBack
 folded_text_reads_back text is le =
     let short : length (canonical is.0) ≤ max_length = omega (arith, ap length is.3) in

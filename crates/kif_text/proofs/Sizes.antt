@@ -1,4 +1,4 @@
--- The atoms of what a text spells, and how long its canonical text is.
+-- The atoms of what a text spells, and the length of its canonical text.
 use Rattle.std.proofs.Common.{ℕ, ◌*◌, ◌≤◌, List, [], ◌∷◌, ◌++◌, length, ap, arith}
 use Rattle.std.proofs.lemmas.List.{length-append}
 use Rattle.game_core.specs.Bytes.{line_feed, right_parenthesis}
@@ -14,7 +14,6 @@ atoms_of text xs (spells_comment c rest ys n h) = atoms_of rest ys h
 atoms_of text xs (spells_atom w rest ys a e h) = (a, atoms_of rest ys h)
 atoms_of text xs (spells_list inner rest ys zs h k) = (atoms_of inner ys h, atoms_of rest zs k)
 
--- the atoms of what is spelled are runs of atom bytes
 pub spelled_has_atoms : SpelledHasAtoms
 spelled_has_atoms text xs h = atoms_of h.0 xs h.3
 
@@ -22,8 +21,7 @@ members_le : (xs : Expressions) → length (members xs) ≤ length (later xs)
 members_le none = omega arith
 members_le (more x xs) = omega arith
 
--- each expression is printed with at most two bytes for each of its bytes, including the space
--- before it
+-- printing takes at most two bytes for each byte of the text, including the space before each expression
 doubles : (text : List ℕ) (xs : Expressions) → Spells text xs → length (later xs) ≤ 2 * length text
 doubles text xs spells_none = omega arith
 doubles text xs (spells_white b rest ys w h) = omega (arith, doubles rest ys h)

@@ -11,7 +11,7 @@ use Rattle.kif_text.specs.declared.fault.KifFault.{KifFault}
 use Rattle.kif_text.proofs.Advances.{ok_is}
 use Rattle.kif_text.proofs.ReadIsSpelled.{join, join_none, join_last}
 
--- with no atom and no comment going on
+-- the state with no unfinished atom or comment
 abbrev at : List Open → Expressions → State
 at ls here = record { levels = ls; here = here; word = []; comment = false }
 
@@ -21,11 +21,10 @@ in_word ls here w = record { levels = ls; here = here; word = w; comment = false
 abbrev commented : List Open → Expressions → State
 commented ls here = record { levels = ls; here = here; word = []; comment = true }
 
--- what is read from here to the end
+-- the result of reading from here to the end
 unfoldable out : ℕ → State → ℕ → List ℕ → Result Expressions KifFault
 out limit s i bs = run (step limit) s i bs >>= finish
 
--- one step
 steps : (limit : ℕ) (s t : State) (i b : ℕ) (bs : List ℕ) → step limit s i b ≡ Ok t → out limit s i (b ∷ bs) ≡ out limit t (suc i) bs
 unfolding out run
 steps limit s t i b bs e = ap (λ r. (r >>= λ u. run (step limit) u (suc i) bs) >>= finish) e
@@ -79,7 +78,6 @@ word_runs (b ∷ w) limit ls here v i r h =
     let one : step limit (in_word ls here v) i b ≡ Ok (in_word ls here (v ++ b ∷ [])) = rw h.0 refl in
     (rest.0, steps limit (in_word ls here v) (in_word ls here (v ++ b ∷ [])) i b (w ++ r) one ∙ rest.1 ∙ ap (λ (x : List ℕ). out limit (in_word ls here x) rest.0 r) (append_assoc v (b ∷ []) w))
 
--- a word ends where no atom goes on
 flush_runs : (limit : ℕ) (ls : List Open) (here : Expressions) (w : List ℕ) (i : ℕ) (r : List ℕ) → EndsAtom r → out limit (in_word ls here w) i r ≡ out limit (at ls (with_word here w)) i r
 unfolding out run
 flush_runs limit ls here w i [] h = refl
@@ -93,7 +91,6 @@ some_word : (here : Expressions) (w : List ℕ) → 0 < length w → with_word h
 some_word here [] lt = absurd (omega arith)
 some_word here (b ∷ w) lt = refl
 
--- the steps over what is spelled add its expressions
 spelled_runs : (text : List ℕ) (xs : Expressions) → Spells text xs → (limit : ℕ) (ls : List Open) (here : Expressions) (r : List ℕ) (i : ℕ) → depth_all xs + length ls ≤ limit → EndsAtom r
     → (j : ℕ) × (out limit (at ls here) i (text ++ r) ≡ out limit (at ls (join here xs)) j r)
 spelled_runs text xs spells_none limit ls here r i le ends = (i, ap (λ (ys : Expressions). out limit (at ls ys) i r) (sym (join_none here)))
@@ -132,14 +129,12 @@ tail_ends : (tail : List ℕ) → IsLastComment tail → EndsAtom tail
 tail_ends [] h = tt
 tail_ends (b ∷ c) h = rw h.0 refl
 
--- what is spelled within the limit is read
 pub spelled_read : (limit : ℕ) (text : List ℕ) (xs : Expressions) → SpellsText text xs → depth_all xs ≤ limit → read limit text ≡ Ok xs
 unfolding out
 spelled_read limit text xs h le =
     let g = spelled_runs h.0 xs h.3 limit [] none h.1 0 (omega arith) (tail_ends h.1 h.4) in
     ap (λ (t : List ℕ). out limit start 0 t) h.2 ∙ g.1 ∙ tail_runs h.1 limit xs g.0 h.4
 
--- a text spells at most one list of expressions
 pub spells_one : (text : List ℕ) (xs ys : Expressions) → SpellsText text xs → SpellsText text ys → xs ≡ ys
 spells_one text xs ys h k =
     let limit = depth_all xs + depth_all ys in

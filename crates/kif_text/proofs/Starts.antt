@@ -14,12 +14,6 @@ len_last : (xs : Expressions) (y : Expression) → count_of (and_last xs y) ≡ 
 len_last none y = refl
 len_last (more x xs) y = ap suc (len_last xs y)
 
-len_word : (xs : Expressions) (w : List ℕ) → 0 < length w → count_of (with_word xs w) ≡ suc (count_of xs)
-len_word xs [] lt = absurd (omega arith)
-len_word xs (b ∷ w) lt = len_last xs (atom (b ∷ w))
-
--- what the byte begins
-
 comment_begins : (s : State) (b : ℕ) → s.comment ≡ true → begins_here s b ≡ false
 comment_begins s b c = rw c refl
 
@@ -33,12 +27,9 @@ outer_begins s b lv c =
     let h : (length s.levels == 0) ≡ true = eq-eqb _ 0 (ap length lv) in
     rw (c, h) refl
 
--- a byte that is neither a parenthesis nor of an atom
 plain_begins : (s : State) (b : ℕ) (ls : List Open) → s.levels ≡ ls → s.comment ≡ false → is_atom_byte b ≡ false → (b == left_parenthesis) ≡ false → begins_here s b ≡ false
 plain_begins s b [] lv c a p = outer_begins s b lv c ∙ rw (a, p) refl
 plain_begins s b (l ∷ ls) lv c a p = inner_begins s b l ls lv c
-
--- one more if the byte begins one
 
 same_total : (s : State) (b : ℕ) (n : ℕ) → begins_here s b ≡ false → n ≡ total s → n ≡ cond (begins_here s b) 1 0 + total s
 same_total s b n no_more e = rw no_more (omega (arith, e))
@@ -69,7 +60,6 @@ close_on_total : (l : Open) (ls : List Open) (inner here : Expressions) (word : 
 close_on_total l [] inner here word = len_last l.before (list inner)
 close_on_total l (m ∷ ms) inner here word = refl
 
--- one more if the byte begins one, or else the same number
 pub total_advance : (limit : ℕ) (s u : State) (i b : ℕ) → Advance limit s u i b → total u ≡ cond (begins_here s b) 1 0 + total s
 total_advance limit s u i b (in_comment c e) = ap total e ∙ same_total s b (total s) (comment_begins s b c) refl
 total_advance limit s u i b (in_word c a e) = ap total e ∙ word_on s b s.levels s.word refl refl c a
@@ -77,8 +67,6 @@ total_advance limit s u i b (begins_comment c a is e) = ap total e ∙ same_tota
 total_advance limit s u i b (opens c a is lt e) = ap total e ∙ open_on s b i s.levels refl c is
 total_advance limit s u i b (closes c a is l ls lv e) = ap total e ∙ same_total s b _ (plain_begins s b s.levels refl c a (ap (λ (x : ℕ). x == left_parenthesis) is)) (close_on_total l ls (with_word s.here s.word) s.here s.word ∙ sym (ap (λ (ms : List Open). total_on ms s.here s.word) lv))
 total_advance limit s u i b (is_space c a w e) = ap total e ∙ same_total s b _ (plain_begins s b s.levels refl c a (differs is_white b left_parenthesis w refl)) (flush_on s s.levels refl)
-
--- what the reader knows of them
 
 -- what a reader of one expression knows after i bytes
 pub record KnowsOne (t : List ℕ) (i : ℕ) (s : State) : Type 0 where
@@ -130,7 +118,6 @@ starts_by single t i s b true c is k one =
     not_begun t i _ (is ∙ ap (λ (v : Bool). shown v b) c) x.0 x.1 ∙ sym (comment_begins s b c)
 starts_by single t i s b false c is k one = starts_in single t i s b s.levels refl c (b == semicolon) refl is k one
 
--- the place begins an expression where the byte does
 pub starts_is : (single : Bool) (t : List ℕ) (i : ℕ) (s : State) (b : ℕ) → get_or t i 0 ≡ shown s.comment b → Knows single t i s.levels → is_atom_byte (get_or (space ∷ t) i 0) ≡ not (length s.word == 0) → starts t i ≡ begins_here s b
 starts_is single t i s b is k one = starts_by single t i s b s.comment refl is k one
 
@@ -140,7 +127,6 @@ total_pos [] here (b ∷ w) h = omega (arith, len_last here (atom (b ∷ w)))
 total_pos [] none [] h = absurd (true≢false (sym h))
 total_pos [] (more x xs) [] h = omega arith
 
--- a byte that is refused begins one more
 pub second_is : (s : State) (b : ℕ) → is_second s b ≡ true → (begins_here s b ≡ true) × (0 < total s)
 second_is s b h =
     let p = and_parts (begins_here s b) (not (count_of s.here == 0 && length s.word == 0)) h in
@@ -163,11 +149,10 @@ first_on s b ls true lv c begin h = absurd (true≢false (sym begin ∙ comment_
 first_on s b (l ∷ ls) false lv c begin h = absurd (true≢false (sym begin ∙ inner_begins s b l ls lv c))
 first_on s b [] false lv c begin h = ap (λ (ms : List Open). total_on ms s.here s.word) lv ∙ total_zero s.here s.word h
 
--- a byte that is taken begins none, or the first
 pub first_is : (s : State) (b : ℕ) → is_second s b ≡ false → begins_here s b ≡ true → total s ≡ 0
 first_is s b h begin = first_on s b s.levels s.comment refl refl begin (and_false_right _ _ h begin)
 
--- whether the byte before the next place is of an atom that may go on
+-- whether the byte before the next offset belongs to an unfinished atom
 pub word_after : (limit : ℕ) (s u : State) (i b : ℕ) → Advance limit s u i b → (s.comment ≡ true → s.word ≡ []) → (is_atom_byte (shown s.comment b) ≡ not (length u.word == 0)) × (u.comment ≡ true → u.word ≡ [])
 word_after limit s u i b (in_comment c e) quiet =
     let empty : u.word ≡ [] = ap (λ (v : State). v.word) e ∙ quiet c in
@@ -194,7 +179,7 @@ few_more : (v : Bool) (n m : ℕ) → m ≡ cond v 1 0 + n → n ≤ 1 → (v �
 few_more true n m e le first = let z = first refl in omega (arith, e, z)
 few_more false n m e le first = omega (arith, e, le)
 
--- what the reader knows stays true
+-- a successful step keeps `KnowsOne`
 pub one_advance : (t : List ℕ) (i : ℕ) (s u : State) (b : ℕ) → Advance max_depth s u i b → get_or t i 0 ≡ shown s.comment b → Knows true t i s.levels → is_second s b ≡ false → KnowsOne t i s → KnowsOne t (suc i) u
 one_advance t i s u b h is k no_second one =
     let at = starts_is true t i s b is k one.before in

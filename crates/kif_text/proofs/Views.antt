@@ -1,4 +1,4 @@
--- An `Expr` level by level, and the reader's state after each change.
+-- One level of an `Expr`, and the reader's state after each change.
 use Rattle.std.proofs.Common.{◌≡◌, ℕ, suc, Bool, Ok, List, [], ◌∷◌, ◌++◌, map, reverse, Vec, Global, refl, ap, rules, length, ◌<◌, arith}
 use Rattle.std.proofs.lemmas.List.{reverse-append, map-append}
 use Rattle.game_core.specs.Expression.{atom, list, Expressions, more}
@@ -8,7 +8,6 @@ use Rattle.kif_text.specs.Internal.Following.{open_of, flush}
 use Rattle.kif_text.specs.declared.expr.Expr.{Expr, Atom, List as ListOf, the_lemmas}
 use Rattle.kif_text.specs.declared.reader.OpenList.{OpenList}
 
--- one level of an expression
 pub view-Atom : (w : List ℕ) → view (Atom w) ≡ atom w
 view-Atom w = search (rules, the_lemmas)
 
@@ -23,7 +22,7 @@ pub with_some_word : (xs : Expressions) (w : List ℕ) → 0 < length w → with
 with_some_word xs [] lt = absurd (omega arith)
 with_some_word xs (b ∷ bs) lt = refl
 
--- the innermost list comes off
+-- the innermost list is removed
 pub levels_pop : (ls ms : List OpenList) (l : OpenList) → ls ≡ ms ++ l ∷ [] → reverse (map open_of ls) ≡ open_of l ∷ reverse (map open_of ms)
 levels_pop ls ms l e = rw (e, map-append) (reverse-append (map open_of ms) (open_of l ∷ []))
 

@@ -1,4 +1,4 @@
--- Which fault a text has: the one at the lowest place, or else one at its end.
+-- Which error a text has: the one with the lowest offset, or else one at the end.
 use Rattle.std.specs.Prelude.{◌≡◌, ℕ, zero, suc, ◌+◌, ◌-◌, ◌<◌, ◌≤◌, List, [], ◌∷◌, length, take, slice_index, count_by, Bool, true, false, not, ◌&&◌, ◌||◌, ◌==◌, if◌then◌else◌}
 use Rattle.game_core.specs.Bytes.{is_white, is_atom_byte, line_feed, space, semicolon, left_parenthesis, right_parenthesis}
 use Rattle.game_core.specs.Expression.{max_depth}
@@ -6,23 +6,23 @@ use Rattle.kif_text.specs.Spelling.{max_length}
 use Rattle.kif_text.specs.declared.fault.KifFault.{KifFault}
 use Rattle.kif_text.specs.declared.fault.KifFault.TheVariants.{BadByte, Unopened, TooDeep, Unclosed, Nothing, More, TooLong, Memory}
 
--- A text is read as one expression, or as any number of them. The faults depend on which.
+-- A text is read as one expression, or as any number of them. Its errors depend on this flag.
 abbrev pub one_expression : Bool
 one_expression = true
 
 abbrev pub any_number : Bool
 any_number = false
 
--- a comment that goes on before this byte, or begins at it, goes on after it, unless the byte is a line feed
+-- whether a comment continues after this byte, given whether one continues before it: a semicolon begins one, a line feed ends it
 abbrev pub is_inside : Bool → ℕ → Bool
 is_inside before b = (before || b == semicolon) && not (b == line_feed)
 
--- the text with a space for each byte of a comment; the flag says whether a comment goes on before the text
+-- the text with a space for each byte of a comment; the flag says whether the text begins inside a comment
 abbrev pub bare_from : Bool → List ℕ → List ℕ
 bare_from before [] = []
 bare_from before (b ∷ bs) = (if is_inside before b then space else b) ∷ bare_from (is_inside before b) bs
 
--- the bare text: it has a space for each byte of a comment, so places stay the same
+-- the bare text: a space replaces each byte of a comment, so that offsets stay the same
 abbrev pub bare : List ℕ → List ℕ
 bare text = bare_from false text
 
@@ -31,35 +31,35 @@ is_known b = is_white b || is_atom_byte b || b == left_parenthesis || b == right
 
 -- Below, t is a bare text.
 
--- how many lists are opened before place i
+-- how many lists are opened before offset i
 abbrev pub opened : List ℕ → ℕ → ℕ
 opened t i = count_by (λ b. b == left_parenthesis) (take i t)
 
 abbrev pub closed : List ℕ → ℕ → ℕ
 closed t i = count_by (λ b. b == right_parenthesis) (take i t)
 
--- how many lists are open at place i
+-- how many lists are open at offset i
 abbrev pub level : List ℕ → ℕ → ℕ
 level t i = opened t i - closed t i
 
--- the byte before place i, with a space before the first
+-- the byte before offset i, or a space for offset 0
 abbrev pub byte_before : List ℕ → ℕ → ℕ
 byte_before t i = slice_index (space ∷ t) i
 
--- an expression begins at place i: a list, or an atom with its first byte there
+-- an expression begins at offset i: a list, or an atom with its first byte there
 abbrev pub begins : List ℕ → ℕ → Bool
 begins t i = slice_index t i == left_parenthesis || (is_atom_byte (slice_index t i) && not (is_atom_byte (byte_before t i)))
 
--- an expression begins at place i outside all lists
+-- an expression outside all lists begins at offset i
 abbrev pub starts : List ℕ → ℕ → Bool
 starts t i = (level t i == 0) && begins t i
 
--- how many expressions start before place i
+-- how many expressions outside all lists begin before offset i
 abbrev pub started : List ℕ → ℕ → ℕ
 started t zero = 0
 started t (suc i) = (if starts t i then 1 else 0) + started t i
 
--- this fault stands at place i
+-- the text has this error at offset i
 abbrev pub StandsAt : Bool → List ℕ → KifFault → ℕ → Type 0
 StandsAt one t (BadByte at) i = (at ≡ i) × (at < length t) × (is_known (slice_index t at) ≡ false)
 StandsAt one t (Unopened at) i = (at ≡ i) × (slice_index t at ≡ right_parenthesis) × (level t at ≡ 0)
@@ -70,27 +70,27 @@ StandsAt one t Nothing i = ⊥
 StandsAt one t TooLong i = ⊥
 StandsAt one t Memory i = ⊥
 
--- no fault stands before place n
+-- the text has no error before offset n
 abbrev pub IsClear : Bool → List ℕ → ℕ → Type 0
 IsClear one t n = (e : KifFault) (i : ℕ) → i < n → StandsAt one t e i → ⊥
 
--- the fault stands at some place, and no fault stands before it
+-- the text has this error at some offset, and no error before it
 abbrev pub IsFirst : Bool → List ℕ → KifFault → Type 0
 IsFirst one t e = (i : ℕ) × StandsAt one t e i × IsClear one t i
 
--- a list is opened at place i, and the level never falls back to the one before it
+-- a list is opened at offset i and never closed
 abbrev pub StaysOpen : List ℕ → ℕ → Type 0
 StaysOpen t i = (i < length t) × (slice_index t i ≡ left_parenthesis) × ((j : ℕ) → i < j → j ≤ length t → level t i < level t j)
 
--- lists are still open at the end, and the last of them was opened at place i
+-- lists are open at the end, and the last of them was opened at offset i
 abbrev pub IsUnclosed : List ℕ → ℕ → Type 0
 IsUnclosed t i = (0 < level t (length t)) × StaysOpen t i × ((k : ℕ) → StaysOpen t k → k ≤ i)
 
--- there is no expression in the text
 abbrev pub IsNothing : List ℕ → Type 0
 IsNothing t = (level t (length t) ≡ 0) × (started t (length t) ≡ 0)
 
--- why a text is refused that may have at most `limit` bytes: its length, or else the fault at the lowest place, or else a fault at its end; or out of memory
+-- the error of a text of at most `limit` bytes: its length, or else the error with the lowest offset, or else an error at its end; or
+-- out of memory
 abbrev pub IsFaultUpTo : ℕ → Bool → List ℕ → KifFault → Type 0
 IsFaultUpTo limit one text (BadByte at) = (length text ≤ limit) × IsFirst one (bare text) (BadByte at)
 IsFaultUpTo limit one text (Unopened at) = (length text ≤ limit) × IsFirst one (bare text) (Unopened at)
@@ -101,6 +101,6 @@ IsFaultUpTo limit one text Nothing = (length text ≤ limit) × (one ≡ one_exp
 IsFaultUpTo limit one text TooLong = limit < length text
 IsFaultUpTo limit one text Memory = length text ≤ limit
 
--- the same at the limit of bytes in a text
+-- the same for the usual largest number of bytes
 abbrev pub IsFault : Bool → List ℕ → KifFault → Type 0
 IsFault one text e = IsFaultUpTo max_length one text e

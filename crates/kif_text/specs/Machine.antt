@@ -1,18 +1,18 @@
--- The reader's steps as functions on plain values. `Reading` computes by them. `Spelling` and `Faults` say what is read and
--- what is refused; `laws::reading_is_spelling` ties the two.
+-- The reader's steps as functions on plain values. `Reading` is computed by them. `Spelling` and `Faults` define what is read and what
+-- is refused; `laws::reading_is_spelling` relates the two.
 use Rattle.std.specs.Prelude.{ℕ, suc, List, [], ◌∷◌, ◌++◌, length, Bool, true, false, not, ◌==◌, ◌&&◌, ◌||◌, nat_le, if◌then◌else◌, Result, Ok, Err}
 use Rattle.game_core.specs.Bytes.{is_white, is_atom_byte, line_feed, semicolon, left_parenthesis, right_parenthesis}
 use Rattle.game_core.specs.Expression.{Expression, atom, list, Expressions, none, more, max_depth}
 use Rattle.kif_text.specs.declared.fault.KifFault.{KifFault}
 use Rattle.kif_text.specs.declared.fault.KifFault.TheVariants as faults
 
--- an open list: the expressions before it at its level, and its place
+-- an open list: the expressions before it at its level, and its offset
 pub record Open : Type 0 where
   pub before : Expressions
   pub at : ℕ
 
--- What has been read: the open lists, innermost first, the expressions at the innermost level, the bytes of an
--- atom that may go on, and whether a comment goes on.
+-- What has been read: the open lists, innermost first, the expressions at the innermost level, the bytes of an unfinished atom, and
+-- whether a comment is unfinished.
 pub record State : Type 0 where
   pub levels : List Open
   pub here : Expressions
@@ -54,7 +54,7 @@ act limit s i b = if b == semicolon then Ok (record { levels = s.levels; here = 
     else (if b == right_parenthesis then close_list s i
     else (if is_white b then Ok s else Err (faults.BadByte i))))
 
--- the byte b at place i, with at most limit open lists
+-- reads the byte b at offset i; at most limit lists may be open
 abbrev pub step : ℕ → State → ℕ → ℕ → Result State KifFault
 step limit s i b = if s.comment then Ok (record { levels = s.levels; here = s.here; word = s.word; comment = not (b == line_feed) })
     else (if is_atom_byte b then Ok (record { levels = s.levels; here = s.here; word = s.word ++ b ∷ []; comment = s.comment })
@@ -68,14 +68,14 @@ count_of (more x xs) = suc (count_of xs)
 abbrev pub begins_here : State → ℕ → Bool
 begins_here s b = if s.comment then false else (if length s.levels == 0 then b == left_parenthesis || (is_atom_byte b && (length s.word == 0)) else false)
 
--- the byte begins an expression outside all lists, and not the first
+-- the byte begins an expression outside all lists, and not the first one
 abbrev pub is_second : State → ℕ → Bool
 is_second s b = begins_here s b && not (count_of s.here == 0 && length s.word == 0)
 
 abbrev pub one_step : ℕ → State → ℕ → ℕ → Result State KifFault
 one_step limit s i b = if is_second s b then Err (faults.More i) else step limit s i b
 
--- the bytes in turn, from place i on
+-- reads the bytes in turn, from offset i
 unfoldable pub run : (State → ℕ → ℕ → Result State KifFault) → State → ℕ → List ℕ → Result State KifFault
 run f s i [] = Ok s
 run f s i (b ∷ bs) = f s i b >>= λ t. run f t (suc i) bs

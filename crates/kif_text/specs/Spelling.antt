@@ -3,7 +3,7 @@ use Rattle.std.specs.Prelude.{◌≡◌, ◌≢◌, ℕ, ◌≤◌, List, [], �
 use Rattle.game_core.specs.Bytes.{is_white, is_atom_byte, line_feed, semicolon, left_parenthesis, right_parenthesis}
 use Rattle.game_core.specs.Expression.{Expression, atom, list, Expressions, none, more, IsAtom, depth, depth_all, max_depth}
 
--- this text does not begin with an atom byte
+-- the text is empty or begins with a byte that is not an atom byte
 abbrev pub EndsAtom : List ℕ → Type 0
 EndsAtom [] = Unit {0}
 EndsAtom (b ∷ bs) = is_atom_byte b ≡ false
@@ -12,8 +12,8 @@ abbrev pub HasNoLineFeed : List ℕ → Type 0
 HasNoLineFeed [] = Unit {0}
 HasNoLineFeed (b ∷ bs) = (b ≢ line_feed) × HasNoLineFeed bs
 
--- The text spells these expressions. White bytes and comments with their line feed spell nothing. A longest run
--- of atom bytes spells an atom. The text between parentheses spells the members of a list.
+-- The text spells these expressions. White space, and comments with their line feed, spell nothing. A longest run of atom bytes spells
+-- an atom. The text between parentheses spells the members of a list.
 pub data Spells : List ℕ → Expressions → Type 0 where
   spells_none : Spells [] none
   spells_white : (b : ℕ) (rest : List ℕ) (xs : Expressions) → is_white b ≡ true → Spells rest xs → Spells (b ∷ rest) xs
@@ -26,11 +26,11 @@ abbrev pub IsLastComment : List ℕ → Type 0
 IsLastComment [] = Unit {0}
 IsLastComment (b ∷ bs) = (b ≡ semicolon) × HasNoLineFeed bs
 
--- A whole text may also end in a comment without its line feed; the inside of a list may not.
+-- A comment without a line feed may end a whole text, but not the text inside a list.
 abbrev pub SpellsText : List ℕ → Expressions → Type 0
 SpellsText text xs = (body end : List ℕ) × (text ≡ body ++ end) × Spells body xs × IsLastComment end
 
--- the limit of bytes in a text
+-- the largest number of bytes of a text
 abbrev pub max_length : ℕ
 max_length = 1048576
 

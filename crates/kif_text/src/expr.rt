@@ -9,9 +9,8 @@ use std::alloc::{AllocError, Global};
 
 /// An expression: an atom, or a list in parentheses.
 ///
-/// `copy`, `fold`, `print` and the drop of an expression recurse into nested lists, so each level
-/// takes stack. The reader nests at most 64 lists. An expression that is built in some other way
-/// should nest at most 1,000.
+/// `copy`, `fold`, `print` and dropping an expression recurse into nested lists, so each level takes stack. The reader
+/// accepts at most 64 nested lists. If you build an expression in another way, nest at most 1,000.
 #[derive(Drop)]
 pub enum Expr {
     /// The bytes of an atom.
@@ -20,7 +19,7 @@ pub enum Expr {
     List(Vec<Expr>),
 }
 
-/// A copy of the expression.
+/// Copies the expression.
 #[cycle(copy)]
 pub fn copy(alloc: Global, expr: &Expr) -> Result<Expr, AllocError>
     ensures { IfOk result (λ e. view e ≡ view expr.now) }
@@ -42,7 +41,7 @@ fn copy_all(alloc: Global, members: &Vec<Expr>) -> Result<Vec<Expr>, AllocError>
     Ok(copies)
 }
 
-/// Turns the ASCII capitals in the atoms to small letters.
+/// Turns the ASCII capitals of the atoms to lower case.
 #[cycle(fold)]
 pub fn fold(expr: &mut Expr)
     ensures { view expr.new ≡ folded (view expr.old) }
@@ -62,7 +61,7 @@ fn fold_all(members: &mut Vec<Expr>)
     }
 }
 
-/// A copy of the expression, folded.
+/// Copies the expression in lower case.
 pub fn folded_copy(alloc: Global, expr: &Expr) -> Result<Expr, AllocError>
     ensures { IfOk result (λ e. view e ≡ folded (view expr.now)) }
 {
@@ -71,10 +70,10 @@ pub fn folded_copy(alloc: Global, expr: &Expr) -> Result<Expr, AllocError>
     Ok(copied)
 }
 
-/// Copies of the expressions, folded.
+/// Copies the expressions in lower case.
 pub fn folded_copies(alloc: Global, exprs: &[Expr]) -> Result<Vec<Expr>, AllocError>
     ensures each { IfOk result (λ v. map view v.items ≡ map folded (map view exprs.now)) }
-    // The same of the expressions as the members of a list.
+    // The same clause for the expressions as the members of a list.
     ensures members { IfOk result (λ v. views v.items ≡ all_folded (views exprs.now)) }
 {
     let mut copies = Vec::with_capacity(alloc, exprs.len())?;

@@ -5,32 +5,32 @@ ghost use Rattle.kif_text.specs.declared.fault.KifFault.TheVariants.{Memory};
 use std::alloc::{AllocError, AllocFailed};
 use thiserror::Error;
 
-/// Why a text is refused. Places count the bytes of the text from 0.
+/// Why a text is refused. Offsets count the bytes of the text from 0.
 ///
-/// `TooLong` comes before all other faults. Then the fault at the lowest place counts. `Unclosed`
-/// and `Nothing` stand at the end of the text, so they count only if there is no other fault.
+/// `TooLong` comes before all other errors. Of the others, the reader reports the one with the lowest offset. `Unclosed` and
+/// `Nothing` are found at the end of the text, so they are reported only if there is no other error.
 #[derive(Clone, Copy, Debug, PartialEq, Eq, Error)]
 pub enum KifFault {
-    /// The byte here is outside comments, and is not white space, a parenthesis or an atom byte.
+    /// The byte at this offset is outside comments, and is not white space, a parenthesis or an atom byte.
     #[error("the byte at {0} is not of KIF text")]
     BadByte(usize),
-    /// The parenthesis here closes a list, but none is open.
+    /// The parenthesis at this offset closes a list, but none is open.
     #[error("the parenthesis at {0} closes no list")]
     Unopened(usize),
-    /// The parenthesis here would open a list inside 64 others.
+    /// The parenthesis at this offset would open a list inside 64 others.
     #[error("the list at {0} is nested too deep")]
     TooDeep(usize),
-    /// The list that was opened here is never closed. It is the last one open at the end of the
-    /// text.
+    /// No parenthesis closes the list that was opened at this offset. If several lists are open at the end of the text, this
+    /// is the last one.
     #[error("the list at {0} is not closed")]
     Unclosed(usize),
     /// One expression was expected, but the text has none.
     #[error("there is no expression")]
     Nothing,
-    /// One expression was expected, but a second one begins here.
+    /// One expression was expected, but a second one begins at this offset.
     #[error("a second expression begins at {0}")]
     More(usize),
-    /// The text has more bytes than its limit.
+    /// The text has more bytes than the limit.
     #[error("the text is too long")]
     TooLong,
     /// Out of memory.

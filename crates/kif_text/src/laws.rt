@@ -1,4 +1,4 @@
-//! What holds of the definitions, whatever the text or the expression.
+//! Laws of the definitions.
 ghost use Rattle.kif_text.specs.Laws.{SpellsAtMostOne, SpelledHasAtoms, CanonicalSpellsAlone, CanonicalUnderDouble, SpelledOrFaulty, OneSpelledOrFaulty, OneFaultAtMost, BareHidesComments, FoldingCommutesWithPrinting, FoldingKeepsProper, FoldingTwiceIsOnce, ReadingIsSpelling, ReadingIsProper, ReadingUnderDouble, CanonicalReadsBack, FoldedTextReadsBack};
 
 /// A text spells at most one list of expressions.
@@ -6,78 +6,78 @@ pub fn spells_at_most_one()
     ensures { SpellsAtMostOne }
 {}
 
-/// The atoms of what a text spells are runs of atom bytes.
+/// All atoms of the expressions that a text spells are non-empty runs of atom bytes.
 pub fn spelled_has_atoms()
     ensures { SpelledHasAtoms }
 {}
 
-/// The canonical text of a proper expression spells that expression and nothing else.
+/// The canonical text of a proper expression spells this expression and no other.
 pub fn canonical_spells_alone()
     ensures { CanonicalSpellsAlone }
 {}
 
-/// The canonical text of the one expression that a text spells is shorter than twice the text.
+/// If a text spells one expression, the canonical text of this expression is shorter than twice the text.
 pub fn canonical_under_double()
     ensures { CanonicalUnderDouble }
 {}
 
-/// Whatever the limit of bytes, a text spells expressions within the limits or has a fault, and never both.
+/// For each limit of bytes, a text either spells expressions within the limits or has an error, never both.
 pub fn spelled_or_faulty()
     ensures { SpelledOrFaulty }
 {}
 
-/// A text spells one expression within the limits or has a fault, and never both.
+/// A text either spells one expression within the limits or has an error, never both.
 pub fn one_spelled_or_faulty()
     ensures { OneSpelledOrFaulty }
 {}
 
-/// Whatever the limit of bytes, a text has at most one fault, apart from `Memory`.
+/// For each limit of bytes, a text has at most one error apart from `Memory`.
 pub fn one_fault_at_most()
     ensures { OneFaultAtMost }
 {}
 
-/// The bare text, in which faults are placed, is the text with its comments as spaces.
+/// The bare text, which offsets refer to, is the text with a space for each byte of a comment.
 pub fn bare_hides_comments()
     ensures { BareHidesComments }
 {}
 
-/// The text of a folded expression is the expression's text in small letters.
+/// Printing a folded expression gives the expression's text in lower case.
 pub fn folding_commutes_with_printing()
     ensures { FoldingCommutesWithPrinting }
 {}
 
-/// A folded proper expression is proper.
+/// Folding keeps an expression proper.
 pub fn folding_keeps_proper()
     ensures { FoldingKeepsProper }
 {}
 
-/// Folding a folded expression changes nothing.
+/// Folding twice is the same as folding once.
 pub fn folding_twice_is_once()
     ensures { FoldingTwiceIsOnce }
 {}
 
-/// The reading of a text is the one expression that it spells within the limits of length and depth,
-/// and a text that spells none within them has no reading.
+/// The reading of a text is the one expression that the text spells within the limits of length and depth. A text that does
+/// not spell one expression within them has no reading.
 pub fn reading_is_spelling()
     ensures { ReadingIsSpelling }
 {}
 
-/// What is read is proper, and its folded canonical text is a folded text.
+/// The reading of a text is proper, and its folded canonical text is a folded text.
 pub fn reading_is_proper()
     ensures { ReadingIsProper }
 {}
 
-/// The canonical text of what is read, folded or not, is shorter than twice the text.
+/// The canonical text of a reading, folded or not, is shorter than twice the text.
 pub fn reading_under_double()
     ensures { ReadingUnderDouble }
 {}
 
-/// The canonical text of a proper expression, if it is not too long, is read as that expression.
+/// Reading the canonical text of a proper expression, if it is not too long, gives back the expression.
 pub fn canonical_reads_back()
     ensures { CanonicalReadsBack }
 {}
 
-/// A folded text, if it is not too long, is read as the folded expression whose text it is.
+/// Reading a folded text, if it is not too long, gives the folded expression that has this text.
 pub fn folded_text_reads_back()
     ensures { FoldedTextReadsBack }
 {}

@@ -9,10 +9,10 @@ use crate::expr::Expr;
 use game_core::Text;
 use std::alloc::{AllocError, Global};
 
-/// The canonical text: one space between the members of a list, and none inside its parentheses.
+/// Prints the canonical text: one space between the members of a list, and no space inside its parentheses.
 pub fn print(alloc: Global, expr: &Expr) -> Result<Text, AllocError>
     ensures canonical { IfOk result (λ t. t ≡ canonical (view expr.now)) }
-    // So the text of a proper expression is read back as that expression.
+    // If the expression is proper, reading the text gives it back.
     ensures alone { IfOk result (λ t. IsProper (view expr.now) → SpellsAlone t (view expr.now)) }
 {
     let mut bytes = Vec::new(alloc);

@@ -1,4 +1,4 @@
-//! The reader: one pass over the bytes, with the open lists on a stack of its own.
+//! The reader. It makes one pass over the bytes and keeps the open lists on a stack.
 ghost use Rattle.std.specs.Prelude.{◌≡◌, ◌&&◌, ◌==◌, length};
 ghost use Rattle.game_core.specs.Bytes.{is_white, is_atom_byte};
 ghost use Rattle.game_core.specs.Expression.{max_depth};
@@ -12,15 +12,15 @@ use game_core::{MAX_DEPTH, Text};
 use std::alloc::Global;
 use std::mem;
 
-/// A list that is open: the expressions before it at its level, and the place of its parenthesis.
+/// An open list: the expressions before it at its level, and the offset of its parenthesis.
 #[derive(Drop)]
 pub(crate) struct OpenList {
     before: Vec<Expr>,
     at: usize,
 }
 
-/// What has been read so far: the open lists, the complete expressions at the innermost level, the
-/// bytes of an atom that may go on, and whether a comment goes on.
+/// What has been read so far: the open lists, the complete expressions at the innermost level, the bytes of an unfinished
+/// atom, and whether a comment is unfinished.
 #[derive(Drop)]
 pub(crate) struct Reader {
     levels: Vec<OpenList>,
@@ -35,7 +35,7 @@ fn is_white(byte: u8) -> bool
     matches!(byte, b' ' | b'\t' | b'\r' | b'\n')
 }
 
-/// Whether the byte may stand in an atom, at any place of it.
+/// Whether an atom may contain the byte.
 pub fn is_atom_byte(byte: u8) -> bool
     ensures { result ≡ is_atom_byte byte }
 {
@@ -54,7 +54,7 @@ impl Reader {
         }
     }
 
-    /// Ends the atom, if there is one.
+    /// Ends the unfinished atom, if there is one.
     fn flush(&mut self, alloc: Global) -> Result<(), KifFault>
         ensures { Reaches result (state_of self.new) (flush (state_of self.old)) }
     {
@@ -66,7 +66,7 @@ impl Reader {
         Ok(())
     }
 
-    /// Opens a list at this place.
+    /// Opens a list at this offset.
     fn open(&mut self, alloc: Global, at: usize) -> Result<(), KifFault>
         ensures { Reaches result (state_of self.new) (open_list max_depth (state_of self.old) at) }
     {
@@ -78,7 +78,7 @@ impl Reader {
         Ok(())
     }
 
-    /// Closes the innermost list, by the parenthesis at this place.
+    /// Closes the innermost list at this offset.
     fn close(&mut self, at: usize) -> Result<(), KifFault>
         ensures { Reaches result (state_of self.new) (close_list (state_of self.old) at) }
     {
@@ -90,7 +90,7 @@ impl Reader {
         Ok(())
     }
 
-    /// Reads a byte outside comments that is not an atom byte.
+    /// Reads a byte that is outside comments and not an atom byte.
     fn act(&mut self, alloc: Global, at: usize, byte: u8) -> Result<(), KifFault>
         ensures { Reaches result (state_of self.new) (act max_depth (state_of self.old) at byte) }
     {
@@ -108,7 +108,7 @@ impl Reader {
         }
     }
 
-    /// Reads the byte at this place.
+    /// Reads the byte at this offset.
     pub(crate) fn step(&mut self, alloc: Global, at: usize, byte: u8) -> Result<(), KifFault>
         ensures { Reaches result (state_of self.new) (step max_depth (state_of self.old) at byte) }
     {
@@ -139,7 +139,7 @@ impl Reader {
         self.here.is_empty() && self.word.is_empty()
     }
 
-    /// Whether the byte begins an expression outside all lists, after an earlier one.
+    /// Whether the byte begins a second expression outside all lists.
     fn is_second(&self, byte: u8) -> bool
         ensures { result ≡ is_second (state_of self.now) byte }
     {
@@ -150,7 +150,7 @@ impl Reader {
         begins && !self.is_fresh()
     }
 
-    /// Reads the byte at this place of a text that should hold one expression.
+    /// Reads the byte at this offset of a text that should have one expression.
     pub(crate) fn single_step(&mut self, alloc: Global, at: usize, byte: u8) -> Result<(), KifFault>
         ensures { Reaches result (state_of self.new)
             (one_step max_depth (state_of self.old) at byte) }
@@ -161,7 +161,7 @@ impl Reader {
         self.step(alloc, at, byte)
     }
 
-    /// What was read, at the end of the text.
+    /// Ends the text, and returns the expressions.
     pub(crate) fn finish(mut self, alloc: Global) -> Result<Vec<Expr>, KifFault>
         ensures { Gives (λ v. views v.items) result (finish (state_of self)) }
     {

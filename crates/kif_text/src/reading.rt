@@ -1,4 +1,3 @@
-//! Texts read as expressions.
 ghost use Rattle.std.specs.Prelude.{◌≡◌, ◌≢◌, IfOk, IfErr, Some, None};
 ghost use Rattle.game_core.specs.Expression.{Expressions, max_depth};
 ghost use Rattle.kif_text.specs.declared.fault.KifFault.TheVariants.{Memory};
@@ -14,25 +13,25 @@ use crate::fault::KifFault;
 use crate::reader::Reader;
 use std::alloc::Global;
 
-/// The limit of bytes in a text.
+/// The largest number of bytes of a text.
 const MAX_LENGTH: usize = 1_048_576;
 
-/// Reads all expressions of the text, of at most 1,048,576 bytes, with at most 64 nested lists.
+/// Reads all expressions of a text of at most 1,048,576 bytes, with at most 64 nested lists.
 pub fn read_all(alloc: Global, text: &[u8]) -> Result<Vec<Expr>, KifFault>
     ensures spelled { IfOk result (λ v. SpellsAll text.now (views v.items)) }
     ensures fault { IfErr result (IsFault any_number text.now) }
-    // A text that spells expressions within the limits is refused only when out of memory.
+    // If the text spells expressions within the limits, the only possible error is `Memory`.
     ensures refused { IfErr result (λ e. e ≢ Memory
         → (xs : Expressions) → ¬ (SpellsAll text.now xs)) }
 {
     read_up_to(alloc, text, MAX_LENGTH)
 }
 
-/// Reads all expressions of the text, of at most `limit` bytes, with at most 64 nested lists.
+/// Reads all expressions of a text of at most `limit` bytes, with at most 64 nested lists.
 pub fn read_up_to(alloc: Global, text: &[u8], limit: usize) -> Result<Vec<Expr>, KifFault>
     ensures spelled { IfOk result (λ v. SpellsUpTo limit text.now (views v.items)) }
     ensures fault { IfErr result (IsFaultUpTo limit any_number text.now) }
-    // A text that spells expressions within the limits is refused only when out of memory.
+    // If the text spells expressions within the limits, the only possible error is `Memory`.
     ensures refused { IfErr result (λ e. e ≢ Memory
         → (xs : Expressions) → ¬ (SpellsUpTo limit text.now xs)) }
 {
@@ -42,12 +41,12 @@ pub fn read_up_to(alloc: Global, text: &[u8], limit: usize) -> Result<Vec<Expr>,
     read(alloc, text)
 }
 
-/// Reads the one expression of the text, of at most 1,048,576 bytes, with at most 64 nested lists.
+/// Reads the one expression of a text of at most 1,048,576 bytes, with at most 64 nested lists.
 pub fn read_one(alloc: Global, text: &[u8]) -> Result<Expr, KifFault>
     ensures spelled { IfOk result (λ x. SpellsOne text.now (view x)) }
     ensures fault { IfErr result (IsFault one_expression text.now) }
     ensures found { IfOk result (λ x. reading text.now ≡ Some (view x)) }
-    // A text that spells expressions within the limits is refused only when out of memory.
+    // If the text spells one expression within the limits, the only possible error is `Memory`.
     ensures refused { IfErr result (λ e. e ≢ Memory → reading text.now ≡ None) }
 {
     if text.len() > MAX_LENGTH {

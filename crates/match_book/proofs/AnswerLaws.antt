@@ -1,4 +1,4 @@
--- What an answer and an abort do to a lawful match.
+-- How an answer and an abort change a lawful match.
 use Rattle.std.proofs.Common.{◌≡◌, ◌≢◌, ℕ, zero, suc, ◌<◌, ◌≤◌, Bool, true, false, Option, Some, None, List, [], ◌∷◌, ◌++◌, length, take, slice_index_or, set, refl, arith, ap, sym, ◌∙◌, subst, inl, inr, add-one}
 use Rattle.std.proofs.lemmas.List.{map-append, take_all, take_more}
 use Rattle.std.proofs.lemmas.Bool.Decides.{nat_tests}
@@ -41,7 +41,6 @@ abort_keeps_lawful {S} {M} g laws m lawful = step (is_live (stage g m)) refl
     step true live = lawful-with_abort g laws m lawful live
     step false ended = lawful
 
--- nothing refuses the answer
 not_refused : (role roles n present : ℕ) (over answered : Bool) → (if nat_lt role roles then (if over then Some Over else (if n == present then (if answered then Some Twice else None) else Some (Stale present))) else Some NoRole) ≡ None
     → (role < roles) × (n ≡ present) × (over ≡ false) × (answered ≡ false)
 not_refused role roles n present over answered e = step (nat_lt role roles) refl over (n == present) refl answered e
@@ -72,7 +71,6 @@ less_is a b lt = grind (arith, nat_tests)
 pub same_is : (a b : ℕ) → a ≡ b → (a == b) ≡ true
 same_is a b same = grind (arith, nat_tests)
 
--- what is owed is for the present round, and nothing refuses it
 owed_as : (role roles n present : ℕ) (over answered : Bool) (message owed : Owed) → role < roles → (if over then IsOver else (if answered then Hold present else Owe present message)) ≡ Owe n owed
     → (if nat_lt role roles then (if over then Some Over else (if n == present then (if answered then Some Twice else None) else Some (Stale present))) else Some NoRole) ≡ None
 owed_as role roles n present true answered message owed lt is = absurd cc
@@ -82,7 +80,6 @@ owed_as role roles n present false false message owed lt is = let same : n ≡ p
 pub owed_answers_are_taken : {S M : Type 0} (g : Rules S M) → OwedAnswersAreTaken g
 owed_answers_are_taken g m role n owed lt is = owed_as role g.roles n (round g m) (is_over g m) (has_answered g m role) (owed_in (stage g m) (last_move_texts g m.turns)) owed lt is
 
--- a role that has not answered in play still answers
 still-answers : {S M : Type 0} (g : Rules S M) (m : MatchValue M) (role : ℕ) → has_answered g m role ≡ false → stage g m ≡ Playing → still_answers m role ≡ true
 still-answers g m role free playing = (not_answered-parts m role (subst (λ (x : Stage). answered_in x m role ≡ false) playing free)).0
 
@@ -144,7 +141,6 @@ answers_out_of_play {S} {M} g m role n answer out = step (refusal g m role n) (s
     step None Stopping out = (refl, refl)
     step None (Aborting c) out = (refl, refl)
 
--- one more legal turn
 AreLegalFrom-push : {S M : Type 0} (g : Rules S M) (s : S) (turns : List (List M)) (joint : List M) → AreLegalFrom g s turns → g.terminal (play_from g s turns) ≡ false → IsJoint g (play_from g s turns) joint → AreLegalFrom g s (turns ++ joint ∷ [])
 AreLegalFrom-push g s [] joint legal goes_on is = (goes_on, is, tt)
 AreLegalFrom-push g s (x ∷ xs) joint legal goes_on is = (legal.0, legal.1, AreLegalFrom-push g (g.next s x) xs joint legal.2 goes_on is)
@@ -173,7 +169,6 @@ error_text-some Unreadable e = absurd cc
 error_text-some (Illegal x) e = absurd cc
 error_text-some Retired e = absurd cc
 
--- a substituted move has an error, and is not the move that the answer names
 substituted : {S M : Type 0} (g : Rules S M) (moves : List M) (why : Substitution) (j : Judgement M) (N : Type 0) → substitute moves why ≡ Some j → (N → ⊥) → (j.error ≡ []) ↔ N
 substituted g moves why j N is not_named = (λ e. absurd (error_text-some why (sym (substitute-is moves why j is).1 ∙ e)), λ named. absurd (not_named named))
 

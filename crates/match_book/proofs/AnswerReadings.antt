@@ -1,4 +1,4 @@
--- How an answer is read.
+-- Readings of answers.
 use Rattle.std.proofs.Common.{◌≡◌, ℕ, ◌≤◌, Bool, true, false, Option, Some, None, List, length, refl, ap, subst, arith}
 use Rattle.std.proofs.lemmas.Bool.Decides.{nat_tests}
 use Rattle.std.specs.Prelude.{if◌then◌else◌, nat_le, option_map}
@@ -12,8 +12,6 @@ use Rattle.match_book.specs.Laws.{ReadingsAreFolded}
 within : (text : List ℕ) → nat_le (length text) max_answer ≡ true → length text ≤ max_answer
 within text e = grind (arith, nat_tests)
 
--- an answer that is read is within the limit, and spells an expression with the folded canonical text
--- that is read
 read_from : (text x : List ℕ) → answer_reading text ≡ Some x → (length text ≤ max_answer) × (y : Expression) × (reading text ≡ Some y) × (canonical (folded y) ≡ x)
 unfolding answer_reading
 read_from text x e = step (nat_le (length text) max_answer) refl (reading text) refl e
@@ -24,7 +22,7 @@ read_from text x e = step (nat_le (length text) max_answer) refl (reading text) 
     step true short (Some y) read e = (within text short, y, read, cc)
     step false long o read e = absurd cc
 
--- what is read is a folded text, at most twice as long as an answer may be
+-- a reading is a folded text, at most twice as long as the longest answer
 pub readings_are_folded : ReadingIsProper → ReadingUnderDouble → ReadingsAreFolded
 readings_are_folded proper under text x e =
     let from = read_from text x e in

@@ -32,14 +32,14 @@ use Rattle.match_book.proofs.RoleTests.{is_there-blank, at_role-set, at_role-oth
 use Rattle.match_book.proofs.Stages.{stage-by, stage-starting, stage-settled, settled-not_starting, live-not_asked, not_answered-parts, playing_means}
 use Rattle.match_book.proofs.AnswerLaws.{taken, owed_answers_are_taken, answers_in_play}
 
--- ---- one more message
+-- ---- One more message
 
--- the answer is the role's own, or another's
+-- whether the role that answers is the role in question
 abbrev IsOwn : ℕ → ℕ → Bool → Type 0
 IsOwn role answering true = role ≡ answering
 IsOwn role answering false = role ≢ answering
 
--- what the role's own answer adds to its messages, and that another's adds nothing
+-- the answer of the role adds one message, and the answer of another role adds none
 abbrev Adds : Bool → List Owed → List Owed → Owed → Type 0
 Adds true before after owed = after ≡ before ++ owed ∷ []
 Adds false before after owed = after ≡ before
@@ -63,7 +63,7 @@ none_there : (earlier : List Owed) (owed : Owed) (b : Bool) → b ≡ false → 
 none_there earlier owed true is = absurd cc
 none_there earlier owed false is = append-nil earlier
 
--- ---- one more turn
+-- ---- One more turn
 
 module _ {S M : Type 0} (g : Rules S M) (strikes role : ℕ) (turns : List (Turn M)) where
   plays-front : (more : List (Turn M)) (n : ℕ) → n ≤ length turns → plays_before g strikes role (turns ++ more) n ≡ plays_before g strikes role turns n
@@ -77,7 +77,7 @@ module _ {S M : Type 0} (g : Rules S M) (strikes role : ℕ) (turns : List (Turn
       ∙ ap (λ l. l ++ play_after g strikes role (take (length turns) (turns ++ t ∷ []))) (plays-front (t ∷ []) (length turns) (omega arith))
       ∙ ap (λ l. plays_before g strikes role turns (length turns) ++ play_after g strikes role l) (take-append_seam turns (t ∷ []))
 
--- a round after START has just begun
+-- a round after START begins
 begun_messages : {S M : Type 0} (g : Rules S M) (m : MatchValue M) (at : Stage) (role : ℕ) → at ≢ Starting → m.open_answers ≡ blank g.roles → m.end_marks ≡ blank g.roles → messages_in at g m role ≡ Start ∷ role_plays g m role
 begun_messages g m Starting role ne answers ends = absurd (ne refl)
 begun_messages g m Playing role ne answers ends = none_there (Start ∷ role_plays g m role) (Play (last_move_texts g m.turns)) (is_there m.open_answers role) (ap (λ l. is_there l role) answers ∙ is_there-blank _ g.roles role)
@@ -87,7 +87,7 @@ begun_messages g m (Aborting c) role ne answers ends = none_there (Start ∷ rol
 not_starting : {S M : Type 0} (g : Rules S M) (m : MatchValue M) → m.abort_asked ≡ false → every_role g.roles (is_there m.start_marks) ≡ true → stage g m ≢ Starting
 not_starting g m asked started is = settled-not_starting g _ _ _ (sym (stage-settled g m asked started) ∙ is)
 
--- ---- what is due
+-- ---- What is due
 
 owes : (over answered : Bool) (present : ℕ) (message : Owed) (n : ℕ) (owed : Owed) → (if over then IsOver else (if answered then Hold present else Owe present message)) ≡ Owe n owed
     → (over ≡ false) × (answered ≡ false) × (n ≡ present) × (owed ≡ message)
@@ -95,7 +95,7 @@ owes true answered present message n owed is = absurd cc
 owes false true present message n owed is = absurd cc
 owes false false present message n owed is = let same : n ≡ present = cc in let what : owed ≡ message = cc in (refl, refl, same, what)
 
--- the round goes on, and the role has not answered
+-- the round continues, and the role has not answered
 record IsStillOpen {S M : Type 0} (g : Rules S M) (m n : MatchValue M) (role : ℕ) : Type 0 where
   stage_is : stage g n ≡ stage g m
   round_is : round g n ≡ round g m
@@ -110,13 +110,12 @@ still_owed g m n role goes_on free still =
     now ∙ ap (λ k. Owe k (owed_in (stage g n) (last_move_texts g n.turns))) still.round_is ∙ ap (λ (x : Stage). Owe (round g m) (owed_in x (last_move_texts g n.turns))) still.stage_is
     ∙ ap (λ (l : List (Turn _)). Owe (round g m) (owed_in (stage g m) (last_move_texts g l))) still.turns_are ∙ sym was
 
--- at the match's own stage, or at one that is known to be its stage
 at_stage : {S M : Type 0} (g : Rules S M) (m : MatchValue M) (at : Stage) (own : Bool) (role : ℕ) (after : List Owed) → stage g m ≡ at → Adds own (messages_in at g m role) after (owed_in at (last_move_texts g m.turns))
     → Adds own (answered_messages g m role) after (owed_in (stage g m) (last_move_texts g m.turns))
 at_stage g m at own role after is adds = subst (λ (x : Stage). Adds own (messages_in x g m role) after (owed_in x (last_move_texts g m.turns))) (sym is) adds
 
 module _ {S M : Type 0} (g : Rules S M) (m : MatchValue M) (lawful : IsLawfulMatch g m) (answering : ℕ) (within : answering < g.roles) (role : ℕ) (lt : role < g.roles) where
-  -- ---- an answer to START
+  -- ---- An answer to START
 
   module _ (mark : Mark) (is : stage g m ≡ Starting) (free : is_there m.start_marks answering ≡ false) where
     wide_start : answering < length m.start_marks
@@ -125,7 +124,6 @@ module _ {S M : Type 0} (g : Rules S M) (m : MatchValue M) (lawful : IsLawfulMat
     no_turns : m.turns ≡ []
     no_turns = lawful.turns_after_start (every_role-but g.roles answering (is_there m.start_marks) within free)
 
-    -- when all START marks are there, the messages are the same
     all_started : (all : Bool) → every_role g.roles (is_there (set m.start_marks answering (Some mark))) ≡ all
         → answered_messages g (with_start_mark m answering mark) role ≡ messages_in Starting g (with_start_mark m answering mark) role
     all_started false all = ap (λ (x : Stage). messages_in x g (with_start_mark m answering mark) role) (stage-starting g (with_start_mark m answering mark) (live-not_asked g m (ap is_live is)) all)
@@ -154,7 +152,7 @@ module _ {S M : Type 0} (g : Rules S M) (m : MatchValue M) (lawful : IsLawfulMat
           free = subst (λ (x : Stage). answered_in x (with_start_mark m answering mark) role ≡ false) (sym is') still;
         }
 
-  -- ---- an answer in play
+  -- ---- An answer in play
 
   module _ (j : Judgement M) (is : stage g m ≡ Playing) (unanswered : answered_in Playing m answering ≡ false) where
     parts_of : (still_answers m answering ≡ true) × (is_there m.open_answers answering ≡ false)
@@ -163,7 +161,6 @@ module _ {S M : Type 0} (g : Rules S M) (m : MatchValue M) (lawful : IsLawfulMat
     wide_open : answering < length m.open_answers
     wide_open = omega (arith, within, lawful.one_open_answer)
 
-    -- with this answer, each role that still answers has an open one
     there_is : HasPart g (record m { open_answers = set m.open_answers answering (Some j) }) role → (still : Bool) → still_answers m role ≡ still → is_there (set m.open_answers answering (Some j)) role ≡ still
     there_is has true is = ap is_some (sym (ap (λ b. if b then at_role (set m.open_answers answering (Some j)) role else substitute (g.legal (state_after g m.turns) role) Retired) is) ∙ has.is_part)
     there_is has false is =
@@ -198,7 +195,6 @@ module _ {S M : Type 0} (g : Rules S M) (m : MatchValue M) (lawful : IsLawfulMat
         (subst (λ l. Adds own (messages_in Playing g m role) l (Play (last_move_texts g m.turns))) (sym same)
         (adds own (is_there m.open_answers role) (is_there (set m.open_answers answering (Some j)) role) (Start ∷ role_plays g m role) (Play (last_move_texts g m.turns)) (set_gives own m.open_answers answering role j is_own wide_open parts_of.1)))
 
-    -- while the role has not answered, the others make no turn
     no_turn : role ≢ answering → answered_in Playing m role ≡ false → HasPart g (record m { open_answers = set m.open_answers answering (Some j) }) role → ⊥
     no_turn other missing has =
         let own = not_answered-parts m role missing in
@@ -218,7 +214,7 @@ module _ {S M : Type 0} (g : Rules S M) (m : MatchValue M) (lawful : IsLawfulMat
               (ap (λ b. if b then is_there (set m.open_answers answering (Some j)) role else true) own.0 ∙ ap is_some (at_role-other m.open_answers answering role (Some j) other) ∙ own.1);
         }
 
-  -- ---- an answer to STOP or ABORT
+  -- ---- An answer to STOP or ABORT
 
   module _ (mark : Mark) (at : Stage) (is : stage g m ≡ at) (ended : is_live at ≡ false) (free : is_there m.end_marks answering ≡ false) where
     same_stage : stage g (with_end_mark m answering mark) ≡ stage g m
@@ -265,7 +261,7 @@ module _ {S M : Type 0} (g : Rules S M) (laws : IsLawful g) (folded : ReadingsAr
   now : refusal g m answering n ≡ None → (at : Stage) → stage g m ≡ at → after_answer g m answering n answer ≡ with_answer_in at g m answering answer
   now free at is = ap (λ o. if is_none o then with_answer g m answering answer else m) free ∙ ap (λ (x : Stage). with_answer_in x g m answering answer) is
 
-  -- the match after an answer that is taken, by what it is doing
+  -- the match after an answer that it takes, by stage
   taken_adds : refusal g m answering n ≡ None → (own : Bool) → IsOwn role answering own
       → Adds own (answered_messages g m role) (answered_messages g (after_answer g m answering n answer) role) (owed_in (stage g m) (last_move_texts g m.turns))
   taken_adds free own is_own = step (stage g m) refl
@@ -292,7 +288,6 @@ module _ {S M : Type 0} (g : Rules S M) (laws : IsLawful g) (folded : ReadingsAr
       step Stopping is = as_now Stopping is (end_adds g m lawful answering facts.0 role lt (mark_of answer) Stopping is refl (unanswered Stopping is) own is_own)
       step (Aborting c) is = as_now (Aborting c) is (end_adds g m lawful answering facts.0 role lt (mark_of answer) (Aborting c) is refl (unanswered (Aborting c) is) own is_own)
 
-  -- a role that has not answered leaves its round open
   taken_open : refusal g m answering n ≡ None → role ≢ answering → has_answered g m role ≡ false → IsStillOpen g m (after_answer g m answering n answer) role
   taken_open free other missing = step (stage g m) refl
     where
@@ -336,7 +331,7 @@ module _ {S M : Type 0} (g : Rules S M) (laws : IsLawful g) (folded : ReadingsAr
             still_owed g m (after_answer g m answering n answer) role open'.0 open'.1 (taken_open is other open'.1) ∙ given;
       }
 
--- ---- the laws
+-- ---- The laws
 
 pub none_is_answered : {S M : Type 0} (g : Rules S M) → NoneIsAnswered {M = M} g
 none_is_answered {S} {M} g setup role lt =

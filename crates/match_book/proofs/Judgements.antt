@@ -1,4 +1,4 @@
--- What a judgement keeps.
+-- What holds for a judgement.
 use Rattle.std.proofs.Common.{◌≡◌, ◌≢◌, ℕ, zero, suc, ◌<◌, Bool, true, false, Option, Some, None, List, [], ◌∷◌, length, slice_index_or, refl, arith, ap, sym, subst, inl, inr, Contains}
 use Rattle.std.proofs.lemmas.Slice.Eq.{bytes_eq-Decides}
 use Rattle.std.specs.Prelude.{IsSome, slice_get, bytes_eq, if◌then◌else◌, ◌==◌}
@@ -34,7 +34,6 @@ move_named-some g (y ∷ ys) x m e = step (bytes_eq (g.move_text y) x) e (move_n
     step true e later = let w : y ≡ m = cc in (0, omega arith, w)
     step false e later = let found = later e in (suc found.0, omega (arith, found.1), found.2)
 
--- the move that a text names has that text
 pub move_named-text : {S M : Type 0} (g : Rules S M) (moves : List M) (x : List ℕ) (m : M) → move_named g moves x ≡ Some m → g.move_text m ≡ x
 move_named-text g [] x m e = absurd cc
 move_named-text {S} {M} g (y ∷ ys) x m e = step (bytes_eq (g.move_text y) x) refl (move_named g ys x) (move_named-text g ys x m) e
@@ -67,7 +66,6 @@ module _ {S M : Type 0} (g : Rules S M) (folded : ReadingsAreFolded) where
   text-judged moves t j None read is = substitute-judged g moves Unreadable j tt is
   text-judged moves t j (Some x) read is = named-judged moves t x j (move_named g moves x) read refl is
 
-  -- a judgement is a legal move without an error, or the first legal one with an error
   pub judgement-judged : (s : S) (r : ℕ) (a : Answer) (j : Judgement M) → judgement g s r a ≡ Some j → IsJudged g (g.legal s r) j.taken j.error
   unfolding judgement
   judgement-judged s r (Text t) j is = text-judged (g.legal s r) t j (answer_reading t) refl is
@@ -86,13 +84,11 @@ judged_reading-some : {S M : Type 0} (g : Rules S M) (moves : List M) (o : Optio
 judged_reading-some g moves None some = substitute-some moves Unreadable some
 judged_reading-some g moves (Some x) some = taken_or_substituted-some moves x (move_named g moves x) some
 
--- a role that has a legal move is judged
 pub judgement-some : {S M : Type 0} (g : Rules S M) (s : S) (r : ℕ) (a : Answer) → (length (g.legal s r) == 0) ≡ false → IsSome (judgement g s r a)
 unfolding judgement
 judgement-some g s r (Text t) some = judged_reading-some g (g.legal s r) (answer_reading t) some
 judgement-some g s r Silent some = substitute-some (g.legal s r) TimeOut some
 judgement-some g s r Broken some = substitute-some (g.legal s r) ConnectionError some
 
--- a legal move is of the game
 pub Contains-move : {S M : Type 0} (g : Rules S M) → IsLawful g → (s : S) (r : ℕ) (m : M) → g.IsState s → r < g.roles → Contains (g.legal s r) m → g.IsMove m
 Contains-move {S} {M} g laws s r m is lt among = subst (λ (x : M). g.IsMove x) among.2 (laws.legal_are_moves s r is lt among.0 m among.1)

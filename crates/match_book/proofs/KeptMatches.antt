@@ -61,14 +61,12 @@ kept-new_match {S} {M} g laws setup players =
       goals_are = λ r lt. refl;
     }
 
--- when a round has just begun, the retired roles have answered it
 answered-begun : {M : Type 0} (at : Stage) (m : MatchValue M) (n retired : ℕ) → at ≢ Starting → m.open_answers ≡ blank n → m.end_marks ≡ blank n → retired ≡ count_roles n (is_retired m) → answered_at_first at retired ≡ count_roles n (answered_in at m)
 answered-begun Starting m n retired ne answers ends count = absurd (ne refl)
 answered-begun Playing m n retired ne answers ends count = count ∙ sym (count_roles-same n (is_retired m) (answered_in Playing m) (λ k lt. answered_in-retired m n k answers))
 answered-begun Stopping m n retired ne answers ends count = sym (count_roles-none n (answered_in Stopping m) (λ k lt. answered_in-none Stopping m n k ne (λ e. absurd cc) ends))
 answered-begun (Aborting c) m n retired ne answers ends count = sym (count_roles-none n (answered_in (Aborting c) m) (λ k lt. answered_in-none (Aborting c) m n k ne (λ e. absurd cc) ends))
 
--- a turn in this state
 past-push : {S M : Type 0} (g : Rules S M) (turns : List (Turn M)) (t : Turn M) (past : List S) (s : S) → ArePast g turns past → s ≡ state_after g turns → ArePast g (turns ++ t ∷ []) (past ++ s ∷ [])
 past-push {S} {M} g turns t past s are is =
     record {
@@ -94,7 +92,6 @@ past-push {S} {M} g turns t past s are is =
         ∙ get_or_from_slice_get past k _ s (are.before k below)
         ∙ ap (state_after g) (sym (take-append-le k turns (t ∷ []) (omega (arith, below)))))
 
--- a round that the settling rule begins
 kept-settled : {S M : Type 0} (g : Rules S M) (laws : IsLawful g) (m : MatchValue M) (past : List S) (s : S) (at : Stage) (retired substituted : ℕ) (strikes : List RoleStrikes) (legal : List (List M)) (goals : List (Option ℕ)) → IsLawfulMatch g m → ArePast g m.turns past
     → m.abort_asked ≡ false → every_role g.roles (is_there m.start_marks) ≡ true → m.open_answers ≡ blank g.roles → m.end_marks ≡ blank g.roles
     → s ≡ state_after g m.turns → retired ≡ count_roles g.roles (is_retired m) → at ≡ settled g (length m.turns) (retired == g.roles) s → substituted ≡ substitutions m.turns → AreStrikes g.roles m.setup.strikes m.turns strikes → (at ≡ Playing → AreLegalMoves g s legal) → ((r : ℕ) → r < g.roles → at_role goals r ≡ goal_in at g s r)
@@ -119,7 +116,6 @@ kept-settled {S} {M} g laws m past s at retired substituted strikes legal goals 
     }
 
 module _ {S M : Type 0} (g : Rules S M) (laws : IsLawful g) {m : MatchValue M} {past : List S} {s : S} {at : Stage} {answered substituted : ℕ} {strikes : List RoleStrikes} {legal : List (List M)} {goals : List (Option ℕ)} (kept : IsKept g m past s at answered substituted strikes legal goals) where
-  -- there are few roles to answer
   pub answered-few : answered ≤ max_roles
   answered-few = let few = count_roles-le g.roles (answered_in at m) in let e = kept.answered_is in let roles = laws.few_roles in omega arith
 
@@ -178,7 +174,6 @@ module _ {S M : Type 0} (g : Rules S M) (laws : IsLawful g) {m : MatchValue M} {
           count-set m.start_marks g.roles r mark kept.lawful.one_start_mark lt free
           ∙ ap (λ n. n + 1) (sym (kept.answered_is ∙ ap (λ (x : Stage). count_roles g.roles (answered_in x m)) starting))
 
-      -- a START mark that is not the last
       pub kept-with_start_mark : answered + 1 < g.roles → IsKept g (with_start_mark m r mark) past s at (answered + 1) substituted strikes legal goals
       kept-with_start_mark not_last =
           let missing : every_role g.roles (is_there (with_start_mark m r mark).start_marks) ≡ false = every_role-count g.roles (is_there (with_start_mark m r mark).start_marks) ∙ rw start_count (not_all (answered + 1) g.roles not_last) in
@@ -204,7 +199,6 @@ module _ {S M : Type 0} (g : Rules S M) (laws : IsLawful g) {m : MatchValue M} {
       last-to_start last =
           (starting_now, λ k below other. sym (ap is_some (at_role-other m.start_marks r k (Some mark) other)) ∙ every_role-at g.roles k (is_there (with_start_mark m r mark).start_marks) (all_started last) below)
 
-      -- the last START mark
       pub kept-with_last_start_mark : (to : Stage) (lists : List (List M)) (are : List (Option ℕ)) → g.roles ≤ answered + 1 → to ≡ settled g (length m.turns) (0 == g.roles) s → (to ≡ Playing → AreLegalMoves g s lists) → ((k : ℕ) → k < g.roles → at_role are k ≡ goal_in to g s k)
           → IsKept g (with_start_mark m r mark) past s to 0 substituted strikes lists are
       kept-with_last_start_mark to lists are last settles moves goals_are =
@@ -238,11 +232,9 @@ module _ {S M : Type 0} (g : Rules S M) (laws : IsLawful g) {m : MatchValue M} {
             rw (at_role-read m.open_answers k d within, e) (Contains-move g laws (state_after g m.turns) k j.taken (state_after-is_state g laws m.turns kept.lawful.turns) lt among)
 
     module _ (r : ℕ) (lt : r < g.roles) where
-      -- there is a list for the role
       pub legal-within : r < length legal
       legal-within = let wide = (kept.legal_are playing).one_list in omega arith
 
-      -- the list in the role's place has its legal moves
       pub legal-at : (moves : List M) → moves ≡ slice_index_or legal r moves → moves ≡ g.legal (state_after g m.turns) r
       legal-at moves read = read ∙ ((kept.legal_are playing).legal r moves lt ∙ ap (λ x. g.legal x r) kept.state_is)
 
@@ -250,16 +242,13 @@ module _ {S M : Type 0} (g : Rules S M) (laws : IsLawful g) {m : MatchValue M} {
       legal-moves moves read =
           subst (λ (l : List M). All (λ n. g.IsMove n) l) (sym (legal-at moves read)) (laws.legal_are_moves (state_after g m.turns) r (state_after-is_state g laws m.turns kept.lawful.turns) lt)
 
-      -- the judgement is made from them
       pub judged-is : (moves : List M) (a : Answer) (o : Option (Judgement M)) → moves ≡ slice_index_or legal r moves → o ≡ judged_answer g moves a → o ≡ judgement g (state_after g m.turns) r a
       unfolding judgement
       judged-is moves a o read is = is ∙ ap (λ l. judged_answer g l a) (legal-at moves read)
 
-      -- each answer is judged
       pub judged-some : (moves : List M) (a : Answer) (o : Option (Judgement M)) → moves ≡ slice_index_or legal r moves → o ≡ judged_answer g moves a → IsSome o
       judged-some moves a o read is = subst IsSome (sym (judged-is moves a o read is)) (answer-judged g laws m kept.lawful playing_now r lt a)
 
-      -- there is a place for the role
       pub strikes-within : r < length strikes
       strikes-within = let wide = kept.strikes_are.one_each in omega arith
 
@@ -289,7 +278,6 @@ module _ {S M : Type 0} (g : Rules S M) (laws : IsLawful g) {m : MatchValue M} {
               every_role-count g.roles (answered_in Playing (record m { open_answers = set m.open_answers r (Some j) }))
               ∙ rw answer_count (all_there (answered + 1) g.roles (rw answer_count at (count_roles-le g.roles (answered_in Playing (record m { open_answers = set m.open_answers r (Some j) })))) last)
 
-          -- an answer that is not the last
           pub kept-open_answer : answered + 1 < g.roles → IsKept g (record m { open_answers = set m.open_answers r (Some j) }) past s at (answered + 1) substituted strikes legal goals
           kept-open_answer not_last =
               let same : stage g (record m { open_answers = set m.open_answers r (Some j) }) ≡ stage g m = stage-by g m (record m { open_answers = set m.open_answers r (Some j) }) refl refl refl refl in
@@ -323,14 +311,13 @@ module _ {S M : Type 0} (g : Rules S M) (laws : IsLawful g) {m : MatchValue M} {
             pub next-is_state : g.IsState (g.next s t.moves)
             next-is_state = laws.next_is_state s t.moves kept.is_state turn-joint
 
-            -- there is an error for each role
             pub one-error : length t.errors ≡ length strikes
             one-error = this-lawful.one_error ∙ sym kept.strikes_are.one_each
 
             pub recorded_errors-few : count_by is_error t.errors ≤ max_roles
             recorded_errors-few = turn_errors-few g laws m.turns t this-lawful
 
-            -- the last answer: a turn, and the settling rule
+            -- the last answer: it makes a turn, and the settling rule follows
             pub kept-recorded : (next : S) (to : Stage) (retired total : ℕ) (after : List RoleStrikes) (lists : List (List M)) (are : List (Option ℕ)) → next ≡ g.next s t.moves
                 → AreStrikes g.roles m.setup.strikes (m.turns ++ t ∷ []) after → retired ≡ count_roles (length after) (is_retired_in after)
                 → to ≡ settled g (length m.turns + 1) (retired == g.roles) next → total ≡ substituted + count_by is_error t.errors → (to ≡ Playing → AreLegalMoves g next lists) → ((k : ℕ) → k < g.roles → at_role are k ≡ goal_in to g next k)
@@ -348,7 +335,6 @@ module _ {S M : Type 0} (g : Rules S M) (laws : IsLawful g) {m : MatchValue M} {
           pub value-recorded : record m { turns = m.turns ++ turn_of (parts g (record m { open_answers = set m.open_answers r (Some j) })) ∷ []; open_answers = blank g.roles } ≡ with_open_answer g m r (Some j)
           value-recorded = rw all refl
 
-      -- the roles' strikes give their parts of the turn
       pub turn-parts : (j : Judgement M) → still_answers m r ≡ true → (list : List (Option (Judgement M))) → list ≡ set (of_each_role g.roles (kept_part m.open_answers strikes legal)) r (Some j)
           → list ≡ parts g (record m { open_answers = set m.open_answers r (Some j) })
       turn-parts j answers list is =

@@ -34,12 +34,12 @@ ended-not_playing Playing e = absurd cc
 ended-not_playing Stopping e = refl
 ended-not_playing (Aborting c) e = refl
 
--- a role's part of a turn, by whether the role is retired
+-- a role's part of a turn, given whether the role is retired
 record IsGiven {S M : Type 0} (g : Rules S M) (retired : Bool) (moves : List M) (i : Judgement M) : Type 0 where
   pub among : Contains moves i.taken
   pub fits : IsPart g retired moves i.taken i.error
 
--- a match with no open answer and no end mark
+-- a match without open answers and end marks
 pub lawful-round_begun : {S M : Type 0} (g : Rules S M) → IsLawful g → (m : MatchValue M) → length m.setup.players ≡ g.roles → length m.start_marks ≡ g.roles → m.abort_asked ≡ false
     → m.open_answers ≡ blank g.roles → m.end_marks ≡ blank g.roles → AreLawful g m.setup.strikes m.turns → length m.turns ≤ max_turns → (every_role g.roles (is_there m.start_marks) ≡ false → m.turns ≡ []) → IsLawfulMatch g m
 lawful-round_begun {S} {M} g laws m players starts asked answers ends turns few after =
@@ -111,12 +111,11 @@ module _ {S M : Type 0} (g : Rules S M) (laws : IsLawful g) (m : MatchValue M) (
     plays : IsInPlay g m
     plays = (playing_means g m).0 playing
 
-    -- each role has a legal move, so each answer is judged
     pub answer-judged : (a : Answer) → IsSome (judgement g (state_after g m.turns) r a)
     answer-judged a = judgement-some g (state_after g m.turns) r a (plays.moves r lt)
 
     module _ (j : Judgement M) (answers : still_answers m r ≡ true) (judged : IsJudged g (g.legal (state_after g m.turns) r) j.taken j.error) where
-      -- the open answers, with this one
+      -- the open answers and this one
       more : List (Option (Judgement M))
       more = set m.open_answers r (Some j)
 
@@ -136,7 +135,6 @@ module _ {S M : Type 0} (g : Rules S M) (laws : IsLawful g) (m : MatchValue M) (
             | inr other ↦ lawful.judged k i lt' (sym (at_role-other m.open_answers r k (Some j) other) ∙ e)
           ]
 
-      -- an answer that is not the last
       pub lawful-open_answer : every_role g.roles (answered_in Playing (record m { open_answers = set m.open_answers r (Some j) })) ≡ false → IsLawfulMatch g (record m { open_answers = set m.open_answers r (Some j) })
       unfolding more
       lawful-open_answer missing =
@@ -158,7 +156,6 @@ module _ {S M : Type 0} (g : Rules S M) (laws : IsLawful g) (m : MatchValue M) (
           }
 
       module _ (all : every_role g.roles (answered_in Playing (record m { open_answers = set m.open_answers r (Some j) })) ≡ true) where
-        -- each role's part of the turn may stand there
         given : (k : ℕ) → k < g.roles → (i : Judgement M) × (part g (record m { open_answers = set m.open_answers r (Some j) }) k ≡ Some i) × IsGiven g (is_retired m k) (g.legal (state_after g m.turns) k) i
         unfolding more
         given k lt' = step (is_retired m k) refl (every_role-at g.roles k (answered_in Playing (record m { open_answers = set m.open_answers r (Some j) })) all lt')
@@ -175,7 +172,6 @@ module _ {S M : Type 0} (g : Rules S M) (laws : IsLawful g) (m : MatchValue M) (
                 let judged' = more-judged k found.0 lt' found.1 in
                 (found.0, found.1, record { among = judged'.1.0; fits = judged'.1 })
 
-        -- the parts of all roles
         all_parts : List (Option (Judgement M))
         all_parts = parts g (record m { open_answers = set m.open_answers r (Some j) })
 
@@ -192,7 +188,6 @@ module _ {S M : Type 0} (g : Rules S M) (laws : IsLawful g) (m : MatchValue M) (
             let below : k < g.roles = omega (arith, parts-wide) in
             ap is_some (parts-at k below ∙ (given k below).1)
 
-        -- each role's part stands in its place of the turn
         pub has_part : (q : ℕ) → q < g.roles → HasPart g (record m { open_answers = set m.open_answers r (Some j) }) q
         unfolding all_parts
         has_part q lt' =
@@ -201,7 +196,6 @@ module _ {S M : Type 0} (g : Rules S M) (laws : IsLawful g) (m : MatchValue M) (
             let within : q < length all_parts = omega (arith, parts-wide) in
             record { judged = found.0; is_part = found.1; move = present-get (λ k. k.taken) all_parts q found.0 parts-all within at; error = present-get (λ k. k.error) all_parts q found.0 parts-all within at }
 
-        -- the answers of all roles make a lawful turn
         pub lawful-turn : IsLawfulTurn g m.setup.strikes m.turns (turn_of (parts g (record m { open_answers = set m.open_answers r (Some j) })))
         unfolding all_parts
         lawful-turn = record {
@@ -221,7 +215,6 @@ module _ {S M : Type 0} (g : Rules S M) (laws : IsLawful g) (m : MatchValue M) (
               rw (moves, errors) found.2.fits;
         }
 
-        -- the last answer
         pub lawful-recorded : IsLawfulMatch g (record m { turns = m.turns ++ turn_of (parts g (record m { open_answers = set m.open_answers r (Some j) })) ∷ []; open_answers = blank g.roles })
         lawful-recorded =
             let t = turn_of (parts g (record m { open_answers = set m.open_answers r (Some j) })) in

@@ -1,4 +1,4 @@
--- What lawful turns keep.
+-- What holds for lawful turns.
 use Rattle.std.proofs.Common.{◌≡◌, Bool, false, ℕ, zero, suc, ◌*◌, ◌<◌, ◌≤◌, List, [], ◌∷◌, ◌++◌, length, take, slice_index_or, refl, arith, ap, sym, ◌∙◌, subst, inl, inr, length-append, add-one}
 use Rattle.std.proofs.lemmas.List.{map-append, take-append-le, take_all, take_more, get_or_append_left}
 use Rattle.std.proofs.lemmas.List.Sums.{count_by-le-length, sum_by-le}
@@ -23,7 +23,6 @@ play_from-push g s (x ∷ xs) joint = play_from-push g (g.next s x) xs joint
 pub state_after-push : {S M : Type 0} (g : Rules S M) (turns : List (Turn M)) (t : Turn M) → state_after g (turns ++ t ∷ []) ≡ g.next (state_after g turns) t.moves
 state_after-push g turns t = ap (play g) (map-append (λ u. u.moves) turns (t ∷ [])) ∙ play_from-push g g.initial (joint_moves turns) t.moves
 
--- one lawful turn more
 pub AreLawful-push : {S M : Type 0} (g : Rules S M) (strikes : ℕ) (turns : List (Turn M)) (t : Turn M) → AreLawful g strikes turns → IsLawfulTurn g strikes turns t → AreLawful g strikes (turns ++ t ∷ [])
 AreLawful-push {S} {M} g strikes turns t lawful turn k d lt =
     elim (below_or_at k (length turns) (omega (arith, length-append turns (t ∷ [])))) [
@@ -48,13 +47,11 @@ prefix_is_state {S} {M} g laws {strikes} turns lawful (suc k) d le =
     let state : state_after g (take (suc k) turns) ≡ g.next (state_after g (take k turns)) t.moves = ap (state_after g) more ∙ state_after-push g (take k turns) t in
     subst (λ (s : S). g.IsState s) (sym state) (laws.next_is_state (state_after g (take k turns)) t.moves before (lawful k d (omega arith)).joint)
 
--- this many lawful turns lead to a state of the game
 pub prefix-is_state : {S M : Type 0} (g : Rules S M) → IsLawful g → {strikes : ℕ} → (turns : List (Turn M)) → AreLawful g strikes turns → (k : ℕ) → k ≤ length turns → g.IsState (state_after g (take k turns))
 prefix-is_state g laws {strikes} [] lawful zero le = laws.initial_is_state
 prefix-is_state g laws {strikes} [] lawful (suc k) le = laws.initial_is_state
 prefix-is_state g laws {strikes} (t ∷ ts) lawful k le = prefix_is_state g laws {strikes = strikes} (t ∷ ts) lawful k t le
 
--- lawful turns lead to a state of the game
 pub state_after-is_state : {S M : Type 0} (g : Rules S M) → IsLawful g → {strikes : ℕ} → (turns : List (Turn M)) → AreLawful g strikes turns → g.IsState (state_after g turns)
 state_after-is_state {S} {M} g laws {strikes} turns lawful =
     subst (λ (x : List (Turn M)). g.IsState (state_after g x)) (take_all (length turns) turns (omega arith)) (prefix-is_state g laws {strikes = strikes} turns lawful (length turns) (omega arith))
@@ -62,13 +59,11 @@ state_after-is_state {S} {M} g laws {strikes} turns lawful =
 pub turns_lead_to_states : {S M : Type 0} (g : Rules S M) → IsLawful g → TurnsLeadToStates g
 turns_lead_to_states g laws strikes turns lawful = state_after-is_state g laws {strikes = strikes} turns lawful
 
--- each turn has one move for each role, and one error
 pub turn-width : {S M : Type 0} (g : Rules S M) {strikes : ℕ} (turns : List (Turn M)) (k : ℕ) (t : Turn M) → AreLawful g strikes turns → k < length turns → t ≡ slice_index_or turns k t → (length t.moves ≡ g.roles) × (length t.errors ≡ g.roles)
 turn-width {S} {M} g {strikes} turns k t lawful lt read =
     let turn = lawful k t lt in
     subst (λ (x : Turn M). (length x.moves ≡ g.roles) × (length x.errors ≡ g.roles)) (sym read) (turn.joint.width, turn.one_error)
 
--- each recorded move is of the game
 pub turns_have_moves : {S M : Type 0} (g : Rules S M) → IsLawful g → TurnsHaveMoves g
 turns_have_moves {S} {M} g laws strikes turns lawful k t lt i d within =
     let turn = lawful k t lt in
@@ -86,7 +81,6 @@ turn_errors-few g laws {strikes} before t turn =
     let few = laws.few_roles in
     omega arith
 
--- at most one substitution for each role in each turn
 pub substitutions-few : {S M : Type 0} (g : Rules S M) → IsLawful g → {strikes : ℕ} (turns : List (Turn M)) → AreLawful g strikes turns → substitutions turns ≤ length turns * max_roles
 substitutions-few g laws {strikes} turns lawful =
     sum_by-le (λ u. count_by is_error u.errors) max_roles turns (λ k d lt. turn_errors-few g laws {strikes = strikes} _ _ (lawful k d lt))
@@ -106,20 +100,3 @@ last_move_texts-is g turns k t lt last read = rw (← last, slice_get_read turns
 pub last_move_texts-none : {S M : Type 0} (g : Rules S M) (turns : List (Turn M)) → length turns ≡ 0 → None ≡ last_move_texts g turns
 last_move_texts-none g [] e = refl
 last_move_texts-none g (t ∷ ts) e = absurd (omega arith)
-
--- with 0 strikes, a turn is lawful if each part is the judgement of an answer
-pub never-judged : {S M : Type 0} (g : Rules S M) (before : List (Turn M)) (t : Turn M) → IsLawfulTurn g 0 before t → (r : ℕ) (d : M) → r < g.roles
-    → IsJudged g (g.legal (state_after g before) r) (slice_index_or t.moves r d) (slice_index_or t.errors r [])
-never-judged g before t turn r d lt =
-    subst (λ (b : Bool). IsPart g b (g.legal (state_after g before) r) (slice_index_or t.moves r d) (slice_index_or t.errors r [])) (retired_by-never before r) (turn.judged r d lt)
-
-pub never-lawful : {S M : Type 0} (g : Rules S M) → IsLawful g → (before : List (Turn M)) (t : Turn M) → g.terminal (state_after g before) ≡ false → IsJoint g (state_after g before) t.moves → length t.errors ≡ g.roles
-    → ((r : ℕ) (d : M) → r < g.roles → IsJudged g (g.legal (state_after g before) r) (slice_index_or t.moves r d) (slice_index_or t.errors r [])) → IsLawfulTurn g 0 before t
-never-lawful g laws before t goes_on joint one_error judged = record {
-  goes_on = goes_on;
-  some_answer = all_retired-never g.roles before laws.some_role;
-  joint = joint;
-  one_error = one_error;
-  judged = λ r d lt.
-      subst (λ (b : Bool). IsPart g b (g.legal (state_after g before) r) (slice_index_or t.moves r d) (slice_index_or t.errors r [])) (sym (retired_by-never before r)) (judged r d lt);
-}

@@ -1,4 +1,4 @@
--- The move that a text names, by its place.
+-- The move that a text names, and its index.
 use Rattle.std.proofs.Common.{◌≡◌, ◌≢◌, ◌≤◌, ℕ, zero, suc, Bool, true, false, Some, None, List, [], ◌∷◌, length, refl, sym, ap, ◌∙◌, subst, arith}
 use Rattle.std.specs.Prelude.{bytes_eq, slice_get, nat_le, All}
 use Rattle.std.proofs.lemmas.Bool.Decides.{nat_tests}
@@ -32,7 +32,6 @@ place_some g (m ∷ ms) x (suc p) (within, named, first) =
     (place_some g ms x p (omega arith, named, λ k d low lt. first (suc k) d (omega arith) (omega arith)))
 
 module _ {S M : Type 0} (g : Rules S M) (laws : IsLawful g) (reads_back : FoldedTextReadsBack) where
-  -- a move's text that is within the limit of an answer is read as itself
   move_text_reads : (m : M) → g.IsMove m → length (g.move_text m) ≤ max_answer → answer_reading (g.move_text m) ≡ Some (g.move_text m)
   unfolding answer_reading
   move_text_reads m is short =
@@ -40,7 +39,6 @@ module _ {S M : Type 0} (g : Rules S M) (laws : IsLawful g) (reads_back : Folded
       let within : nat_le (length (g.move_text m)) max_answer ≡ true = grind (arith, nat_tests) in
       rw (within, back.1) (ap Some (ap canonical back.3 ∙ sym back.4))
 
-  -- an answer with the text of the move at a place counts as this move
   pub named_as_it_stands : (moves : List M) (x : List ℕ) (p : ℕ) (m : M) → All (λ n. g.IsMove n) moves → length x ≤ max_answer → IsPlaceOf g moves x (Some p) → slice_get moves p ≡ Some m
       → Some (record { taken = m; error = [] }) ≡ judged_reading g moves (answer_reading x)
   named_as_it_stands moves x p m are short place at =

@@ -1,4 +1,4 @@
--- A match comes to its end, round by round.
+-- A match comes to an end, round by round.
 use Rattle.std.proofs.Common.{◌≡◌, ◌≢◌, ℕ, zero, suc, ◌+◌, ◌-◌, ◌<◌, ◌≤◌, Bool, true, false, Option, Some, None, List, [], ◌∷◌, ◌++◌, length, set, refl, arith, ap, sym, ◌∙◌, subst, inl, inr, length-append}
 use Rattle.std.specs.Prelude.{◌⊎◌, is_none, is_some, if◌then◌else◌}
 use Rattle.game_core.specs.Play.{Rules, IsLawful}
@@ -26,7 +26,7 @@ use Rattle.match_book.proofs.RoleTests.{same_or_other, at_role-set, at_role-othe
 use Rattle.match_book.proofs.Stages.{stage-by, stage-starting, stage-settled, settled-not_starting, starting-missing, live-not_asked, playing_means}
 use Rattle.match_book.proofs.AnswerLaws.{taken, less_is, same_is, answers_keep_lawful, answers_in_play}
 
--- ---- how many rounds are left at most, at a stage, after t turns
+-- ---- The largest number of rounds that are left, at a stage, after t turns
 
 abbrev left_in : Stage → Bool → ℕ → ℕ
 left_in Starting ended t = max_turns + 2
@@ -97,7 +97,7 @@ answered_at_end Playing m k live = absurd cc
 answered_at_end Stopping m k live = refl
 answered_at_end (Aborting c) m k live = refl
 
--- ---- places that are filled
+-- ---- Filled places
 
 set_here : {A : Type 0} (xs : List (Option A)) (r : ℕ) (x : A) → r < length xs → is_there (set xs r (Some x)) r ≡ true
 set_here xs r x lt = ap is_some (at_role-set xs r (Some x) lt)
@@ -117,7 +117,7 @@ play_keeps : (still there there' : Bool) → (there ≡ true → there' ≡ true
 play_keeps true there there' keeps is = keeps is
 play_keeps false there there' keeps is = refl
 
--- ---- what an answer of a role does in a round: fewer rounds are left, or the same round is open and the role has answered
+-- ---- What an answer does in a round: fewer rounds are left, or the round stays open and the role has answered
 
 record IsOpenWith {S M : Type 0} (g : Rules S M) (m n : MatchValue M) (r : ℕ) : Type 0 where
   left_is : left g n ≡ left g m
@@ -129,7 +129,6 @@ record IsOpenWith {S M : Type 0} (g : Rules S M) (m n : MatchValue M) (r : ℕ) 
 abbrev GoesOn : {S M : Type 0} → Rules S M → MatchValue M → MatchValue M → ℕ → Type 0
 GoesOn g m n r = (left g n < left g m) ⊎ IsOpenWith g m n r
 
--- the stage stays
 still_open : {S M : Type 0} (g : Rules S M) (m n : MatchValue M) (r : ℕ) (at : Stage) → stage g m ≡ at → stage g n ≡ at → n.turns ≡ m.turns
     → left_in at (all_ended g n) (length m.turns) ≡ left_in at (all_ended g m) (length m.turns)
     → round_in at (every_role g.roles (is_there n.start_marks)) (length m.turns) ≡ round_in at (every_role g.roles (is_there m.start_marks)) (length m.turns)
@@ -228,7 +227,6 @@ module _ {S M : Type 0} (g : Rules S M) (m : MatchValue M) (lawful : IsLawfulMat
       step (inr is_recorded) = subst (λ (x : MatchValue M). GoesOn g m x r) (sym is_recorded.0) (recorded _)
 
 module _ {S M : Type 0} (g : Rules S M) (laws : IsLawful g) (folded : ReadingsAreFolded) where
-  -- an answer that is taken
   taken_step : (m : MatchValue M) (r n : ℕ) (answer : Answer) → IsLawfulMatch g m → refusal g m r n ≡ None → GoesOn g m (after_answer g m r n answer) r
   taken_step m r n answer lawful none = step (stage g m) refl
     where
@@ -244,11 +242,10 @@ module _ {S M : Type 0} (g : Rules S M) (laws : IsLawful g) (folded : ReadingsAr
       step Stopping is = subst (λ (x : MatchValue M). GoesOn g m x r) (sym (now Stopping is)) (end_step g m lawful r facts.0 (mark_of answer) Stopping is refl facts.2)
       step (Aborting c) is = subst (λ (x : MatchValue M). GoesOn g m x r) (sym (now (Aborting c) is)) (end_step g m lawful r facts.0 (mark_of answer) (Aborting c) is refl facts.2)
 
-  -- a match that stays as it is, with a role that has answered
+  -- a match that does not change, and whose role has answered
   stays_open : (m : MatchValue M) (r : ℕ) → is_over g m ≡ false → has_answered g m r ≡ true → GoesOn g m m r
   stays_open m r going has = inr (record { left_is = refl; round_is = refl; goes_on = going; kept = λ k given. given; here = has })
 
-  -- an answer of a role for the present round
   round_step : (m : MatchValue M) (r n : ℕ) (answer : Answer) → IsLawfulMatch g m → r < g.roles → n ≡ round g m → is_over g m ≡ false → GoesOn g m (after_answer g m r n answer) r
   round_step m r n answer lawful lt same going = step (has_answered g m r) refl
     where
@@ -262,7 +259,6 @@ module _ {S M : Type 0} (g : Rules S M) (laws : IsLawful g) (folded : ReadingsAr
           let now : after_answer g m r n answer ≡ m = ap (λ o. if is_none o then with_answer g m r answer else m) twice in
           subst (λ (x : MatchValue M). GoesOn g m x r) (sym now) (stays_open m r going is)
 
-  -- no answer makes more rounds of those that are left
   never_more : (m : MatchValue M) (r n : ℕ) (answer : Answer) → IsLawfulMatch g m → left g (after_answer g m r n answer) ≤ left g m
   never_more m r n answer lawful = step (refusal g m r n) refl
     where
@@ -277,7 +273,6 @@ module _ {S M : Type 0} (g : Rules S M) (laws : IsLawful g) (folded : ReadingsAr
           let same : left g (after_answer g m r n answer) ≡ left g m = ap (λ (x : MatchValue M). left g x) now in
           omega (arith, same)
 
-  -- in an open round some role has not answered
   some_missing : (m : MatchValue M) → IsLawfulMatch g m → is_over g m ≡ false → every_role g.roles (has_answered g m) ≡ false
   some_missing m lawful going = step (stage g m) refl
     where
@@ -290,7 +285,7 @@ module _ {S M : Type 0} (g : Rules S M) (laws : IsLawful g) (folded : ReadingsAr
       step Stopping is = subst (λ (x : Stage). every_role g.roles (answered_in x m) ≡ false) (sym is) (not_all_ended Stopping (all_ended g m) refl (going_at Stopping is))
       step (Aborting c) is = subst (λ (x : Stage). every_role g.roles (answered_in x m) ≡ false) (sym is) (not_all_ended (Aborting c) (all_ended g m) refl (going_at (Aborting c) is))
 
-  -- a role that has answered what was due to it
+  -- a role that has answered what it owed
   due_step : (m n : MatchValue M) (r : ℕ) → IsLawfulMatch g m → r < g.roles → is_over g m ≡ false → IsAfterDue g m r (due g m r) n → GoesOn g m n r
   due_step m n r lawful lt going is = step (has_answered g m r) refl
     where
@@ -304,13 +299,13 @@ module _ {S M : Type 0} (g : Rules S M) (laws : IsLawful g) (folded : ReadingsAr
       step true has = subst (λ (x : MatchValue M). GoesOn g m x r) (sym (in_round true has)) (stays_open m r going has)
       step false has = let said = in_round false has in subst (λ (x : MatchValue M). GoesOn g m x r) (sym said.1) (round_step m r (round g m) said.0 lawful lt refl going)
 
-  -- what holds of the match and after any answer of the role holds after the role has answered what was due
+  -- what holds for the match, and after any answer of the role, also holds after the role has answered what it owed
   after_due : (P : MatchValue M → Type 0) (m n : MatchValue M) (r : ℕ) → P m → ((round : ℕ) (answer : Answer) → P (after_answer g m r round answer)) → (d : Due) → IsAfterDue g m r d n → P n
   after_due P m n r here answered (Owe round owed) is = subst P (sym is.1) (answered round is.0)
   after_due P m n r here answered (Hold round) is = subst P (sym is) here
   after_due P m n r here answered Over is = subst P (sym is) here
 
-  -- a lawful match in which no more rounds are left
+  -- a lawful match with at most this many rounds left
   record HasNoMoreLeft (rounds : ℕ) (n : MatchValue M) : Type 0 where
     lawful : IsLawfulMatch g n
     no_more : left g n ≤ rounds
@@ -323,7 +318,7 @@ module _ {S M : Type 0} (g : Rules S M) (laws : IsLawful g) (folded : ReadingsAr
   step_keeps m after r n lawful (inr is) =
       after_due (λ (x : MatchValue M). HasNoMoreLeft (left g m) x) m after r (record { lawful = lawful; no_more = omega arith }) (answer_keeps m lawful r) (due g m r) is
 
-  -- ---- a round
+  -- ---- One round
 
   module _ (m : MatchValue M) (lawful : IsLawfulMatch g m) (n : ℕ) where
     round_keeps : (k : ℕ) (after : MatchValue M) → HaveAnswered g n m k after → HasNoMoreLeft (left g m) after
@@ -384,7 +379,7 @@ module _ {S M : Type 0} (g : Rules S M) (laws : IsLawful g) (folded : ReadingsAr
             let w : true ≡ false = sym all ∙ some in
             absurd cc
 
-  -- ---- all rounds
+  -- ---- All rounds
 
   module _ (m after : MatchValue M) (lawful : IsLawfulMatch g m) (is : HaveAnswered g (round g m) m g.roles after) where
     now : HasNoMoreLeft (left g m) after

@@ -52,7 +52,7 @@ lowest_role-none (suc n) k p none lt =
     or_none n p None false is e = (refl, is)
     or_none n p (Some x) b is e = absurd cc
 
--- all roles pass if and only if as many pass as there are
+-- all roles pass if and only if the number that pass is the number of roles
 pub count_roles-le : (n : ℕ) (p : ℕ → Bool) → count_roles n p ≤ n
 count_roles-le zero p = omega arith
 count_roles-le (suc n) p = step n (count_roles n p) (p n) (count_roles-le n p)
@@ -79,7 +79,6 @@ pub count_roles-same : (n : ℕ) (p q : ℕ → Bool) → ((k : ℕ) → k < n �
 count_roles-same zero p q same = refl
 count_roles-same (suc n) p q same = rw (same n (omega arith), count_roles-same n p q (λ k lt. same k (omega arith))) refl
 
--- one more passes
 pub count_roles-more : (n r : ℕ) (p q : ℕ → Bool) → r < n → p r ≡ false → q r ≡ true → ((k : ℕ) → k < n → k ≢ r → q k ≡ p k) → count_roles n q ≡ count_roles n p + 1
 count_roles-more zero r p q lt out in' others = absurd (omega arith)
 count_roles-more (suc n) r p q lt out in' others =
@@ -112,7 +111,6 @@ every_role-at (suc n) k p all lt =
     both all true e = (e, refl)
     both all false e = absurd cc
 
--- nothing stands in a blank list
 pub at_role-blank : (A : Type 0) (n k : ℕ) → at_role {A = A} (blank n) k ≡ None
 at_role-blank A zero k = refl
 at_role-blank A (suc n) zero = refl
@@ -133,7 +131,6 @@ at_role-other (y ∷ ys) zero (suc k) x ne = refl
 at_role-other (y ∷ ys) (suc r) zero x ne = refl
 at_role-other (y ∷ ys) (suc r) (suc k) x ne = at_role-other ys r k x (λ e. ne (ap suc e))
 
--- one more place is filled
 pub count-set : {A : Type 0} (xs : List (Option A)) (n r : ℕ) (x : A) → length xs ≡ n → r < n → is_there xs r ≡ false → count_roles n (is_there (set xs r (Some x))) ≡ count_roles n (is_there xs) + 1
 count-set xs n r x wide lt free =
     count_roles-more n r (is_there xs) (is_there (set xs r (Some x))) lt free (ap is_some (at_role-set xs r (Some x) (omega arith))) (λ k below ne. ap is_some (at_role-other xs r k (Some x) ne))
@@ -141,7 +138,6 @@ count-set xs n r x wide lt free =
 pub count-blank : (A : Type 0) (n : ℕ) → count_roles n (is_there {A = A} (blank n)) ≡ 0
 count-blank A n = count_roles-none n (is_there (blank n)) (λ k lt. is_there-blank A n k)
 
--- one place more
 pub at_role-push : {A : Type 0} (xs : List (Option A)) (n : ℕ) (x : Option A) (f : ℕ → Option A) → length xs ≡ n → ((r : ℕ) → r < n → at_role xs r ≡ f r) → x ≡ f n
     → (r : ℕ) → r < n + 1 → at_role (xs ++ x ∷ []) r ≡ f r
 at_role-push xs n x f wide so_far here r lt =
@@ -193,7 +189,6 @@ pub every_role-same : (n : ℕ) (p q : ℕ → Bool) → ((k : ℕ) → k < n �
 every_role-same zero p q same = refl
 every_role-same (suc n) p q same = rw (same n (omega arith), every_role-same n p q (λ k lt. same k (omega arith))) refl
 
--- what each role gives
 pub length-of_each_role : {A : Type 0} (n : ℕ) (f : ℕ → A) → length (of_each_role n f) ≡ n
 length-of_each_role zero f = refl
 length-of_each_role (suc n) f = length-append (of_each_role n f) (f n ∷ []) ∙ (ap (λ k. k + 1) (length-of_each_role n f) ∙ add-one n)
@@ -209,7 +204,6 @@ pub of_each_role-same : {A : Type 0} (n : ℕ) (f h : ℕ → A) → ((k : ℕ) 
 of_each_role-same zero f h same = refl
 of_each_role-same (suc n) f h same = rw (same n (omega arith), of_each_role-same n f h (λ k lt. same k (omega arith))) refl
 
--- another thing in one place
 pub of_each_role-set : {A : Type 0} (n r : ℕ) (f h : ℕ → Option A) (x : Option A) → h r ≡ x → ((k : ℕ) → k < n → k ≢ r → h k ≡ f k) → set (of_each_role n f) r x ≡ of_each_role n h
 of_each_role-set n r f h x here others =
     ext_get_or None (set (of_each_role n f) r x) (of_each_role n h) (length-set (of_each_role n f) r x ∙ (length-of_each_role n f ∙ sym (length-of_each_role n h)))

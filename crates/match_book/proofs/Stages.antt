@@ -1,4 +1,4 @@
--- What a match is doing.
+-- The stages of a match.
 use Rattle.std.proofs.Common.{◌≡◌, ◌≢◌, ℕ, ◌<◌, Bool, true, false, Option, Some, None, length, refl, arith, ap, sym, subst, ◌∙◌}
 use Rattle.std.proofs.lemmas.Bool.Decides.{nat_tests}
 use Rattle.std.specs.Prelude.{if◌then◌else◌, nat_le, not}
@@ -13,7 +13,6 @@ use Rattle.match_book.specs.declared.phase.Stage.{Stage}
 use Rattle.match_book.specs.declared.phase.Stage.TheVariants.{Starting, Playing, Stopping, Aborting}
 use Rattle.match_book.proofs.RoleTests.{is_there-blank, lowest_role-all, lowest_role-none, every_role-same}
 
--- the stage depends on the setup, the turns, the START marks and whether an abort was asked
 pub stage-by : {S M : Type 0} (g : Rules S M) (m n : MatchValue M) → n.setup ≡ m.setup → n.abort_asked ≡ m.abort_asked → n.start_marks ≡ m.start_marks → n.turns ≡ m.turns → stage g n ≡ stage g m
 unfolding stage
 stage-by g m n setup asked starts turns = rw (setup, asked, starts, turns) refl
@@ -50,7 +49,6 @@ settled-not_starting g t all_retired s e = step (g.terminal s) (nat_le max_turns
     step false false goals None false e = absurd cc
     step false false goals (Some r) all e = absurd cc
 
--- a match that starts lacks a START mark
 pub starting-missing : {S M : Type 0} (g : Rules S M) (m : MatchValue M) → stage g m ≡ Starting → every_role g.roles (is_there m.start_marks) ≡ false
 unfolding stage
 starting-missing g m e = step m.abort_asked (every_role g.roles (is_there m.start_marks)) refl (settled g (length m.turns) (are_all_retired g.roles m) (state_after g m.turns)) (settled-not_starting g (length m.turns) (are_all_retired g.roles m) (state_after g m.turns)) e
@@ -60,7 +58,6 @@ starting-missing g m e = step m.abort_asked (every_role g.roles (is_there m.star
     step false true is rest ne e = absurd (ne e)
     step false false is rest ne e = is
 
--- a match that neither starts nor is aborted as it was asked has all START marks, and the settling rule says its stage
 stage-parts : {S M : Type 0} (g : Rules S M) (m : MatchValue M) (at : Stage) → at ≢ Starting → at ≢ Aborting Asked → stage g m ≡ at
     → (m.abort_asked ≡ false) × (every_role g.roles (is_there m.start_marks) ≡ true) × (settled g (length m.turns) (are_all_retired g.roles m) (state_after g m.turns) ≡ at)
 unfolding stage
@@ -73,7 +70,8 @@ stage-parts g m at not_start not_asked e = step m.abort_asked refl (every_role g
     step false asked true is rest same e = (asked, is, same ∙ e)
     step false asked false is rest same e = absurd (not_start (sym e))
 
--- play goes on if the state is not terminal, there are fewer than 10,000 turns, each role has a legal move and not all are retired
+-- play continues if the state is not terminal, there are fewer than 10,000 turns, each role has a legal move, and some role is not
+-- retired
 settled-playing : {S M : Type 0} (g : Rules S M) (t : ℕ) (all_retired : Bool) (s : S) → settled g t all_retired s ≡ Playing
     → (g.terminal s ≡ false) × (nat_le max_turns t ≡ false) × (lowest_role g.roles (has_no_move g s) ≡ None) × (all_retired ≡ false)
 unfolding settled
@@ -92,7 +90,6 @@ settled-plays : {S M : Type 0} (g : Rules S M) (t : ℕ) (all_retired : Bool) (s
 unfolding settled
 settled-plays g t all_retired s goes_on few moves some = rw (goes_on, few, moves, some) refl
 
--- a match stops in a terminal state in which each role has a goal
 settled-stopping : {S M : Type 0} (g : Rules S M) (t : ℕ) (all_retired : Bool) (s : S) → settled g t all_retired s ≡ Stopping → (g.terminal s ≡ true) × (lowest_role g.roles (has_no_goal g s) ≡ None)
 unfolding settled
 settled-stopping g t all_retired s e = step (g.terminal s) (nat_le max_turns t) (lowest_role g.roles (has_no_goal g s)) (lowest_role g.roles (has_no_move g s)) all_retired e
@@ -109,21 +106,21 @@ settled-stops : {S M : Type 0} (g : Rules S M) (t : ℕ) (all_retired : Bool) (s
 unfolding settled
 settled-stops g t all_retired s ended goals = rw (ended, goals) refl
 
--- no goals are given before a match stops
+-- before a match stops, no role has a goal
 pub goal_in-live : {S M : Type 0} (g : Rules S M) (at : Stage) (s : S) (r : ℕ) → is_live at ≡ true → goal_in at g s r ≡ None
 goal_in-live g Starting s r live = refl
 goal_in-live g Playing s r live = refl
 goal_in-live g Stopping s r live = absurd cc
 goal_in-live g (Aborting c) s r live = refl
 
--- outside of play, no role has answered a round that has just begun
+-- when a round outside of play begins, no role has answered
 pub answered_in-none : {M : Type 0} (at : Stage) (m : MatchValue M) (n k : ℕ) → at ≢ Starting → at ≢ Playing → m.end_marks ≡ blank n → answered_in at m k ≡ false
 answered_in-none Starting m n k ne out ends = absurd (ne refl)
 answered_in-none Playing m n k ne out ends = absurd (out refl)
 answered_in-none Stopping m n k ne out ends = rw ends (is_there-blank _ n k)
 answered_in-none (Aborting c) m n k ne out ends = rw ends (is_there-blank _ n k)
 
--- in play, only the retired roles have answered a round that has just begun
+-- when a round of play begins, only the retired roles count as having answered
 pub answered_in-retired : {M : Type 0} (m : MatchValue M) (n k : ℕ) → m.open_answers ≡ blank n → answered_in Playing m k ≡ is_retired m k
 answered_in-retired m n k answers = step (is_retired m k) (ap (λ l. is_there l k) answers ∙ is_there-blank _ n k)
   where
@@ -131,7 +128,6 @@ answered_in-retired m n k answers = step (is_retired m k) (ap (λ l. is_there l 
     step true none = refl
     step false none = none
 
--- a role that has not answered in play still answers, and has no open answer
 pub not_answered-parts : {M : Type 0} (m : MatchValue M) (k : ℕ) → answered_in Playing m k ≡ false → (still_answers m k ≡ true) × (is_there m.open_answers k ≡ false)
 not_answered-parts m k free = step (still_answers m k) refl free
   where
@@ -190,7 +186,7 @@ stopping_means g m = (to, from)
         stage-settled g m stopped.not_asked stopped.started
         ∙ settled-stops g (length m.turns) (are_all_retired g.roles m) (state_after g m.turns) stopped.ended (lowest_role-all g.roles (has_no_goal g (state_after g m.turns)) stopped.goals)
 
--- in a round of play that has just begun, only the retired roles have answered
+-- when a round of play begins, only the retired roles count as having answered
 pub begun_rounds_are_open : {S M : Type 0} (g : Rules S M) → BegunRoundsAreOpen g
 begun_rounds_are_open g m playing answers =
     let is : stage g m ≡ Playing = playing-live (stage g m) playing in

@@ -12,12 +12,10 @@ use Rattle.match_book.specs.declared.retirement.RoleStrikes.{RoleStrikes}
 use Rattle.match_book.specs.declared.turn.Turn.{Turn}
 use Rattle.match_book.proofs.RoleTests.{count_roles-same, every_role-count, every_role-but}
 
--- with 0 strikes no role is retired
 pub retired_by-never : {M : Type 0} (turns : List (Turn M)) (r : ℕ) → retired_by 0 turns r ≡ false
 unfolding retired_by
 retired_by-never turns r = refl
 
--- before the first turn no role is retired
 pub retired_by-none : (M : Type 0) (strikes r : ℕ) → retired_by {M = M} strikes [] r ≡ false
 unfolding retired_by
 retired_by-none M strikes r = step (strikes == 0)
@@ -66,7 +64,6 @@ module _ {M : Type 0} (role : ℕ) where
       step true l a c e = e
       step false l a c e = refl
 
-  -- if all turns are struck, they are one row
   in_a_row-all : (ts : List (Turn M)) → all_struck role ts ≡ true → in_a_row role ts ≡ length ts
   in_a_row-all [] all = refl
   in_a_row-all (t ∷ ts) all = step (all_struck role (t ∷ ts)) all
@@ -83,7 +80,6 @@ module _ {M : Type 0} (role : ℕ) where
       step true le = omega arith
       step false le = omega arith
 
-  -- one turn more
   in_a_row-push : (ts : List (Turn M)) (t : Turn M) → in_a_row role (ts ++ t ∷ []) ≡ (if is_struck role t then in_a_row role ts + 1 else 0)
   in_a_row-push [] t = step (is_struck role t)
     where
@@ -103,7 +99,6 @@ module _ {M : Type 0} (role : ℕ) where
       step false false true is e later = absurd cc
       step false false false is e later = later
 
-  -- the first k turns, with one turn more
   begin_struck-push : (k : ℕ) (ts : List (Turn M)) (t : Turn M) → begin_struck k role (ts ++ t ∷ []) ≡ (begin_struck k role ts || (eqb k (length ts + 1) && all_struck role (ts ++ t ∷ [])))
   begin_struck-push zero ts t = refl
   begin_struck-push (suc k) [] t = step k (is_struck role t)
@@ -121,7 +116,6 @@ module _ {M : Type 0} (role : ℕ) where
       step true l a c e = e ∙ ap (λ b. a || (b && c)) (sym (one_more k (length xs)))
       step false l a c e = sym (and_false (eqb (suc k) (suc (length xs) + 1)))
 
-  -- this many in some row, with one turn more
   some_struck-push : (k : ℕ) (ts : List (Turn M)) (t : Turn M) → 1 ≤ k → some_struck k role (ts ++ t ∷ []) ≡ (some_struck k role ts || nat_le k (in_a_row role (ts ++ t ∷ [])))
   some_struck-push zero ts t le = absurd (omega arith)
   some_struck-push (suc k) [] t le = step k (is_struck role t)
@@ -163,7 +157,6 @@ module _ {M : Type 0} (role : ℕ) where
           last b' (eqb (suc k) (suc (length xs) + 1)) s' (nat_le (suc k) (length xs + 1)) (nat_le (suc k) (suc (length (xs ++ t ∷ [])))) (begins ∙ and_true (eqb (suc k) (suc (length xs) + 1)))
           (later ∙ ap (nat_le (suc k)) (whole is)) (numbers (eqb (suc k) (suc (length xs) + 1)) refl ∙ ap (nat_le (suc k)) (sym wide))
 
-  -- one more turn retires the role if its row is long enough
   retired_by-push : (k : ℕ) (ts : List (Turn M)) (t : Turn M) → retired_by k (ts ++ t ∷ []) role ≡ (if retired_by k ts role then true else is_enough k (in_a_row role (ts ++ t ∷ [])))
   unfolding retired_by
   retired_by-push zero ts t = refl
@@ -204,7 +197,6 @@ strikes-none {M} roles k = record {
       get-replicate roles unstruck d r lt ∙ ap f none;
 }
 
--- one turn more
 pub strikes-push : {M : Type 0} (roles k : ℕ) (ts : List (Turn M)) (t : Turn M) (kept after : List RoleStrikes) → AreStrikes roles k ts kept → length after ≡ length kept
     → ((r : ℕ) (d : RoleStrikes) → r < length kept → slice_index_or after r d ≡ after_turn k (slice_index_or kept r unstruck) (is_error (slice_index_or t.errors r []))) → AreStrikes roles k (ts ++ t ∷ []) after
 strikes-push roles k ts t kept after are wide each = record {
@@ -212,7 +204,7 @@ strikes-push roles k ts t kept after are wide each = record {
   each = λ r d lt. each r d (omega (arith, are.one_each)) ∙ (ap (λ old. after_turn k old (is_struck r t)) (are.each r unstruck lt) ∙ sym (role_strikes-push r k ts t));
 }
 
--- the same for the lists of a slice, as it is called
+-- the same for the values in memory
 pub strikes-pushed : {M : Type 0} (roles k : ℕ) (ts : List (Turn M)) (t : Turn M) (kept after kept' : List RoleStrikes) (errors : List (List ℕ)) → AreStrikes roles k ts kept → kept' ≡ kept → errors ≡ t.errors → length after ≡ length kept'
     → ((r : ℕ) (d : RoleStrikes) → r < length kept' → slice_index_or after r d ≡ after_turn k (slice_index_or kept' r unstruck) (is_error (slice_index_or errors r []))) → AreStrikes roles k (ts ++ t ∷ []) after
 strikes-pushed roles k ts t kept after kept' errors are same same_errors wide each =
@@ -236,13 +228,8 @@ strikes-retired roles k ts kept are r d lt = ap (λ (x : RoleStrikes). x.is_reti
 pub strikes-count : {M : Type 0} (roles k : ℕ) (ts : List (Turn M)) (kept : List RoleStrikes) → AreStrikes roles k ts kept → count_roles (length kept) (is_retired_in kept) ≡ count_roles roles (retired_by k ts)
 strikes-count roles k ts kept are = ap (λ n. count_roles n (is_retired_in kept)) are.one_each ∙ count_roles-same roles (retired_by k ts) (is_retired_in kept) (λ r lt. strikes-retired roles k ts kept are r unstruck lt)
 
--- all roles are retired if as many are as there are
 pub all_retired-count : {M : Type 0} (roles k : ℕ) (ts : List (Turn M)) (count : ℕ) → count ≡ count_roles roles (retired_by k ts) → every_role roles (retired_by k ts) ≡ (count == roles)
 all_retired-count roles k ts count is = every_role-count roles (retired_by k ts) ∙ ap (λ n. n == roles) (sym is)
-
--- before the first turn, not all roles are retired
-pub all_retired-none : (M : Type 0) (roles k : ℕ) → 1 ≤ roles → every_role roles (retired_by {M = M} k []) ≡ false
-all_retired-none M roles k some = every_role-but roles 0 (retired_by {M = M} k []) (omega arith) (retired_by-none M k 0)
 
 pub all_retired-never : {M : Type 0} (roles : ℕ) (ts : List (Turn M)) → 1 ≤ roles → every_role roles (retired_by 0 ts) ≡ false
 all_retired-never roles ts some = every_role-but roles 0 (retired_by 0 ts) (omega arith) (retired_by-never ts 0)

@@ -1,4 +1,4 @@
--- Open answers become a turn.
+-- How open answers become a turn.
 use Rattle.std.proofs.Common.{◌≡◌, ℕ, zero, suc, ◌<◌, Bool, true, false, Option, Some, None, List, [], ◌∷◌, ◌++◌, length, slice_index_or, refl, arith, ap, ◌∙◌}
 use Rattle.std.proofs.lemmas.List.{map-append, get_or_default}
 use Rattle.std.specs.Prelude.{is_some, map, option_to_list, slice_get, if◌then◌else◌}
@@ -19,7 +19,6 @@ present-one : {A : Type 0} (o : Option A) → present (o ∷ []) ≡ option_to_l
 present-one None = refl
 present-one (Some x) = refl
 
--- one more of the parts
 pub map_present-push : {A B : Type 0} (f : A → B) (xs : List (Option A)) (x : Option A) → map f (present (xs ++ x ∷ [])) ≡ map f (present xs) ++ map f (option_to_list x)
 map_present-push f xs x = ap (map f) (present-append xs (x ∷ []) ∙ ap (λ l. present xs ++ l) (present-one x)) ∙ map-append f (present xs) (option_to_list x)
 
@@ -34,7 +33,7 @@ present-at f (None ∷ xs) q d x all lt is = let w : false ≡ true = all 0 (ome
 present-at f (Some y ∷ xs) zero d x all lt is = let w : y ≡ x = cc in ap f w
 present-at f (Some y ∷ xs) (suc q) d x all lt is = present-at f xs q d x (λ k less. all (suc k) (omega arith)) (omega arith) is
 
--- the value in a role's place, once the open answers have become a turn
+-- the value at a role's index in the turn
 pub present-get : {A B : Type 0} (f : A → B) (xs : List (Option A)) (q : ℕ) (x : A) → ((k : ℕ) → k < length xs → is_there xs k ≡ true) → q < length xs → at_role xs q ≡ Some x → slice_get (map f (present xs)) q ≡ Some (f x)
 present-get f [] q x all lt is = absurd (omega arith)
 present-get f (None ∷ xs) q x all lt is = let w : false ≡ true = all 0 (omega arith) in absurd cc
@@ -50,7 +49,6 @@ at_role-read [] k d lt = absurd (omega arith)
 at_role-read (x ∷ xs) zero d lt = refl
 at_role-read (x ∷ xs) (suc k) d lt = at_role-read xs k d (omega arith)
 
--- a role's strikes give its part
 pub kept_part-is : {M : Type 0} (answers : List (Option (Judgement M))) (strikes : List RoleStrikes) (legal : List (List M)) (r : ℕ) (answer : Option (Judgement M)) (retired : Bool) (moves : List M)
     → r < length legal → r < length answers → answer ≡ slice_index_or answers r answer → retired ≡ is_retired_in strikes r → moves ≡ slice_index_or legal r moves
     → (if retired then substitute moves Retired else answer) ≡ kept_part answers strikes legal r

@@ -1,18 +1,17 @@
--- How an answer's text is read.
+-- How a match reads the text of an answer.
 use Rattle.std.specs.Prelude.{ℕ, ◌*◌, nat_le, if◌then◌else◌, List, length, Option, None, option_map}
 use Rattle.game_core.specs.Expression.{folded}
 use Rattle.game_core.specs.Canonical.{canonical}
 use Rattle.kif_text.specs.Reading.{reading}
 
--- the limit of bytes in an answer that is read, white space and comments included
+-- the largest number of bytes of an answer that is read, including white space and comments
 abbrev pub max_answer : ℕ
 max_answer = 4096
 
--- the limit of bytes in what is read of an answer: printing at most doubles what is read
+-- the largest number of bytes of a reading: printing at most doubles the answer
 abbrev pub max_reading : ℕ
 max_reading = 2 * max_answer
 
--- the folded canonical text of the one expression that the answer spells: none if it is too long or does not spell
--- exactly one
+-- the folded canonical text of the one expression that the answer spells; None if the answer is too long or does not spell exactly one
 unfoldable pub answer_reading : List ℕ → Option (List ℕ)
 answer_reading text = if nat_le (length text) max_answer then option_map (λ x. canonical (folded x)) (reading text) else None

@@ -13,7 +13,6 @@ use Rattle.desk_calls.specs.declared.due.Due.TheVariants.{Owe, Hold, Over}
 use Rattle.match_book.specs.declared.due.OwedFault.{OwedFault}
 use Rattle.match_book.specs.declared.due.OwedFault.TheVariants.{NoRole, Memory}
 
--- the texts of the last turn's moves: none before the first turn
 abbrev pub last_move_texts : {S M : Type 0} → Rules S M → List (Turn M) → Option (List (List ℕ))
 last_move_texts g turns = option_map (λ t. map g.move_text t.moves) (slice_get turns (length turns - 1))
 
@@ -23,11 +22,11 @@ owed_in Playing texts = Play texts
 owed_in Stopping texts = Stop texts
 owed_in (Aborting c) texts = Abort
 
--- what is due to the role
+-- what the match owes to the role now
 abbrev pub due : {S M : Type 0} → Rules S M → MatchValue M → ℕ → Due
 due g m r = if is_over g m then Over else (if has_answered g m r then Hold (round g m) else Owe (round g m) (owed_in (stage g m) (last_move_texts g m.turns)))
 
--- the message carries the texts of a joint move
+-- the message has the texts of a joint move
 abbrev pub CarriesMoves : Owed → Type 0
 CarriesMoves Start = ⊥
 CarriesMoves (Play texts) = IsSome texts
@@ -39,7 +38,7 @@ OwesMoves (Owe round owed) = CarriesMoves owed
 OwesMoves (Hold round) = ⊥
 OwesMoves Over = ⊥
 
--- What is due, if there is such a role. Only the texts of a joint move need memory.
+-- What the match owes to the role, if there is such a role. Only the texts of a joint move need memory.
 abbrev pub IsDueAnswer : {S M : Type 0} → Rules S M → MatchValue M → ℕ → Result Due OwedFault → Type 0
 IsDueAnswer g m r (Ok d) = (r < g.roles) × (d ≡ due g m r)
 IsDueAnswer g m r (Err NoRole) = ¬ (r < g.roles)

@@ -9,8 +9,8 @@ use Rattle.match_book.specs.Phase.{stage, has_answered, still_answers, is_playin
 use Rattle.match_book.specs.declared.judgement.Judgement.{Judgement}
 use Rattle.match_book.specs.declared.turn.Turn.{Turn}
 
--- A turn that may follow the turns before it: the game goes on, not all roles are retired, and each role's move is legal and has an
--- error that may stand beside it.
+-- A turn that may follow the turns before it: the state is not terminal, some role is not retired, and each role's move is legal and
+-- has an error that it can have.
 pub record IsLawfulTurn {S M : Type 0} (g : Rules S M) (strikes : ℕ) (before : List (Turn M)) (t : Turn M) : Type 0 where
   pub goes_on : g.terminal (state_after g before) ≡ false
   pub some_answer : every_role g.roles (retired_by strikes before) ≡ false
@@ -18,27 +18,27 @@ pub record IsLawfulTurn {S M : Type 0} (g : Rules S M) (strikes : ℕ) (before :
   pub one_error : length t.errors ≡ g.roles
   pub judged : (r : ℕ) (d : M) → r < g.roles → IsPart g (retired_by strikes before r) (g.legal (state_after g before) r) (slice_index_or t.moves r d) (slice_index_or t.errors r [])
 
--- each turn may follow the turns before it, given the number of substitutions in a row that retire a role
+-- each turn may follow the turns before it, if this many substitutions in a row retire a role
 abbrev pub AreLawful : {S M : Type 0} → Rules S M → ℕ → List (Turn M) → Type 0
 AreLawful {S} {M} g strikes turns = (k : ℕ) (d : Turn M) → k < length turns → IsLawfulTurn g strikes (take k turns) (slice_index_or turns k d)
 
--- what holds of a match after any answers and aborts
+-- what holds for a match after any answers and aborts
 pub record IsLawfulMatch {S M : Type 0} (g : Rules S M) (m : MatchValue M) : Type 0 where
-  -- one player, and one place in each list, for each role
+  -- each role has one player, and one index in each list
   pub one_player : length m.setup.players ≡ g.roles
   pub one_start_mark : length m.start_marks ≡ g.roles
   pub one_open_answer : length m.open_answers ≡ g.roles
   pub one_end_mark : length m.end_marks ≡ g.roles
-  -- lawful turns, and none before all START marks are there
+  -- the turns are lawful, and there are none until all START marks are present
   pub turns : AreLawful g m.setup.strikes m.turns
   pub few_turns : length m.turns ≤ max_turns
   pub turns_after_start : every_role g.roles (is_there m.start_marks) ≡ false → m.turns ≡ []
-  -- open answers stand only in play, and are of roles that still answer, but not of all of these; each is a judgement in the
-  -- present state
+  -- open answers exist only in play; they are answers of roles that are not retired, but not of all of these; each is a judgement in
+  -- the present state
   pub judged : (r : ℕ) (j : Judgement M) → r < g.roles → at_role m.open_answers r ≡ Some j → (still_answers m r ≡ true) × IsJudged g (g.legal (state_after g m.turns) r) j.taken j.error
   pub answers_in_play : is_playing (stage g m) ≡ false → m.open_answers ≡ blank g.roles
   pub round_is_open : is_playing (stage g m) ≡ true → every_role g.roles (has_answered g m) ≡ false
-  -- end marks only where the match stops or aborts
+  -- end marks exist only if the match is stopping or aborting
   pub ends_at_end : is_live (stage g m) ≡ true → m.end_marks ≡ blank g.roles
-  -- an abort was asked only of a match that was starting or playing
+  -- an abort was asked only while the match was starting or playing
   pub asked_when_live : m.abort_asked ≡ true → is_live (stage g (record m { abort_asked = false })) ≡ true

@@ -24,39 +24,35 @@ use Rattle.match_book.specs.declared.retirement.RoleStrikes.{RoleStrikes}
 use Rattle.match_book.specs.declared.turn.Turn.{Turn}
 use Rattle.match_book.specs.declared.phase.Stage.TheVariants.{Starting, Playing, Stopping}
 
--- a match with nothing in it is lawful
 abbrev pub NewMatchIsLawful : {S M : Type 0} → Rules S M → Type 0
 NewMatchIsLawful {S} {M} g = (setup : Setup) → length setup.players ≡ g.roles → IsLawfulMatch g (new_match {M = M} g setup)
 
--- a lawful match stays lawful after any answer of any role
 abbrev pub AnswersKeepLawful : {S M : Type 0} → Rules S M → Type 0
 AnswersKeepLawful {S} {M} g = (m : MatchValue M) (role round : ℕ) (answer : Answer) → IsLawfulMatch g m → IsLawfulMatch g (after_answer g m role round answer)
 
 abbrev pub AbortKeepsLawful : {S M : Type 0} → Rules S M → Type 0
 AbortKeepsLawful {S} {M} g = (m : MatchValue M) → IsLawfulMatch g m → IsLawfulMatch g (after_abort g m)
 
--- the recorded joint moves of a lawful match are legal turns of the game
 abbrev pub RecordedMovesAreLegal : {S M : Type 0} → Rules S M → Type 0
 RecordedMovesAreLegal {S} {M} g = (m : MatchValue M) → IsLawfulMatch g m → AreLegal g (joint_moves m.turns)
 
--- the answer says this move
+-- the reading of the answer is the text of this move
 abbrev pub Names : {S M : Type 0} → Rules S M → Answer → M → Type 0
 Names g (Text t) m = answer_reading t ≡ Some (g.move_text m)
 Names g Silent m = ⊥
 Names g Broken m = ⊥
 
--- a judgement has an empty error if and only if the answer names the move that is taken
 abbrev pub NoErrorMeansNamed : {S M : Type 0} → Rules S M → Type 0
 NoErrorMeansNamed {S} {M} g = (s : S) (role : ℕ) (answer : Answer) (j : Judgement M) → judgement g s role answer ≡ Some j → (j.error ≡ []) ↔ Names g answer j.taken
 
--- The role's part of the turn that the open answers make is a judgement, whose move and error stand in the role's place.
+-- The role's part of the turn made of the open answers is a judgement; its move and its error are at the role's index.
 pub record HasPart {S M : Type 0} (g : Rules S M) (m : MatchValue M) (r : ℕ) : Type 0 where
   pub judged : Judgement M
   pub is_part : part g m r ≡ Some judged
   pub move : slice_get (turn_of (parts g m)).moves r ≡ Some judged.taken
   pub error : slice_get (turn_of (parts g m)).errors r ≡ Some judged.error
 
--- What an answer that is taken in play does, by the role's judgement: it stays open, or is recorded with the others.
+-- What an answer that is taken in play does, given the role's judgement: it stays open, or is recorded with the others.
 pub record IsPlayed {S M : Type 0} (g : Rules S M) (m n : MatchValue M) (role : ℕ) (answer : Answer) : Type 0 where
   pub judged : Judgement M
   pub is_judgement : judgement g (state_after g m.turns) role answer ≡ Some judged
@@ -67,29 +63,28 @@ pub record IsPlayed {S M : Type 0} (g : Rules S M) (m n : MatchValue M) (role : 
 abbrev pub AnswersInPlay : {S M : Type 0} → Rules S M → Type 0
 AnswersInPlay {S} {M} g = (m : MatchValue M) (role round : ℕ) (answer : Answer) → IsLawfulMatch g m → stage g m ≡ Playing → refusal g m role round ≡ None → IsPlayed g m (after_answer g m role round answer) role answer
 
--- outside of play, no answer changes the turns or the open answers
 abbrev pub AnswersOutOfPlay : {S M : Type 0} → Rules S M → Type 0
 AnswersOutOfPlay {S} {M} g = (m : MatchValue M) (role round : ℕ) (answer : Answer) → stage g m ≢ Playing
     → ((after_answer g m role round answer).turns ≡ m.turns) × ((after_answer g m role round answer).open_answers ≡ m.open_answers)
 
--- an answer is taken only for the present round, and only from a role of the game
+-- a match takes an answer only for the present round and from a role of the game
 abbrev pub TakenForTheRound : {S M : Type 0} → Rules S M → Type 0
 TakenForTheRound {S} {M} g = (m : MatchValue M) (role n : ℕ) → refusal g m role n ≡ None → (role < g.roles) × (n ≡ round g m)
 
--- nothing refuses the answer that a role owes
+-- a match does not refuse an answer that a role owes
 abbrev pub OwedAnswersAreTaken : {S M : Type 0} → Rules S M → Type 0
 OwedAnswersAreTaken {S} {M} g = (m : MatchValue M) (role n : ℕ) (owed : Owed) → role < g.roles → due g m role ≡ Owe n owed → refusal g m role n ≡ None
 
--- no role has answered a message of a match with nothing in it
+-- no role has answered a message of a new match
 abbrev pub NoneIsAnswered : {S M : Type 0} → Rules S M → Type 0
 NoneIsAnswered {S} {M} g = (setup : Setup) (role : ℕ) → role < g.roles → answered_messages g (new_match {M = M} g setup) role ≡ []
 
--- a role's answer to what it owes adds this to the messages that it has answered
+-- when a role answers what it owes, the messages that it has answered gain exactly this one
 abbrev pub OwedIsAnswered : {S M : Type 0} → Rules S M → Type 0
 OwedIsAnswered {S} {M} g = (m : MatchValue M) (role n : ℕ) (owed : Owed) (answer : Answer) → IsLawfulMatch g m → role < g.roles → due g m role ≡ Owe n owed
     → answered_messages g (after_answer g m role n answer) role ≡ answered_messages g m role ++ owed ∷ []
 
--- the answers of others change neither the messages that a role has answered nor what it owes
+-- answers of others change neither the messages that a role has answered nor what it owes
 pub record IsUntouched {S M : Type 0} (g : Rules S M) (m after : MatchValue M) (role : ℕ) : Type 0 where
   pub answered : answered_messages g after role ≡ answered_messages g m role
   pub owed : (n : ℕ) (owed : Owed) → due g m role ≡ Owe n owed → due g after role ≡ Owe n owed
@@ -105,15 +100,12 @@ pub record IsAllAnswered {S M : Type 0} (g : Rules S M) (m : MatchValue M) : Typ
 abbrev pub AllAreAnswered : {S M : Type 0} → Rules S M → Type 0
 AllAreAnswered {S} {M} g = (m : MatchValue M) → is_over g m ≡ true → IsAllAnswered g m
 
--- lawful turns lead to a state of the game
 abbrev pub TurnsLeadToStates : {S M : Type 0} → Rules S M → Type 0
 TurnsLeadToStates {S} {M} g = (strikes : ℕ) (turns : List (Turn M)) → AreLawful g strikes turns → g.IsState (state_after g turns)
 
--- each move of lawful turns is of the game
 abbrev pub TurnsHaveMoves : {S M : Type 0} → Rules S M → Type 0
 TurnsHaveMoves {S} {M} g = (strikes : ℕ) (turns : List (Turn M)) → AreLawful g strikes turns → All (λ t. All (λ m. g.IsMove m) t.moves) turns
 
--- lawful turns and one that may follow them are lawful, and lead to the next state
 abbrev pub OneMoreTurn : {S M : Type 0} → Rules S M → Type 0
 OneMoreTurn {S} {M} g = (strikes : ℕ) (turns : List (Turn M)) (t : Turn M) → AreLawful g strikes turns → IsLawfulTurn g strikes turns t
     → AreLawful g strikes (turns ++ t ∷ []) × (state_after g (turns ++ t ∷ []) ≡ g.next (state_after g turns) t.moves)
@@ -122,22 +114,22 @@ OneMoreTurn {S} {M} g = (strikes : ℕ) (turns : List (Turn M)) (t : Turn M) →
 abbrev pub StrikesBegin : Type 0 → Type 0
 StrikesBegin M = (roles strikes : ℕ) → AreStrikes {M = M} roles strikes [] (replicate roles unstruck)
 
--- each role's strikes after one more turn follow from those before it, and from the turn's errors
+-- each role's strikes after one more turn follow from those before it and from the errors of the turn
 abbrev pub StrikesOfOneMore : Type 0 → Type 0
 StrikesOfOneMore M = (roles strikes : ℕ) (turns : List (Turn M)) (t : Turn M) (kept after : List RoleStrikes) → AreStrikes roles strikes turns kept → length after ≡ length kept
     → ((r : ℕ) (d : RoleStrikes) → r < length kept → slice_index_or after r d ≡ after_turn strikes (slice_index_or kept r unstruck) (is_error (slice_index_or t.errors r [])))
     → AreStrikes roles strikes (turns ++ t ∷ []) after
 
--- no more turns than a match has give no more strikes in a row
+-- no role has more strikes in a row than there are turns
 abbrev pub FewStrikes : Type 0 → Type 0
 FewStrikes M = (roles strikes : ℕ) (turns : List (Turn M)) (kept : List RoleStrikes) → AreStrikes roles strikes turns kept → length turns ≤ max_turns → All (λ s. s.in_a_row ≤ max_turns) kept
 
--- a match starts if and only if no abort was asked and a START mark is missing
+-- a match is starting if and only if no abort was asked and some START mark is missing
 abbrev pub StartingMeans : {S M : Type 0} → Rules S M → Type 0
 StartingMeans {S} {M} g = (m : MatchValue M) → (stage g m ≡ Starting) ↔ ((m.abort_asked ≡ false) × (every_role g.roles (is_there m.start_marks) ≡ false))
 
--- No abort was asked and no START mark is missing. The state is not terminal, there are fewer turns than the limit, each role has a
--- legal move, and not all roles are retired.
+-- No abort was asked, all START marks are present, the state is not terminal, there are fewer turns than the limit, each role has a
+-- legal move, and some role is not retired.
 pub record IsInPlay {S M : Type 0} (g : Rules S M) (m : MatchValue M) : Type 0 where
   pub not_asked : m.abort_asked ≡ false
   pub started : every_role g.roles (is_there m.start_marks) ≡ true
@@ -149,7 +141,7 @@ pub record IsInPlay {S M : Type 0} (g : Rules S M) (m : MatchValue M) : Type 0 w
 abbrev pub PlayingMeans : {S M : Type 0} → Rules S M → Type 0
 PlayingMeans {S} {M} g = (m : MatchValue M) → (stage g m ≡ Playing) ↔ IsInPlay g m
 
--- No abort was asked and no START mark is missing. The state is terminal, and each role has a goal.
+-- No abort was asked, all START marks are present, the state is terminal, and each role has a goal.
 pub record HasStopped {S M : Type 0} (g : Rules S M) (m : MatchValue M) : Type 0 where
   pub not_asked : m.abort_asked ≡ false
   pub started : every_role g.roles (is_there m.start_marks) ≡ true
@@ -159,15 +151,13 @@ pub record HasStopped {S M : Type 0} (g : Rules S M) (m : MatchValue M) : Type 0
 abbrev pub StoppingMeans : {S M : Type 0} → Rules S M → Type 0
 StoppingMeans {S} {M} g = (m : MatchValue M) → (stage g m ≡ Stopping) ↔ HasStopped g m
 
--- in a round of play that has just begun, some role has not answered
 abbrev pub BegunRoundsAreOpen : {S M : Type 0} → Rules S M → Type 0
 BegunRoundsAreOpen {S} {M} g = (m : MatchValue M) → is_playing (stage g m) ≡ true → m.open_answers ≡ blank g.roles → every_role g.roles (has_answered g m) ≡ false
 
--- A lawful match is over once every role has answered in as many rounds as there may be turns, and in two more: for START, and for STOP
--- or ABORT. An answer that is refused counts as one that is given.
+-- A lawful match is over once every role has answered in as many rounds as there can be turns, and in two more: for START, and for
+-- STOP or ABORT. Refused answers count too.
 abbrev pub RoundsEnd : {S M : Type 0} → Rules S M → Type 0
 RoundsEnd {S} {M} g = (m after : MatchValue M) (rounds : ℕ) → IsLawfulMatch g m → AreRounds g m rounds after → max_turns + 2 ≤ rounds → is_over g after ≡ true
 
--- what is read of an answer is a folded text within the limit
 abbrev pub ReadingsAreFolded : Type 0
 ReadingsAreFolded = (text x : List ℕ) → answer_reading text ≡ Some x → IsFoldedText x × (length x ≤ max_reading)

@@ -13,17 +13,16 @@ use Rattle.desk_calls.specs.declared.phase.Phase.{Phase}
 use Rattle.desk_calls.specs.declared.phase.Phase.TheVariants.{Starting as InStarting, Playing as InPlaying, Stopping as InStopping, Finished, Aborting as InAborting, Aborted}
 use Rattle.desk_calls.specs.declared.phase.Status.{Status}
 
--- the limit of turns in a match
+-- the largest number of turns of a match
 abbrev pub max_turns : ℕ
 max_turns = 10000
 
--- the stage in a terminal state, by the lowest role without a goal
+-- the stage in a terminal state, given the lowest role without a goal
 abbrev pub after_the_end : Option ℕ → Stage
 after_the_end None = Stopping
 after_the_end (Some r) = Aborting (NoGoal r)
 
--- the stage in any other state, by the lowest role without a legal move, and whether all roles are
--- retired
+-- the stage in any other state, given the lowest role without a legal move and whether all roles are retired
 abbrev pub before_the_end : Option ℕ → Bool → Stage
 before_the_end None all_retired = if all_retired then Aborting AllRetired else Playing
 before_the_end (Some r) all_retired = Aborting (NoLegal r)
@@ -34,16 +33,16 @@ has_no_goal g s r = is_none (g.goal s r)
 abbrev pub has_no_move : {S M : Type 0} → Rules S M → S → ℕ → Bool
 has_no_move g s r = length (g.legal s r) == 0
 
--- the settling rule, in the state s after t turns, which have retired all roles or not
+-- the settling rule in the state s after t turns, given whether these have retired all roles
 unfoldable pub settled : {S M : Type 0} → Rules S M → ℕ → Bool → S → Stage
 settled g t all_retired s = if g.terminal s then after_the_end (lowest_role g.roles (has_no_goal g s))
     else (if nat_le max_turns t then Aborting TooLong else before_the_end (lowest_role g.roles (has_no_move g s)) all_retired)
 
--- what a match is doing: an asked abort comes first, then missing START marks, then the settling rule
+-- what a match does: an abort that was asked comes first, then missing START marks, then the settling rule
 unfoldable pub stage : {S M : Type 0} → Rules S M → MatchValue M → Stage
 stage g m = if m.abort_asked then Aborting Asked else (if every_role g.roles (is_there m.start_marks) then settled g (length m.turns) (are_all_retired g.roles m) (state_after g m.turns) else Starting)
 
--- the role still has to answer in play
+-- the role is not retired, so it must answer in play
 abbrev pub still_answers : {M : Type 0} → MatchValue M → ℕ → Bool
 still_answers m r = not (is_retired m r)
 
@@ -54,7 +53,6 @@ answered_in Playing m r = if still_answers m r then is_there m.open_answers r el
 answered_in Stopping m r = is_there m.end_marks r
 answered_in (Aborting c) m r = is_there m.end_marks r
 
--- the role has answered this round
 abbrev pub has_answered : {S M : Type 0} → Rules S M → MatchValue M → ℕ → Bool
 has_answered g m r = answered_in (stage g m) m r
 
@@ -64,11 +62,10 @@ phase_in Playing all_ended = InPlaying
 phase_in Stopping all_ended = if all_ended then Finished else InStopping
 phase_in (Aborting c) all_ended = if all_ended then Aborted else InAborting
 
--- a match has stopped or is aborted once all end marks are there
+-- a match is finished or aborted once all end marks are present
 abbrev pub phase : {S M : Type 0} → Rules S M → MatchValue M → Phase
 phase g m = phase_in (stage g m) (every_role g.roles (is_there m.end_marks))
 
--- the match is over
 abbrev pub is_over : {S M : Type 0} → Rules S M → MatchValue M → Bool
 is_over g m = is_last (phase g m)
 
@@ -85,7 +82,7 @@ is_live Playing = true
 is_live Stopping = false
 is_live (Aborting c) = false
 
--- an asked abort skips the round that was open
+-- an abort that was asked ends the open round
 abbrev pub aborting_round : Cause → Bool → ℕ → ℕ
 aborting_round Asked all_started t = if all_started then t + 2 else 1
 aborting_round (NoLegal r) all_started t = t + 1
@@ -93,7 +90,7 @@ aborting_round (NoGoal r) all_started t = t + 1
 aborting_round TooLong all_started t = t + 1
 aborting_round AllRetired all_started t = t + 1
 
--- the round of an asked abort, by whether all START marks are there, and the number of turns
+-- the round, given the stage, whether all START marks are present, and the number of turns
 abbrev pub round_in : Stage → Bool → ℕ → ℕ
 round_in Starting all_started t = 0
 round_in Playing all_started t = t + 1
@@ -112,7 +109,7 @@ cause_in (Aborting c) = Some c
 abbrev pub cause : {S M : Type 0} → Rules S M → MatchValue M → Option Cause
 cause g m = cause_in (stage g m)
 
--- goals are given once the match stops
+-- roles have goals once the match has stopped
 abbrev pub goal_in : {S M : Type 0} → Stage → Rules S M → S → ℕ → Option ℕ
 goal_in Starting g s r = None
 goal_in Playing g s r = None

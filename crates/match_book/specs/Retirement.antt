@@ -1,4 +1,4 @@
--- Which roles are retired, because their moves were substituted too often in a row.
+-- Which roles are retired because too many of their moves in a row were substituted.
 use Rattle.std.specs.Prelude.{ℕ, zero, suc, ◌==◌, Bool, true, false, if◌then◌else◌, List, [], ◌∷◌, slice_index_or}
 use Rattle.match_book.specs.MatchValue.{MatchValue, is_error}
 use Rattle.match_book.specs.Roles.{every_role}
@@ -8,7 +8,7 @@ use Rattle.match_book.specs.declared.turn.Turn.{Turn}
 abbrev pub is_struck : {M : Type 0} → ℕ → Turn M → Bool
 is_struck role t = is_error (slice_index_or t.errors role [])
 
--- there are at least k of these turns, and the role's moves are substituted in the first k
+-- there are at least k turns, and the role's moves in the first k are substituted
 abbrev pub begin_struck : {M : Type 0} → ℕ → ℕ → List (Turn M) → Bool
 begin_struck zero role turns = true
 begin_struck (suc k) role [] = false
@@ -19,15 +19,13 @@ abbrev pub some_struck : {M : Type 0} → ℕ → ℕ → List (Turn M) → Bool
 some_struck k role [] = false
 some_struck k role (t ∷ ts) = if begin_struck k role (t ∷ ts) then true else some_struck k role ts
 
--- these turns retire the role, given the number of substitutions in a row that does so: 0 means
--- never
+-- these turns retire the role, if this many substitutions in a row do; 0 means never
 unfoldable pub retired_by : {M : Type 0} → ℕ → List (Turn M) → ℕ → Bool
 retired_by strikes turns role = if strikes == 0 then false else some_struck strikes role turns
 
--- the role is no longer asked for moves
+-- the match no longer asks the role for moves
 abbrev pub is_retired : {M : Type 0} → MatchValue M → ℕ → Bool
 is_retired m role = retired_by m.setup.strikes m.turns role
 
--- all of this many roles are retired
 abbrev pub are_all_retired : {M : Type 0} → ℕ → MatchValue M → Bool
 are_all_retired roles m = every_role roles (is_retired m)

@@ -1,4 +1,4 @@
--- The messages of a role, from START to the end of its match.
+-- The messages to a role, from START to the end of its match.
 use Rattle.std.specs.Prelude.{ℕ, zero, suc, Bool, if◌then◌else◌, List, [], ◌∷◌, ◌++◌, length, take}
 use Rattle.game_core.specs.Play.{Rules}
 use Rattle.match_book.specs.Roles.{is_there}
@@ -12,7 +12,7 @@ use Rattle.match_book.specs.declared.phase.Stage.TheVariants.{Starting, Playing,
 use Rattle.desk_calls.specs.declared.due.Owed.{Owed}
 use Rattle.desk_calls.specs.declared.due.Owed.TheVariants.{Start, Play}
 
--- the PLAY after these turns, with the last joint move: none if they retire the role
+-- the PLAY after these turns, with the last joint move; none if they retire the role
 abbrev pub play_after : {S M : Type 0} → Rules S M → ℕ → ℕ → List (Turn M) → List Owed
 play_after g strikes role turns = if retired_by strikes turns role then [] else Play (last_move_texts g turns) ∷ []
 
@@ -25,18 +25,17 @@ plays_before g strikes role turns (suc n) = plays_before g strikes role turns n 
 abbrev pub role_plays : {S M : Type 0} → Rules S M → MatchValue M → ℕ → List Owed
 role_plays g m role = plays_before g m.setup.strikes role m.turns (length m.turns)
 
--- The messages of a role in a match that is over, unless its abort was asked: START, PLAY before each turn, and then STOP or ABORT.
+-- The messages to a role in a match that is over and whose abort was not asked: START, PLAY before each turn, and STOP or ABORT.
 abbrev pub role_messages : {S M : Type 0} → Rules S M → MatchValue M → ℕ → List Owed
 role_messages g m role = Start ∷ (role_plays g m role ++ owed_in (stage g m) (last_move_texts g m.turns) ∷ [])
 
--- the role's answer for the present round is there: a retired role gives none in play
+-- the match has the role's answer for the present round; a retired role gives none in play
 abbrev pub is_answer_there : {M : Type 0} → Stage → MatchValue M → ℕ → Bool
 is_answer_there Starting m role = is_there m.start_marks role
 is_answer_there Playing m role = is_there m.open_answers role
 is_answer_there Stopping m role = is_there m.end_marks role
 is_answer_there (Aborting c) m role = is_there m.end_marks role
 
--- the messages of the rounds before the present one
 abbrev pub earlier_messages : Stage → List Owed → List Owed
 earlier_messages Starting plays = []
 earlier_messages Playing plays = Start ∷ plays
@@ -47,6 +46,6 @@ earlier_messages (Aborting c) plays = Start ∷ plays
 abbrev pub messages_in : {S M : Type 0} → Stage → Rules S M → MatchValue M → ℕ → List Owed
 messages_in at g m role = earlier_messages at (role_plays g m role) ++ (if is_answer_there at m role then owed_in at (last_move_texts g m.turns) ∷ [] else [])
 
--- the messages that the role has answered so far, unless an abort was asked
+-- the messages that the role has answered so far, if no abort was asked
 abbrev pub answered_messages : {S M : Type 0} → Rules S M → MatchValue M → ℕ → List Owed
 answered_messages g m role = messages_in (stage g m) g m role

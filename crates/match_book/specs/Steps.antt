@@ -1,4 +1,4 @@
--- What an answer and an abort do to a match.
+-- How an answer and an abort change a match.
 use Rattle.std.specs.Prelude.{◌≡◌, ◌≢◌, ◌⊎◌, ◌<◌, ℕ, nat_lt, ◌==◌, true, false, if◌then◌else◌, List, [], ◌∷◌, ◌++◌, map, Option, Some, None, is_none, slice_set, Result, Ok, Err}
 use Rattle.game_core.specs.Play.{Rules}
 use Rattle.match_book.specs.Roles.{every_role, of_each_role, at_role, is_there, blank, present}
@@ -19,15 +19,15 @@ use Rattle.match_book.specs.declared.answer.AnswerFault.TheVariants.{NoRole as F
 use Rattle.match_book.specs.declared.phase.Stage.{Stage}
 use Rattle.match_book.specs.declared.phase.Stage.TheVariants.{Starting, Playing, Stopping, Aborting}
 
--- a match with nothing in it
+-- a match without any answer
 abbrev pub new_match : {S M : Type 0} → Rules S M → Setup → MatchValue M
 new_match g setup = record { setup = setup; start_marks = blank g.roles; turns = []; open_answers = blank g.roles; abort_asked = false; end_marks = blank g.roles }
 
--- why an answer of the role r for the round n is refused: none if it is taken
+-- why the match refuses an answer of the role r for the round n, or None if it takes it
 abbrev pub refusal : {S M : Type 0} → Rules S M → MatchValue M → ℕ → ℕ → Option AnswerRefusal
 refusal g m r n = if nat_lt r g.roles then (if is_over g m then Some Over else (if n == round g m then (if has_answered g m r then Some Twice else None) else Some (Stale (round g m)))) else Some NoRole
 
--- the turn that these judgements make, one for each role
+-- the turn made of these judgements, one for each role
 abbrev pub turn_of : {M : Type 0} → List (Option (Judgement M)) → Turn M
 turn_of parts = record { moves = map (λ j. j.taken) (present parts); errors = map (λ j. j.error) (present parts) }
 
@@ -38,7 +38,7 @@ part g m r = if still_answers m r then at_role m.open_answers r else substitute 
 abbrev pub parts : {S M : Type 0} → Rules S M → MatchValue M → List (Option (Judgement M))
 parts g m = of_each_role g.roles (part g m)
 
--- once all roles that are not retired have answered, the roles' parts make a turn
+-- once all roles that are not retired have answered, their parts make a turn
 abbrev pub recorded : {S M : Type 0} → Rules S M → MatchValue M → MatchValue M
 recorded g m = if every_role g.roles (answered_in Playing m) then record m { turns = m.turns ++ turn_of (parts g m) ∷ []; open_answers = blank g.roles } else m
 
@@ -57,39 +57,37 @@ with_answer_in Playing g m r a = with_open_answer g m r (judgement g (state_afte
 with_answer_in Stopping g m r a = with_end_mark m r (mark_of a)
 with_answer_in (Aborting c) g m r a = with_end_mark m r (mark_of a)
 
--- the match after an answer that is taken
+-- the match after an answer that it takes
 abbrev pub with_answer : {S M : Type 0} → Rules S M → MatchValue M → ℕ → Answer → MatchValue M
 with_answer g m r a = with_answer_in (stage g m) g m r a
 
--- the match after an answer of the role r for the round n: unchanged if the answer is refused
+-- the match after an answer of the role r for the round n; a refused answer changes nothing
 abbrev pub after_answer : {S M : Type 0} → Rules S M → MatchValue M → ℕ → ℕ → Answer → MatchValue M
 after_answer g m r n a = if is_none (refusal g m r n) then with_answer g m r a else m
 
--- the match after a request to abort it: the answers of the open turn are dropped
+-- the match after a request to abort it, which drops the open answers
 abbrev pub with_abort : {S M : Type 0} → Rules S M → MatchValue M → MatchValue M
 with_abort g m = record m { abort_asked = true; open_answers = blank g.roles }
 
--- the match after an abort: unchanged if the match is already stopping or aborting
+-- the match after an abort; unchanged if the match is stopping, aborting or over
 abbrev pub after_abort : {S M : Type 0} → Rules S M → MatchValue M → MatchValue M
 after_abort g m = if is_live (stage g m) then with_abort g m else m
 
--- The START mark of the role r is the last one that is missing.
+-- Only the START mark of the role r is missing.
 abbrev pub IsLastToStart : {S M : Type 0} → Rules S M → MatchValue M → ℕ → Type 0
 IsLastToStart g m r = (stage g m ≡ Starting) × ((k : ℕ) → k < g.roles → k ≢ r → is_there m.start_marks k ≡ true)
 
--- Taking an answer of the role r may need memory: in play, and for the last START mark.
+-- Taking an answer of the role r may need memory: in play, and if it is the last START mark.
 abbrev pub MayWantMemory : {S M : Type 0} → Rules S M → MatchValue M → ℕ → Type 0
 MayWantMemory g m r = (stage g m ≡ Playing) ⊎ IsLastToStart g m r
 
--- the fault of a refusal
 abbrev pub fault_of : AnswerRefusal → AnswerFault
 fault_of NoRole = FaultNoRole
 fault_of Over = FaultOver
 fault_of (Stale n) = FaultStale n
 fault_of Twice = FaultTwice
 
--- An answer is taken if nothing refuses it; otherwise the result is its refusal. Out of memory comes after these
--- tests.
+-- An answer is taken unless the match refuses it. Only then can the result be out of memory.
 abbrev pub IsTakenUnless : Option AnswerRefusal → Result (Unit {0}) AnswerFault → Type 0
 IsTakenUnless o (Ok u) = o ≡ None
 IsTakenUnless o (Err FaultNoRole) = o ≡ Some NoRole

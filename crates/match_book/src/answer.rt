@@ -1,4 +1,4 @@
-//! What is kept of a player's answer, and why it is refused.
+//! What a match stores of an answer outside of play, and why it refuses an answer.
 ghost use Rattle.std.specs.Prelude.{◌≡◌};
 ghost use Rattle.match_book.specs.declared.answer.AnswerFault.TheVariants.{Memory};
 ghost use Rattle.match_book.specs.Marks.{mark_of, mark_text};
@@ -10,38 +10,38 @@ use std::alloc::AllocError;
 use std::error::Error;
 use std::fmt;
 
-/// The part of an answer to START, STOP or ABORT that is kept, whatever its text says.
+/// What a match stores of an answer to START, STOP or ABORT. The text of the answer does not matter.
 #[derive(Clone, Copy)]
 pub enum Mark {
-    /// There was an answer.
+    /// The player answered.
     Clear,
     TimeOut,
     ConnectionError,
 }
 
-/// Why an answer is refused: the first of these that holds. A refused answer changes nothing.
+/// Why a match refuses an answer: the first of these that holds. A refused answer changes nothing.
 #[derive(Clone, Copy)]
 pub enum AnswerRefusal {
     /// The game has no such role.
     NoRole,
     /// The match is finished or aborted.
     Over,
-    /// The answer is not for the present round, which is this one.
+    /// The answer is not for the present round, which this is.
     Stale(u64),
-    /// The role has answered this round.
+    /// The role has already answered this round.
     Twice,
 }
 
-/// Why an answer is not taken: it is refused, or memory ran out. In both cases nothing changes.
+/// Why a match does not take an answer: it refuses the answer, or an allocation is refused. In both cases nothing changes.
 #[derive(Clone, Copy, Debug, PartialEq, Eq)]
 pub enum AnswerFault {
     /// The game has no such role.
     NoRole,
     /// The match is finished or aborted.
     Over,
-    /// The answer is not for the present round, which is this one.
+    /// The answer is not for the present round, which this is.
     Stale(u64),
-    /// The role has answered this round.
+    /// The role has already answered this round.
     Twice,
     /// Out of memory.
     Memory,
@@ -83,10 +83,10 @@ impl From<AllocError> for AnswerFault {
     }
 }
 
-/// Why an abort is refused.
+/// Why a match refuses an abort.
 #[derive(Clone, Copy, Debug, PartialEq, Eq)]
 pub enum AbortFault {
-    /// The match is stopping or aborting already, or is over.
+    /// The match is already stopping, aborting or over.
     Ended,
 }
 
@@ -101,7 +101,6 @@ impl fmt::Display for AbortFault {
 impl Error for AbortFault {}
 
 impl Mark {
-    /// The mark of an answer.
     pub(crate) fn of(answer: &LentAnswer<'_>) -> Mark
         ensures { result ≡ mark_of (answer_lent answer.now) }
     {
@@ -112,7 +111,7 @@ impl Mark {
         }
     }
 
-    /// The mark as it stands in a match's record.
+    /// The mark as text, for the match's record.
     pub fn text(self) -> &'static [u8]
         ensures { result.now ≡ mark_text self }
     {

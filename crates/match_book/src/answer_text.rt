@@ -1,4 +1,4 @@
-//! How an answer's text is read.
+//! Reads the text of an answer.
 ghost use Rattle.std.specs.Prelude.{◌≡◌, IfOk};
 ghost use Rattle.match_book.specs.AnswerReading.{answer_reading};
 
@@ -6,13 +6,13 @@ use game_core::Text;
 use kif_text::{KifFault, fold, print, read_one};
 use std::alloc::{AllocError, Global};
 
-/// The limit of bytes in an answer. A longer one is not read.
+/// The largest number of bytes of an answer. A longer answer is not read.
 pub const MAX_ANSWER: usize = 4096;
 
-/// The limit of bytes in what is read of an answer: printing adds at most one space for each byte.
+/// The largest number of bytes of a reading: printing adds at most one space for each byte.
 pub const MAX_READING: usize = 2 * MAX_ANSWER;
 
-/// The folded canonical text of the one expression that the answer spells, if it spells one.
+/// The folded canonical text of the expression that the answer spells, or `None` if it does not spell exactly one.
 #[tactic(auto, unfolding(crate::specs::AnswerReading::answer_reading))]
 pub fn read_answer(alloc: Global, text: &[u8]) -> Result<Option<Text>, AllocError>
     ensures { IfOk result (λ o. o ≡ answer_reading text.now) }

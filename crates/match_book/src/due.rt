@@ -1,4 +1,4 @@
-//! The fault of asking what a match owes to a role.
+//! The error of `Match::owed`.
 ghost use Rattle.std.specs.Prelude.{◌≡◌};
 ghost use Rattle.match_book.specs.declared.due.OwedFault.TheVariants.{Memory};
 

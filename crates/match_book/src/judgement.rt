@@ -1,4 +1,4 @@
-//! How answers are judged in play.
+//! Judges answers in play.
 ghost use Rattle.std.specs.Prelude.{◌≡◌, IfOk, All, Some, []};
 ghost use Rattle.match_book.specs.AnswerReading.{answer_reading};
 ghost use Rattle.desk_calls.specs.Answers.{answer_lent};
@@ -11,23 +11,23 @@ use game_core::{Game, Text};
 use kif_text::laws::folded_text_reads_back;
 use std::alloc::{AllocError, Global};
 
-/// The error of an answer that is too long, or does not spell exactly one expression.
+/// The error of an answer that is too long, or that does not spell exactly one expression.
 pub const UNREADABLE: &[u8] = b"IL ?";
 
-/// The prefix of the error of an answer that is no legal move. The answer's text follows it.
+/// The prefix of the error of an answer that is not a legal move. The text of the answer follows it.
 pub const ILLEGAL_PREFIX: &[u8] = b"IL ";
 
-/// The error beside a retired role's move.
+/// The error of a retired role's move.
 pub const RETIRED: &[u8] = b"RT";
 
-/// A move, and the error beside it. The error is empty if an answer named the move.
+/// A move with its error, which is empty if an answer named the move.
 #[derive(Drop)]
 pub struct Judgement<M> {
     pub taken: M,
     pub error: Text,
 }
 
-/// Why the first legal move stands in the turn.
+/// Why a turn has the first legal move instead of the answer.
 #[derive(Drop)]
 pub enum Substitution {
     TimeOut,
@@ -36,12 +36,12 @@ pub enum Substitution {
     Unreadable,
     /// The answer spells this text, but no legal move has it.
     Illegal(Text),
-    /// The role is retired and was not asked.
+    /// The role is retired, so it was not asked.
     Retired,
 }
 
 impl Substitution {
-    /// The error that stands beside the move.
+    /// The error that is recorded with the move.
     fn error(&self, alloc: Global) -> Result<Text, AllocError>
         ensures { IfOk result (λ t. t ≡ error_text self.now) }
     {
@@ -59,7 +59,7 @@ impl Substitution {
     }
 }
 
-/// The first of these moves, with the error of this reason. `None` if there is no move.
+/// The first of these moves with the error for this reason, or `None` if there are no moves.
 pub fn substitute<G: Game>(
     alloc: Global,
     game: &G,
@@ -77,7 +77,7 @@ pub fn substitute<G: Game>(
     Ok(Some(Judgement { taken, error }))
 }
 
-/// The place of the first move with this text, if there is one.
+/// The index of the first move with this text.
 pub fn place_of<G: Game>(game: &G, moves: &[G::Move], wanted: &[u8]) -> Option<usize>
     requires { All (λ m. (G.rules game.now).IsMove m) moves.now }
     ensures { IsPlaceOf (G.rules game.now) moves.now wanted.now result }
@@ -90,7 +90,7 @@ pub fn place_of<G: Game>(game: &G, moves: &[G::Move], wanted: &[u8]) -> Option<u
     None
 }
 
-/// The judgement of an answer that names this move.
+/// Judges an answer that names this move.
 fn take_named<G: Game>(
     alloc: Global,
     game: &G,
@@ -106,7 +106,7 @@ fn take_named<G: Game>(
     Ok(Some(Judgement { taken, error }))
 }
 
-/// The judgement of an answer that is read as this text: the move with the text, or else the first move.
+/// Judges an answer with this reading: takes the move with this text, or else the first move.
 fn judge_reading<G: Game>(
     alloc: Global,
     game: &G,
@@ -122,8 +122,8 @@ fn judge_reading<G: Game>(
     }
 }
 
-/// The judgement of an answer with this text. Most texts are a legal move's canonical text, which would be read
-/// as itself, so they are compared before they are read.
+/// Judges an answer with this text. Most answers are the canonical text of a legal move, and such a text is its own reading,
+/// so it is compared with the moves before it is read.
 fn judge_text<G: Game>(
     alloc: Global,
     game: &G,
@@ -145,7 +145,7 @@ fn judge_text<G: Game>(
     }
 }
 
-/// The judgement of an answer, given the role's legal moves. `None` if there is no move.
+/// Judges an answer, given the role's legal moves. Returns `None` if there are no moves.
 pub fn judge<G: Game>(
     alloc: Global,
     game: &G,

@@ -1,6 +1,6 @@
-//! What holds of the definitions, for every game.
+//! Laws of the definitions, for every game.
 //!
-//! Laws without arguments speak of every game of a type: call them with that type.
+//! A law without arguments is about every game of a type: name the type when you call it.
 ghost use Rattle.match_book.specs.Laws.{NewMatchIsLawful, AnswersKeepLawful, AbortKeepsLawful, RecordedMovesAreLegal, NoErrorMeansNamed, AnswersInPlay, AnswersOutOfPlay, TakenForTheRound, OwedAnswersAreTaken, TurnsLeadToStates, TurnsHaveMoves, OneMoreTurn, StrikesBegin, StrikesOfOneMore, FewStrikes, StartingMeans, PlayingMeans, StoppingMeans, BegunRoundsAreOpen, RoundsEnd, NoneIsAnswered, OwedIsAnswered, OthersAreUntouched, AllAreAnswered, ReadingsAreFolded};
 ghost use Rattle.match_book.specs.Lawful.{IsLawfulMatch};
 
@@ -8,7 +8,7 @@ use crate::matches::Match;
 use game_core::Game;
 use kif_text::laws::{reading_is_proper, reading_under_double};
 
-/// A match with nothing in it is lawful.
+/// A match without any answer is lawful.
 pub fn new_match_is_lawful<G: Game>()
     ensures { (game : G) → NewMatchIsLawful (G.rules game) }
 {}
@@ -35,8 +35,8 @@ pub fn no_error_means_named<G: Game>()
     ensures { (game : G) → NoErrorMeansNamed (G.rules game) }
 {}
 
-/// An answer that is taken in play either stays open or is recorded with the others as one turn, in which each role's part stands in
-/// its place.
+/// An answer that is taken in play stays open, or it is recorded with the others as one turn, which has the part of each
+/// role at the role's index.
 pub fn answers_in_play<G: Game>()
     ensures { (game : G) → AnswersInPlay (G.rules game) }
 {
@@ -48,48 +48,48 @@ pub fn answers_out_of_play<G: Game>()
     ensures { (game : G) → AnswersOutOfPlay (G.rules game) }
 {}
 
-/// An answer is taken only for the present round.
+/// A match takes answers only for the present round.
 pub fn taken_for_the_round<G: Game>()
     ensures { (game : G) → TakenForTheRound (G.rules game) }
 {}
 
-/// An answer that a role owes is taken, unless memory runs out.
+/// A match takes an answer that a role owes, unless it runs out of memory.
 pub fn owed_answers_are_taken<G: Game>()
     ensures { (game : G) → OwedAnswersAreTaken (G.rules game) }
 {}
 
-/// Lawful turns lead to a state of the game, and have moves of the game alone.
+/// Lawful turns lead to a state of the game, and have only moves of the game.
 pub fn lawful_turns_are_of_the_game<G: Game>()
     ensures states { (game : G) → TurnsLeadToStates (G.rules game) }
     ensures moves { (game : G) → TurnsHaveMoves (G.rules game) }
 {}
 
-/// Lawful turns and one that may follow them are lawful, and lead to the next state.
+/// Lawful turns followed by a turn that may follow them are lawful, and lead to the next state.
 pub fn one_more_turn<G: Game>()
     ensures { (game : G) → OneMoreTurn (G.rules game) }
 {}
 
-/// Which roles are retired, and their substitutions in a row, follow turn by turn: from none before the first turn, by the errors of
-/// each.
+/// Which roles are retired, and how often in a row each was substituted, can be computed turn by turn from the errors of the
+/// turns.
 pub fn strikes_follow_turns<G: Game>()
     ensures begin { StrikesBegin G.Move }
     ensures more { StrikesOfOneMore G.Move }
     ensures few { FewStrikes G.Move }
 {}
 
-/// When a match starts, plays, and stops, by its marks, its state and its turns.
+/// When a match starts, plays or stops, by its marks, its state and its turns.
 pub fn stages_are_settled<G: Game>()
     ensures starting { (game : G) → StartingMeans (G.rules game) }
     ensures playing { (game : G) → PlayingMeans (G.rules game) }
     ensures stopping { (game : G) → StoppingMeans (G.rules game) }
 {}
 
-/// In a round of play that has just begun, some role has not answered.
+/// When a round of play begins, some role has not answered.
 pub fn begun_rounds_are_open<G: Game>()
     ensures { (game : G) → BegunRoundsAreOpen (G.rules game) }
 {}
 
-/// A match is over once every role has answered in 10,002 rounds: for START, in the most turns that there may be, and for STOP or
+/// A match is over once every role has answered in 10,002 rounds: one for START, 10,000 for turns, and one for STOP or
 /// ABORT.
 pub fn rounds_come_to_an_end<G: Game>()
     ensures { (game : G) → RoundsEnd (G.rules game) }
@@ -97,9 +97,9 @@ pub fn rounds_come_to_an_end<G: Game>()
     readings_are_folded();
 }
 
-/// How a role's messages are answered, one after another: none when a match begins, with the role's own answer the one that it owes, and
-/// none with the answers of others, which change nothing of what it owes. Once a match is over, these are all its messages: START, PLAY
-/// before each turn that the role is not retired by then, and STOP or ABORT.
+/// Which messages a role has answered: none at first, then one more with each answer of the role to what it owes. Answers of
+/// others do not change this, nor what the role owes. Once a match is over, these are all messages to the role: START, PLAY
+/// before each turn until it is retired, and STOP or ABORT.
 pub fn messages_are_answered<G: Game>()
     ensures begin { (game : G) → NoneIsAnswered (G.rules game) }
     ensures own { (game : G) → OwedIsAnswered (G.rules game) }
@@ -116,7 +116,7 @@ pub fn matches_are_lawful<G: Game>(held: &Match<G>)
     held.state();
 }
 
-/// What is read of an answer is a folded text within the limit.
+/// The reading of an answer is a folded text within the limit.
 pub fn readings_are_folded()
     ensures { ReadingsAreFolded }
 {

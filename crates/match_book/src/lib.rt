@@ -1,8 +1,7 @@
-//! A match of any game: what each role is owed, how an answer is judged, when a move is substituted, and
-//! when the match stops or is aborted.
+//! A match of any game: what it owes to each role, how it judges an answer, when it substitutes a move, and when it stops or
+//! aborts.
 //!
-//! Methods take the allocator right after `self`, free functions take it first. Only answers and aborts
-//! change a match: it sends nothing, and keeps no time.
+//! Only answers and aborts change a match. A match sends nothing and has no clock.
 #![tactic(auto)]
 
 mod answer;

@@ -31,36 +31,35 @@ use std::marker::Model;
 use std::mem;
 use std::snapshot::Snapshot;
 
-/// A match: the answers so far, and what is known of the present, so that no call goes over all turns.
+/// A match: the answers so far, and values computed from them, so that no call goes over all turns.
 ///
-/// Contracts see a match as its value and its game. The caller keeps the game itself, and passes it to each call that needs
-/// it. Each match is lawful, as `state` says.
+/// Contracts see a match as its value and its game. The caller keeps the game, and passes it to each call that needs it.
+/// Every match is lawful, as `state` says.
 #[derive(Drop)]
 pub struct Match<G: Game> {
     game: Snapshot<G>,
     setup: Setup,
     /// The mark of each role's answer to START.
     start_marks: Vec<Option<Mark>>,
-    /// The turns that are over.
+    /// The recorded turns.
     turns: Vec<Turn<G::Move>>,
-    /// What became of each role's answer in the turn that is open.
+    /// The judgement of each role's answer for the turn that is not yet recorded.
     open_answers: Vec<Option<Judgement<G::Move>>>,
     abort_asked: bool,
     /// The mark of each role's answer to STOP or ABORT.
     end_marks: Vec<Option<Mark>>,
-    /// The state before each turn that is over.
+    /// The state before each recorded turn.
     past: Vec<G::State>,
-    /// The present state.
     state: G::State,
     stage: Stage,
-    /// The number of roles that have answered in this round. In play a retired role counts as one that has.
+    /// The number of roles that have answered this round. In play, retired roles count as if they had.
     answered: usize,
     /// The number of substituted moves.
     substituted: u64,
     strikes: Vec<RoleStrikes>,
-    /// The legal moves of each role in the present state, in play.
+    /// In play, the legal moves of each role in the present state.
     legal: Vec<RoleMoves<G::Move>>,
-    /// The goal of each role, once the match has stopped.
+    /// Once the match has stopped, the goal of each role.
     goals: Vec<Option<u8>>,
 }
 
@@ -93,7 +92,7 @@ impl<G: Game> Model for Match<G> {
 }
 
 /// Records a turn: the present state becomes the last past state, and `next` becomes the present state. If an allocation is
-/// refused, nothing has changed.
+/// refused, nothing changes.
 fn go_on<T: Drop, S: Drop>(
     turns: &mut Vec<T>,
     turn: T,
@@ -117,7 +116,7 @@ fn go_on<T: Drop, S: Drop>(
 }
 
 impl<G: Game> Match<G> {
-    /// A match with nothing in it. Each role owes an answer to START.
+    /// Creates a match without any answer. Each role owes an answer to START.
     pub fn new(alloc: Global, game: &G, setup: Setup) -> Result<Match<G>, AllocError>
         requires { length setup.players ≡ (G.rules game.now).roles }
         ensures { IfOk result (λ m. m ≡ record { game = game.now; value = new_match (G.rules game.now) setup }) }
@@ -147,14 +146,14 @@ impl<G: Game> Match<G> {
         })
     }
 
-    /// The setup that the match was made with.
+    /// The setup of the match.
     pub fn setup(&self) -> &Setup
         ensures { result.now ≡ self.now.value.setup }
     {
         &self.setup
     }
 
-    /// The phase, the round, and how many turns and substitutions there are.
+    /// The phase, the round, and the numbers of turns and substitutions.
     pub fn status(&self) -> Status
         ensures { result ≡ status (G.rules self.now.game) self.now.value }
     {
@@ -166,7 +165,7 @@ impl<G: Game> Match<G> {
         }
     }
 
-    /// The state after the recorded turns.
+    /// The state after all recorded turns.
     pub fn state(&self) -> &G::State
         ensures state { result.now ≡ state_after (G.rules self.now.game) self.now.value.turns }
         ensures is_state { (G.rules self.now.game).IsState result.now }
@@ -175,7 +174,7 @@ impl<G: Game> Match<G> {
         &self.state
     }
 
-    /// The state after the first `turns` recorded turns. It is kept, so no turn is played again.
+    /// The state after the first `turns` recorded turns. The match stores it, so this replays nothing.
     pub fn state_after(&self, turns: usize) -> &G::State
         requires { turns ≤ length self.now.value.turns }
         ensures state { result.now ≡ state_after (G.rules self.now.game) (take turns self.now.value.turns) }
@@ -198,7 +197,7 @@ impl<G: Game> Match<G> {
         self.turns[turn].moves.at(role)
     }
 
-    /// The error beside the role's move in a recorded turn. It is empty if the role's answer named the move.
+    /// The error of the role's move in a recorded turn. It is empty if the role's answer named the move.
     pub fn error_at(&self, turn: usize, role: usize) -> &[u8]
         requires turn { turn < length self.now.value.turns }
         requires role { role < (G.rules self.now.game).roles }
@@ -229,7 +228,7 @@ impl<G: Game> Match<G> {
         }
     }
 
-    /// The role's goal. `None` before the match stops.
+    /// The role's goal, or `None` before the match stops.
     pub fn goal_of(&self, role: usize) -> Option<u8>
         requires { role < (G.rules self.now.game).roles }
         ensures { result ≡ goal_of (G.rules self.now.game) self.now.value role }
@@ -262,7 +261,6 @@ impl<G: Game> Match<G> {
         }
     }
 
-    /// Whether the role has answered this round.
     fn has_answered(&self, role: usize) -> bool
         requires { role < (G.rules self.now.game).roles }
         ensures { result ≡ has_answered (G.rules self.now.game) self.now.value role }
@@ -274,7 +272,7 @@ impl<G: Game> Match<G> {
         }
     }
 
-    /// What is due to a role.
+    /// What the match owes to a role now.
     pub fn owed(&self, alloc: Global, game: &G, role: usize) -> Result<Due, OwedFault>
         requires game { self.now.game ≡ game.now }
         ensures { IsDueAnswer (G.rules self.now.game) self.now.value role result }
@@ -294,7 +292,7 @@ impl<G: Game> Match<G> {
         Ok(Due::Owe { round, owed })
     }
 
-    /// The message that is owed to the roles in this round.
+    /// The message that the match owes to roles in this round.
     fn owed_message(&self, alloc: Global, game: &G) -> Result<Owed, AllocError>
         requires { self.now.game ≡ game.now }
         ensures ok { IfOk result (λ o. o ≡ owed_in (stage (G.rules self.now.game) self.now.value) (last_move_texts (G.rules self.now.game) self.now.value.turns)) }
@@ -321,7 +319,7 @@ impl<G: Game> Match<G> {
         Ok(Some(move_texts(alloc, game, turn.moves.as_slice())?))
     }
 
-    /// Why an answer of the role for a round is refused. `None` if `answer` takes it.
+    /// Why `answer` would refuse the role's answer for a round, or `None` if it would take it.
     pub fn refusal(&self, role: usize, round: u64) -> Option<AnswerRefusal>
         ensures { result ≡ refusal (G.rules self.now.game) self.now.value role round }
     {
@@ -341,7 +339,7 @@ impl<G: Game> Match<G> {
         None
     }
 
-    /// Takes a role's answer for a round. The next round begins once all roles have answered.
+    /// Takes a role's answer for a round. The next round begins when all roles have answered.
     pub fn answer(
         &mut self,
         alloc: Global,
@@ -363,7 +361,7 @@ impl<G: Game> Match<G> {
         }
     }
 
-    /// Takes a role's answer for a round as `answer` does. Returns why it is refused, or `None` if it is taken.
+    /// Takes a role's answer for a round, as `answer` does. Returns why the match refuses it, or `None` if it took it.
     pub fn offer(
         &mut self,
         alloc: Global,
@@ -436,7 +434,7 @@ impl<G: Game> Match<G> {
         self.answered += 1;
     }
 
-    /// The judgement of a role's answer for the open turn.
+    /// Judges a role's answer for the open turn.
     fn judged(
         &self,
         alloc: Global,
@@ -477,8 +475,8 @@ impl<G: Game> Match<G> {
         self.record_turn(alloc, game, role, judged)
     }
 
-    /// The turn that the open answers make with `judged`, the last answer, and the first legal moves of the retired roles. The
-    /// open answers are copied, so that they stay if a later allocation is refused.
+    /// The turn made of the open answers, the last answer `judged`, and the first legal moves of the retired roles. It
+    /// copies the open answers, so that they are still there if a later allocation is refused.
     fn turn_with(
         &self,
         alloc: Global,
@@ -499,7 +497,7 @@ impl<G: Game> Match<G> {
         turn_of(alloc, parts)
     }
 
-    /// Makes a turn of the open answers and the last one, `judged`, and records it.
+    /// Makes a turn of the open answers and the last answer `judged`, and records it.
     fn record_turn(
         &mut self,
         alloc: Global,
@@ -541,7 +539,7 @@ impl<G: Game> Match<G> {
         Ok(())
     }
 
-    /// Aborts a match that is neither stopping nor aborting. The answers of the open turn are dropped.
+    /// Aborts a match that is neither stopping nor aborting. Its open answers are dropped.
     pub fn abort(&mut self) -> Result<(), AbortFault>
         ensures game { self.new.game ≡ self.old.game }
         ensures ok { OnOk result (is_live (stage (G.rules self.old.game) self.old.value) ≡ true) }

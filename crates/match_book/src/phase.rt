@@ -1,4 +1,4 @@
-//! Where a match stands.
+//! The phase of a match, and why a match is aborted.
 ghost use Rattle.std.specs.Prelude.{◌≡◌};
 ghost use Rattle.match_book.specs.Phase.{phase_in, cause_in};
 
@@ -7,19 +7,19 @@ use desk_calls::Phase;
 /// Why a match is aborted. Roles are numbered from 0.
 #[derive(Clone, Copy, PartialEq, Eq)]
 pub enum Cause {
-    /// The referee asked for it.
+    /// The referee asked for the abort.
     Asked,
     /// This role has no legal move in a state that is not terminal. It is the lowest such role.
     NoLegal(usize),
     /// This role does not have exactly one goal in a terminal state. It is the lowest such role.
     NoGoal(usize),
-    /// 10,000 turns led to no terminal state.
+    /// The game had not ended after 10,000 turns.
     TooLong,
     /// Every role is retired.
     AllRetired,
 }
 
-/// The phase of a match, apart from whether every role has answered STOP or ABORT.
+/// What a match does, regardless of whether every role has answered STOP or ABORT.
 #[derive(Clone, Copy)]
 pub enum Stage {
     Starting,
@@ -29,7 +29,7 @@ pub enum Stage {
 }
 
 impl Stage {
-    /// The phase. `all_ended` says whether all end marks are there.
+    /// The phase. `all_ended` says whether all end marks are present.
     pub fn phase(self, all_ended: bool) -> Phase
         ensures { result ≡ phase_in self all_ended }
     {

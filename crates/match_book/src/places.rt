@@ -4,7 +4,7 @@ ghost use Rattle.match_book.specs.Roles.{every_role, is_there, blank};
 
 use std::alloc::{AllocError, Global};
 
-/// `count` empty places.
+/// Creates `count` empty places.
 pub fn blank<T: Drop>(alloc: Global, count: usize) -> Result<Vec<Option<T>>, AllocError>
     ensures { IfOk result (λ v. v.items ≡ blank count) }
 {
@@ -15,7 +15,7 @@ pub fn blank<T: Drop>(alloc: Global, count: usize) -> Result<Vec<Option<T>>, All
     Ok(places)
 }
 
-/// Empties each place.
+/// Empties all places.
 pub fn clear<T: Drop>(places: &mut Vec<Option<T>>)
     ensures items { places.new.items ≡ blank (length places.old.items) }
 {

@@ -1,4 +1,4 @@
-//! Which roles are retired, because their moves were substituted too often in a row.
+//! Which roles are retired because too many of their moves in a row were substituted.
 ghost use Rattle.std.specs.Prelude.{◌≡◌, ◌==◌, ◌<◌, ◌≤◌, ℕ, All, IfOk, length, replicate, slice_index_or, []};
 ghost use Rattle.match_book.specs.MatchValue.{is_error};
 ghost use Rattle.match_book.specs.Phase.{max_turns};
@@ -12,7 +12,7 @@ use std::alloc::{AllocError, Global};
 /// A role's strikes: its substitutions in a row, and whether they have retired it.
 #[derive(Clone, Copy)]
 pub struct RoleStrikes {
-    /// The number of turns in a row, up to the last turn, in which the role's move was substituted.
+    /// How many turns in a row, up to the last turn, had the role's move substituted.
     pub in_a_row: usize,
     pub is_retired: bool,
 }
@@ -50,8 +50,8 @@ pub fn all_unstruck(alloc: Global, roles: usize) -> Result<Vec<RoleStrikes>, All
     vec![in alloc; UNSTRUCK; roles]
 }
 
-/// Each role's strikes after one more turn with these errors. `kept` holds the strikes after the earlier
-/// turns. `limit` substitutions in a row retire a role; 0 means never.
+/// Each role's strikes after one more turn with these errors. `kept` has the strikes before the turn. `limit` substitutions
+/// in a row retire a role; 0 means never.
 pub fn strikes_after(
     alloc: Global,
     limit: u8,
@@ -79,7 +79,7 @@ pub fn is_retired_at(kept: &[RoleStrikes], role: usize) -> bool
     kept[role].is_retired
 }
 
-/// How many roles are retired. All are if this is the number of roles.
+/// The number of retired roles.
 pub fn count_retired(kept: &[RoleStrikes]) -> usize
     ensures count { result ≡ count_roles (length kept.now) (is_retired_in kept.now) }
     ensures all { every_role (length kept.now) (is_retired_in kept.now) ≡ (result == length kept.now) }
@@ -93,7 +93,7 @@ pub fn count_retired(kept: &[RoleStrikes]) -> usize
     count
 }
 
-/// The number of roles that have answered when a round begins: in play, the retired roles.
+/// The number of roles that count as having answered when a round begins: in play, the retired roles.
 pub fn answered_at_first(stage: Stage, retired: usize) -> usize
     ensures { result ≡ answered_at_first stage retired }
 {

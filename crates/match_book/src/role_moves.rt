@@ -8,7 +8,7 @@ use game_core::Game;
 use std::alloc::{AllocError, Global};
 use std::marker::Model;
 
-/// The moves of one role. Contracts see the list.
+/// The legal moves of one role. Contracts see the list.
 #[derive(Drop)]
 pub struct RoleMoves<M> {
     items: Vec<M>,
@@ -30,7 +30,7 @@ impl<M> RoleMoves<M> {
     }
 }
 
-/// The lowest role without a legal move, if there is one. If there is none, the legal moves of each role.
+/// The lowest role without a legal move, or else the legal moves of each role.
 pub fn legal_moves<G: Game>(
     alloc: Global,
     game: &G,

@@ -1,4 +1,4 @@
-//! The settling rule: what comes after START and after each turn.
+//! The settling rule: what a match does after START and after each turn.
 ghost use Rattle.std.specs.Prelude.{◌≡◌, ◌<◌, ◌==◌, ℕ, IfOk, None};
 ghost use Rattle.match_book.specs.Roles.{lowest_role, at_role};
 ghost use Rattle.match_book.specs.declared.phase.Stage.TheVariants.{Playing, Aborting};
@@ -10,11 +10,11 @@ use crate::role_moves::{RoleMoves, legal_moves};
 use game_core::Game;
 use std::alloc::{AllocError, Global};
 
-/// The limit of turns in a match.
+/// The largest number of turns of a match.
 pub const MAX_TURNS: usize = 10_000;
 
-/// What a match does in a state. If it plays on, `legal` has each role's legal moves. If it stops, `goals`
-/// has the roles' goals.
+/// What a match does in a state. If it plays on, `legal` has each role's legal moves. If it stops, `goals` has each role's
+/// goal.
 #[derive(Drop)]
 pub struct Settlement<M> {
     pub stage: Stage,
@@ -22,7 +22,7 @@ pub struct Settlement<M> {
     pub goals: Vec<Option<u8>>,
 }
 
-/// The lowest role without a goal, if there is one, with the goals of the roles below it.
+/// The lowest role without a goal, if there is one, and the goals of the roles before it.
 fn goals_of<G: Game>(
     alloc: Global,
     game: &G,
@@ -43,7 +43,7 @@ fn goals_of<G: Game>(
     Ok((None, goals))
 }
 
-/// What a match does in a state that comes after `turns` turns, with `retired` roles retired.
+/// What a match does in a state after `turns` turns, if `retired` roles are retired.
 #[tactic(auto, unfolding(crate::specs::Phase::settled))]
 pub fn settle<G: Game>(
     alloc: Global,

@@ -13,14 +13,13 @@ use crate::role_moves::RoleMoves;
 use game_core::{Game, Joint, Text, Texts};
 use std::alloc::{AllocError, Global};
 
-/// The joint move of a turn, and the error beside each move, in the order of the roles.
+/// The joint move of a turn, and the error of each move, in the order of the roles.
 #[derive(Drop)]
 pub struct Turn<M> {
     pub moves: Joint<M>,
     pub errors: Texts,
 }
 
-/// A copy of the judgement.
 fn copy_judgement<G: Game>(
     alloc: Global,
     game: &G,
@@ -79,7 +78,7 @@ fn parts_of<G: Game>(
     Ok(parts)
 }
 
-/// Each role's part of the turn. `judged` is the part of `role`, the last role to answer.
+/// Each role's part of the turn. `judged` is the part of `role`, which answered last.
 pub fn parts_with<G: Game>(
     alloc: Global,
     game: &G,
@@ -117,7 +116,7 @@ fn push_part<M: Drop>(
     Ok(())
 }
 
-/// The turn that these judgements make.
+/// Makes a turn of these judgements.
 pub fn turn_of<M: Drop>(
     alloc: Global,
     parts: Vec<Option<Judgement<M>>>,
@@ -135,7 +134,7 @@ pub fn turn_of<M: Drop>(
     })
 }
 
-/// How many of these errors are not empty.
+/// The number of errors that are not empty.
 pub fn count_errors(errors: &[Text]) -> usize
     ensures { result ≡ count_by is_error errors.now }
 {

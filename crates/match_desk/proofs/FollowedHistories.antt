@@ -37,7 +37,6 @@ taken_answers-snoc : (id : List ℕ) (role n : ℕ) (history : List (Entry Call 
 taken_answers-snoc id role n [] e = append-nil (taken_answer id role n e)
 taken_answers-snoc id role n (x ∷ xs) e = ap (λ l. taken_answer id role n x ++ l) (taken_answers-snoc id role n xs e) ∙ sym (append_assoc (taken_answer id role n x) (taken_answers id role n xs) (taken_answer id role n e))
 
--- an entry that gives no answer here
 quiet-same : (id : List ℕ) (role n : ℕ) (history : List (Entry Call Reply)) (e : Entry Call Reply) → taken_answer id role n e ≡ [] → taken_answers id role n (history ++ e ∷ []) ≡ taken_answers id role n history
 quiet-same id role n history e quiet = taken_answers-snoc id role n history e ∙ (ap (λ l. taken_answers id role n history ++ l) quiet ∙ append-nil (taken_answers id role n history))
 
@@ -45,7 +44,6 @@ nothing : {A : Type 0} (b : Bool) → ◌≡◌ {A = List A} (if b then option_t
 nothing true = refl
 nothing false = refl
 
--- the match with the id is the one that is found
 find-at : {M : Type 0} (id : List ℕ) (ms : List (DeskMatch M)) → AllPairs (λ (m n : DeskMatch M). m.value.setup.id ≢ n.value.setup.id) ms
     → (k : ℕ) (d : DeskMatch M) → k < length ms → has_id id (slice_index_or ms k d) ≡ true → find (has_id id) ms ≡ Some (slice_index_or ms k d)
 find-at id [] differ k d lt mine = absurd (omega arith)
@@ -85,7 +83,7 @@ record IsFollowedManager {G S M : Type 0} (rules : G → Rules S M) (d : Manager
   unused : (id : List ℕ) → match_of d id ≡ None → (role n : ℕ) → taken_answers id role n history ≡ []
 
 module _ {G S M : Type 0} (rules : G → Rules S M) (laws : (g : G) → MatchLaws (rules g)) (d : ManagerValue G M) (history : List (Entry Call Reply)) (followed : IsFollowedManager rules d history) (e : Entry Call Reply) where
-  -- an entry that gives no answer, and changes nothing
+  -- an entry that gives no answer and changes nothing
   followed-unchanged : ((id : List ℕ) (role n : ℕ) → taken_answer id role n e ≡ []) → IsFollowedManager rules d (history ++ e ∷ [])
   followed-unchanged quiet = record {
     lawful = followed.lawful;
@@ -208,7 +206,7 @@ and-true true true false p q r = absurd cc
 and-true true false c p q r = absurd cc
 and-true false b c p q r = absurd cc
 
--- an entry that answers for a role, for a round
+-- an entry that gives an answer of a role for a round
 module _ {G S M : Type 0} (rules : G → Rules S M) (laws : (g : G) → MatchLaws (rules g)) (d : ManagerValue G M) (history : List (Entry Call Reply)) (followed : IsFollowedManager rules d history)
     (id : List ℕ) (role round' : ℕ) (answer : Answer) (e : Entry Call Reply) (is : e.reply ≡ reply_of rules d id (answer_reply role round'))
     (gives : (i : List ℕ) (r n : ℕ) → taken_answer i r n e ≡ (if is_taken e.reply then option_to_list (answer_if (bytes_eq id i && role == r && round' == n) answer) else []))
@@ -274,7 +272,6 @@ module _ {G S M : Type 0} (rules : G → Rules S M) (laws : (g : G) → MatchLaw
       (λ none r n. gives id r n ∙ not_taken e.reply (bytes_eq id id && role == r && round' == n) answer (reply-none none))
 
 module _ {G S M : Type 0} (rules : G → Rules S M) (laws : (g : G) → MatchLaws (rules g)) where
-  -- an entry that opens a match
   followed-open : (d : ManagerValue G M) (history : List (Entry Call Reply)) → IsFollowedManager rules d history → (e : Entry Call Reply) → ((id : List ℕ) (role n : ℕ) → taken_answer id role n e ≡ [])
       → (game : ℕ) (setup : Setup) → IsLawfulManager rules (after_open rules d game setup) → IsFollowedManager rules (after_open rules d game setup) (history ++ e ∷ [])
   followed-open d history followed e quiet game setup lawful = step (open_refusal rules d game setup) refl lawful
@@ -327,7 +324,7 @@ module _ {G S M : Type 0} (rules : G → Rules S M) (laws : (g : G) → MatchLaw
   followed-start : (games : List G) → IsFollowedManager rules (record { games = games; matches = [] }) []
   followed-start games = record { lawful = lawful-opening rules games; matches = λ k x lt. absurd (omega arith); unused = λ id none role n. refl }
 
-  -- in a legal history from an opening
+  -- a legal history from an opening
   module _ (games : List G) (history : List (Entry Call Reply)) (legal : IsLegalHistory (reply rules) (after rules) (record { games = games; matches = [] }) history) where
     all : IsFollowedManager rules (run (after rules) (record { games = games; matches = [] }) history) history
     all = followed-run [] history (record { games = games; matches = [] }) (followed-start games) legal
@@ -340,7 +337,7 @@ module _ {G S M : Type 0} (rules : G → Rules S M) (laws : (g : G) → MatchLaw
     pub run-lawful : IsLawfulManager rules (run (after rules) (record { games = games; matches = [] }) history)
     run-lawful = all.lawful
 
--- the same, from a manager without a match
+-- the same from a manager without matches
 module _ {G S M : Type 0} (rules : G → Rules S M) (laws : (g : G) → MatchLaws (rules g)) (d : ManagerValue G M) (empty : d.matches ≡ []) (history : List (Entry Call Reply)) (legal : IsLegalHistory (reply rules) (after rules) d history) where
   opens : d ≡ record { games = d.games; matches = [] }
   opens = let put : List (DeskMatch M) → ManagerValue G M = λ ms. record { games = d.games; matches = ms } in ap put empty
@@ -355,7 +352,7 @@ module _ {G S M : Type 0} (rules : G → Rules S M) (laws : (g : G) → MatchLaw
       subst (λ (x : ManagerValue G M). IsLawfulManager rules (run (after rules) x history)) (sym opens)
       (run-lawful rules laws d.games history (subst (λ (x : ManagerValue G M). IsLegalHistory (reply rules) (after rules) x history) opens legal))
 
--- a manager with the history that replays to it
+-- a manager and the history that replays to it
 module _ {G S M : Type 0} (rules : G → Rules S M) (laws : (g : G) → MatchLaws (rules g)) (d : ManagerValue G M) (history : List (Entry Call Reply)) (replay : IsReplay (reply rules) (after rules) opening d history) where
   replay-lawful : IsLawfulManager rules d
   replay-lawful = subst (λ (x : ManagerValue G M). IsLawfulManager rules x) (sym replay.leaves) (run-lawful rules laws d.games history replay.legal)
@@ -378,7 +375,7 @@ module _ {G S M : Type 0} (rules : G → Rules S M) (laws : (g : G) → MatchLaw
     accounted = replay-accounted;
   }
 
--- the same for a closed desk
+-- the main theorem for a closed desk
 pub closed-headline : {G S M X U : Type 0} (rules : G → Rules S M) (laws : (g : G) → MatchLaws (rules g)) (lines : ℕ) (object : X → ManagerValue G M) (history : X → List (Entry Call Reply)) (made : X → List ℕ) (r : Result X U)
     → IfOk r (λ c. IsReplay (reply rules) (after rules) opening (object c) (history c)) → IfOk r (λ c. length (made c) ≡ lines) → IfOk r (λ c. sum (made c) ≡ length (history c))
     → IfOk r (λ c. HasHeadline rules lines (object c) (history c) (made c))

@@ -1,4 +1,4 @@
--- The answers that were taken for one match, from its opening on.
+-- The answers that were taken for one match, from its opening.
 use Rattle.std.proofs.Common.{◌≡◌, ◌≢◌, ℕ, zero, suc, ◌+◌, ◌<◌, ◌≤◌, Bool, true, false, eqb, Option, Some, None, List, [], ◌∷◌, ◌++◌, length, set, take, refl, arith, ap, sym, ◌∙◌, subst, length-append, ◌⊎◌, inl, inr}
 use Rattle.std.proofs.lemmas.List.{take-append-le}
 use Rattle.std.proofs.lemmas.Bool.Decides.{nat_tests}
@@ -27,7 +27,7 @@ use Rattle.match_book.specs.declared.phase.Stage.TheVariants.{Starting, Playing,
 use Rattle.match_desk.specs.Accepted.{AreTaken}
 use Rattle.match_desk.specs.Internal.MatchLaws.{MatchLaws}
 
--- ---- lists with a place for each role
+-- ---- Lists with a place for each role
 
 same_or_other : (k r : ℕ) → (k ≡ r) ⊎ (k ≢ r)
 same_or_other k r = step (eqb k r) refl
@@ -59,9 +59,8 @@ at_role-other (y ∷ ys) zero (suc k) x ne = refl
 at_role-other (y ∷ ys) (suc r) zero x ne = refl
 at_role-other (y ∷ ys) (suc r) (suc k) x ne = at_role-other ys r k x (λ e. ne (ap suc e))
 
--- ---- the stage and the round of a match
+-- ---- The stage and the round of a match
 
--- the stage depends on the setup, the turns, the START marks and whether an abort was asked
 stage-by : {S M : Type 0} (g : Rules S M) (m n : MatchValue M) → n.setup ≡ m.setup → n.abort_asked ≡ m.abort_asked → n.start_marks ≡ m.start_marks → n.turns ≡ m.turns → stage g n ≡ stage g m
 unfolding stage
 stage-by g m n setup asked starts turns = rw (setup, asked, starts, turns) refl
@@ -70,7 +69,6 @@ stage-asked : {S M : Type 0} (g : Rules S M) (m : MatchValue M) → m.abort_aske
 unfolding stage
 stage-asked g m asked = rw asked refl
 
--- a role that has not answered in play still answers, and has no open answer
 not_answered-parts : {M : Type 0} (m : MatchValue M) (k : ℕ) → answered_in Playing m k ≡ false → (still_answers m k ≡ true) × (is_there m.open_answers k ≡ false)
 not_answered-parts m k free = step (still_answers m k) refl free
   where
@@ -78,17 +76,16 @@ not_answered-parts m k free = step (still_answers m k) refl free
     step true is free = (is, free)
     step false is free = absurd cc
 
--- ---- the answers of a match
+-- ---- The answers of a match
 
--- The answers that were taken for a match, by role and round: one for each role in each recorded turn, retired roles apart, and one
--- for each open answer, and none for a later round.
+-- The answers that were taken for a match, by role and round: one for each part of a recorded turn whose role was not retired, one for
+-- each open answer, and none for later rounds.
 pub record IsFollowed {S M : Type 0} (g : Rules S M) (m : MatchValue M) (taken : ℕ → ℕ → List Answer) : Type 0 where
   pub recorded : (turn role : ℕ) → turn < length m.turns → role < g.roles → AreTaken (retired_by m.setup.strikes (take turn m.turns) role) g m.turns turn role (taken role (turn + 1))
   pub open_one : (role : ℕ) (j : Judgement M) → role < g.roles → at_role m.open_answers role ≡ Some j → (a : Answer) × (taken role (length m.turns + 1) ≡ a ∷ []) × (judgement g (state_after g m.turns) role a ≡ Some j)
   pub open_none : stage g m ≡ Playing → (role : ℕ) → role < g.roles → at_role m.open_answers role ≡ None → taken role (length m.turns + 1) ≡ []
   pub later : (role n : ℕ) → round g m < n → taken role n ≡ []
 
--- the same answers
 pub followed-same : {S M : Type 0} (g : Rules S M) (m : MatchValue M) (old new : ℕ → ℕ → List Answer) → ((role n : ℕ) → new role n ≡ old role n) → IsFollowed g m old → IsFollowed g m new
 followed-same g m old new same follows = record {
   recorded = λ turn role lt within. subst (λ (l : List Answer). AreTaken (retired_by m.setup.strikes (take turn m.turns) role) g m.turns turn role l) (sym (same role (turn + 1))) (follows.recorded turn role lt within);
@@ -97,7 +94,6 @@ followed-same g m old new same follows = record {
   later = λ role n past. same role n ∙ follows.later role n past;
 }
 
--- no answer was taken for a match with nothing in it
 pub followed-new_match : {S M : Type 0} (g : Rules S M) (setup : Setup) (taken : ℕ → ℕ → List Answer) → ((role n : ℕ) → taken role n ≡ []) → IsFollowed g (new_match {M = M} g setup) taken
 followed-new_match g setup taken none = record {
   recorded = λ turn role lt within. absurd (omega arith);
@@ -116,7 +112,6 @@ round_in-past (Aborting (NoGoal r)) t ne = omega arith
 round_in-past (Aborting TooLong) t ne = omega arith
 round_in-past (Aborting AllRetired) t ne = omega arith
 
--- once all START marks are there, the round is past the recorded turns
 round-past : {S M : Type 0} (g : Rules S M) → StartingMeans g → (m : MatchValue M) → every_role g.roles (is_there m.start_marks) ≡ true → length m.turns + 1 ≤ round g m
 round-past g starting m all =
     let not_start : stage g m ≢ Starting = λ e. let w : true ≡ false = sym all ∙ ((starting m).0 e).1 in absurd cc in
@@ -132,7 +127,6 @@ round-turns g starting m lawful turn lt = step (every_role g.roles (is_there m.s
 round-playing : {S M : Type 0} (g : Rules S M) (m : MatchValue M) → stage g m ≡ Playing → round g m ≡ length m.turns + 1
 round-playing g m playing = ap (λ (x : Stage). round_in x (every_role g.roles (is_there m.start_marks)) (length m.turns)) playing
 
--- if nothing refuses the answer, the role has not answered this round
 not_answered : {S M : Type 0} (g : Rules S M) (m : MatchValue M) (role n : ℕ) → refusal g m role n ≡ None → has_answered g m role ≡ false
 not_answered g m role n e = step (nat_lt role g.roles) (is_over g m) (n == round g m) (has_answered g m role) e
   where
@@ -147,7 +141,6 @@ is_none-none : {A : Type 0} (o : Option A) → is_some o ≡ false → o ≡ Non
 is_none-none None e = refl
 is_none-none (Some x) e = absurd cc
 
--- one more turn does not change the turns before it
 move_at-before : {M : Type 0} (turns : List (Turn M)) (t : Turn M) (turn role : ℕ) → turn < length turns → move_at (turns ++ t ∷ []) turn role ≡ move_at turns turn role
 move_at-before [] t turn role lt = absurd (omega arith)
 move_at-before (x ∷ xs) t zero role lt = refl
@@ -277,7 +270,7 @@ module _ {S M : Type 0} (g : Rules S M) (laws : MatchLaws g) (m : MatchValue M) 
           t : Turn M
           t = turn_of (parts g (record m { open_answers = set m.open_answers role (Some j) }))
 
-          -- a retired role has no open answer, and none was taken
+          -- a retired role has no open answer, and no answer of it was taken
           retired-none : (r : ℕ) → r < g.roles → is_retired m r ≡ true → new r (length m.turns + 1) ≡ []
           retired-none r within out =
               let other : r ≢ role = λ e. let w : false ≡ true = sym (ap not (subst (λ (k : ℕ). is_retired m k ≡ true) e out)) ∙ unanswered.0 in cc in
@@ -287,7 +280,6 @@ module _ {S M : Type 0} (g : Rules S M) (laws : MatchLaws g) (m : MatchValue M) 
               none None e = e
               none (Some i) e = absurd (let w : false ≡ true = sym (ap not out) ∙ (lawful.judged r i within e).0 in cc)
 
-          -- each role of the new turn
           last-answered : (r : ℕ) → r < g.roles → AreTaken (retired_by m.setup.strikes (take (length m.turns) (m.turns ++ t ∷ [])) r) g (m.turns ++ t ∷ []) (length m.turns) r (new r (length m.turns + 1))
           unfolding more t
           last-answered r within =
@@ -354,13 +346,11 @@ module _ {S M : Type 0} (g : Rules S M) (laws : MatchLaws g) (m : MatchValue M) 
         let rounds : round g (with_end_mark m role mark) ≡ round g m = ap (λ (x : Stage). round_in x (every_role g.roles (is_there m.start_marks)) (length m.turns)) same in
         followed-mark (with_end_mark m role mark) refl refl (lawful.answers_in_play not_playing) (omega (arith, rounds)) (λ e. absurd (out (sym same ∙ e)))
 
-    -- an answer to START
     followed-start : stage g m ≡ Starting → IsFollowed g (with_answer_in Starting g m role answer) new
     followed-start is =
         let first : round g m ≡ 0 = ap (λ (x : Stage). round_in x (every_role g.roles (is_there m.start_marks)) (length m.turns)) is in
         followed-mark (with_answer_in Starting g m role answer) refl refl (lawful.answers_in_play (ap is_playing is)) (omega (arith, first)) (λ _. omega (arith, first))
 
-    -- the match after the answer, by what it is doing
     after_is : (at : Stage) → stage g m ≡ at → IsFollowed g (with_answer_in at g m role answer) new → IsFollowed g (after_answer g m role (round g m) answer) new
     after_is at is followed =
         let now : after_answer g m role (round g m) answer ≡ with_answer_in at g m role answer =

@@ -19,7 +19,6 @@ use Rattle.desk_calls.specs.declared.call.Refusal.{Refusal}
 use Rattle.match_desk.proofs.Managers.{keeps-answer, keeps-abort, lawful-with_change}
 use Rattle.match_desk.proofs.OpenTests.{IsOpenable, openable}
 
--- no match has an id that the search does not find
 pub find-none : {M : Type 0} (id : List ℕ) (ms : List (DeskMatch M)) → find (has_id id) ms ≡ None → (k : ℕ) (d : DeskMatch M) → k < length ms → (slice_index_or ms k d).value.setup.id ≢ id
 find-none id [] none k d lt = absurd (omega arith)
 find-none {M} id (m ∷ ms) none k d lt = step (bytes_eq id m.value.setup.id) refl none (find-none id ms) k lt

@@ -36,7 +36,7 @@ kept-opening {G} {S} {M} rules games entries empty =
       lawful = lawful-opening rules games;
     })
 
--- no answer and no abort changes the setup
+-- answers and aborts do not change the setup
 recorded-setup : {S M : Type 0} (g : Rules S M) (m : MatchValue M) → (recorded g m).setup ≡ m.setup
 recorded-setup {S} {M} g m = step (every_role g.roles (answered_in Playing m))
   where
@@ -64,7 +64,7 @@ after_abort-setup {S} {M} g m = step (is_live (stage g m))
     step true = refl
     step false = refl
 
--- a change by a rule keeps a match lawful, and keeps its setup
+-- a change keeps a match lawful, and keeps its setup
 pub record IsKeptBy {S M : Type 0} (g : Rules S M) (f : Rules S M → MatchValue M → MatchValue M) : Type 0 where
   pub lawful : (m : MatchValue M) → IsLawfulMatch g m → IsLawfulMatch g (f g m)
   pub setup : (m : MatchValue M) → (f g m).setup ≡ m.setup

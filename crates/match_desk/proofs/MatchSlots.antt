@@ -14,7 +14,7 @@ use Rattle.match_desk.specs.Steps.{changed_match, with_change}
 use Rattle.match_desk.specs.declared.slot.Slot.{Slot}
 use Rattle.match_desk.proofs.Managers.{IsKeptBy, lawful-with_change}
 
--- a look-up in the index finds what the search in the list finds
+-- a look-up in the index finds the same match as the search in the list
 pub lookup-find : {G S M : Type 0} (games : List G) (id : List ℕ) (entries : List (Vec ℕ Global × Slot G S M)) → All (IsSlotOf games) entries
     → option_map desk_match (lookup (λ key. bytes_eq id key.items) entries) ≡ find (has_id id) (desk_matches entries)
 lookup-find games id [] slots = refl
@@ -28,7 +28,7 @@ lookup-find {G} {S} {M} games id (e ∷ es) slots =
     step false true same rest later so = absurd cc
     step false false same rest later so = so
 
--- the game of a match that is found
+-- the game of a match that the look-up finds
 pub lookup-game : {G S M : Type 0} (games : List G) (id : List ℕ) (entries : List (Vec ℕ Global × Slot G S M)) → All (IsSlotOf games) entries → (s : Slot G S M)
     → lookup (λ key. bytes_eq id key.items) entries ≡ Some s → slice_get games s.game ≡ Some s.held.game
 lookup-game {G} {S} {M} games id entries slots s found =
@@ -39,7 +39,6 @@ pub lookup-within : {G S M : Type 0} (games : List G) (id : List ℕ) (entries :
     → lookup (λ key. bytes_eq id key.items) entries ≡ Some s → s.game < length games
 lookup-within games id entries slots s found = slice_get_within games s.game s.held.game (lookup-game games id entries slots s found)
 
--- the game that is read there
 pub lookup-read : {G S M : Type 0} (games : List G) (id : List ℕ) (entries : List (Vec ℕ Global × Slot G S M)) → All (IsSlotOf games) entries → (s : Slot G S M) (g : G)
     → lookup (λ key. bytes_eq id key.items) entries ≡ Some s → g ≡ slice_index_or games s.game g → s.held.game ≡ g
 lookup-read games id entries slots s g found read = sym (read ∙ get_or_from_slice_get games s.game s.held.game g (lookup-game games id entries slots s found))
@@ -58,7 +57,6 @@ module _ {G S M : Type 0} (games : List G) (entries : List (Vec ℕ Global × Sl
       let here : find (has_id id) (desk_matches entries) ≡ None = sym (lookup-find games id entries slots) ∙ ap (option_map desk_match) none in
       sym (ap (λ (x : ManagerValue G M). match_with_id x id) (sym view) ∙ ap (option_and_then (game_match (record { games = games; matches = desk_matches entries }))) here)
 
-  -- whether there is a match with this id
   pub is_some-match_of : is_some (lookup (λ key. bytes_eq id key.items) entries) ≡ is_some (match_of d id)
   is_some-match_of =
       step (lookup (λ key. bytes_eq id key.items) entries)
@@ -68,7 +66,7 @@ module _ {G S M : Type 0} (games : List G) (entries : List (Vec ℕ Global × Sl
       step None = refl
       step (Some s) = refl
 
--- the match that is found has this id
+-- a match that the look-up finds has this id
 pub lookup-id : {G S M : Type 0} (games : List G) (id : List ℕ) (s : Slot G S M) (entries : List (Vec ℕ Global × Slot G S M)) → All (IsSlotOf games) entries
     → lookup (λ key. bytes_eq id key.items) entries ≡ Some s → bytes_eq id s.held.value.setup.id ≡ true
 lookup-id games id s [] slots found = absurd cc
@@ -96,7 +94,7 @@ map-others id h others (m ∷ ms) none =
     let tail : map h ms ≡ ms = map-others id h others ms (λ k d lt. none (suc k) d (omega arith)) in
     cc
 
--- a change that leaves the matches with other ids alone
+-- a change that does not change matches with other ids
 module _ {G S M : Type 0} (id : List ℕ) (h : DeskMatch M → DeskMatch M) (others : (m : DeskMatch M) → has_id id m ≡ false → h m ≡ m) where
   pub map-none : (games : List G) (entries : List (Vec ℕ Global × Slot G S M)) → All (IsSlotOf games) entries → lookup (λ key. bytes_eq id key.items) entries ≡ None → map h (desk_matches entries) ≡ desk_matches entries
   map-none games [] slots none = refl
@@ -135,7 +133,7 @@ module _ {G S M : Type 0} (id : List ℕ) (h : DeskMatch M → DeskMatch M) (oth
           let tail = later found in
           cc
 
--- a match with the same id and the same game, written in another's place, is stored there as well
+-- a match that replaces another of the same id and game is stored at its index
 pub slots-set_value : {G S M : Type 0} (games : List G) (id : List ℕ) (s w : Slot G S M) → w.held.value.setup.id ≡ s.held.value.setup.id → slice_get games w.game ≡ Some w.held.game
     → (entries : List (Vec ℕ Global × Slot G S M)) → All (IsSlotOf games) entries → lookup (λ key. bytes_eq id key.items) entries ≡ Some s → All (IsSlotOf games) (set_value (λ key. bytes_eq id key.items) entries w)
 slots-set_value games id s w same of_game [] slots found = slots
@@ -154,7 +152,7 @@ slots-set_value {G} {S} {M} games id s w same of_game (e ∷ es) slots found =
     step true rest found later = both (e.0, w) es (first cc) (λ k d lt. slots (suc k) d (omega arith))
     step false rest found later = both e (set_value (λ key. bytes_eq id key.items) es w) (slots 0 e (omega arith)) (later found)
 
--- writing a value where it already is changes nothing
+-- writing the value that is already there changes nothing
 pub set_value-same : {G S M : Type 0} (id : List ℕ) (s : Slot G S M) (entries : List (Vec ℕ Global × Slot G S M)) → lookup (λ key. bytes_eq id key.items) entries ≡ Some s → set_value (λ key. bytes_eq id key.items) entries s ≡ entries
 set_value-same id s [] found = absurd cc
 set_value-same {G} {S} {M} id s (e ∷ es) found = step (bytes_eq id e.0.items) (lookup (λ key. bytes_eq id key.items) es) found (set_value-same id s es)
@@ -187,7 +185,7 @@ module _ {G S M : Type 0} (rules : G → Rules S M) (games : List G) (entries : 
   value-none none entries' same =
       ap (λ l. with_games (desk_matches l)) same ∙ (ap with_games (sym (map-none id change others games entries kept.slots none)) ∙ ap (λ (x : ManagerValue G M). with_change rules x id f) view)
 
-  -- a match is written in the place of the one that was found
+  -- replacing the match that was found
   module _ (s : Slot G S M) (found : lookup (λ key. bytes_eq id key.items) entries ≡ Some s) (held : GameMatch G M) (same : held.game ≡ s.held.game)
       (entries' : List (Vec ℕ Global × Slot G S M)) (written : entries' ≡ set_value (λ key. bytes_eq id key.items) entries (record { game = s.game; held = held })) where
     of_game : slice_get games s.game ≡ Some s.held.game
@@ -221,7 +219,7 @@ module _ {G S M : Type 0} (rules : G → Rules S M) (games : List G) (entries : 
     entries-same is =
         written ∙ (ap (λ (x : GameMatch G M). set_value (λ key. bytes_eq id key.items) entries (record { game = s.game; held = x })) is ∙ set_value-same id s entries found)
 
-    -- the change was made, or refused
+    -- the change was made or refused
     pub kept-either : {E : Type 0} (r : Result (Unit {0}) E) → OnOk r (held.value ≡ f (rules s.held.game) s.held.value) → OnErr r (held ≡ s.held) → AreKept rules games entries'
     kept-either (Ok u) ok err = kept-ok (ok)
     kept-either (Err e) ok err = subst (λ (l : List (Vec ℕ Global × Slot G S M)). AreKept rules games l) (sym (entries-same err)) kept

@@ -1,4 +1,4 @@
--- A match that is opened is stored in its place.
+-- A match that is opened is stored at its index.
 use Rattle.std.proofs.Common.{◌≡◌, ◌<◌, ◌≤◌, ℕ, true, arith, length, slice_index_or, Option, Some, None, List, [], ◌∷◌, ◌++◌, refl, ap, sym, ◌∙◌, subst, Vec}
 use Rattle.std.proofs.lemmas.List.{map-append}
 use Rattle.std.proofs.lemmas.List.Elements.{All-push}
@@ -39,14 +39,12 @@ module _ {G S M : Type 0} (rules : G → Rules S M) (games : List G) (entries : 
       step None e = refl
       step (Some s) e = absurd cc
 
-  -- the game that is read at this number
   pub game-read : (g : G) → g ≡ slice_index_or games game g → Some g ≡ slice_get games game
   game-read g read =
       let same : games ≡ d.games = ap (λ (x : ManagerValue G M). x.games) view in
       let within : game < length games = subst (λ (l : List G). game < length l) (sym same) (slice_get_within d.games game is_openable.of_game is_openable.is_game) in
       sym (slice_get_read games (length games) game g refl within read)
 
-  -- the game has this many roles
   pub one_each : (g : G) (made : Setup) → g ≡ slice_index_or games game g → made ≡ setup → length made.players ≡ (rules g).roles
   one_each g made read made_is =
       let same : is_openable.of_game ≡ g = let w : Some is_openable.of_game ≡ Some g = sym is_openable.is_game ∙ (ap (λ (x : ManagerValue G M). slice_get x.games game) (sym view) ∙ sym (game-read g read)) in cc in

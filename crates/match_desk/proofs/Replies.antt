@@ -1,4 +1,4 @@
--- Replies that are no refusals.
+-- Replies that are not refusals.
 use Rattle.std.proofs.Common.{◌≡◌, ℕ, false, Option, Some, None, List, ap, subst, sym, ◌∙◌}
 use Rattle.std.specs.Prelude.{option_map, unwrap_or, IsSomeAnd}
 use Rattle.game_core.specs.Play.{Rules}
@@ -10,14 +10,12 @@ use Rattle.match_desk.specs.Steps.{answer_reply, answer_refused, refused_or, rep
 use Rattle.desk_calls.specs.declared.call.Reply.TheVariants.{Taken, Refused}
 use Rattle.desk_calls.specs.declared.call.Refusal.TheVariants.{NoMatch}
 
--- if the match with this id refuses no such answer, the reply is no refusal
 pub accepted-answer : {G S M : Type 0} (rules : G → Rules S M) (d : ManagerValue G M) (id : List ℕ) (role round : ℕ) (m : GameMatch G M) → Some m ≡ match_with_id d id
     → refusal (rules m.game) m.value role round ≡ None → is_refused (reply_of rules d id (answer_reply role round)) ≡ false
 accepted-answer {G} {S} {M} rules d id role round m found none =
     ap (λ (o : Option (GameMatch G M)). is_refused (unwrap_or (option_map (λ x. answer_reply role round (rules x.game) x.value) o) (Refused NoMatch))) (sym found)
     ∙ ap (λ o. is_refused (refused_or (answer_refused o) Taken)) none
 
--- if taking the answer may need memory, the match with this id may need it
 pub answer_wants_memory : {G S M : Type 0} (rules : G → Rules S M) (d : ManagerValue G M) (id : List ℕ) (role : ℕ) (m : GameMatch G M) → Some m ≡ match_with_id d id
     → MayWantMemory (rules m.game) m.value role → AnswerWantsMemory rules d id role
 answer_wants_memory {G} {S} {M} rules d id role m found may = subst (λ (o : Option (GameMatch G M)). IsSomeAnd o (λ x. MayWantMemory (rules x.game) x.value role)) found may

@@ -1,4 +1,4 @@
--- The answers that a history took, and what came of them.
+-- The answers that a history took, and the moves that followed from them.
 use Rattle.std.specs.Prelude.{◌≡◌, ◌↔◌, ℕ, ◌+◌, ◌<◌, ◌==◌, ◌&&◌, Bool, true, false, if◌then◌else◌, List, [], ◌∷◌, ◌++◌, length, take, Option, Some, None, option_to_list, slice_get, bytes_eq, All}
 use Rattle.game_core.specs.Play.{Rules}
 use Rattle.match_book.specs.Judgement.{judgement}
@@ -17,11 +17,11 @@ use Rattle.desk_calls.specs.declared.call.Call.TheVariants.{Open, Next, Submit, 
 use Rattle.desk_calls.specs.declared.call.Reply.{Reply}
 use Rattle.desk_calls.specs.declared.call.Reply.TheVariants.{Opened, Due, Taken, Status, Aborting, Refused}
 
--- the answer a, if these are the wanted match, role and round
+-- the answer a, if the match, the role and the round are the ones in question
 abbrev pub answer_if : Bool → Answer → Option Answer
 answer_if wanted a = if wanted then Some a else None
 
--- the answer that a call gives for this role and round of the match with this id, if it gives one
+-- the answer that a call gives for this role and round of the match with this id, if any
 abbrev pub answer_of : List ℕ → ℕ → ℕ → Call → Option Answer
 answer_of id role round (Open i game start play strikes players) = None
 answer_of id role round (Next i r) = None
@@ -38,17 +38,16 @@ is_taken (Status s) = false
 is_taken Aborting = false
 is_taken (Refused reason) = false
 
--- the answer of an entry whose reply is `Taken`
 abbrev pub taken_answer : List ℕ → ℕ → ℕ → Entry Call Reply → List Answer
 taken_answer id role round e = if is_taken e.reply then option_to_list (answer_of id role round e.call) else []
 
--- the answers that the history took for this role and round of the match with this id, in their order
+-- the answers that the history took for this role and round of the match with this id, in order
 abbrev pub taken_answers : List ℕ → ℕ → ℕ → List (Entry Call Reply) → List Answer
 taken_answers id role round [] = []
 taken_answers id role round (e ∷ es) = taken_answer id role round e ++ taken_answers id role round es
 
--- These answers are one answer, and the role's place in the turn has its judgement in the state before the turn. The error is empty
--- if and only if the answer names the move.
+-- There is exactly one answer, and the role's part of the turn is its judgement in the state before the turn. The error is empty if
+-- and only if the answer names the move.
 pub record IsAnswered {S M : Type 0} (g : Rules S M) (turns : List (Turn M)) (turn role : ℕ) (answers : List Answer) : Type 0 where
   pub answer : Answer
   pub one : answers ≡ answer ∷ []
@@ -58,13 +57,13 @@ pub record IsAnswered {S M : Type 0} (g : Rules S M) (turns : List (Turn M)) (tu
   pub error_is : error_at turns turn role ≡ Some judged.error
   pub no_error : (judged.error ≡ []) ↔ Names g answer judged.taken
 
--- these answers were taken of a role for a recorded turn: none if the earlier turns retire the role, or else the one that is judged
+-- the answers taken from a role for a recorded turn: none if the earlier turns retire the role, or else the one that is judged
 abbrev pub AreTaken : {S M : Type 0} → Bool → Rules S M → List (Turn M) → ℕ → ℕ → List Answer → Type 0
 AreTaken true g turns turn role answers = answers ≡ []
 AreTaken false g turns turn role answers = IsAnswered g turns turn role answers
 
--- For each recorded turn of the match, and each role that the earlier turns do not retire, the history took one answer for the
--- turn's round, and the turn has its judgement. It took no answer of a role that they retire.
+-- For each recorded turn of the match and each role that the earlier turns do not retire, the history took one answer for the turn's
+-- round, and the turn has its judgement. From a role that they retire it took no answer.
 pub record IsAccounted {G S M : Type 0} (rules : G → Rules S M) (games : List G) (history : List (Entry Call Reply)) (m : DeskMatch M) : Type 0 where
   pub game : G
   pub is_game : slice_get games m.game ≡ Some game

@@ -1,4 +1,4 @@
--- The headline: what is known of a closed desk of matches, however its calls reached it.
+-- The main theorem: what holds for a closed desk of matches, however its calls reached it.
 use Rattle.std.specs.Prelude.{◌≡◌, ℕ, List, length, sum, Some, All, slice_get}
 use Rattle.game_core.specs.Play.{Rules, AreLegal}
 use Rattle.match_book.specs.MatchValue.{joint_moves}
@@ -20,18 +20,17 @@ pub record IsPlayedLegally {G S M : Type 0} (rules : G → Rules S M) (games : L
 abbrev pub ArePlayedLegally : {G S M : Type 0} → (G → Rules S M) → ManagerValue G M → Type 0
 ArePlayedLegally rules d = All (IsPlayedLegally rules d.games) d.matches
 
--- A desk with this many lines has closed with this manager, this history, and these numbers of calls by line.
+-- A desk with this many lines was closed with this manager, this history, and these numbers of calls of the lines.
 pub record HasHeadline {G S M : Type 0} (rules : G → Rules S M) (lines : ℕ) (d : ManagerValue G M) (history : List (Entry Call Reply)) (made_by_line : List ℕ) : Type 0 where
-  -- the history, replayed call by call on one thread from the games without a match, gives every kept reply and this manager
+  -- replaying the history call by call on one thread, from the games without matches, gives every stored reply and this manager
   pub replay : IsReplay (reply rules) (after rules) opening d history
-  -- there is a number of calls for each line
   pub one_each : length made_by_line ≡ lines
-  -- the history holds as many calls as the lines made
+  -- the history has as many calls as the lines made
   pub counted : sum made_by_line ≡ length history
-  -- each match is lawful, has a setup that can be opened and an id of its own
+  -- each match is lawful, with a setup that can be opened and a unique id
   pub lawful : IsLawfulManager rules d
   -- each match's recorded joint moves are legal turns of its game
   pub legal : ArePlayedLegally rules d
   -- For each recorded move of a role that the earlier turns do not retire, the history took exactly one answer of the role, and the
-  -- move and its error are that answer's judgement. It took no answer of a role that the earlier turns retire.
+  -- move and its error are the judgement of this answer. From a role that the earlier turns retire it took no answer.
   pub accounted : AreAccounted rules d history

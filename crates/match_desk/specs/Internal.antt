@@ -1,4 +1,4 @@
--- What only private functions and proofs cite: nothing in it needs to be believed.
+-- Definitions that only private functions and proofs use. The guarantees do not depend on them.
 pub mod Slots
 pub mod MatchLaws
 pub mod AskedSetups

@@ -9,7 +9,7 @@ use Rattle.desk_calls.specs.declared.call.Call.TheVariants.{Open, Next, Submit, 
 use Rattle.desk_calls.specs.declared.call.Reply.{Reply}
 use Rattle.desk_calls.specs.declared.call.Reply.TheVariants.{Opened, Due, Taken, Status, Aborting, Refused}
 
--- the reply carries the texts of a joint move
+-- the reply has the texts of a joint move
 abbrev pub CarriesTexts : Reply → Type 0
 CarriesTexts Opened = ⊥
 CarriesTexts (Due due) = OwesMoves due
@@ -18,11 +18,11 @@ CarriesTexts (Status status) = ⊥
 CarriesTexts Aborting = ⊥
 CarriesTexts (Refused reason) = ⊥
 
--- the match with this id may need memory to take an answer of the role
+-- taking an answer of the role in the match with this id may need memory
 abbrev pub AnswerWantsMemory : {G S M : Type 0} → (G → Rules S M) → ManagerValue G M → List ℕ → ℕ → Type 0
 AnswerWantsMemory rules d id role = IsSomeAnd (match_with_id d id) (λ m. MayWantMemory (rules m.game) m.value role)
 
--- The call may need memory to change the manager: for a new match, or for an answer.
+-- Making the call may need memory: for a new match, or for an answer.
 abbrev pub WantsMemory : {G S M : Type 0} → (G → Rules S M) → ManagerValue G M → Call → Type 0
 WantsMemory rules d (Open id game start play strikes players) = ⊤
 WantsMemory rules d (Next id role) = ⊥

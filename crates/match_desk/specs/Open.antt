@@ -18,7 +18,6 @@ first_refusal (test ∷ tests) = if test.0 then first_refusal tests else Some te
 abbrev pub has_roles : {G S M : Type 0} → (G → Rules S M) → Option G → ℕ → Bool
 has_roles rules o n = unwrap_or (option_map (λ g. n == (rules g).roles) o) false
 
--- the tests of `Open`, in their order
 abbrev pub open_tests : {G S M : Type 0} → (G → Rules S M) → ManagerValue G M → ℕ → Setup → List (Bool × Refusal)
 open_tests rules d game setup =
     (is_name setup.id, BadId)
@@ -31,15 +30,15 @@ open_tests rules d game setup =
     ∷ ((nat_lt (length d.matches) max_matches, DeskFull)
     ∷ [])))))))
 
--- why a match is not opened: none if it is opened
+-- the first reason why a match cannot be opened, or None if it can
 abbrev pub open_refusal : {G S M : Type 0} → (G → Rules S M) → ManagerValue G M → ℕ → Setup → Option Refusal
 open_refusal rules d game setup = first_refusal (open_tests rules d game setup)
 
--- the matches with a new one, which has nothing in it
+-- the matches and a new one, which has no answers
 abbrev pub with_new_match : {G S M : Type 0} → (G → Rules S M) → ManagerValue G M → ℕ → Setup → Option G → ManagerValue G M
 with_new_match rules d game setup None = d
 with_new_match rules d game setup (Some g) = record d { matches = d.matches ++ (record { game = game; value = new_match (rules g) setup }) ∷ [] }
 
--- the manager after `Open`: unchanged if the match is not opened
+-- the manager after `Open`; unchanged if the match cannot be opened
 abbrev pub after_open : {G S M : Type 0} → (G → Rules S M) → ManagerValue G M → ℕ → Setup → ManagerValue G M
 after_open rules d game setup = if is_none (open_refusal rules d game setup) then with_new_match rules d game setup (slice_get d.games game) else d

@@ -19,7 +19,6 @@ use Rattle.desk_calls.specs.declared.call.Reply.TheVariants.{Opened, Due, Taken,
 use Rattle.desk_calls.specs.declared.call.Refusal.{Refusal}
 use Rattle.desk_calls.specs.declared.call.Refusal.TheVariants.{NoMatch, NoRole, Over, Stale, Twice, Ended}
 
--- whether the reply refuses its call
 abbrev pub is_refused : Reply → Bool
 is_refused Opened = false
 is_refused (Due d) = false
@@ -36,16 +35,16 @@ setup_of id start play strikes players = record { id = id; start = start; play =
 abbrev pub open_call : ℕ → Setup → Call
 open_call game setup = Open setup.id game setup.start setup.play setup.strikes setup.players
 
--- the answer that a `Miss` stands for
+-- the answer that a `Miss` means
 abbrev pub missed : Bool → Answer
 missed broken = if broken then Broken else Silent
 
--- the refusal with this reason, or else this reply
+-- the refusal for this reason, or else this reply
 abbrev pub refused_or : Option Refusal → Reply → Reply
 refused_or None reply = reply
 refused_or (Some reason) reply = Refused reason
 
--- the match's own refusal of an answer
+-- the refusal of a call, for a match's refusal of an answer
 abbrev pub answer_refused : Option AnswerRefusal → Option Refusal
 answer_refused None = None
 answer_refused (Some MatchNoRole) = Some NoRole
@@ -53,7 +52,7 @@ answer_refused (Some MatchOver) = Some Over
 answer_refused (Some (MatchStale n)) = Some (Stale n)
 answer_refused (Some MatchTwice) = Some Twice
 
--- the replies of a match, by its rules
+-- the replies of a match
 abbrev pub next_reply : {S M : Type 0} → ℕ → Rules S M → MatchValue M → Reply
 next_reply role g m = if nat_lt role g.roles then Due (due g m role) else Refused NoRole
 
@@ -70,7 +69,6 @@ abort_reply g m = if is_live (stage g m) then Aborting else Refused Ended
 abbrev pub reply_of : {G S M : Type 0} → (G → Rules S M) → ManagerValue G M → List ℕ → (Rules S M → MatchValue M → Reply) → Reply
 reply_of rules d id f = unwrap_or (option_map (λ m. f (rules m.game) m.value) (match_with_id d id)) (Refused NoMatch)
 
--- the reply to a call
 abbrev pub reply : {G S M : Type 0} → (G → Rules S M) → ManagerValue G M → Call → Reply
 reply rules d (Open id game start play strikes players) = refused_or (open_refusal rules d game (setup_of id start play strikes players)) Opened
 reply rules d (Next id role) = reply_of rules d id (next_reply role)
@@ -79,15 +77,13 @@ reply rules d (Miss id role round broken) = reply_of rules d id (answer_reply ro
 reply rules d (Query id) = reply_of rules d id query_reply
 reply rules d (Abort id) = reply_of rules d id abort_reply
 
--- a match after the change f, by the rules of its game
 abbrev pub changed_match : {G S M : Type 0} → (G → Rules S M) → ManagerValue G M → (Rules S M → MatchValue M → MatchValue M) → DeskMatch M → DeskMatch M
 changed_match rules d f m = record m { value = unwrap_or (option_map (λ g. f (rules g) m.value) (game_of d m)) m.value }
 
--- the manager after the change f of the match with this id, and of no other
+-- the manager after the change f of the match with this id
 abbrev pub with_change : {G S M : Type 0} → (G → Rules S M) → ManagerValue G M → List ℕ → (Rules S M → MatchValue M → MatchValue M) → ManagerValue G M
 with_change rules d id f = record d { matches = map (λ m. if has_id id m then changed_match rules d f m else m) d.matches }
 
--- the manager after a call
 abbrev pub after : {G S M : Type 0} → (G → Rules S M) → ManagerValue G M → Call → ManagerValue G M
 after rules d (Open id game start play strikes players) = after_open rules d game (setup_of id start play strikes players)
 after rules d (Next id role) = d

@@ -8,7 +8,7 @@ use desk_calls::{Call, Setup};
 use game_core::{Text, Texts};
 use std::alloc::{AllocError, Global};
 
-/// The setup that an `Open` asks for, with its game's number. It borrows the call's texts.
+/// The setup that an `Open` asks for, and the number of its game. It borrows the call's texts.
 #[derive(Clone, Copy)]
 pub struct AskedSetup<'a> {
     pub id: &'a Text,
@@ -19,7 +19,7 @@ pub struct AskedSetup<'a> {
     pub players: &'a Texts,
 }
 
-/// A copy of the texts.
+/// Copies the texts.
 pub fn copy_texts(alloc: Global, texts: &[Text]) -> Result<Texts, AllocError>
     ensures { IfOk result (λ copies. copies ≡ texts.now) }
 {
@@ -30,7 +30,7 @@ pub fn copy_texts(alloc: Global, texts: &[Text]) -> Result<Texts, AllocError>
     Ok(Texts { items })
 }
 
-/// The `Open` that asks for a match of the game with this number, with this setup.
+/// The `Open` that asks for a match of the game with this number and with this setup.
 pub fn open_call(game: usize, setup: Setup) -> Call
     ensures { result ≡ open_call game setup }
 {
@@ -70,7 +70,7 @@ impl<'a> AskedSetup<'a> {
         }
     }
 
-    /// An `Open` that asks for this setup, with copies of the texts.
+    /// Makes an `Open` that asks for this setup, with copies of the texts.
     pub fn to_call(&self, alloc: Global) -> Result<Call, AllocError>
         ensures { IfOk result (λ call. call ≡ open_call self.now.game (asked_setup self.now)) }
     {
@@ -92,7 +92,7 @@ impl<'a> AskedSetup<'a> {
         })
     }
 
-    /// The setup of the match, with copies of the texts.
+    /// Makes the setup of the match, with copies of the texts.
     pub fn setup(&self, alloc: Global) -> Result<Setup, AllocError>
         requires { self.now.strikes ≤ max_strikes }
         ensures { IfOk result (λ setup. setup ≡ asked_setup self.now) }

@@ -1,4 +1,4 @@
-//! How a desk of matches is closed, when many threads shared its manager, behind a lock or over rings.
+//! Closes a desk of matches, whose manager many threads shared, behind a lock or over rings.
 ghost use Rattle.std.specs.Prelude.{◌≡◌, ◌<◌, ◌↔◌, ℕ, length, slice_index, IsOk, IfOk, IfErr, Contains};
 ghost use Rattle.call_history.specs.Lines.{numbers, HasAll, IsLowestMissing};
 ghost use Rattle.call_history.specs.RingLines.{AreEndsOf};
@@ -13,14 +13,16 @@ use call_history::{
 use game_core::Game;
 use std::sync::ledger::Ledger;
 
-/// Closes a desk of matches behind a lock if all its lines are handed in.
+/// Closes a desk of matches behind a lock if all its lines are given.
 ///
-/// A closed desk's history replays: made again call by call on one thread, by a manager of the same games without a match, it
-/// gives every kept reply and the manager as it stands. It holds as many calls as the lines made. Each match is lawful, and its
-/// recorded joint moves were legal; `Match::state` promises that its state is the game's after these moves. For each recorded
-/// move of a role that the earlier turns do not retire, the history took exactly one answer of the role, and the move and its
-/// error are the judgement of that answer. The error is empty if and only if the answer named the move. Of a role that the
-/// earlier turns retire, the history took no answer.
+/// The history of the closed desk replays: a manager of the same games without matches, given these calls one by one on one
+/// thread, gives every stored reply and ends as this manager. The history has as many calls as the lines made. Each match is
+/// lawful, and its recorded joint moves were legal; `Match::state` guarantees that its state is the game's state after these
+/// moves.
+///
+/// For each recorded move of a role that was not yet retired, the history took exactly one answer of the role, and the move
+/// and its error are the judgement of this answer. The error is empty if and only if the answer named the move. For a role
+/// that was already retired, the history took no answer.
 pub fn close_desk<G: Game, L: Ledger>(
     desk: LockDesk<Manager<G>, L>,
     lines: Vec<LockLine<L>>,
@@ -37,11 +39,11 @@ pub fn close_desk<G: Game, L: Ledger>(
     desk.close(lines)
 }
 
-/// Closes a desk of matches over rings if the ends of all its lines are handed in and all their calls were served.
+/// Closes a desk of matches over rings if the ends of all its lines are given and all their calls were served.
 ///
-/// What is known of it then is what `close_desk` says of a desk behind a lock, and each line's own calls. Its part of the history
-/// has exactly the calls that it posted, and the replies that it took are the first of those to its calls. The laws of
-/// `call_history` say that the ends stay those of the desk's lines.
+/// All that `close_desk` says of a desk behind a lock holds for it too. In addition, each line's part of the history has
+/// exactly the calls that the line posted, and the replies that the line took are the first of the replies to its calls. The
+/// laws of `call_history` say that the ends of a desk's lines stay its ends.
 pub fn close_rings<G: Game>(
     desk: RingDesk<Manager<G>>,
     ends: Vec<LineEnd<Manager<G>>>,

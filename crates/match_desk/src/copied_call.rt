@@ -1,11 +1,10 @@
-//! Copies of calls.
 ghost use Rattle.std.specs.Prelude.{◌≡◌, IfOk};
 
 use crate::asked_setup::AskedSetup;
 use desk_calls::Call;
 use std::alloc::{AllocError, Global};
 
-/// A copy of the call.
+/// Copies a call.
 pub fn copied_call(alloc: Global, call: &Call) -> Result<Call, AllocError>
     ensures { IfOk result (λ copy. copy ≡ call.now) }
 {

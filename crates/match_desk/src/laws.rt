@@ -15,7 +15,6 @@ use match_book::laws::{
     no_error_means_named, recorded_moves_are_legal, stages_are_settled, taken_for_the_round,
 };
 
-/// What is known of each match of a game of this type.
 pub(crate) fn match_laws<G: Game>()
     ensures { (game : G) → MatchLaws (G.rules game) }
 {
@@ -29,10 +28,11 @@ pub(crate) fn match_laws<G: Game>()
     stages_are_settled::<G>();
 }
 
-/// The accepted-answer law. Take a history that is legal from an opening, a recorded turn of a match, and a role that the earlier
-/// turns do not retire. Exactly one entry is a taken answer for them: a `Submit` or a `Miss` for the match's id, the role and the
-/// turn's round, with the reply `Taken`. The recorded move and error are the judgement of its answer in the state before the
-/// turn. No answer was taken of a role that the earlier turns retire.
+/// Each recorded move comes from one accepted answer. Take a history that is legal from an opening, a recorded turn of a
+/// match, and a role that the earlier turns do not retire. Exactly one entry is an accepted answer for them: a `Submit` or a
+/// `Miss` for the match's id, the role and the turn's round, with the reply `Taken`. The recorded move and its error are the
+/// judgement of this answer in the state before the turn. If the earlier turns retire the role, no entry is an accepted
+/// answer for it.
 pub fn answers_are_accounted<G: Game>(opening: &Manager<G>, history: &[Entry<Call, Reply>])
     requires opening { opening.now.matches ≡ [] }
     requires legal { IsLegalHistory (reply G.rules) (after G.rules) opening.now history.now }
@@ -41,7 +41,7 @@ pub fn answers_are_accounted<G: Game>(opening: &Manager<G>, history: &[Entry<Cal
     match_laws::<G>();
 }
 
-/// Each manager is lawful: each match is a lawful match of its game, with a setup that can be opened and an id of its own.
+/// Each manager is lawful: each match is a lawful match of its game, with a setup that can be opened and a unique id.
 pub fn managers_are_lawful<G: Game>(manager: &Manager<G>)
     ensures { IsLawfulManager G.rules manager.now }
 {

@@ -1,8 +1,7 @@
-//! The desk of all matches: a manager that holds many matches behind six calls. Each call has a stated reply
-//! and a stated effect, so that a history of calls can be made again on one thread.
+//! The desk of all matches: a manager that has many matches behind six calls. The contract of each call states its reply and
+//! its effect, so a history of calls can be replayed on one thread.
 //!
-//! Methods take the allocator right after `self`, free functions take it first. `close_desk` and `close_rings` state what
-//! is known of a manager that many threads shared, behind a lock or over rings.
+//! `close_desk` and `close_rings` state what holds for a manager that many threads shared, behind a lock or over rings.
 #![tactic(auto)]
 
 mod asked_setup;

@@ -21,13 +21,13 @@ use match_book::laws::{abort_keeps_lawful, answers_keep_lawful, new_match_is_law
 use std::alloc::{AllocError, Global};
 use std::marker::Model;
 
-/// The limit of matches at a desk.
+/// The largest number of matches of a desk.
 const MAX_MATCHES: usize = 1_024;
 
-/// The number of matches for which there is room from the start.
+/// The number of matches for which memory is allocated at the start.
 const FIRST_ROOM: usize = 8;
 
-/// A fixed list of games, and matches of these games in order of opening. No match is ever removed.
+/// A fixed list of games, and matches of these games in the order of opening. No match is ever removed.
 #[derive(Drop)]
 pub struct Manager<G: Game> {
     games: Vec<G>,
@@ -46,7 +46,7 @@ impl<G: Game> Model for Manager<G> {
 }
 
 impl<G: Game> Manager<G> {
-    /// A manager of these games, without a match. Games are numbered from 0.
+    /// Creates a manager of these games, without matches. Games are numbered from 0.
     pub fn new(alloc: Global, games: Vec<G>) -> Result<Manager<G>, AllocError>
     where
         G: Drop,
@@ -66,7 +66,7 @@ impl<G: Game> Manager<G> {
         self.matches.len()
     }
 
-    /// The match at a place in the order of opening. Places are numbered from 0.
+    /// The match with this index in the order of opening, counted from 0.
     pub fn match_at(&self, place: usize) -> Option<&Match<G>>
         ensures { option_copied result ≡ option_and_then (game_match self.now) (slice_get self.now.matches place) }
     {
@@ -74,7 +74,7 @@ impl<G: Game> Manager<G> {
         Some(&slot.held)
     }
 
-    /// The match with this id, compared byte for byte.
+    /// The match with this id. Ids are compared byte for byte.
     pub fn find(&self, id: &[u8]) -> Option<&Match<G>>
         ensures { option_copied result ≡ match_with_id self.now id.now }
     {
@@ -82,7 +82,7 @@ impl<G: Game> Manager<G> {
         Some(held)
     }
 
-    /// The game of the match at a place in the order of opening.
+    /// The game of the match with this index in the order of opening.
     pub fn game_of_match(&self, place: usize) -> Option<&G>
         ensures { option_copied result ≡ option_and_then (game_of self.now) (slice_get self.now.matches place) }
     {
@@ -97,7 +97,6 @@ impl<G: Game> Manager<G> {
         self.games.get(number)
     }
 
-    /// The match with this id, and its game.
     fn game_and_match(&self, id: &[u8]) -> Option<(&G, &Match<G>)>
         ensures found { option_map (λ r. r.1.now) result ≡ match_with_id self.now id.now }
         ensures game { IfSome result (λ r. r.1.now.game ≡ r.0.now) }
@@ -106,14 +105,13 @@ impl<G: Game> Manager<G> {
         Some((&self.games[slot.game], &slot.held))
     }
 
-    /// Whether there is a match with this id.
     fn has_match(&self, id: &[u8]) -> bool
         ensures { result ≡ is_some (match_of self.now id.now) }
     {
         self.matches.contains_key(id)
     }
 
-    /// Why a match is not opened, by the tests in their order. `None` if it is opened.
+    /// The first reason why a match cannot be opened, or `None` if it can.
     fn open_refusal(&self, asked: &AskedSetup<'_>) -> Option<Refusal>
         ensures { result ≡ open_refusal G.rules self.now asked.now.game (asked_setup asked.now) }
     {
@@ -145,7 +143,6 @@ impl<G: Game> Manager<G> {
         None
     }
 
-    /// The reply to an `Open`.
     fn open_reply(&self, asked: &AskedSetup<'_>) -> Reply
         ensures { result ≡ refused_or (open_refusal G.rules self.now asked.now.game (asked_setup asked.now)) Opened }
     {
@@ -155,7 +152,7 @@ impl<G: Game> Manager<G> {
         }
     }
 
-    /// Opens a match if nothing refuses it.
+    /// Opens a match unless there is a refusal.
     fn open(&mut self, alloc: Global, asked: &AskedSetup<'_>) -> Result<(), AllocError>
         ensures ok { OnOk result (self.new ≡ after_open G.rules self.old asked.now.game (asked_setup asked.now)) }
         ensures err { OnErr result (self.new ≡ self.old) }
@@ -178,7 +175,6 @@ impl<G: Game> Manager<G> {
         Ok(())
     }
 
-    /// The reply that says what is due to a role of a match.
     fn next_reply(&self, alloc: Global, id: &[u8], role: usize) -> Result<Reply, AllocError>
         ensures reply { IfOk result (λ r. r ≡ reply_of G.rules self.now id.now (next_reply role)) }
         ensures accepted { OnErr result (is_refused (reply_of G.rules self.now id.now (next_reply role)) ≡ false) }
@@ -190,7 +186,6 @@ impl<G: Game> Manager<G> {
         }
     }
 
-    /// The reply to an answer of a role of a match for a round.
     fn answer_reply(&self, id: &[u8], role: usize, round: u64) -> Reply
         ensures { result ≡ reply_of G.rules self.now id.now (answer_reply role round) }
     {
@@ -200,7 +195,6 @@ impl<G: Game> Manager<G> {
         }
     }
 
-    /// The reply that says where a match stands.
     fn query_reply(&self, id: &[u8]) -> Reply
         ensures { result ≡ reply_of G.rules self.now id.now query_reply }
     {
@@ -210,7 +204,6 @@ impl<G: Game> Manager<G> {
         }
     }
 
-    /// The reply to an abort of a match.
     fn abort_reply(&self, id: &[u8]) -> Reply
         ensures { result ≡ reply_of G.rules self.now id.now abort_reply }
     {
@@ -220,7 +213,7 @@ impl<G: Game> Manager<G> {
         }
     }
 
-    /// Gives a match an answer.
+    /// Passes an answer to a match.
     fn take_answer(
         &mut self,
         alloc: Global,
@@ -242,7 +235,6 @@ impl<G: Game> Manager<G> {
         slot::take_answer(alloc, game, &mut slot.held, role, round, given)
     }
 
-    /// Aborts a match.
     fn take_abort(&mut self, id: &[u8])
         ensures { self.new ≡ with_change G.rules self.old id.now after_abort }
     {
@@ -272,7 +264,7 @@ impl<G: Game> Object for Manager<G> {
 
     fn answer(&self, alloc: Global, call: &Call) -> Result<Reply, AllocError>
         ensures reply { IfOk result (λ r. r ≡ reply G.rules self.now call.now) }
-        // A refused call needs no memory. Among the others, only those with a reply that carries moves' texts need it.
+        // A refused call needs no memory. Of the others, only those whose reply has the texts of moves need it.
         ensures accepted { OnErr result (is_refused (reply G.rules self.now call.now) ≡ false) }
         ensures memory { OnErr result (CarriesTexts (reply G.rules self.now call.now)) }
     {
@@ -299,8 +291,7 @@ impl<G: Game> Object for Manager<G> {
     fn apply(&mut self, alloc: Global, call: &Call) -> Result<(), AllocError>
         ensures ok { OnOk result (self.new ≡ after G.rules self.old call.now) }
         ensures err { OnErr result (self.new ≡ self.old) }
-        // A refused call needs no memory. Among the others, only those that open a match or take an answer into a turn
-        // need it.
+        // A refused call needs no memory. Of the others, only those that open a match or take an answer into a turn need it.
         ensures accepted { OnErr result (is_refused (reply G.rules self.old call.now) ≡ false) }
         ensures memory { OnErr result (WantsMemory G.rules self.old call.now) }
     {

@@ -17,7 +17,7 @@ pub struct Slot<G: Game> {
     pub held: Match<G>,
 }
 
-/// The reply that says what is due to a role.
+/// The reply to `Next`.
 pub fn next_reply<G: Game>(
     alloc: Global,
     game: &G,
@@ -36,7 +36,7 @@ pub fn next_reply<G: Game>(
     }
 }
 
-/// The reply to an answer of a role for a round.
+/// The reply to an answer.
 pub fn answer_reply<G: Game>(held: &Match<G>, role: usize, round: u64) -> Reply
     ensures { result ≡ answer_reply role round (G.rules held.now.game) held.now.value }
 {
@@ -50,14 +50,14 @@ pub fn answer_reply<G: Game>(held: &Match<G>, role: usize, round: u64) -> Reply
     Reply::Refused(refusal)
 }
 
-/// The reply that says where the match stands.
+/// The reply to `Query`.
 pub fn query_reply<G: Game>(held: &Match<G>) -> Reply
     ensures { result ≡ query_reply (G.rules held.now.game) held.now.value }
 {
     Reply::Status(held.status())
 }
 
-/// The reply to an abort.
+/// The reply to `Abort`.
 pub fn abort_reply<G: Game>(held: &Match<G>) -> Reply
     ensures { result ≡ abort_reply (G.rules held.now.game) held.now.value }
 {
@@ -67,8 +67,7 @@ pub fn abort_reply<G: Game>(held: &Match<G>) -> Reply
     }
 }
 
-/// Gives the match an answer. If the match refuses it, the match stays as it is, and that is no
-/// fault.
+/// Passes an answer to the match. If the match refuses it, the match stays as it is, and this is not an error.
 pub fn take_answer<G: Game>(
     alloc: Global,
     game: &G,
@@ -96,7 +95,7 @@ pub fn take_abort<G: Game>(held: &mut Match<G>)
     let _ = held.abort();
 }
 
-/// The answer that a miss stands for.
+/// The answer that a `Miss` means.
 pub fn missed<'a>(broken: bool) -> LentAnswer<'a>
     ensures { answer_lent result ≡ missed broken }
 {

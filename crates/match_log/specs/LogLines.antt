@@ -1,4 +1,4 @@
--- The lines of the log, each a JSON object.
+-- The text lines of the log, each a JSON object.
 use Rattle.std.specs.Prelude.{ℕ, ◌+◌, ◌/◌, ◌%◌, ◌==◌, ◌||◌, nat_lt, List, [], ◌∷◌, ◌++◌, codes, flat_map, if◌then◌else◌, Option, Some, None, option_map}
 use Rattle.std.specs.Borrow.{Bor}
 use Rattle.std.specs.Fmt.{decimal}
@@ -10,18 +10,17 @@ use Rattle.match_log.specs.declared.events.Exchange.{Exchange}
 use Rattle.match_log.specs.declared.events.Event.{Event}
 use Rattle.match_log.specs.declared.events.Event.TheVariants.{Begun, Message, Open, End, Absent, NoRecord, LeftOut}
 
--- the digit of a number below 16
 abbrev pub hex_digit : ℕ → ℕ
 hex_digit number = if nat_lt number 10 then number + 48 else number + 87
 
--- A byte in a string: after a backslash if it is a quotation mark or a backslash, as it is from the space to the tilde, and otherwise its
--- number in four digits.
+-- A byte in a string: a quotation mark or a backslash after a backslash, a byte from the space to the tilde as it is, and any other byte
+-- as its number in four digits.
 abbrev pub escaped : ℕ → List ℕ
 escaped byte = if (byte == 34) || (byte == 92) then 92 ∷ byte ∷ []
     else if is_visible byte then byte ∷ []
     else 92 ∷ 117 ∷ 48 ∷ 48 ∷ hex_digit (byte / 16) ∷ hex_digit (byte % 16) ∷ []
 
--- a text of any bytes, between quotation marks
+-- a text of any bytes between quotation marks
 abbrev pub json_string : List ℕ → List ℕ
 json_string text = 34 ∷ (flat_map escaped text ++ 34 ∷ [])
 
@@ -35,7 +34,7 @@ json_value (Number number) = nullable decimal number
 json_value (Text text) = nullable json_string (option_map (λ bytes. bytes.now) text)
 json_value (Parts before middle after) = json_string (before.now ++ (middle.now ++ after.now))
 
--- a member of an object, by its name and the text of its value
+-- a member of an object, from its name and the text of its value
 abbrev pub member : List ℕ × List ℕ → List ℕ
 member (name, value) = codes ",\"" ++ (name ++ (codes "\":" ++ value))
 
@@ -50,7 +49,7 @@ object_line event members = codes "{\"event\":\"" ++ (event ++ (codes "\"" ++ (m
 abbrev pub addressee_members : Addressee → List (List ℕ × List ℕ)
 addressee_members to = (codes "match", json_value to.id) ∷ (codes "role", decimal to.role) ∷ (codes "player", json_value to.name) ∷ []
 
--- those of a message and what it brought
+-- the members of a message and its result
 abbrev pub exchange_members : Exchange → List (List ℕ × List ℕ)
 exchange_members e = (codes "number", decimal e.number) ∷ (codes "kind", json_value e.kind) ∷ (codes "round", json_value e.round)
     ∷ (codes "time", json_value e.time) ∷ (codes "ms", decimal e.millis) ∷ (codes "message", json_value e.message)

@@ -7,7 +7,7 @@ use Rattle.match_messages.specs.declared.kind.MessageKind.TheVariants.{Info, Sta
 use Rattle.network_players.specs.declared.contacting.ContactFault.{ContactFault}
 use Rattle.network_players.specs.declared.contacting.ContactFault.TheVariants.{Shortage}
 
--- the word of a message of a match
+-- the word for a message of a match
 abbrev pub kind_text : Option MessageKind → Option (List ℕ)
 kind_text None = None
 kind_text (Some Start) = Some (codes "START")
@@ -16,18 +16,16 @@ kind_text (Some Stop) = Some (codes "STOP")
 kind_text (Some Abort) = Some (codes "ABORT")
 kind_text (Some Info) = None
 
--- the text of an answer
 abbrev pub answer_text : Answer → Option (List ℕ)
 answer_text (Text text) = Some text
 answer_text Silent = None
 answer_text Broken = None
 
--- the word, or after a shortage of the referee `lost`
+-- the word, or `lost` if the referee lacked a resource
 abbrev pub unless_short : Option ContactFault → List ℕ → List ℕ
 unless_short (Some (Shortage shortage)) word = codes "lost"
 unless_short why word = word
 
--- the word for a missing answer
 abbrev pub error_word : Answer → Option ContactFault → Option (List ℕ)
 error_word (Text text) why = None
 error_word Silent why = Some (unless_short why (codes "TO"))

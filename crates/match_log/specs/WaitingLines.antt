@@ -1,21 +1,21 @@
--- The lines of the log that wait to be written.
+-- The text lines of the log that wait to be written.
 use Rattle.std.specs.Prelude.{◌≡◌, ℕ, ◌≤◌, Bool, false, List, [], ◌++◌, length}
 use Rattle.game_core.specs.Counting.{one_more}
 use Rattle.match_log.specs.declared.notices.Waiting.{Waiting}
 
--- nothing waits, and the reports end there or go on
+-- nothing waits, whether the reports have ended or not
 abbrev pub IsNothing : Waiting → Bool → Type 0
 IsNothing waiting closed = (waiting.reports.items ≡ []) × (waiting.log.items ≡ []) × (waiting.left_out ≡ 0)
     × (waiting.has_moved ≡ false) × (waiting.is_closed ≡ closed)
 
--- the limit of the bytes that wait with a new line of the log
+-- the largest number of bytes that wait, including a new text line of the log
 abbrev pub max_waiting : ℕ
 max_waiting = 8388608
 
--- the line waits behind the others
+-- the text line waits after the others
 abbrev pub Waits : Waiting → Waiting → List ℕ → Type 0
 Waits old new line = (new.log.items ≡ old.log.items ++ line) × (length new.log.items ≤ max_waiting) × (new.left_out ≡ old.left_out)
 
--- no byte of the line waits, and it is counted
+-- the text line is counted, and none of its bytes waits
 abbrev pub IsLeftOut : Waiting → Waiting → Type 0
 IsLeftOut old new = (new.log.items ≡ old.log.items) × (new.left_out ≡ one_more old.left_out)

@@ -1,4 +1,4 @@
-//! What the log has in one line: a JSON object.
+//! The text lines of the log. Each is a JSON object.
 ghost use Rattle.std.specs.Prelude.{◌≡◌, ◌<◌, ◌++◌, flat_map};
 ghost use Rattle.std.specs.Fmt.{WritesOnOk};
 ghost use Rattle.match_log.specs.LogLines.{escaped, hex_digit, json_string, message_line, object_line, written_member};
@@ -9,15 +9,14 @@ use std::fmt::Write as _;
 /// A value of an object.
 #[derive(Clone, Copy)]
 pub enum Json<'a> {
-    /// The number, or null.
+    /// A number, or null.
     Number(Option<u128>),
-    /// The text of any bytes, or null.
+    /// A text of any bytes, or null.
     Text(Option<&'a [u8]>),
-    /// A text that lies in three parts.
+    /// A text in three parts.
     Parts(&'a [u8], &'a [u8], &'a [u8]),
 }
 
-/// The digit of a number below 16.
 fn hex_digit(number: u8) -> u8
     requires { number < 16 }
     ensures { result ≡ hex_digit number }
@@ -29,7 +28,6 @@ fn hex_digit(number: u8) -> u8
     }
 }
 
-/// Writes a byte of a string.
 fn write_byte<F: fmt::Write>(f: &mut fmt::Formatter<F>, byte: u8) -> fmt::Result
     ensures { WritesOnOk F.write_str_gives f.old result (escaped byte) f.new }
 {
@@ -43,7 +41,6 @@ fn write_byte<F: fmt::Write>(f: &mut fmt::Formatter<F>, byte: u8) -> fmt::Result
     f.write_char(char::from(byte))
 }
 
-/// Writes the bytes of a string.
 fn write_bytes<F: fmt::Write>(f: &mut fmt::Formatter<F>, text: &[u8]) -> fmt::Result
     ensures { WritesOnOk F.write_str_gives f.old result (flat_map escaped text.now) f.new }
 {
@@ -53,7 +50,7 @@ fn write_bytes<F: fmt::Write>(f: &mut fmt::Formatter<F>, text: &[u8]) -> fmt::Re
     Ok(())
 }
 
-/// Writes a string whose text lies in three parts.
+/// Writes a string whose text is in three parts.
 fn write_string<F: fmt::Write>(
     f: &mut fmt::Formatter<F>,
     before: &[u8],
@@ -85,7 +82,7 @@ impl fmt::Display for Json<'_> {
     }
 }
 
-/// Writes an object in one line: what it reports, and its members in their order.
+/// Writes an object in one text line: what it reports, and its members in order.
 fn write_object<F: fmt::Write>(
     f: &mut fmt::Formatter<F>,
     event: &str,
@@ -109,20 +106,20 @@ pub struct Addressee<'a> {
     pub name: Json<'a>,
 }
 
-/// A message, and what it brought.
+/// A message and its result.
 #[derive(Clone, Copy)]
 pub struct Exchange<'a> {
-    /// The number of the player's messages in the match, with this one.
+    /// The number of the message among the player's messages in the match, counted from 1.
     pub number: u64,
     pub kind: Json<'a>,
     pub round: Json<'a>,
-    /// When it was sent, in milliseconds since 1970.
+    /// When the message was sent, in milliseconds since 1970.
     pub time: Json<'a>,
-    /// For how many milliseconds the player was waited for.
+    /// How many milliseconds the referee waited for the player.
     pub millis: u128,
     pub message: Json<'a>,
     pub answer: Json<'a>,
-    /// Why there is no answer: a word, and the reason.
+    /// Why there is no answer: a word and the reason.
     pub error: Json<'a>,
     pub reason: Json<'a>,
 }
@@ -130,22 +127,21 @@ pub struct Exchange<'a> {
 /// An object of the log.
 #[derive(Clone, Copy)]
 pub enum Event<'a> {
-    /// The program of this version begins.
+    /// The program begins, in this version.
     Begun(&'a str),
     Message(Addressee<'a>, Exchange<'a>),
-    /// The match of this id begins at this time.
+    /// The match with this id begins at this time.
     Open(Json<'a>, Json<'a>),
-    /// The match of this id is over at this time, with a message of this kind.
+    /// The match with this id ends at this time, with a message of this kind.
     End(Json<'a>, Json<'a>, Json<'a>),
     /// All messages to this player failed.
     Absent(Addressee<'a>),
-    /// The match of this id has no record for this reason.
+    /// The match with this id has no record, for this reason.
     NoRecord(Json<'a>, Json<'a>),
-    /// So many objects are left out.
+    /// The log lacks this many objects.
     LeftOut(u64),
 }
 
-/// Writes the object of a message.
 fn write_message<'a, F: fmt::Write>(
     f: &mut fmt::Formatter<F>,
     to: &Addressee<'a>,
@@ -170,7 +166,7 @@ fn write_message<'a, F: fmt::Write>(
     write_object(f, "message", &members)
 }
 
-/// The object in one line.
+/// The object in one text line.
 impl fmt::Display for Event<'_> {
     ghost use Rattle.std.specs.Prelude.{Some};
     ghost use Rattle.match_log.specs.LogLines.{event_line};

@@ -1,7 +1,7 @@
 //! Reports on running matches: each message with its answer, or the progress of the matches.
 //!
-//! `Logging` wraps another `Reach` and logs what its players are asked. `Notices` holds the reports until a thread writes them, so no
-//! match waits for a reader. `StatusStream` is a stream of messages with a status line below them.
+//! `Logging` wraps another `Reach` and logs the messages of its players. `Notices` stores the reports until a thread writes them, so
+//! no match waits for a reader. `StatusStream` writes messages with a status line below them.
 #![tactic(auto)]
 
 mod events;

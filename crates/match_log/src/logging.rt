@@ -1,4 +1,4 @@
-//! Logs matches while they run: `Logging` wraps players and reports each message with its answer, and the progress of the matches.
+//! Logs matches while they run: `Logging` wraps players, and reports each message with its answer and the progress of the matches.
 ghost use Rattle.std.specs.Prelude.{◌≡◌, ◌==◌, ◌||◌, IfOk, Ok, option_map, string_bytes};
 ghost use Rattle.match_log.specs.LogMessages.{answer_text, error_word, kind_text};
 
@@ -14,7 +14,7 @@ use std::alloc::{AllocError, Global};
 use std::sync::Wait;
 use std::time::{Clock, Duration, Instant};
 
-/// Reaches players as another `Reach` does, and logs their messages.
+/// Makes the players of another `Reach`, and logs their messages.
 #[derive(Drop)]
 pub struct Logging<'a, H, S> {
     pub rt: &'a H,
@@ -22,34 +22,33 @@ pub struct Logging<'a, H, S> {
     /// The progress of the matches, if it is shown.
     pub progress: Option<&'a Progress>,
     pub notices: &'a Notices,
-    /// Whether only one player of each match is reached through this. Then this player counts for the match, whatever its role.
-    /// Otherwise the player of the first role counts.
+    /// Whether only one player of each match is logged. That player then counts for the match, whatever its role. Otherwise the
+    /// player of the first role does.
     pub is_alone: bool,
-    /// Whether standard error names the players of whom every message fails.
+    /// Whether the program reports on standard error the players whose messages all failed.
     pub names_absent: bool,
 }
 
-/// What the log has of a player of a match.
+/// What the log needs of a player of a match.
 #[derive(Drop)]
 struct PlayerLog<'a> {
     alloc: Global,
-    /// The match's id.
     id: String,
     role: usize,
     name: String,
-    /// Whether the player counts for its match.
+    /// Whether this player's START, and its STOP or ABORT, are counted as the beginning and the end of the match.
     counts: bool,
-    /// The number of messages that the player got, and of those that asked for a move.
+    /// The number of messages to the player, and of those that asked for a move.
     messages: u64,
     plays: u64,
-    /// Whether each of them failed, and the referee was not short of anything.
+    /// Whether all of them failed although the referee lacked nothing.
     is_absent: bool,
     names_absent: bool,
     progress: Option<&'a Progress>,
     notices: &'a Notices,
 }
 
-/// A player with logged messages.
+/// A player whose messages are logged.
 #[derive(Drop)]
 pub struct LoggedPlayer<'a, H, P> {
     rt: &'a H,
@@ -57,7 +56,7 @@ pub struct LoggedPlayer<'a, H, P> {
     log: PlayerLog<'a>,
 }
 
-/// A message that is sent to a player.
+/// A message to a player.
 #[derive(Clone, Copy)]
 struct Sent<'a> {
     message: &'a SharedText<'a>,
@@ -67,7 +66,7 @@ struct Sent<'a> {
     time: Option<u128>,
 }
 
-/// The word of a message of a match.
+/// The word for a message of a match.
 fn kind_text(kind: Option<MessageKind>) -> Option<&'static [u8]>
     ensures { option_map (λ word. word.now) result ≡ kind_text kind }
 {
@@ -80,7 +79,7 @@ fn kind_text(kind: Option<MessageKind>) -> Option<&'static [u8]>
     }
 }
 
-/// The text of a message in the log. In START, `...` stands for the description, which all matches share.
+/// The text of a message in the log. In START `...` replaces the description, which is the same for all matches.
 fn logged_text<'a>(message: &'a SharedText<'_>, kind: Option<MessageKind>) -> Json<'a> {
     let (before, shared, after) = message.parts();
     match kind {
@@ -91,7 +90,6 @@ fn logged_text<'a>(message: &'a SharedText<'_>, kind: Option<MessageKind>) -> Js
     }
 }
 
-/// The text of an answer.
 fn answer_text(answer: &Answer) -> Option<&[u8]>
     ensures { option_map (λ text. text.now) result ≡ answer_text answer.now }
 {
@@ -101,7 +99,6 @@ fn answer_text(answer: &Answer) -> Option<&[u8]>
     }
 }
 
-/// The word for a missing answer.
 fn error_word(answer: &Answer, why: Option<ContactFault>) -> Option<&'static [u8]>
     ensures { option_map (λ word. word.now) result ≡ error_word answer.now why }
 {
@@ -114,7 +111,6 @@ fn error_word(answer: &Answer, why: Option<ContactFault>) -> Option<&'static [u8
 }
 
 impl PlayerLog<'_> {
-    /// The player in the log.
     fn addressee(&self) -> Addressee<'_> {
         Addressee {
             id: Json::Text(Some(self.id.as_bytes())),
@@ -130,7 +126,7 @@ impl PlayerLog<'_> {
         }
     }
 
-    /// Counts a message that is sent now, and the match that begins with it.
+    /// Counts a message that is sent now, and the match if it begins with this message.
     fn begin<'m, R: Clock + Wait>(&mut self, rt: &R, message: &'m SharedText<'m>) -> Sent<'m> {
         self.messages = self.messages.saturating_add(1);
         let kind = MessageKind::of(message);
@@ -153,7 +149,7 @@ impl PlayerLog<'_> {
         }
     }
 
-    /// Reports a message with its answer, and the match that ends with it.
+    /// Reports a message with its answer, and the match if it ends with this message.
     fn tell<R: Clock + Wait>(
         &mut self,
         rt: &R,
@@ -189,7 +185,6 @@ impl PlayerLog<'_> {
         }
     }
 
-    /// The line of a message with its answer.
     fn message_line(
         &self,
         sent: &Sent<'_>,
@@ -222,7 +217,7 @@ impl PlayerLog<'_> {
         Event::Message(self.addressee(), exchange).to_string(self.alloc)
     }
 
-    /// Reports the player if every message to it failed.
+    /// Reports the player if all messages to it failed.
     fn name_if_absent<R: Wait>(&self, rt: &R) {
         if !self.is_absent || self.messages == 0 {
             return;

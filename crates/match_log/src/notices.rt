@@ -14,23 +14,23 @@ use std::time::{Clock, Duration};
 use std::{fmt, io, mem};
 use whole_streams::{Pieces, write_all};
 
-/// The limit of the bytes of the log that wait, with a new line: 8 MiB. One line fits if nothing waits: a message has at most 131,072 bytes
-/// of moves, an answer 65,536 bytes, and each of them takes at most six.
+/// The largest number of bytes of the log that wait, including a new text line: 8 MiB. If nothing waits, any text line fits: a message has
+/// at most 131,072 bytes of moves, an answer 65,536 bytes, and each byte takes at most six.
 const MAX_WAITING: usize = 8_388_608;
 
-/// The limit of one wait for reports, in seconds. Then another one begins.
+/// The longest wait for reports, in seconds. Then another wait begins.
 const LONGEST_WAIT_SECONDS: u64 = 3_600;
 
 /// The reports that wait to be written.
 #[derive(Drop)]
 struct Waiting {
-    /// Lines for standard error.
+    /// Text lines for standard error.
     reports: Vec<u8>,
-    /// Lines of the log.
+    /// Text lines of the log.
     log: Vec<u8>,
-    /// The number of lines of the log that are left out after those.
+    /// The number of text lines that are missing from the log after these.
     left_out: u64,
-    /// Whether the matches have gone on since the status line was written.
+    /// Whether the matches have progressed since the status line was written.
     has_moved: bool,
     is_closed: bool,
 }
@@ -56,7 +56,7 @@ impl Waiting {
         is_empty && !self.has_moved && !self.is_closed
     }
 
-    /// Appends a line of the log. Counts it as left out if too much waits, or if there was or is no memory for it.
+    /// Appends a text line to the log. If too much waits, or there was or is no memory for it, counts it as left out.
     fn log(&mut self, line: Result<String, AllocError>)
         ensures line { IfOk line (λ line. Waits self.old self.new (string_bytes line) ⊎ IsLeftOut self.old self.new) }
         ensures none { OnErr line (IsLeftOut self.old self.new) }
@@ -71,7 +71,7 @@ impl Waiting {
     }
 }
 
-/// The number of lines that end in a text.
+/// The number of text lines that end in a text.
 fn lines_in(text: &[u8]) -> u64 {
     let mut count = 0u64;
     for byte in text {
@@ -82,7 +82,7 @@ fn lines_in(text: &[u8]) -> u64 {
     count
 }
 
-/// Writes whole lines, as far as the stream takes them. Returns the number of lines that were not written whole.
+/// Writes complete text lines until the stream fails. Returns how many were not written completely.
 fn unwritten<W: Write>(stream: &mut W, lines: &[u8]) -> u64 {
     let mut rest = lines;
     while !rest.is_empty() {
@@ -97,14 +97,14 @@ fn unwritten<W: Write>(stream: &mut W, lines: &[u8]) -> u64 {
 /// What the log lacks. After a failed write nothing more is written to it.
 #[derive(Drop)]
 struct LogState {
-    /// The number of objects that are left out, which the log does not have yet.
+    /// The number of objects that were left out and that the log does not report yet.
     left_out: u64,
-    /// The number of lines that were not written.
+    /// The number of text lines that were not written.
     missing: u64,
 }
 
 impl LogState {
-    /// Writes the waiting lines to the log, and the number of those that are left out.
+    /// Writes the waiting text lines to the log, and how many were left out.
     fn write<W: Write>(&mut self, alloc: Global, waiting: &mut Waiting, stream: &mut W) {
         self.left_out = self.left_out.saturating_add(waiting.left_out);
         if self.left_out > 0 {
@@ -121,7 +121,7 @@ impl LogState {
         };
     }
 
-    /// Reports what the log lacks. A failed write is skipped.
+    /// Reports what the log lacks. Ignores a failed write.
     fn end<E: Write>(&self, errors: &mut E) {
         let missing = self.missing.saturating_add(self.left_out);
         if missing > 0 {
@@ -134,8 +134,7 @@ impl LogState {
     }
 }
 
-/// The reports of running matches. They wait here until a thread of their own writes them, so a reader that stops reading stops no
-/// match.
+/// The reports of running matches. They wait until a separate thread writes them, so a reader that stops reading stops no match.
 #[derive(Drop)]
 pub struct Notices {
     alloc: Global,
@@ -146,7 +145,7 @@ pub struct Notices {
 }
 
 impl Notices {
-    /// No reports yet.
+    /// Creates an empty list of reports.
     pub fn new(alloc: Global, is_logged: bool) -> Notices {
         Notices {
             alloc,
@@ -156,13 +155,13 @@ impl Notices {
         }
     }
 
-    /// Adds a line to the log. It is left out, and counted, if it has no memory, or too much waits already.
+    /// Adds a text line to the log. If there is no memory for it, or too much waits already, it is left out and counted.
     pub fn log<R: Wait>(&self, rt: &R, line: Result<String, AllocError>) {
         self.waiting.lock(rt).log(line);
         self.changed.notify_one();
     }
 
-    /// Adds to the log, if there is one, that the match of this id has no record.
+    /// Adds to the log, if there is one, that the match with this id has no record.
     pub fn log_missing<R: Wait, F: fmt::Display>(&self, rt: &R, id: &str, why: &F) {
         if self.is_logged {
             let line = match why.to_string(self.alloc) {
@@ -176,7 +175,7 @@ impl Notices {
         }
     }
 
-    /// Reports a line on standard error, however many wait there. Returns whether there was memory for it.
+    /// Adds a text line for standard error, without a limit. Returns whether there was memory for it.
     pub(crate) fn report<R: Wait>(&self, rt: &R, line: &[u8]) -> bool {
         let is_taken = self
             .waiting
@@ -188,19 +187,19 @@ impl Notices {
         is_taken
     }
 
-    /// Reports that the matches have gone on, so that the status line is rewritten.
+    /// Reports progress of the matches, so that the status line is rewritten.
     pub fn move_on<R: Wait>(&self, rt: &R) {
         self.waiting.lock(rt).has_moved = true;
         self.changed.notify_one();
     }
 
-    /// Ends the reports. The thread that writes them ends once all is written.
+    /// Ends the reports. The thread that writes them ends when all are written.
     pub fn close<R: Wait>(&self, rt: &R) {
         self.waiting.lock(rt).is_closed = true;
         self.changed.notify_one();
     }
 
-    /// Waits for reports, for this time at most if one is given, and takes them.
+    /// Takes the reports, and waits for some if there are none, for at most this time if it is given.
     fn take<H: Clock + Wait>(&self, rt: &H, at_most: Option<Duration>) -> Waiting {
         let at_most = at_most.unwrap_or(Duration::from_secs(LONGEST_WAIT_SECONDS));
         let mut waiting = self
@@ -216,8 +215,8 @@ impl Notices {
         mem::replace(&mut *waiting, nothing)
     }
 
-    /// Writes the reports and the log until they end. Without a stream of its own, the log goes to the stream of the reports. Rewrites the
-    /// status line whenever the matches have gone on: at once, or as soon as the line has stood for a moment.
+    /// Writes the reports and the log until they end. If the log has no stream of its own, it goes to the stream of the reports. Rewrites
+    /// the status line when the matches have progressed: at once, or when the line has been visible for a moment.
     pub fn write_until_closed<H: Clock + Wait, E: Write, L: Write + Drop>(
         &self,
         rt: &H,
@@ -230,7 +229,7 @@ impl Notices {
             left_out: 0,
             missing: 0,
         };
-        // How long the status line has to wait, if it is behind the matches.
+        // How long the status line must wait, if it is out of date.
         let mut behind = None;
         for _ in rt.forever() {
             let mut waiting = self.take(rt, behind);
@@ -253,13 +252,13 @@ impl Notices {
     }
 }
 
-/// A stream for reports. Its lines wait among the notices, however many they are. `?` stands for a byte outside 0x20 to 0x7E, since an
-/// id may be of any bytes.
+/// A stream of reports. Its text lines are added to the notices, without a limit. `?` replaces bytes outside 0x20 to 0x7E, because an id
+/// may have any bytes.
 #[derive(Drop)]
 pub struct ReportStream<'a, R> {
     rt: &'a R,
     notices: &'a Notices,
-    /// The line that has not ended yet.
+    /// The unfinished text line.
     line: Vec<u8>,
 }
 

@@ -1,4 +1,4 @@
-//! What a line shows of a text.
+//! How a text line shows a text.
 ghost use Rattle.std.specs.Prelude.{◌≡◌, map, take};
 ghost use Rattle.std.specs.Fmt.{WritesOnOk};
 ghost use Rattle.match_log.specs.ShownTexts.{further, reported_byte, shown_byte};
@@ -7,14 +7,13 @@ use shared_text::SharedText;
 use std::fmt;
 use std::marker::Model;
 
-/// The number of bytes of a text that a line shows.
+/// The number of bytes of a text that are shown.
 const SHOWN: usize = 200;
 
-/// The first 200 bytes of a text of any bytes. `?` stands for a byte outside 0x20 to 0x7E, and two dots for further bytes. Contracts see
-/// the text.
+/// The first 200 bytes of a text. `?` replaces bytes outside 0x20 to 0x7E, and two dots replace the rest. Contracts see the text.
 #[derive(Drop)]
 pub struct Shown<'a> {
-    /// The parts of the text, one after the other.
+    /// The parts of the text in order.
     parts: (&'a [u8], &'a [u8], &'a [u8]),
 }
 
@@ -26,7 +25,7 @@ impl<'a> Model for Shown<'a> {
     ghost view = { λ s. s.parts.0.now ++ (s.parts.1.now ++ s.parts.2.now) };
 }
 
-/// A byte as a line shows it.
+/// How a text line shows a byte.
 fn shown_byte(byte: u8) -> u8
     ensures { result ≡ shown_byte byte }
 {
@@ -37,7 +36,7 @@ fn shown_byte(byte: u8) -> u8
     }
 }
 
-/// A byte as a report shows it, which may have several lines.
+/// How a report shows a byte. A report may have several text lines.
 pub fn reported_byte(byte: u8) -> u8
     ensures { result ≡ reported_byte byte }
 {
@@ -48,7 +47,7 @@ pub fn reported_byte(byte: u8) -> u8
     }
 }
 
-/// Writes the first bytes of a part, `room` at most.
+/// Writes the first bytes of a part, at most `room`.
 fn write_part<F: fmt::Write>(f: &mut fmt::Formatter<F>, part: &[u8], room: usize) -> fmt::Result
     ensures { WritesOnOk F.write_str_gives f.old result (map shown_byte (take room part.now)) f.new }
 {
@@ -77,7 +76,7 @@ impl<'a> Shown<'a> {
         }
     }
 
-    /// What stands for the bytes that are not shown.
+    /// What replaces the bytes that are not shown.
     fn further(&self) -> &'static str
         ensures { result.now ≡ further self.now }
     {

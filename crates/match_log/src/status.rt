@@ -1,4 +1,4 @@
-//! The status line: one line of a terminal with the progress of matches, which is rewritten as they go on.
+//! The status line of a terminal, which shows the progress of the matches and is rewritten.
 ghost use Rattle.std.specs.Prelude.{◌≡◌, ℕ, IsTrue, IsFalse, IfSome, IfNone};
 
 use game_core::Counted;
@@ -19,10 +19,10 @@ const PERIOD_MILLIS: u64 = 100;
 /// Moves the cursor to the beginning of its line, and erases the line: `EL` of ECMA-48.
 const CLEAR: &str = "\r\x1b[K";
 
-/// The progress of matches, by the messages of their players.
+/// The progress of the matches, according to the messages of their players.
 #[derive(Drop)]
 pub struct Progress {
-    /// The number of matches to play. It is 0 while that is not known.
+    /// The number of matches to play, or 0 while it is not known.
     planned: AtomicU64,
     begun: AtomicU64,
     over: AtomicU64,
@@ -30,7 +30,7 @@ pub struct Progress {
 }
 
 impl Progress {
-    /// No match has begun.
+    /// Creates the progress before any match has begun.
     pub const fn new() -> Progress {
         Progress {
             planned: AtomicU64::new(0),
@@ -40,19 +40,19 @@ impl Progress {
         }
     }
 
-    /// Notes that `count` matches are to be played.
+    /// Sets the number of matches to play.
     pub fn plan(&self, count: usize) {
         self.planned.store(count as u64, Ordering::SeqCst);
     }
 
-    /// Counts the match that begins with a message, if the player that gets the message counts for its match.
+    /// Counts the match that begins with a message, if the player counts for its match.
     pub(crate) fn begin(&self, counts: bool, kind: Option<MessageKind>) {
         if counts && kind == Some(MessageKind::Start) {
             self.begun.fetch_add(1, Ordering::SeqCst);
         }
     }
 
-    /// Counts a message that a player has answered, and the match that STOP or ABORT ends if the player counts for its match.
+    /// Counts a message that a player has answered, and the match that ends with STOP or ABORT if the player counts for its match.
     pub(crate) fn count(&self, counts: bool, kind: Option<MessageKind>) {
         self.messages.fetch_add(1, Ordering::SeqCst);
         if counts && matches!(kind, Some(MessageKind::Stop | MessageKind::Abort)) {
@@ -60,7 +60,7 @@ impl Progress {
         }
     }
 
-    /// Rewrites the line, and skips a failed write.
+    /// Rewrites the line. Ignores a failed write.
     fn show<E: Write>(&self, stream: &mut E) {
         let over = self.over.load(Ordering::SeqCst);
         let open = self.begun.load(Ordering::SeqCst).saturating_sub(over);
@@ -73,23 +73,22 @@ impl Progress {
     }
 }
 
-/// Writes the text, and skips a failed write.
 fn write_text<E: Write>(stream: &mut E, text: &str) {
     let mut pieces = Pieces { stream };
     let _ = pieces.write_str(text);
 }
 
-/// A stream of messages with a status line below them. The line is erased before a message.
+/// A stream of messages with a status line below them. It erases the line before a message.
 #[derive(Drop)]
 pub struct StatusStream<E> {
     stream: E,
     is_shown: bool,
-    /// The time of the line's last write.
+    /// When the line was last written.
     shown_at: Option<Instant>,
 }
 
 impl<E: Write> StatusStream<E> {
-    /// A stream without a status line yet.
+    /// Wraps a stream that has no status line yet.
     pub fn new(stream: E) -> StatusStream<E>
         ensures { IsFalse result.is_shown }
     {
@@ -100,7 +99,7 @@ impl<E: Write> StatusStream<E> {
         }
     }
 
-    /// Rewrites the line, unless that was done a moment ago. Then it returns how long the line has to wait.
+    /// Rewrites the line, unless that was done a moment ago. Then this returns how long to wait.
     pub(crate) fn show(&mut self, clock: &impl Clock, progress: &Progress) -> Option<Duration>
         ensures shown { IfNone result (IsTrue self.new.is_shown) }
         ensures waits { IfSome result (λ _. self.new ≡ self.old) }
@@ -140,8 +139,8 @@ impl<E: Write> Write for StatusStream<E> {
     }
 }
 
-/// The reference through which an output writes. It is picked where the output is made, so that contracts know the stream that code over
-/// any writer wrote to.
+/// The reference through which an output writes. It is a type that is chosen where the output is made, so that contracts know the stream
+/// to which generic code writes.
 pub trait WriterBrand {
     ghost name: { ℕ };
 }
@@ -150,14 +149,14 @@ impl WriterBrand for Brand {
     ghost name = { 0 };
 }
 
-/// An output through the picked reference. Before each write the status line is erased, if both may stand on the same terminal. An output
-/// that shares no terminal waits for no report.
+/// An output through the chosen reference. If the status line may be on the same terminal, it is erased before each write. Otherwise
+/// writing waits for no report.
 #[derive(Drop)]
 pub struct ClearedOutput<'a, 'w, N: WriterBrand, R, W, E> {
     pub rt: &'a R,
     pub output: &'w mut Counted<W>,
     pub status: &'a Mutex<StatusStream<E>>,
-    /// Whether the status line may stand on the terminal that the output goes to.
+    /// Whether the status line may be on the terminal of this output.
     pub shares_terminal: bool,
     pub brand: PhantomData<N>,
     pub ghost picked: { output.ghost_name ≡ N.name },

@@ -13,7 +13,6 @@ clock_is_small n is = let few : n ≤ max_clock = grind (arith, nat_tests) in om
 pub clock_is_atom : NumbersAreAtoms → (n : ℕ) → is_clock n ≡ true → IsAtom (decimal n)
 clock_is_atom atoms n is = atoms n (clock_is_small n is)
 
--- a clock is read back from its text
 pub clock_of-decimal : NumbersArePlain → (n : ℕ) → is_clock n ≡ true → clock_of (decimal n) ≡ Some n
 clock_of-decimal plain n is =
     let here = plain n (clock_is_small n is) in

@@ -1,4 +1,4 @@
--- With which word a text begins.
+-- The word with which a text begins.
 use Rattle.std.proofs.Common.{◌≡◌, ℕ, suc, ◌<◌, ◌≤◌, Bool, true, false, true≢false, List, [], ◌∷◌, ◌++◌, length, take, drop, get_or, sym, ap, ◌∙◌, arith, length-append, take-append-drop, drop-cons}
 use Rattle.std.proofs.lemmas.List.{get_or_append_left, take_all}
 use Rattle.std.specs.Prelude.{◌↔◌, IsTrue}
@@ -16,7 +16,6 @@ prefix_byte word text place is within = sym (get_or_append_left word is.0 0 plac
 pub prefix_whole : (word text : List ℕ) (place : ℕ) → length word ≤ place → take place word ≡ take place text → IsPrefix word text
 prefix_whole word text place past same = (drop place text, ap (λ w. w ++ drop place text) (sym (take_all place word past) ∙ same) ∙ take-append-drop place text)
 
--- the first byte of what stands from a place on is the text's at that place
 pub first_of_rest : (text rest more : List ℕ) (place : ℕ) → rest ++ more ≡ drop place text → place < length text → 0 < length rest → get_or rest 0 0 ≡ get_or text place 0
 first_of_rest text [] more place is within some = absurd (omega arith)
 first_of_rest text (x ∷ xs) more place is within some = let split : x ∷ (xs ++ more) ≡ get_or text place 0 ∷ drop (suc place) text = is ∙ drop-cons text place 0 within in cc

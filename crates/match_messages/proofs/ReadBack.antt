@@ -1,4 +1,4 @@
--- The texts of messages are read back.
+-- Reading the texts of messages gives the messages back.
 use Rattle.std.proofs.Common.{◌≡◌, ℕ, List, [], ◌∷◌, Option, Some, None, Ok, refl, ap, ◌∙◌, lit<, codes}
 use Rattle.game_core.specs.Expression.{Expressions, none, more, IsAtom, HasAtoms}
 use Rattle.game_core.specs.Canonical.{canonical, members, later}
@@ -14,8 +14,6 @@ use Rattle.match_messages.specs.MessageText.{as_printed, message_text}
 use Rattle.match_messages.specs.MessageReading.{message_in, message_reading, in_expression}
 use Rattle.match_messages.specs.MessageLaws.{AreMoves, IsLawfulMessage, MessagesReadBack, HaveTexts, Says, OwedMessagesReadBack}
 use Rattle.match_messages.proofs.Clocks.{clock_is_atom, clock_of-decimal}
-
--- ---- the form of a lawful message has atoms
 
 info_word : IsAtom (codes "INFO")
 info_word = (lit< tt, (refl, (refl, (refl, (refl, tt)))))
@@ -47,8 +45,6 @@ form_has_atoms names numbers (play id moves) is = (play_word, (names id is.0, (m
 form_has_atoms names numbers (stop id moves) is = (stop_word, (names id is.0, (moves_have_atoms moves is.1, tt)))
 form_has_atoms names numbers (abort id) is = (abort_word, (names id is, tt))
 
--- ---- the form of a lawful message is read as the message
-
 form_is_read : NumbersArePlain → (m : MessageValue) → IsLawfulMessage m → message_in (message_form m) ≡ Ok (folded_message m)
 form_is_read plain info is = refl
 form_is_read plain (start id role rules s p) is = rw (is.0, clock_of-decimal plain s is.3, clock_of-decimal plain p is.4) refl
@@ -64,8 +60,6 @@ pub messages_read_back : NamesAreAtoms → NumbersAreAtoms → NumbersArePlain �
 messages_read_back names numbers plain reads_back m is =
     let found : reading (canonical (message_form m)) ≡ Some (message_form m) = reads_back (message_form m) (form_has_atoms names numbers m is.lawful, is.shallow) is.short in
     ap in_expression found ∙ form_is_read plain m is.lawful
-
--- ---- the text of an owed message is the text of what it says
 
 later_printed : (xs : Expressions) (texts : List (List ℕ)) → HaveTexts xs texts → later (as_printed texts) ≡ later xs
 later_printed none [] have = refl

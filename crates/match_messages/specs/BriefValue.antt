@@ -4,7 +4,7 @@ use Rattle.kif_text.specs.View.{views}
 use Rattle.match_messages.specs.RulesText.{rules_text}
 use Rattle.match_messages.specs.declared.brief.Brief.{Brief}
 
--- the match's id, the names of its roles, its rules in print, and both clocks
+-- the match's id, the names of its roles, the text of its rules, and both clocks
 pub record BriefValue : Type 0 where
   pub id : List ℕ
   pub roles : List (List ℕ)
@@ -12,6 +12,5 @@ pub record BriefValue : Type 0 where
   pub start : ℕ
   pub play : ℕ
 
--- the brief in memory
 abbrev pub brief_value : Brief → BriefValue
 brief_value b = record { id = b.id; roles = b.roles; rules = rules_text (views b.rules.items); start = b.start; play = b.play }

@@ -1,4 +1,4 @@
--- The clocks of a message.
+-- The clocks in a message.
 use Rattle.std.specs.Prelude.{ℕ, ◌&&◌, if◌then◌else◌, List, Option, Some, None}
 use Rattle.std.specs.Str.Parse.{digits_value}
 use Rattle.game_core.specs.Expression.{Expression, atom, list}

@@ -1,22 +1,22 @@
--- Messages that are handed to a player.
+-- Messages that a player receives.
 use Rattle.std.specs.Prelude.{◌≡◌, ℕ, List, ◌++◌, Option, None, option_map, ◌⊎◌}
 use Rattle.desk_calls.specs.declared.due.Owed.{Owed}
 use Rattle.desk_calls.specs.declared.due.Owed.TheVariants.{Start, Play, Stop, Abort}
 use Rattle.desk_calls.specs.declared.answer.Answer.{Answer}
 use Rattle.match_messages.specs.BriefValue.{BriefValue}
 
--- a message handed to a player with these seconds, and what the player answered
+-- a message that a player received with these seconds, and its answer
 pub record Handed : Type 0 where
   pub seconds : ℕ
   pub body : List ℕ
   pub answer : Answer
 
--- From `before` to `after` a player was handed these messages. It shows them behind those that it showed before; or it shows none any
--- more, as one that had no memory to keep them.
+-- From `before` to `after` the player received these messages. It shows them after those that it showed before, or it shows none any
+-- more because it had no memory to store them.
 abbrev pub MayKeep : Option (List Handed) → Option (List Handed) → List Handed → Type 0
 MayKeep before after messages = (after ≡ option_map (λ shown. shown ++ messages) before) ⊎ (after ≡ None)
 
--- the seconds that a player has for a message: the start clock for START, the play clock for any other
+-- the seconds that a player has for a message: the start clock for START, the play clock for all others
 abbrev pub seconds_for : BriefValue → Owed → ℕ
 seconds_for brief Start = brief.start
 seconds_for brief (Play moves) = brief.play

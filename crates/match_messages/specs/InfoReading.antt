@@ -8,7 +8,6 @@ use Rattle.match_messages.specs.declared.info.Info.TheVariants.{Available, Ready
 
 -- Below, expressions are folded.
 
--- the status that an expression names
 abbrev pub status_named : Expression → Info
 status_named (atom word) = if bytes_eq word (codes "available") then Available
     else (if bytes_eq word (codes "ready") then Ready
@@ -21,7 +20,7 @@ abbrev pub is_key : Expression → Bool
 is_key (atom word) = bytes_eq word (codes "status")
 is_key (list xs) = false
 
--- the status S of the members `status S`: none for other members
+-- the status of members `status S`, or None for other members
 abbrev pub status_pair : Expressions → Option Info
 status_pair (more key (more status none)) = if is_key key then Some (status_named status) else None
 status_pair _ = None
@@ -35,11 +34,10 @@ abbrev pub first_status : Expressions → Option Info
 first_status none = None
 first_status (more x xs) = option_or (status_member x) (first_status xs)
 
--- the status that an answer gives
 abbrev pub info_in : Expression → Info
 info_in (atom word) = status_named (atom word)
 info_in (list xs) = unwrap_or (first_status xs) Unknown
 
--- the status that the one expression of a text gives
+-- the status in the one expression of a text
 abbrev pub info_reading : List ℕ → Info
 info_reading text = unwrap_or (option_map (λ x. info_in (folded x)) (reading text)) Unknown

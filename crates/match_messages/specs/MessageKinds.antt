@@ -1,4 +1,4 @@
--- How the texts of messages begin, by their kinds.
+-- The first words of the texts of messages, by kind.
 use Rattle.std.specs.Prelude.{ℕ, List, codes}
 use Rattle.match_messages.specs.declared.kind.MessageKind.{MessageKind}
 use Rattle.match_messages.specs.declared.kind.MessageKind.TheVariants.{Info, Start, Play, Stop, Abort}

@@ -12,13 +12,13 @@ use Rattle.match_messages.specs.MessageValue.{MessageValue, info, start, play, s
 use Rattle.match_messages.specs.MessageText.{message_text}
 use Rattle.match_messages.specs.MessageReading.{message_reading}
 
--- no moves, or at least one move, and each move has only atoms that some text spells
+-- no moves, or at least one; the atoms of the moves can be spelled by a text
 abbrev pub AreMoves : Option Expressions → Type 0
 AreMoves None = Unit {0}
 AreMoves (Some none) = ⊥
 AreMoves (Some (more x xs)) = AllHaveAtoms (more x xs)
 
--- a message with a lawful id and lawful clocks, and with expressions that have only atoms that some text spells
+-- a message with a lawful id and lawful clocks, whose atoms can be spelled by a text
 abbrev pub IsLawfulMessage : MessageValue → Type 0
 IsLawfulMessage info = Unit {0}
 IsLawfulMessage (start id role rules s p) = (is_name id ≡ true) × HasAtoms role × AllHaveAtoms rules × (is_clock s ≡ true) × (is_clock p ≡ true)
@@ -26,31 +26,28 @@ IsLawfulMessage (play id moves) = (is_name id ≡ true) × AreMoves moves
 IsLawfulMessage (stop id moves) = (is_name id ≡ true) × AreMoves moves
 IsLawfulMessage (abort id) = is_name id ≡ true
 
--- a lawful message with a text within the limits of length and depth
+-- a lawful message whose text is within the limits of length and depth
 pub record IsSayable (m : MessageValue) : Type 0 where
   pub lawful : IsLawfulMessage m
   pub short : length (canonical (message_form m)) ≤ max_length
   pub shallow : depth (message_form m) ≤ max_depth
 
--- a message's text is read back as the message, with role, rules and moves folded
 abbrev pub MessagesReadBack : Type 0
 MessagesReadBack = (m : MessageValue) → IsSayable m → message_reading (canonical (message_form m)) ≡ Ok (folded_message m)
 
--- the expressions have these texts
 abbrev pub HaveTexts : Expressions → List (List ℕ) → Type 0
 HaveTexts none [] = Unit {0}
 HaveTexts none (t ∷ ts) = ⊥
 HaveTexts (more x xs) [] = ⊥
 HaveTexts (more x xs) (t ∷ ts) = (t ≡ canonical x) × HaveTexts xs ts
 
--- no moves, or moves with these texts
 abbrev pub MovesHaveTexts : Option Expressions → Option (List (List ℕ)) → Type 0
 MovesHaveTexts None None = Unit {0}
 MovesHaveTexts None (Some texts) = ⊥
 MovesHaveTexts (Some moves) None = ⊥
 MovesHaveTexts (Some moves) (Some texts) = HaveTexts moves texts
 
--- The owed message says this to the role. Expressions stand for the role's name and for the texts of the rules and of the moves.
+-- The owed message says this to the role. The expressions have the texts of the role's name, the rules and the moves.
 abbrev pub Says : BriefValue → ℕ → Owed → MessageValue → Type 0
 Says b role Start (start id name rules s p) = (id ≡ b.id) × (slice_index_or b.roles role [] ≡ canonical name) × (b.rules ≡ rules_text rules) × (s ≡ b.start) × (p ≡ b.play)
 Says b role (Play texts) (play id moves) = (id ≡ b.id) × MovesHaveTexts moves texts
@@ -58,6 +55,5 @@ Says b role (Stop texts) (stop id moves) = (id ≡ b.id) × MovesHaveTexts moves
 Says b role Abort (abort id) = id ≡ b.id
 Says b role owed m = ⊥
 
--- the text of an owed message is read back as what it says, with role, rules and moves folded
 abbrev pub OwedMessagesReadBack : Type 0
 OwedMessagesReadBack = (b : BriefValue) (role : ℕ) (owed : Owed) (m : MessageValue) → Says b role owed m → IsSayable m → message_reading (message_text b role owed) ≡ Ok (folded_message m)

@@ -11,11 +11,11 @@ use Rattle.match_messages.specs.declared.messages.Message.{Message}
 use Rattle.match_messages.specs.declared.messages.MessageFault.{MessageFault}
 use Rattle.match_messages.specs.declared.messages.MessageFault.TheVariants.{Unreadable, BadMessage, BadClock, Memory}
 
--- the result of reading: a message, or why there is none
+-- a message, or why the text is not one
 abbrev pub Read : Type 0
 Read = Result MessageValue MessageFault
 
--- the atom of this word in any case; the word is given in small letters
+-- the expression is this word, in upper or lower case; the word is given in lower case
 abbrev pub is_word : List ℕ → Expression → Bool
 is_word small (atom word) = bytes_eq (map lower word) small
 is_word small (list xs) = false
@@ -25,12 +25,11 @@ abbrev pub id_in : Expression → Option (List ℕ)
 id_in (atom word) = if is_name word then Some word else None
 id_in (list xs) = None
 
--- the members of a list
 abbrev pub members_in : Expression → Option Expressions
 members_in (atom word) = None
 members_in (list xs) = Some xs
 
--- the moves that an expression gives: none for `NIL` and for the empty list
+-- the moves that an expression gives: None for `NIL` and for the empty list
 abbrev pub moves_in : Expression → Option (Option Expressions)
 moves_in (atom word) = if is_word (codes "nil") (atom word) then Some None else None
 moves_in (list none) = Some None
@@ -41,7 +40,7 @@ abbrev pub info_in : Expressions → Read
 info_in none = Ok info
 info_in (more x xs) = Err BadMessage
 
--- START with an id, a role, rules and both clocks: the clocks are tested last
+-- START with an id, a role, rules and both clocks; the clocks are tested last
 abbrev pub start_of : Option (List ℕ) → Expression → Option Expressions → Option ℕ → Option ℕ → Read
 start_of (Some id) role (Some rules) (Some s) (Some p) = Ok (start id (folded role) (all_folded rules) s p)
 start_of (Some id) role (Some rules) s p = Err BadClock
@@ -52,7 +51,6 @@ abbrev pub start_in : Expressions → Read
 start_in (more id (more role (more rules (more s (more p none))))) = start_of (id_in id) role (members_in rules) (clock_in s) (clock_in p)
 start_in _ = Err BadMessage
 
--- an id, and the moves after it
 abbrev pub id_and_moves : Expressions → Option (List ℕ × Option Expressions)
 id_and_moves (more id (more moves none)) = option_zip (id_in id) (moves_in moves)
 id_and_moves _ = None
@@ -81,13 +79,13 @@ message_of keyword rest =
     else (if is_word (codes "abort") keyword then abort_in rest
     else Err BadMessage))))
 
--- the message that an expression gives: the atom `INFO` stands for the list `(INFO)`
+-- the message that an expression gives; the atom `INFO` means the list `(INFO)`
 abbrev pub message_in : Expression → Read
 message_in (atom word) = if is_word (codes "info") (atom word) then Ok info else Err BadMessage
 message_in (list none) = Err BadMessage
 message_in (list (more keyword rest)) = message_of keyword rest
 
--- the message that the one expression of a text gives
+-- the message in the one expression of a text
 abbrev pub in_expression : Option Expression → Read
 in_expression None = Err Unreadable
 in_expression (Some x) = message_in x
@@ -95,7 +93,7 @@ in_expression (Some x) = message_in x
 abbrev pub message_reading : List ℕ → Read
 message_reading text = in_expression (reading text)
 
--- the result is the message that is read, or its fault, or out of memory
+-- the result is the message that is read, or its error, or out of memory
 abbrev pub Gives : Result Message MessageFault → Read → Type 0
 Gives (Ok m) read = read ≡ Ok (message_value m)
 Gives (Err Unreadable) read = read ≡ Err Unreadable

@@ -1,4 +1,4 @@
--- A message's content, as a plain value, and the expression of the message.
+-- The content of a message as a plain value, and the message's expression.
 use Rattle.std.specs.Prelude.{ℕ, List, Option, Some, None, option_map, codes}
 use Rattle.std.specs.Fmt.{decimal}
 use Rattle.game_core.specs.Expression.{Expression, atom, list, Expressions, none, more, folded, all_folded}
@@ -14,7 +14,6 @@ pub data MessageValue : Type 0 where
   stop : List ℕ → Option Expressions → MessageValue
   abort : List ℕ → MessageValue
 
--- the message in memory
 abbrev pub message_value : Message → MessageValue
 message_value Info = info
 message_value (Start id role rules s p) = start id (view role) (views rules.items) s p
@@ -22,16 +21,14 @@ message_value (Play id moves) = play id (option_map (λ v. views v.items) moves)
 message_value (Stop id moves) = stop id (option_map (λ v. views v.items) moves)
 message_value (Abort id) = abort id
 
--- the moves of the last turn: `NIL` before the first turn
+-- the moves of the last turn, or `NIL` before the first turn
 abbrev pub moves_form : Option Expressions → Expression
 moves_form None = atom (codes "NIL")
 moves_form (Some moves) = list moves
 
--- the expression of START with these parts
 abbrev pub start_form : List ℕ → Expression → Expression → ℕ → ℕ → Expression
 start_form id role rules s p = list (more (atom (codes "START")) (more (atom id) (more role (more rules (more (atom (decimal s)) (more (atom (decimal p)) none))))))
 
--- the expression of a message
 abbrev pub message_form : MessageValue → Expression
 message_form info = list (more (atom (codes "INFO")) none)
 message_form (start id role rules s p) = start_form id role (list rules) s p

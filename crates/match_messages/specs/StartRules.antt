@@ -1,4 +1,4 @@
--- The text of the rules that START carries.
+-- The text of the rules in START.
 use Rattle.std.specs.Prelude.{ℕ, List}
 use Rattle.kif_text.specs.View.{views}
 use Rattle.match_messages.specs.RulesText.{rules_text}

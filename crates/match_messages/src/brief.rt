@@ -7,8 +7,8 @@ use crate::start_rules::StartRules;
 use game_core::{Text, Texts};
 use kif_text::Expr;
 
-/// The data of a match that its players get: the match's id, the names of the roles in their order, the
-/// rules of the game, and the clocks for START and PLAY in seconds.
+/// What the players of a match get: the match's id, the names of the roles in order, the rules of the game, and the clocks
+/// for START and PLAY in seconds.
 #[derive(Drop)]
 pub struct Brief {
     pub id: Text,
@@ -19,7 +19,7 @@ pub struct Brief {
 }
 
 impl Brief {
-    /// Lends the same data.
+    /// Borrows the data.
     pub fn shared(&self) -> SharedBrief<'_>
         ensures { result ≡ brief_value self.now }
     {

@@ -1,4 +1,4 @@
-//! The clocks of a message.
+//! The clocks in a message.
 ghost use Rattle.std.specs.Prelude.{◌≡◌};
 ghost use Rattle.kif_text.specs.View.{view};
 ghost use Rattle.match_messages.specs.Clock.{clock_of, clock_in};

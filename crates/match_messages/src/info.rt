@@ -6,17 +6,16 @@ ghost use Rattle.match_messages.specs.InfoReading.{status_named, is_key, status_
 use kif_text::{Expr, KifFault, fold, read_one};
 use std::alloc::{AllocError, Global};
 
-/// A player's status, by its own answer.
+/// A player's status, according to its answer.
 #[derive(Clone, Copy, Debug, PartialEq, Eq)]
 pub enum Info {
     Available,
     Ready,
     Busy,
-    /// The answer gives none of these.
+    /// The answer gives no status.
     Unknown,
 }
 
-/// The status that a folded expression names.
 fn status_named(expr: &Expr) -> Info
     ensures { result ≡ status_named (view expr.now) }
 {
@@ -35,7 +34,6 @@ fn status_named(expr: &Expr) -> Info
     }
 }
 
-/// Whether this is the atom `status`.
 fn is_key(expr: &Expr) -> bool
     ensures { result ≡ is_key (view expr.now) }
 {
@@ -55,7 +53,7 @@ fn status_member(member: &Expr) -> Option<Info>
     }
 }
 
-/// The status S of the members `status S`.
+/// The status of members `status S`.
 fn status_pair(members: &[Expr]) -> Option<Info>
     ensures { result ≡ status_pair (views members.now) }
 {
@@ -84,7 +82,7 @@ fn first_status(members: &[Expr]) -> Option<Info>
     None
 }
 
-/// The status that a folded answer gives.
+/// The status in a folded answer.
 fn info_in(expr: &Expr) -> Info
     ensures { result ≡ info_in (view expr.now) }
 {
@@ -94,8 +92,8 @@ fn info_in(expr: &Expr) -> Info
     }
 }
 
-/// Reads an answer to INFO, in any ASCII case: the atom `available`, `ready` or `busy`, or a list with a
-/// first member `(status S)` that gives the status S. Any other text gives `Unknown`.
+/// Reads an answer to INFO, in upper or lower case: the atom `available`, `ready` or `busy`, or a list whose first member of
+/// the form `(status S)` gives the status S. Any other text gives `Unknown`.
 pub fn read_info(alloc: Global, text: &[u8]) -> Result<Info, AllocError>
     ensures { IfOk result (λ i. i ≡ info_reading text.now) }
 {

@@ -1,24 +1,24 @@
-//! What a message is, as its first word says.
+//! The kinds of messages, by their first word.
 ghost use Rattle.std.specs.Prelude.{◌↔◌, IsTrue, MatchOption};
 ghost use mathlib.Core.List.{IsPrefix};
 
 use shared_text::SharedText;
 
-/// What a message asks of a player.
+/// What a message tells a player to do.
 #[derive(Clone, Copy, PartialEq, Eq)]
 pub enum MessageKind {
     Info,
     /// A match begins.
     Start,
-    /// A move is asked for.
+    /// The player must choose a move.
     Play,
-    /// A match is over.
+    /// The match has ended.
     Stop,
-    /// A match is given up.
+    /// The match was aborted.
     Abort,
 }
 
-/// Whether the text begins with this word, in whatever parts it lies.
+/// Whether the text begins with this word. The word may cross the parts of the text.
 fn begins_with(text: &SharedText<'_>, word: &[u8]) -> bool
     ensures { IsTrue result ↔ IsPrefix word.now text.now }
 {
@@ -38,7 +38,7 @@ impl MessageKind {
     ghost use Rattle.match_messages.specs.MessageKinds.{kind_word};
     ghost use Rattle.match_messages.specs.declared.kind.MessageKind.{MessageKind};
 
-    /// The kind of a message, by the word that its text begins with. `None` if that is no kind's word.
+    /// The kind of a message, by its first word. `None` if that is not the word of a kind.
     pub fn of(message: &SharedText<'_>) -> Option<MessageKind>
         ensures { MatchOption result ((kind : MessageKind) → ¬ (IsPrefix (kind_word kind) message.now)) (λ kind. IsPrefix (kind_word kind) message.now) }
     {

@@ -1,9 +1,8 @@
-//! The messages of a match, by the Stanford GGP communication specification.
+//! The messages of a match, as the Stanford GGP communication specification defines them.
 //!
-//! `message` writes what is due to a role as the referee sends it, and `read_message` reads it as a player
-//! does. `shared_message` writes the same from data that is lent, with rules that were printed once. `read_info` reads a player's answer to `info_message`.
-//!
-//! Free functions take the allocator first.
+//! `message` writes what the match owes to a role, as the referee sends it, and `read_message` reads it, as a player does.
+//! `shared_message` writes the same from borrowed data, with rules that are printed only once. `read_info` reads a player's
+//! answer to `info_message`.
 #![tactic(auto)]
 
 mod brief;

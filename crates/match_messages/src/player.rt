@@ -1,4 +1,4 @@
-//! Players as a worker sees them.
+//! The players of a match.
 ghost use Rattle.std.specs.Prelude.{◌≡◌, [], ◌∷◌, List, Option, IfOk, OnErr};
 ghost use Rattle.match_messages.specs.Handing.{Handed, MayKeep};
 
@@ -6,22 +6,21 @@ use desk_calls::Answer;
 use shared_text::SharedText;
 use std::alloc::{AllocError, Global};
 
-/// A player of a role: it is handed messages and answers them.
+/// The player of a role: it receives messages and answers them.
 ///
-/// A player may show contracts the messages that it was handed, as one in memory does. One on the
-/// network does not. A player that has no memory to keep a message shows none from then on.
+/// A player may show contracts the messages that it received. A player in memory does; a player on the network does not. If
+/// a player has no memory left to store a message, it shows no messages from then on.
 pub trait Player {
-    /// The messages that it was handed, with its answers, in their order: none if it does not show
-    /// them, or not any more.
+    /// The messages that it received with its answers, in order, or `None` if it does not show them.
     ghost handed: { Self → Option (List Handed) };
 
-    /// Hands a message over, and waits for the answer. A player that takes more than `seconds`
-    /// seconds is silent.
+    /// Sends the player a message and waits for the answer. If the player takes longer than `seconds` seconds, the answer is
+    /// `Silent`.
     fn ask(&mut self, seconds: u32, body: &[u8]) -> Answer
         ensures { MayKeep (handed self.old) (handed self.new) (record { seconds = seconds; body = body.now; answer = result } ∷ []) };
 
-    /// Hands a message over, a part of which may be shared with other messages, as `ask` does with one in one piece. A player that
-    /// does not write the parts one after another joins them first, and for that it may be out of memory: then it was handed nothing.
+    /// Does the same with a message of which other messages share a part. If the player needs the message in one piece, it
+    /// joins the parts first; if it is out of memory for that, it received nothing.
     fn ask_shared(
         &mut self,
         alloc: Global,
@@ -35,11 +34,12 @@ pub trait Player {
         Ok(self.ask(seconds, body.as_slice()))
     }
 
-    /// Lets some time pass, if nothing is owed to the role.
+    /// Waits a while, if the match owes nothing to the role.
     fn rest(&mut self)
         ensures { handed self.new ≡ handed self.old };
 
-    /// Notes that the role's part of the match is over: no further message comes. The other roles may wait for just this.
+    /// Notifies the player that no further message comes, because the role's part of the match is over. The other roles may
+    /// be waiting for this.
     fn leave(&mut self)
         ensures { handed self.new ≡ handed self.old }
     {}

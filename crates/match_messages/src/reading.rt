@@ -1,4 +1,4 @@
-//! How messages are read from their texts.
+//! Reads messages from their texts.
 ghost use Rattle.std.specs.Prelude.{◌≡◌, map, option_copied, option_map};
 ghost use Rattle.game_core.specs.Bytes.{lower};
 ghost use Rattle.kif_text.specs.View.{view, views};
@@ -12,7 +12,7 @@ use game_core::Text;
 use kif_text::{Expr, KifFault, folded_copies, folded_copy, read_one};
 use std::alloc::Global;
 
-/// Whether this is the word in any case. `small` gives the word in small letters.
+/// Whether this is the word `small`, in upper or lower case. `small` is in lower case.
 fn is_word(expr: &Expr, small: &[u8]) -> bool
     requires { map lower small.now ≡ small.now }
     ensures { result ≡ is_word small.now (view expr.now) }
@@ -39,7 +39,7 @@ fn id_in(expr: &Expr) -> Option<&Text>
     }
 }
 
-/// The members of a list.
+/// The members, if the expression is a list.
 fn members_in(expr: &Expr) -> Option<&[Expr]>
     ensures { option_map (λ v. views v.now) result ≡ members_in (view expr.now) }
 {
@@ -156,7 +156,7 @@ fn info_in(members: &[Expr]) -> Result<Message, MessageFault>
     }
 }
 
-/// The message of a keyword and the members after it.
+/// Reads a keyword and the members after it.
 fn message_of(alloc: Global, keyword: &Expr, rest: &[Expr]) -> Result<Message, MessageFault>
     ensures { Gives result (message_of (view keyword.now) (views rest.now)) }
 {
@@ -177,7 +177,7 @@ fn message_of(alloc: Global, keyword: &Expr, rest: &[Expr]) -> Result<Message, M
     }
 }
 
-/// The message that an expression gives. The atom `INFO` stands for the list `(INFO)`.
+/// Reads an expression. The atom `INFO` means the list `(INFO)`.
 fn message_in(alloc: Global, expr: &Expr) -> Result<Message, MessageFault>
     ensures { Gives result (message_in (view expr.now)) }
 {
@@ -194,7 +194,7 @@ fn message_in(alloc: Global, expr: &Expr) -> Result<Message, MessageFault>
     }
 }
 
-/// Reads a message, with keywords and `NIL` in any ASCII case.
+/// Reads a message. Keywords and `NIL` may be in upper or lower case.
 pub fn read_message(alloc: Global, text: &[u8]) -> Result<Message, MessageFault>
     ensures { Gives result (message_reading text.now) }
 {

@@ -1,4 +1,4 @@
-//! The data of a match, lent.
+//! Borrowed data of a match.
 ghost use Rattle.std.specs.Prelude.{◌≡◌, IfOk, length};
 
 use crate::start_rules::StartRules;
@@ -6,7 +6,7 @@ use game_core::{Text, Texts};
 use std::alloc::{AllocError, Global};
 use std::marker::Model;
 
-/// The data of a match that its players get, lent. Contracts see the data alone.
+/// The borrowed data of a match. Contracts see only the data.
 #[derive(Drop)]
 pub struct SharedBrief<'r> {
     pub id: &'r Text,

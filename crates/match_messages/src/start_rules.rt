@@ -1,4 +1,4 @@
-//! The rules that START carries.
+//! The rules in START.
 ghost use Rattle.std.specs.Prelude.{◌≡◌, IfOk};
 ghost use Rattle.game_core.specs.Expression.{all_folded};
 ghost use Rattle.kif_text.specs.View.{views};
@@ -36,7 +36,7 @@ impl PrintedRules {
         })
     }
 
-    /// Prints the rules without capitals, as one list.
+    /// Prints the rules as one list, in lower case.
     pub fn without_capitals(alloc: Global, rules: &[Expr]) -> Result<PrintedRules, AllocError>
         ensures { IfOk result (λ printed. printed ≡ rules_text (all_folded (views rules.now))) }
     {
@@ -52,7 +52,7 @@ impl PrintedRules {
     }
 }
 
-/// The rules that START carries: sentences, or their text where that is shared.
+/// The rules in START: sentences, or their text if it is shared.
 #[derive(Clone, Copy)]
 pub enum StartRules<'r> {
     Sentences(&'r [Expr]),

@@ -1,4 +1,4 @@
-//! The texts of messages.
+//! Writes the texts of messages.
 ghost use Rattle.std.specs.Prelude.{◌≡◌, ◌<◌, [], ◌∷◌, ◌++◌, codes, length, option_map, IfOk, OnOk};
 ghost use Rattle.std.specs.Fmt.{decimal};
 ghost use Rattle.game_core.specs.Bytes.{space, right_parenthesis};
@@ -19,7 +19,7 @@ use kif_text::{Expr, print};
 use shared_text::SharedText;
 use std::alloc::{AllocError, Global};
 
-/// Adds a space and the word.
+/// Appends a space and the word.
 fn push_word(text: &mut Vec<u8>, word: &[u8]) -> Result<(), AllocError>
     ensures { OnOk result (text.new.items ≡ text.old.items ++ space ∷ word.now) }
 {
@@ -27,7 +27,6 @@ fn push_word(text: &mut Vec<u8>, word: &[u8]) -> Result<(), AllocError>
     text.extend_from_slice(word)
 }
 
-/// The text of a list of members with these texts.
 fn list_text(alloc: Global, members: &[Text]) -> Result<Text, AllocError>
     ensures { IfOk result (λ t. t ≡ canonical (list (as_printed members.now))) }
 {
@@ -52,7 +51,7 @@ fn moves_text(alloc: Global, moves: &Option<Texts>) -> Result<Text, AllocError>
     }
 }
 
-/// Adds a space and the number.
+/// Appends a space and the number.
 fn push_number(alloc: Global, text: &mut Vec<u8>, number: u32) -> Result<(), AllocError>
     ensures { OnOk result (text.new.items ≡ text.old.items ++ space ∷ decimal number) }
 {
@@ -60,7 +59,7 @@ fn push_number(alloc: Global, text: &mut Vec<u8>, number: u32) -> Result<(), All
     push_word(text, digits.as_bytes())
 }
 
-/// Adds the sentences in a list.
+/// Appends the sentences as a list.
 pub(crate) fn push_sentences(
     alloc: Global,
     text: &mut Vec<u8>,
@@ -79,7 +78,6 @@ pub(crate) fn push_sentences(
     Ok(())
 }
 
-/// The beginning of START's text, before its rules.
 fn start_front(alloc: Global, id: &Text, role: &Text) -> Result<Vec<u8>, AllocError>
     ensures { IfOk result (λ front. front.items ≡ ((codes "(START" ++ space ∷ id.now) ++ space ∷ role.now) ++ space ∷ []) }
 {
@@ -90,7 +88,7 @@ fn start_front(alloc: Global, id: &Text, role: &Text) -> Result<Vec<u8>, AllocEr
     Ok(front)
 }
 
-/// The end of START's text, after its rules.
+/// The text of START after its rules.
 fn start_end(alloc: Global, start: u32, play: u32) -> Result<Vec<u8>, AllocError>
     ensures { IfOk result (λ end. end.items ≡ ((space ∷ decimal start) ++ space ∷ decimal play) ++ right_parenthesis ∷ []) }
 {
@@ -101,7 +99,7 @@ fn start_end(alloc: Global, start: u32, play: u32) -> Result<Vec<u8>, AllocError
     Ok(end)
 }
 
-/// The rules of START between these two texts. Rules that are printed already are shared.
+/// Puts the rules of START between these two texts. Rules that are already printed are shared.
 fn around_rules<'r>(
     alloc: Global,
     front: Vec<u8>,
@@ -121,7 +119,6 @@ fn around_rules<'r>(
     }
 }
 
-/// The text of START.
 fn start_text<'r>(
     alloc: Global,
     brief: &SharedBrief<'r>,
@@ -135,7 +132,7 @@ fn start_text<'r>(
     around_rules(alloc, front, brief.rules, end.as_slice())
 }
 
-/// The text of a message that has the moves of the last turn.
+/// The text of PLAY or STOP, which have the moves of the last turn.
 fn turn_text<'r>(
     alloc: Global,
     keyword: &[u8],
@@ -152,7 +149,6 @@ fn turn_text<'r>(
     Ok(SharedText::of(text.bytes))
 }
 
-/// The text of ABORT.
 fn abort_text<'r>(alloc: Global, id: &Text) -> Result<SharedText<'r>, AllocError>
     ensures { IfOk result (λ t. t ≡ canonical (message_form (abort id.now))) }
 {
@@ -161,7 +157,7 @@ fn abort_text<'r>(alloc: Global, id: &Text) -> Result<SharedText<'r>, AllocError
     Ok(SharedText::of(text.bytes))
 }
 
-/// The text of the message that is owed to a role of the match whose data is lent.
+/// The text of the message that the match owes to a role, from borrowed data.
 pub fn shared_message<'r>(
     alloc: Global,
     brief: &SharedBrief<'r>,
@@ -179,7 +175,7 @@ pub fn shared_message<'r>(
     }
 }
 
-/// The text of the message that is owed to a role of the match.
+/// The text of the message that the match owes to a role.
 pub fn message(alloc: Global, brief: &Brief, role: usize, owed: &Owed) -> Result<Text, AllocError>
     requires { role < length brief.now.roles }
     ensures { IfOk result (λ t. t ≡ message_text (brief_value brief.now) role owed.now) }

@@ -1,4 +1,4 @@
--- Numbers in words, as they are read.
+-- Reading numbers in words.
 use Rattle.std.proofs.Common.{◌≡◌, ℕ, ◌<◌, ◌≤◌, ◌^◌, ◌∙◌, true, false, leb, ltb, List, Option, Some, None, Result, Ok, Err, length, refl, sym, ap, subst, inl, inr, arith, le-leb, leb-true, ltb-true}
 use Rattle.std.specs.Char.{is_ascii_digit}
 use Rattle.std.specs.List.{list_all}
@@ -21,28 +21,18 @@ digits_test = record {
 by_digits : IsNumeralModel (λ ds. list_all is_ascii_digit ds ≡ true) (digits_value 10)
 by_digits = numerals_by_value (λ ds. list_all is_ascii_digit ds ≡ true) digits_test
 
--- a text without digits alone is no number
-pub no-digits : (text : List ℕ) (limit : ℕ) → are_digits text ≡ false → None ≡ decimal_of text limit
-no-digits text limit none = sym (cond-false (are_digits text) (number_up_to text limit) None none)
-
 all-digits : (text : List ℕ) (limit : ℕ) → are_digits text ≡ true → decimal_of text limit ≡ number_up_to text limit
 all-digits text limit digits = cond-true (are_digits text) (number_up_to text limit) None digits
 
 too-large : (text : List ℕ) (limit : ℕ) → are_digits text ≡ true → limit < digits_value 10 text → None ≡ decimal_of text limit
 too-large text limit digits large = sym (all-digits text limit digits ∙ cond-false (leb (digits_value 10 text) limit) (Some (digits_value 10 text)) None (lt-leb (digits_value 10 text) limit large))
 
--- what `parse` reads in digits, by the limit
+-- what `parse` reads in digits, within the limit
 pub number-read : {E : Type 0} (text : List ℕ) (limit number : ℕ) (r : Result ℕ E) → ParsesUnsigned 64 10 text r → r ≡ Ok number → are_digits text ≡ true → number ≤ limit → Some number ≡ decimal_of text limit
 number-read {E} text limit number r reads is digits within =
     let all = (and_parts (ltb 0 (length text)) (list_all is_ascii_digit text) digits).1 in
     let value : number ≡ digits_value 10 text = (parse_digits by_digits {E = E} 64 text (Ok number) (subst (ParsesUnsigned 64 10 text) is reads) all).1 in
     ap Some value ∙ sym (all-digits text limit digits ∙ cond-true (leb (digits_value 10 text) limit) (Some (digits_value 10 text)) None (le-leb (digits_value 10 text) limit (omega (arith, value, within))))
-
-pub number-past : {E : Type 0} (text : List ℕ) (limit number : ℕ) (r : Result ℕ E) → ParsesUnsigned 64 10 text r → r ≡ Ok number → are_digits text ≡ true → limit < number → None ≡ decimal_of text limit
-number-past {E} text limit number r reads is digits past =
-    let all = (and_parts (ltb 0 (length text)) (list_all is_ascii_digit text) digits).1 in
-    let value : number ≡ digits_value 10 text = (parse_digits by_digits {E = E} 64 text (Ok number) (subst (ParsesUnsigned 64 10 text) is reads) all).1 in
-    too-large text limit digits (omega (arith, value, past))
 
 pub number-refused : {E : Type 0} (text : List ℕ) (limit : ℕ) (e : E) (r : Result ℕ E) → ParsesUnsigned 64 10 text r → r ≡ Err e → are_digits text ≡ true → limit < 2 ^ 64 → None ≡ decimal_of text limit
 number-refused text limit e r reads is digits small =
@@ -52,13 +42,3 @@ number-refused text limit e r reads is digits small =
       | inl fits ↦ absurd (none (ltb-true 0 (length text) parts.0, fits))
       | inr past ↦ too-large text limit digits (omega (arith, small, past))
     ]
-
--- numbers from `least` on
-pub at-least-some : (least n : ℕ) (o : Option ℕ) → Some n ≡ o → least ≤ n → Some n ≡ at_least least o
-at-least-some least n o is le = sym (cond-true (leb least n) (Some n) None (le-leb least n le)) ∙ ap (at_least least) is
-
-pub at-least-below : (least n : ℕ) (o : Option ℕ) → Some n ≡ o → n < least → None ≡ at_least least o
-at-least-below least n o is lt = sym (cond-false (leb least n) (Some n) None (lt-leb least n lt)) ∙ ap (at_least least) is
-
-pub at-least-none : (least : ℕ) (o : Option ℕ) → None ≡ o → None ≡ at_least least o
-at-least-none least o is = ap (at_least least) is

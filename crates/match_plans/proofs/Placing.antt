@@ -1,4 +1,4 @@
--- Matches behind others: one more of them, and the first that is out of place.
+-- One more match, and the first match that cannot follow the others.
 use Rattle.std.proofs.Common.{◌≡◌, ◌≢◌, ◌||◌, ◌+◌, ◌∙◌, ◌∷◌, ◌++◌, [], ℕ, ◌<◌, Bool, true, false, eqb, List, All, Bor, Some, None, get_or, if◌then◌else◌, length, map, not, take, refl, sym, ap, subst, inl, inr, arith, eqb-true, eq-eqb, ne_eqb}
 use Rattle.std.specs.List.{AllPairs, AllZip, filter, list_any}
 use Rattle.std.specs.Str.{bytes_eq}
@@ -37,7 +37,6 @@ pairs-push R xs x before new i j d lt within =
           subst (λ a. R a (get_or more j d)) (sym first) (subst (λ b. R (get_or xs i d) b) (sym second) (new i d (omega (arith, lt, at))))
     ]
 
--- one more match, whose id no earlier one has
 pub once-more : (plans : List MatchPlan) (plan : MatchPlan) → HaveIdsOnce plans → list_any (bytes_eq plan.id.now) (map (λ it. it.id.now) plans) ≡ false → HaveIdsOnce (plans ++ plan ∷ [])
 once-more plans plan before none =
     let P : MatchPlan → Type 0 = λ it. bytes_eq plan.id.now it.id.now ≡ false in
@@ -45,10 +44,6 @@ once-more plans plan before none =
     pairs-push (λ a b. b.id.now ≢ a.id.now) plans plan before
     (All-weaker P Q (λ it other e. both_ways (bytes_eq plan.id.now it.id.now) other ((bytes_eq-Decides plan.id.now it.id.now).1 e)) plans
     (none-of (λ it. bytes_eq plan.id.now it.id.now) plans (any-map (λ (it : MatchPlan). it.id.now) (bytes_eq plan.id.now) plans ∙ none)))
-
--- the tests of a match, one by one
-pub wrong-players : (roles : ℕ) (ids : List (List ℕ)) (id : List ℕ) (players : ℕ) → (players ≡ roles → ⊥) → Some WrongPlayers ≡ misplaced roles ids id players
-wrong-players roles ids id players other = sym (cond-false (eqb players roles) (if list_any (bytes_eq id) ids then Some IdTwice else None) (Some WrongPlayers) (ne_eqb players roles other))
 
 pub id-twice : (roles : ℕ) (ids : List (List ℕ)) (id : List ℕ) (players : ℕ) → players ≡ roles → list_any (bytes_eq id) ids ≡ true → Some IdTwice ≡ misplaced roles ids id players
 id-twice roles ids id players same there =
@@ -60,7 +55,7 @@ well-placed roles ids id players same new =
     sym (cond-true (eqb players roles) (if list_any (bytes_eq id) ids then Some IdTwice else None) (Some WrongPlayers) (eq-eqb players roles same)
     ∙ cond-false (list_any (bytes_eq id) ids) (Some IdTwice) None new)
 
--- what a match without a fault passed
+-- what holds for a match without an error
 pub placed : (roles : ℕ) (ids : List (List ℕ)) (id : List ℕ) (players : ℕ) → None ≡ misplaced roles ids id players → (players ≡ roles) × (list_any (bytes_eq id) ids ≡ false)
 placed roles ids id players = by (eqb players roles) (list_any (bytes_eq id) ids) refl refl
   where
@@ -78,7 +73,6 @@ one-more lines line tells =
     ap (filter kept) (map-append words lines (line ∷ [])) ∙ filter-append kept (map words lines) (words line ∷ [])
     ∙ ap (λ more. match_words lines ++ more) (cond-true (kept (words line)) (words line ∷ []) [] (not_from_false _ tells))
 
--- one more line with a match
 pub next : (strikes : ℕ) (lines : List (Bor (List ℕ))) (line : Bor (List ℕ)) (words : List (List ℕ)) (plans : List MatchPlan) (plan : MatchPlan) → words ≡ line_words (strip_carriage_return line.now) → is_blank_or_comment words ≡ false
     → AllZip (IsPlanned strikes) (match_words (map (λ it. it.now) lines)) plans → IsPlanned strikes words plan
     → AllZip (IsPlanned strikes) (match_words (map (λ it. it.now) (lines ++ line ∷ []))) (plans ++ plan ∷ [])
@@ -89,7 +83,6 @@ next strikes lines line words plans plan are tells before here =
     ∙ ap (λ ws. match_words (map (λ it. it.now) lines) ++ ws ∷ []) (sym are) in
     subst (λ ws. AllZip (IsPlanned strikes) ws (plans ++ plan ∷ [])) (sym more) (zip-push (IsPlanned strikes) _ plans words plan before here)
 
--- the first bad line, behind the lines with these matches
 pub bad-line : (roles strikes : ℕ) (lines : List (List ℕ)) (at : ℕ) (line : List ℕ) (words : List (List ℕ)) (before : List MatchPlan) (fault : LineFault)
     → (at < length lines) × (line ≡ get_or lines at line) → words ≡ line_words (strip_carriage_return line)
     → AreMatchesOf roles strikes (take at lines) before → IsFaultOf roles strikes before words fault → IsBadLine roles strikes lines (BadLine (at + 1) fault)

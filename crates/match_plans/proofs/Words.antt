@@ -18,7 +18,6 @@ use Rattle.match_plans.specs.declared.plan.MatchPlan.{MatchPlan}
 use Rattle.match_plans.specs.declared.schedule_fault.LineFault.{LineFault}
 use Rattle.match_plans.specs.declared.schedule_fault.LineFault.TheVariants.{TooFewWords, NoId, NoClock, NoPlayer}
 
--- a text without or with a first bracket
 pub first-none : (text : List ℕ) (r : Option (Bor (List ℕ))) → MatchOption r ((rest : List ℕ) → text ≢ 91 ∷ rest) (λ x. text ≡ 91 ∷ x.now) → r ≡ None → (inner : List ℕ) → text ≢ bracketed inner
 first-none text None none is inner e = none (inner ++ 93 ∷ []) e
 first-none text (Some x) e is inner same = let bad : ⊥ = cc in absurd bad
@@ -27,7 +26,7 @@ pub first-some : (text : List ℕ) (r : Option (Bor (List ℕ))) (rest : Bor (Li
 first-some text None rest none is = let bad : ⊥ = cc in absurd bad
 first-some text (Some x) rest e is = let same : x ≡ rest = cc in e ∙ ap (λ (b : Bor (List ℕ)). 91 ∷ b.now) same
 
--- without its first bracket a text is in brackets if the rest ends with one
+-- a text is in brackets if, without its opening bracket, it ends with a closing one
 pub unbracketed : (text rest : List ℕ) (r : Option (Bor (List ℕ))) → text ≡ 91 ∷ rest → MatchOption r ((front : List ℕ) → rest ≢ front ++ 93 ∷ []) (λ x. rest ≡ x.now ++ 93 ∷ [])
     → MatchOption r ((inner : List ℕ) → text ≢ bracketed inner) (λ inner. text ≡ bracketed inner.now)
 unbracketed text rest None is none = λ inner e. let same : rest ≡ inner ++ 93 ∷ [] = cc in none inner same
@@ -37,7 +36,6 @@ pub address-known : {E : Type 0} (text : List ℕ) (r : Result Ipv6Addr E) (b : 
 address-known text (Ok a) b reads is = subst (λ (it : Bool). MatchBool it (IsIpv6 text) (¬ (IsIpv6 text))) (sym is) (a, reads)
 address-known text (Err e) b reads is = subst (λ (it : Bool). MatchBool it (IsIpv6 text) (¬ (IsIpv6 text))) (sym is) (λ it. reads it.0 it.1)
 
--- a text in brackets that is no IPv6 address is the host itself
 pub host-in-brackets : (text inner : List ℕ) → text ≡ bracketed inner → ¬ (IsIpv6 inner) → IsHostOf text text
 host-in-brackets text inner is non =
     inr (
@@ -47,7 +45,6 @@ host-in-brackets text inner is non =
           non (subst IsIpv6 (sym (same_from_push inner other 93 93 same).0) it),
     )
 
--- the last c of a text
 cut-none : (c : ℕ) (text : List ℕ) → ((i : ℕ) → i < length text → get_or text i 0 ≢ c) → cut_at_last c text ≡ None
 cut-none c [] lacks = refl
 cut-none c (b ∷ more) lacks =
@@ -58,7 +55,7 @@ cut-at : (c : ℕ) (front back : List ℕ) → ((i : ℕ) → i < length back �
 cut-at c [] back lacks = ap (cut_here c c back) (cut-none c back lacks) ∙ cond-true (eqb c c) (Some ([], back)) None (eq-eqb c c refl)
 cut-at c (b ∷ front) back lacks = ap (cut_here c b (front ++ c ∷ back)) (cut-at c front back lacks)
 
--- what `rsplit_once` cuts at an ASCII character
+-- where `rsplit_once` cuts at an ASCII character
 pub cut-is-last : (c : ℕ) (text : List ℕ) (r : Option (Bor (List ℕ) × Bor (List ℕ)))
     → MatchOption r (RFindsChar c text None) (λ x. (i : ℕ) × (j : ℕ) × RFindsChar c text (Some (i, j)) × (x.0.now ≡ take i text) × (x.1.now ≡ drop j text) × (i ≤ j) × (length x.0.now ≡ i) × (length x.1.now + j ≡ length text))
     → c < 128 → option_map (λ x. (x.0.now, x.1.now)) r ≡ cut_at_last c text
@@ -68,11 +65,10 @@ cut-is-last c text (Some x) h low =
     let lacks : (i : ℕ) → i < length (drop h.1 text) → get_or (drop h.1 text) i 0 ≢ c = λ i l. NoCharPasses-char c (drop h.1 text) i h.2.0 low l in
     (λ t. Some (h.3 t, h.4 t)) ∙ sym (ap (cut_at_last c) split ∙ cut-at c (take h.0 text) (drop h.1 text) lacks)
 
--- without an @ there is no place
+-- without an @ there is no host
 pub no-place : (word : List ℕ) → position_or_len (λ b. eqb b 64) word ≡ length word → addressed_place word ≡ None
 no-place word none = ap (cut_at_last 58) (drop_all (position_or_len (λ b. eqb b 64) word + 1) word (omega (arith, none)))
 
--- what `split_once` cuts at the first @
 pub cut-at-first : (word : List ℕ) (r : Option (Bor (List ℕ) × Bor (List ℕ)))
     → MatchOption r (position_or_len (λ b. eqb b 64) word ≡ length word) (λ x. (position_or_len (λ b. eqb b 64) word < length word) × (x.0.now ≡ before_first (λ b. eqb b 64) word) × (x.1.now ≡ after_first (λ b. eqb b 64) word))
     → MatchOption r (addressed_place word ≡ None) (λ x. (x.0.now ≡ addressed_name word) × (cut_at_last 58 x.1.now ≡ addressed_place word))
@@ -113,7 +109,6 @@ one-player-more words i d players player within before here =
     let more = map_more (λ (w : Bor (List ℕ)). w.now) words i d within in
     subst (λ ws. AllZip IsAddress ws (players ++ player ∷ [])) (sym more) (zip-push IsAddress (map (λ w. w.now) (take i words)) players _ player before here)
 
--- the fault of the players' words from the word at i on
 pub next-player : (words : List (Bor (List ℕ))) (i n m : ℕ) (d : Bor (List ℕ)) → i < length words → m ≡ n + 1 → is_player (get_or words i d).now ≡ true
     → player_fault n (map (λ w. w.now) (drop i words)) ≡ player_fault m (map (λ w. w.now) (drop (i + 1) words))
 next-player words i n m d within next good =
@@ -122,7 +117,7 @@ next-player words i n m d within next good =
     ∙ ap (λ (j : ℕ). player_fault (n + 1) (map (λ w. w.now) (drop j words))) (sym (add-one i))
     ∙ ap (λ (k : ℕ). player_fault k (map (λ w. w.now) (drop (i + 1) words))) (sym next)
 
--- the fault of a line by what is read of its first three words, and the fault of the others
+-- the error of a text line, from what its first three words are read as, and the error of the others
 abbrev pub told : Bool → Option ℕ → Option ℕ → Option LineFault → Option LineFault
 told text start play players = if not text then Some NoId else (if is_none start then Some (NoClock 2) else (if is_none play then Some (NoClock 3) else players))
 
@@ -154,6 +149,5 @@ planned strikes (a ∷ []) plan d long id start play same players = absurd (omeg
 planned strikes (a ∷ b ∷ []) plan d long id start play same players = absurd (omega (arith, long))
 planned strikes (a ∷ b ∷ e ∷ words) plan d long id start play same players = (id, sym start, sym play, same, players)
 
--- the rest of a list as a slice of it
 pub rest-is : (words : List (Bor (List ℕ))) → take (length words - 3) (drop 3 words) ≡ drop 3 words
 rest-is words = take_all (length words - 3) (drop 3 words) (omega (arith, length-drop 3 words))

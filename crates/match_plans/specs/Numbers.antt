@@ -2,11 +2,10 @@
 use Rattle.std.specs.Prelude.{ℕ, List, Option, Some, None, if◌then◌else◌, nat_le}
 use Rattle.game_core.specs.Numerals.{are_digits, number_up_to}
 
--- the number that decimal digits write, if it is at most this limit; leading zeros are taken
+-- the number that decimal digits write, if it is within the limit; leading zeros are accepted
 abbrev pub decimal_of : List ℕ → ℕ → Option ℕ
 decimal_of text limit = if are_digits text then number_up_to text limit else None
 
--- the same of a number from `least` on
 abbrev pub at_least : ℕ → Option ℕ → Option ℕ
 at_least least None = None
 at_least least (Some number) = if nat_le least number then Some number else None

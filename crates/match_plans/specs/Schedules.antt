@@ -12,45 +12,43 @@ use Rattle.match_plans.specs.declared.schedule_fault.LineFault.TheVariants.{TooF
 use Rattle.match_plans.specs.declared.schedule_fault.ScheduleFault.{ScheduleFault}
 use Rattle.match_plans.specs.declared.schedule_fault.ScheduleFault.TheVariants.{BadLine, Memory}
 
--- the pieces of a text between its line feeds
+-- the parts of a text between its line feeds
 abbrev pub cut_lines : List ℕ → List (List ℕ)
 cut_lines text = slice_split (λ b. b == line_feed) text
 
--- whether a byte is a space or a tab
 abbrev pub is_blank : ℕ → Bool
 is_blank b = (b == space) || (b == 9)
 
--- the words of a line: the pieces between its blanks that are not empty
+-- the words of a text line: the parts between blanks that are not empty
 abbrev pub line_words : List ℕ → List (List ℕ)
 line_words line = filter (λ word. not (length word == 0)) (slice_split is_blank line)
 
--- whether a word begins with #
 abbrev pub is_comment : List ℕ → Bool
 is_comment [] = false
 is_comment (b ∷ more) = b == 35
 
--- a line without words, or with a first word that begins with #, holds no match, and is not bad
+-- a text line without words, or whose first word begins with #, is ignored
 abbrev pub is_blank_or_comment : List (List ℕ) → Bool
 is_blank_or_comment [] = true
 is_blank_or_comment (word ∷ words) = is_comment word
 
--- the words of the lines that hold a match, line by line
+-- the words of the text lines with a match, line by line
 abbrev pub match_words : List (List ℕ) → List (List (List ℕ))
 match_words lines = filter (λ words. not (is_blank_or_comment words)) (map (λ line. line_words (strip_carriage_return line)) lines)
 
 abbrev pub match_lines : List ℕ → List (List (List ℕ))
 match_lines text = match_words (cut_lines text)
 
--- the number of seconds in a word: decimal digits, without leading zeros
+-- the number of seconds in a word: decimal digits without leading zeros
 abbrev pub clock_of : List ℕ → Option ℕ
 clock_of word = plain_number word 4294967295
 
--- the fault of the first of these words that is no player's address; the first of them has this number in its line
+-- the error of the first of these words that is not a player's address; the first one has this number in its text line
 abbrev pub player_fault : ℕ → List (List ℕ) → Option LineFault
 player_fault number [] = None
 player_fault number (word ∷ words) = if is_player word then player_fault (number + 1) words else Some (NoPlayer number)
 
--- the first fault of the words of a line, from left to right; None if they are ID START PLAY NAME@HOST:PORT ..
+-- the first error of the words of a text line, from left to right; None if they are ID START PLAY NAME@HOST:PORT ..
 abbrev pub word_fault : List (List ℕ) → Option LineFault
 word_fault (id ∷ start ∷ play ∷ player ∷ players) =
     if not (is_utf8 id) then Some NoId
@@ -59,14 +57,14 @@ word_fault (id ∷ start ∷ play ∷ player ∷ players) =
     else player_fault 4 (player ∷ players)))
 word_fault words = Some TooFewWords
 
--- the plan has what the words of a line say: the id, the seconds for START, those for every other message, and the player of each word
+-- the plan has the values of these words: the id, the seconds for START, those for all other messages, and the players
 abbrev pub IsPlanned : ℕ → List (List ℕ) → MatchPlan → Type 0
 IsPlanned strikes (id ∷ start ∷ play ∷ players) plan =
     (plan.id.now ≡ id) × (clock_of start ≡ Some plan.start) × (clock_of play ≡ Some plan.play) × (plan.strikes ≡ strikes)
     × AllZip IsAddress players plan.players.items
 IsPlanned strikes words plan = ⊥
 
--- the fault of a match with this id and this number of players, after matches with these ids
+-- the error of a match with this id and this number of players, after matches with these ids
 abbrev pub misplaced : ℕ → List (List ℕ) → List ℕ → ℕ → Option LineFault
 misplaced roles ids id players = if players == roles then (if list_any (bytes_eq id) ids then Some IdTwice else None) else Some WrongPlayers
 
@@ -74,34 +72,34 @@ misplaced roles ids id players = if players == roles then (if list_any (bytes_eq
 abbrev pub HaveIdsOnce : List MatchPlan → Type 0
 HaveIdsOnce plans = AllPairs (λ before plan. plan.id.now ≢ before.id.now) plans
 
--- These are the matches of the lines, in their order: not too many, each with a player for each role, and no id twice.
+-- These are the matches of the text lines, in order: not too many, each with a player for each role, and with different ids.
 pub record AreMatchesOf (roles strikes : ℕ) (lines : List (List ℕ)) (plans : List MatchPlan) : Type 0 where
   pub planned : AllZip (IsPlanned strikes) (match_words lines) plans
   pub within : length plans ≤ 65536
   pub roles_each : All (λ plan. vec_len plan.players ≡ roles) plans
   pub once : HaveIdsOnce plans
 
--- the fault of a match behind these matches
+-- the error of a match after these matches
 abbrev pub HasFault : ℕ → List MatchPlan → MatchPlan → LineFault → Type 0
 HasFault roles before plan fault =
     (misplaced roles (map (λ it. it.id.now) before) plan.id.now (vec_len plan.players) ≡ Some fault)
     ⊎ ((misplaced roles (map (λ it. it.id.now) before) plan.id.now (vec_len plan.players) ≡ None) × (fault ≡ TooMany) × (length before ≡ 65536))
 
--- the fault of a line with these words, behind these matches: that of its words, and if they have none, that of its match
+-- the error of a text line with these words after these matches: that of its words, or else that of its match
 abbrev pub IsFaultOf : ℕ → ℕ → List MatchPlan → List (List ℕ) → LineFault → Type 0
 IsFaultOf roles strikes before words fault =
     (is_blank_or_comment words ≡ false)
     × ((word_fault words ≡ Some fault)
     ⊎ ((plan : MatchPlan) × (word_fault words ≡ None) × IsPlanned strikes words plan × HasFault roles before plan fault))
 
--- The line at this index is the first bad one, and this is its fault. The lines before it hold only matches, and lines that are skipped.
+-- The text line with this index is the first bad one, and this is its error. Each line before it has a match or is ignored.
 pub record IsFirstBad (roles strikes : ℕ) (lines : List (List ℕ)) (at : ℕ) (fault : LineFault) : Type 0 where
   pub within : at < length lines
   pub before : List MatchPlan
   pub are_good : AreMatchesOf roles strikes (take at lines) before
   pub is_bad : IsFaultOf roles strikes before (line_words (strip_carriage_return (get_or lines at []))) fault
 
--- the number of the first bad line, from 1 on, and its fault
+-- the number of the first bad text line, counted from 1, and its error
 abbrev pub IsBadLine : ℕ → ℕ → List (List ℕ) → ScheduleFault → Type 0
 IsBadLine roles strikes lines (BadLine number fault) = (at : ℕ) × (number ≡ at + 1) × IsFirstBad roles strikes lines at fault
 IsBadLine roles strikes lines Memory = ⊥

@@ -1,4 +1,4 @@
-//! The address of a player, read from a word.
+//! Reads the address of a player from a word.
 ghost use Rattle.std.specs.Prelude.{◌≡◌, ◌≢◌, ℕ, List, IfSome, MatchBool, MatchOption, None, Some, is_some, option_map};
 ghost use Rattle.match_plans.specs.Addresses.{IsAddress, IsHostOf, IsIpv6, addressed_name, addressed_place, bracketed, cut_at_last, is_address};
 ghost use Rattle.match_plans.specs.Numbers.{port_of};
@@ -7,8 +7,8 @@ use crate::numbers::decimal_from;
 use desk_calls::is_name;
 use std::net::Ipv6Addr;
 
-/// The address of a player, written `NAME@HOST:PORT`. The first `@` and the last `:` after it cut the word. An IPv6 address has
-/// brackets in the word, and none here.
+/// The address of a player, written `NAME@HOST:PORT`. The first `@` and the last `:` after it separate the parts. An IPv6
+/// address has brackets in the word, but none here.
 #[derive(Clone, Copy, PartialEq, Eq)]
 pub struct PlayerAddress<'a> {
     pub name: &'a str,
@@ -16,7 +16,6 @@ pub struct PlayerAddress<'a> {
     pub port: u16,
 }
 
-/// The text between the brackets of a text. `None` if it has none.
 fn in_brackets(text: &str) -> Option<&str>
     ensures { MatchOption result ((inner : List ℕ) → text.now ≢ bracketed inner) (λ inner. text.now ≡ bracketed inner.now) }
 {
@@ -26,15 +25,14 @@ fn in_brackets(text: &str) -> Option<&str>
     rest.strip_suffix(']')
 }
 
-/// Whether a text is an IPv6 address.
 fn is_ipv6(text: &str) -> bool
     ensures { MatchBool result (IsIpv6 text.now) (¬ (IsIpv6 text.now)) }
 {
     text.parse::<Ipv6Addr>().is_ok()
 }
 
-/// The host without its brackets if it is an IPv6 address, and as it is written otherwise. An address with a zone keeps its
-/// brackets here; `network_players` drops them.
+/// The host, without brackets if it is an IPv6 address. An address with a zone keeps its brackets here; `network_players`
+/// removes them.
 fn plain_host(host: &str) -> &str
     ensures { IsHostOf host.now result.now }
 {
@@ -44,14 +42,14 @@ fn plain_host(host: &str) -> &str
     if is_ipv6(inner) { inner } else { host }
 }
 
-/// The number of a port. `None` if the text is no number from 1 to 65,535.
+/// The number of a port, or `None` if the text is not a number from 1 to 65,535.
 fn port_in(text: &str) -> Option<u16>
     ensures { result ≡ port_of text.now }
 {
     Some(decimal_from(text, 1, 65_535)? as u16)
 }
 
-/// What stands before and behind the first `@` of a word.
+/// The parts before and after the first `@` of a word.
 fn name_and_place(word: &str) -> Option<(&str, &str)>
     ensures { MatchOption result (addressed_place word.now ≡ None)
         (λ parts. (parts.0.now ≡ addressed_name word.now) × (cut_at_last 58 parts.1.now ≡ addressed_place word.now)) }
@@ -59,15 +57,15 @@ fn name_and_place(word: &str) -> Option<(&str, &str)>
     word.split_once('@')
 }
 
-/// What stands before and behind the last `:` of a text.
+/// The parts before and after the last `:` of a text.
 fn host_and_port(place: &str) -> Option<(&str, &str)>
     ensures { option_map (λ parts. (parts.0.now, parts.1.now)) result ≡ cut_at_last 58 place.now }
 {
     place.rsplit_once(':')
 }
 
-/// Reads a player's address from a word. `None` if there is no `@` or no `:` after it, if the name is not lawful, or if the port is no
-/// number from 1 to 65,535.
+/// Reads a player's address from a word. Returns `None` if there is no `@` or no `:` after it, if the name is not lawful, or
+/// if the port is not a number from 1 to 65,535.
 pub fn player_address(word: &str) -> Option<PlayerAddress<'_>>
     ensures address { IfSome result (IsAddress word.now) }
     ensures taken { is_some result ≡ is_address word.now }

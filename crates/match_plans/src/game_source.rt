@@ -7,33 +7,33 @@ use game_core::Limits;
 pub enum RulesSource<'a> {
     /// The description itself.
     Text(&'a str),
-    /// The path of its file. A path without a leading slash begins at the folder in which the program runs.
+    /// The path of a file. A relative path starts at the program's working directory.
     File(&'a str),
 }
 
 /// The source of a game.
 #[derive(Clone, Copy)]
 pub enum GameSource<'a> {
-    /// Countdown with a heap of this size. The size may be out of range.
+    /// Countdown with a heap of this size, which may be out of range.
     Countdown(u8),
     /// The game of a ground description within these limits.
     Described(RulesSource<'a>, Limits),
 }
 
-/// A command on one game. It uses standard input and output and no players.
+/// A command on one game, without players. It uses standard input and output.
 #[derive(Clone, Copy)]
 pub enum GameCommand {
     /// Answers a script.
     Desk,
     /// Checks a record.
     Verify,
-    /// Checks each line as a record.
+    /// Checks each text line as a record.
     VerifyLines,
-    /// Makes the calls of an account again.
+    /// Replays a call log.
     Replay,
 }
 
-/// A command, the source of its game, and the file of its input, if one is named. Without it the input is standard input.
+/// A command, the source of its game, and the path of its input. Without a path the input is standard input.
 #[derive(Clone, Copy)]
 pub struct GameTask<'a> {
     pub command: GameCommand,

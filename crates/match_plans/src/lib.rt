@@ -1,7 +1,7 @@
-//! Plans of matches: the addresses of players, the source of a game, one match, the matches of a schedule, the check of a player. The
-//! trait `Reach` reaches the players of a planned match, and `ReportsShortages` reports what the referee was short of in it.
+//! Plans of matches: addresses of players, the source of a game, a match, the matches of a schedule, the check of a player.
 //!
-//! Free functions take the allocator first.
+//! The trait `Reach` makes the players of a planned match, and `ReportsShortages` reports which resource the referee lacked
+//! in it.
 #![tactic(auto)]
 
 mod addresses;

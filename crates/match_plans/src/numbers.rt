@@ -1,11 +1,11 @@
-//! Numbers of the command line.
+//! Numbers on the command line.
 ghost use Rattle.std.specs.Prelude.{◌≡◌, ◌≤◌, IfSome};
 ghost use Rattle.match_plans.specs.Numbers.{at_least, decimal_of};
 
 use game_core::numeral::are_digits;
 
-/// Reads a number in decimal digits; leading zeros are accepted. `None` if the text is empty, has another byte, or is above
-/// `limit`.
+/// Reads a number in decimal digits. Leading zeros are accepted. Returns `None` if the text is empty, has another byte, or
+/// exceeds `limit`.
 pub fn decimal(text: &str, limit: u64) -> Option<u64>
     ensures within { IfSome result (λ number. number ≤ limit) }
     ensures value { result ≡ decimal_of text.now limit }
@@ -19,7 +19,7 @@ pub fn decimal(text: &str, limit: u64) -> Option<u64>
     if number <= limit { Some(number) } else { None }
 }
 
-/// Reads a number from `least` on as `decimal` does.
+/// Reads a number of at least `least`, as `decimal` does.
 pub fn decimal_from(text: &str, least: u64, limit: u64) -> Option<u64>
     ensures within { IfSome result (λ number. number ≤ limit) }
     ensures value { result ≡ at_least least (decimal_of text.now limit) }

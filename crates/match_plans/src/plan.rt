@@ -2,8 +2,8 @@
 
 use crate::addresses::PlayerAddress;
 
-/// A match between players on the network. The clocks are in seconds. After `strikes` substituted moves in a row a role is retired,
-/// and with 0 never. The players are in the order of the roles.
+/// A match between players on the network. The clocks are in seconds. After `strikes` substituted moves in a row a role is
+/// retired; 0 means never. The players are in the order of the roles.
 #[derive(Drop)]
 pub struct MatchPlan<'a> {
     pub id: &'a str,
@@ -13,7 +13,7 @@ pub struct MatchPlan<'a> {
     pub players: Vec<PlayerAddress<'a>>,
 }
 
-/// The player to check, with the clocks in seconds and the strikes of its matches.
+/// The player to check, with the clocks in seconds and the strikes of the matches.
 #[derive(Clone, Copy)]
 pub struct CheckPlan<'a> {
     pub player: PlayerAddress<'a>,

@@ -1,4 +1,4 @@
-//! A line of a schedule: its words, and the match that they hold.
+//! A text line of a schedule: its words, and the match in it.
 ghost use Rattle.std.specs.Prelude.{◌≡◌, ◌==◌, IfOk, IfSome, is_some, length, map, not};
 ghost use Rattle.std.specs.List.{AllZip};
 ghost use Rattle.std.specs.Result.{result_err};
@@ -12,7 +12,7 @@ use game_core::numeral::plain_number;
 use std::alloc::{AllocError, Global};
 use std::str;
 
-/// The words of a line: the pieces between its spaces and tabs that are not empty.
+/// The words of a text line: the parts between spaces and tabs that are not empty.
 pub(crate) fn words<'a>(alloc: Global, line: &'a [u8]) -> Result<Vec<&'a [u8]>, AllocError>
     ensures { IfOk result (λ v. map (λ w. w.now) v.items ≡ line_words line.now) }
 {
@@ -25,7 +25,7 @@ pub(crate) fn words<'a>(alloc: Global, line: &'a [u8]) -> Result<Vec<&'a [u8]>, 
         .collect(alloc)
 }
 
-/// Whether a line with these words holds no match, and is not bad: it has no words, or the first one begins with `#`.
+/// Whether a text line with these words is ignored: it has no words, or the first one begins with `#`.
 pub(crate) fn is_blank_or_comment(words: &[&[u8]]) -> bool
     ensures { result ≡ is_blank_or_comment (map (λ w. w.now) words.now) }
 {
@@ -35,17 +35,16 @@ pub(crate) fn is_blank_or_comment(words: &[&[u8]]) -> bool
     }
 }
 
-/// The largest number of seconds that a schedule's word may have. A clock's range is smaller (`is_clock` of `desk_calls`).
+/// The largest number of seconds in a schedule. Clocks have a smaller limit (`is_clock` of `desk_calls`).
 const MAX_WORD_SECONDS: usize = 4_294_967_295;
 
-/// The number of seconds in a word. It may be out of a clock's range.
+/// The number of seconds in a word, which may be out of a clock's range.
 fn clock(word: &[u8]) -> Option<u32>
     ensures { result ≡ clock_of word.now }
 {
     Some(plain_number(word, MAX_WORD_SECONDS)? as u32)
 }
 
-/// The player's address in a word.
 fn player(word: &[u8]) -> Option<PlayerAddress<'_>>
     ensures address { IfSome result (IsAddress word.now) }
     ensures taken { is_some result ≡ is_player word.now }
@@ -56,10 +55,10 @@ fn player(word: &[u8]) -> Option<PlayerAddress<'_>>
     player_address(word)
 }
 
-/// The number of the first player's word in a line, from 1 on.
+/// The number of the first player's word, counted from 1.
 const FIRST_PLAYER: u64 = 4;
 
-/// The addresses in the players' words of a line. The inner error is the fault of the first one that is no address.
+/// The addresses in the players' words. The inner error is that of the first word that is not an address.
 fn players<'a>(
     alloc: Global,
     words: &[&'a [u8]],
@@ -78,7 +77,8 @@ fn players<'a>(
     Ok(Ok(players))
 }
 
-/// The match of a line's words. The inner error is the first fault of the words if they are not `ID START PLAY NAME@HOST:PORT ..`.
+/// The match in the words of a text line. The inner error is the first one if the words are not `ID START PLAY
+/// NAME@HOST:PORT ..`.
 pub(crate) fn planned_match<'a>(
     alloc: Global,
     words: &[&'a [u8]],

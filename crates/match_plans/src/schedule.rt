@@ -1,4 +1,4 @@
-//! The schedule of a season, with one match in a line.
+//! The schedule of a batch of matches, with one match in each text line.
 ghost use Rattle.std.specs.Prelude.{◌≡◌, ◌≤◌, ◌⊎◌, ◌++◌, ◌∷◌, [], All, IfErr, IfNone, IfOk, length, map, vec_len};
 ghost use Rattle.std.specs.List.{AllZip};
 ghost use Rattle.match_plans.specs.declared.schedule_fault.ScheduleFault.TheVariants.{Memory};
@@ -11,13 +11,13 @@ use game_core::lines::without_return;
 use indexmap::IndexSet;
 use std::alloc::{AllocError, Global};
 
-/// The limit of the matches in a schedule.
+/// The largest number of matches of a schedule.
 pub const MAX_SCHEDULED: usize = 65_536;
 
-/// The limit of the matches of a schedule that are played at once.
+/// The largest number of matches of a schedule that are played at once.
 pub const MAX_AT_ONCE: usize = 1_024;
 
-/// Why a match can't follow those with these ids, in a game of `roles` roles. Adds its id if it can.
+/// Why a match cannot follow the matches with these ids, in a game of `roles` roles. If it can, this adds its id.
 fn misplaced<'a>(
     ids: &mut IndexSet<&'a [u8]>,
     plan: &MatchPlan<'a>,
@@ -37,8 +37,9 @@ fn misplaced<'a>(
     Ok(None)
 }
 
-/// Reads a schedule for a game of `roles` roles. Returns its matches in the order of their lines; all have the same strikes. A line
-/// without words, or with a first word that begins with `#`, is skipped. The error is the first bad line, or `Memory`.
+/// Reads a schedule for a game of `roles` roles. Returns its matches in the order of the text lines, all with the same
+/// strikes. Text lines without words, or whose first word begins with `#`, are ignored. The error is the first bad text
+/// line, or `Memory`.
 pub fn read_schedule<'a>(
     alloc: Global,
     input: &'a [u8],
@@ -54,7 +55,7 @@ pub fn read_schedule<'a>(
     let mut ids = IndexSet::new(alloc);
     let mut plans = Vec::new(alloc);
     let mut number: u64 = 0;
-    // A list of the lines would take 16 bytes for each line feed.
+    // A list of the text lines would take 16 bytes for each line feed.
     for line in input.split(|b| *b == b'\n') {
         number += 1;
         let words = words(alloc, without_return(line))?;

@@ -3,35 +3,35 @@
 use std::alloc::{AllocError, AllocFailed};
 use thiserror::Error;
 
-/// The fault of a bad line in a schedule. The words of a line have to be `ID START PLAY NAME@HOST:PORT ..`, and are counted from 1.
+/// The error of a text line of a schedule. Its words must be `ID START PLAY NAME@HOST:PORT ..`; they are counted from 1.
 #[derive(Clone, Copy, Debug, PartialEq, Eq, Error)]
 pub enum LineFault {
     #[error("fewer than four words")]
     TooFewWords,
-    /// The id is no text.
+    /// The id is not UTF-8 text.
     #[error("word 1 is no UTF-8")]
     NoId,
-    /// START or PLAY is not digits without leading zeros, for a number up to 4,294,967,295.
+    /// START or PLAY is not a number up to 4,294,967,295 in digits without leading zeros.
     #[error("word {0} is no number of seconds")]
     NoClock(u64),
-    /// A player's word is no lawful name at a host and a port.
+    /// A player's word is not a lawful name with a host and a port.
     #[error("word {0} is no NAME@HOST:PORT")]
     NoPlayer(u64),
-    /// The line has fewer or more players than the game has roles.
+    /// The number of players is not the number of roles.
     #[error("not one player for each role")]
     WrongPlayers,
-    /// An earlier match has the id.
+    /// An earlier match has this id.
     #[error("an id twice")]
     IdTwice,
-    /// `MAX_SCHEDULED` matches stand before it.
+    /// `MAX_SCHEDULED` matches come before it.
     #[error("too many matches")]
     TooMany,
 }
 
-/// The fault of a schedule.
+/// The error of a schedule.
 #[derive(Clone, Copy, Debug, PartialEq, Eq, Error)]
 pub enum ScheduleFault {
-    /// The number of the first bad line, from 1 on, and its fault.
+    /// The number of the first bad text line, counted from 1, and its error.
     #[error("line {0}: {1}")]
     BadLine(u64, LineFault),
     #[error("out of memory")]

@@ -1,22 +1,22 @@
-//! The form of a season: how its matches are played and written.
+//! How a batch of matches is played and written.
 
-/// The order in which the records of a season are written.
+/// The order in which the records are written.
 #[derive(Clone, Copy)]
 pub enum RecordOrder {
-    /// The order of the schedule. A record is written as soon as it and all records before it are there.
+    /// The order of the schedule. A record is written when it and all records before it are complete.
     OfSchedule,
     /// The order in which the matches end.
     OfEnds,
 }
 
-/// How the matches of a season are played and written.
+/// How a batch of matches is played and written.
 #[derive(Clone, Copy)]
 pub struct SeasonForm {
-    /// The limit of matches that are played at once.
+    /// The largest number of matches that are played at once.
     pub at_once: usize,
-    /// The limit of matches in which a player sits at a time.
+    /// The largest number of matches that a player plays at once.
     pub concurrent: usize,
     pub order: RecordOrder,
-    /// Whether the account of each match follows its record.
+    /// Whether the call log of each match follows its record.
     pub has_history: bool,
 }

@@ -1,39 +1,40 @@
-//! Shortages of the referee, for which no player is to blame.
+//! Resources that the referee itself may lack, which is not the fault of any player.
 ghost use Rattle.std.specs.Prelude.{ℕ, IfNone};
 
 use thiserror::Error;
 
-/// A shortage of the referee. It keeps messages to any player from being handed over.
+/// A resource that the referee lacks, so that it cannot send a message to a player.
 #[derive(Clone, Copy, Debug, PartialEq, Eq, Error)]
 pub enum Shortage {
-    /// The process or the system has as many descriptors open as it may.
+    /// The process or the system has too many open file descriptors.
     #[error("out of descriptors")]
     Descriptors,
-    /// No port is free for the near end of a connection.
+    /// No port is free for the referee's end of a connection.
     #[error("out of ports")]
     Ports,
     #[error("out of memory")]
     Memory,
-    /// The clock can't be read.
+    /// The clock cannot be read.
     #[error("no clock")]
     Clock,
-    /// A host's name could not be looked up, and this says nothing of the host.
+    /// The name of a host could not be looked up, for a reason that is not the host's.
     #[error("no answer from the resolver")]
     Resolver,
-    /// This computer's network is down, has no route to the player or no addresses of its family, or forbids the connection.
+    /// This computer's network is down, has no route to the player or no address of its family, or forbids the connection.
     #[error("no network")]
     Network,
-    /// The program did not run as a message's seconds ended, so it can't know what the player had answered by then.
+    /// The program was not running when the time of a message ended, so it cannot know what the player had answered by then.
     #[error("the referee was not running")]
     NotRunning,
 }
 
-/// Reports what the referee was short of in a match. A match with a shortage has no record, since an answer in it is not the player's.
+/// Reports which resource the referee lacked in a match. Such a match has no record, since an answer in it may not be the
+/// player's.
 pub trait ReportsShortages {
-    /// It has reported that the referee was short of nothing in the match at this place.
+    /// It has reported that the referee lacked nothing in the match with this index.
     ghost is_clear: { Self → ℕ → Type 0 };
 
-    /// The shortage in the match at this place, if there was one. It is known once the match is over.
+    /// What the referee lacked in the match with this index, if anything. It is known when the match is over.
     fn shortage(&self, place: usize) -> Option<Shortage>
         ensures { IfNone result (is_clear self.now place) };
 }

@@ -1,17 +1,16 @@
--- The longest move, as a loop over the texts of all moves finds it.
+-- The longest move, computed by a loop over the texts of all moves.
 use Rattle.std.proofs.Common.{◌≡◌, ◌<◌, ◌≤◌, ◌⊎◌, ℕ, List, [], length, arith, inl, inr}
 use Rattle.std.specs.Prelude.{slice_index_or}
 use Rattle.match_book.specs.AnswerReading.{max_answer}
 use Rattle.ground_rules.specs.LoadedGame.{GameTables, loaded_game}
 use Rattle.match_play.specs.LongestMoves.{IsLongestMove}
 
--- so many bytes are those of the longest of the first texts that an answer can name, and 64 at least
+-- this is the length of the longest of the first texts that fits into an answer, and at least 64
 abbrev pub IsLongestOf : List (List ℕ) → ℕ → ℕ → Type 0
 IsLongestOf texts count most = ((k : ℕ) → k < count → length (slice_index_or texts k []) ≤ max_answer → length (slice_index_or texts k []) ≤ most)
     × (64 ≤ most)
     × ((most ≡ 64) ⊎ ((k : ℕ) × (k < count) × (length (slice_index_or texts k []) ≡ most) × (most ≤ max_answer)))
 
--- then they are so for the game, once all texts were looked at
 pub longest_of_all : (g : GameTables) (count most : ℕ) → length g.moves ≡ count → IsLongestOf g.moves count most → IsLongestMove (loaded_game g) most
 longest_of_all g count most all found = record {
   bound = λ m is fits. found.0 m.term (omega (arith, is, all)) fits;

@@ -17,25 +17,25 @@ pub record HasEndedMatch {G S M : Type 0} (rules : G → Rules S M) (d : Manager
   pub is_first : option_and_then (game_match d) (slice_get d.matches 0) ≡ Some held
   pub over : is_over (rules held.game) held.value ≡ true
 
--- the text is the record of this desk's first match, which is over; it is a lawful record of that match's game
+-- the text is the record of the desk's first match, which is over, and it is a lawful record of that match's game
 pub record IsEndedRecord {G S M : Type 0} (rules : G → Rules S M) (d : ManagerValue G M) (text : List ℕ) : Type 0 where
   pub held : GameMatch G M
   pub ended : HasEndedMatch rules d held
   pub is_record : text ≡ record_text (rules held.game) held.value
   pub lawful : IsLawfulRecord (rules held.game) text
 
--- this desk has no first match, or one that is not over
+-- the desk has no match, or its first one is not over
 abbrev pub HasNoEndedMatch : {G S M : Type 0} → (G → Rules S M) → ManagerValue G M → Type 0
 HasNoEndedMatch rules d = IfSome (option_and_then (game_match d) (slice_get d.matches 0)) (λ held. is_over (rules held.game) held.value ≡ false)
 
--- why a match has no record after a fault of its referee
+-- why a match has no record after this error of its referee
 abbrev pub referee_fault : RefereeFault → MatchFault
 referee_fault (MatchRefused reason) = Refused reason
 referee_fault Unclosed = NotEnded
 referee_fault Full = NotEnded
 referee_fault RefereeMemory = Memory
 
--- the reason of a refusal: none for any other fault
+-- the reason of a refusal; None for any other error
 abbrev pub reason_of : MatchFault → Option Refusal
 reason_of (Refused reason) = Some reason
 reason_of NotEnded = None

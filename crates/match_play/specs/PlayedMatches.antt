@@ -1,4 +1,4 @@
--- The result of a match between players, with the promises of its referee.
+-- The result of a match between players, and what holds for it.
 use Rattle.std.specs.Prelude.{◌≡◌, ℕ, List, length, map, slice_get, Option, IfSome, Result}
 use Rattle.ground_rules.specs.LoadedGame.{loaded_game}
 use Rattle.ground_rules.specs.declared.state.GroundMove.{GroundMove}
@@ -31,32 +31,32 @@ pub record IsSetupOf (plan : MatchPlan) (setup : Setup) : Type 0 where
   pub strikes : setup.strikes ≡ plan.strikes
   pub names : setup.players ≡ map (λ p. p.name.now) plan.players.items
 
--- the role of a planned match at this place of its season, in a game whose longest move has so many bytes
+-- a role of the match that is planned at this index, in a game with this longest move
 abbrev pub role_place : ℕ → ℕ → MatchPlan → ℕ → RolePlace
 role_place longest place plan role = record { place = place; id = plan.id; role = role; longest_move = longest }
 
--- There is a player for each address of the plan, and each is reached at the address of its role.
+-- There is a player for each address of the plan, and each was reached at the address of its role.
 pub record AreReached {P : Type 0} (is_reached : RolePlace → PlayerAddress → P → Type 0) (longest place : ℕ) (plan : MatchPlan) (players : List P) : Type 0 where
   pub count : length players ≡ length plan.players.items
   pub each : EachAt (λ role player. IfSome (slice_get plan.players.items role) (λ address. is_reached (role_place longest place plan role) address player)) players
 
--- why no match of this game is opened with this setup: none if one is
+-- why a new desk with only this game refuses this setup; None if it opens the match
 abbrev pub packed_refusal : PackedGame → Setup → Option Refusal
 packed_refusal game setup = match_refusal (λ g. loaded_game (tables_of g)) game setup
 
--- A match of this game was opened with this setup and played by these players, who got these rules in print. Its record is this text, and
--- its desk has this history.
+-- A match of this game was opened with this setup and played by these players, who got these printed rules. This text is its record, and
+-- this is the history of its desk.
 pub record IsPlayedMatch {P : Type 0} (handed : P → Option (List Handed)) (game : PackedGame) (rules : List ℕ) (tries : ℕ) (setup : Setup) (players : List P) (text : List ℕ) (history : List (Entry Call Reply)) : Type 0 where
   pub desk : ManagerValue PackedGame _
   pub ended : IsEndedRecord (λ g. loaded_game (tables_of g)) desk text
   pub made_by_line : List ℕ
-  -- how attending each of its players ended, and the players afterwards
+  -- how the worker of each player ended, and the players afterwards
   pub ends : List (Result ℕ AttendFault)
   pub left : List P
   pub refereed : IsRefereed (λ g. loaded_game (tables_of g)) handed game setup rules tries players left desk history made_by_line ends
 
--- A match of this game was opened with this setup and played by these players, who got these rules in print. It is over, and this is so
--- of it.
+-- A match of this game was opened with this setup and played by these players, who got these printed rules. It is over, and `IsSo` holds
+-- for it.
 pub record IsEndedWith {P : Type 0} (handed : P → Option (List Handed)) (game : PackedGame) (rules : List ℕ) (tries : ℕ) (setup : Setup) (players : List P) (IsSo : GameMatch PackedGame GroundMove → Type 0) : Type 0 where
   pub desk : ManagerValue PackedGame GroundMove
   pub held : GameMatch PackedGame GroundMove
@@ -64,13 +64,12 @@ pub record IsEndedWith {P : Type 0} (handed : P → Option (List Handed)) (game 
   pub is_so : IsSo held
   pub history : List (Entry Call Reply)
   pub made_by_line : List ℕ
-  -- how attending each of its players ended, and the players afterwards
   pub ends : List (Result ℕ AttendFault)
   pub left : List P
   pub refereed : IsRefereed (λ g. loaded_game (tables_of g)) handed game setup rules tries players left desk history made_by_line ends
 
--- A match with this plan, at this place of its season, is of this game. It was played by players that were reached at the addresses of
--- their roles, and they got the game's rules. Its record is this text, and its desk has this history.
+-- A match of this game was played as planned at this index. Its players were reached at the addresses of their roles, and got the game's
+-- rules. This text is its record, and this is the history of its desk.
 abbrev pub IsPlannedMatch : {P : Type 0} → (RolePlace → PlayerAddress → P → Type 0) → (P → Option (List Handed)) → PlayableGame → ℕ → MatchPlan → List ℕ → List (Entry Call Reply) → Type 0
 IsPlannedMatch {P} is_reached handed game place plan text history = (setup : _) × IsSetupOf plan setup × (players : List P) × AreReached is_reached game.longest_move place plan players
     × IsPlayedMatch handed game.game.now game.rules.now max_tries setup players text history

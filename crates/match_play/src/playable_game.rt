@@ -1,4 +1,4 @@
-//! The game of a match, and the rules for its players.
+//! The game of a match, and the rules that its players get.
 ghost use Rattle.std.specs.Prelude.{◌≡◌, IfOk, IfErr};
 ghost use Rattle.kif_text.specs.Faults.{IsFault, any_number};
 ghost use Rattle.game_core.specs.Expression.{Expressions, all_folded};
@@ -15,17 +15,17 @@ use match_messages::PrintedRules;
 use packed_rules::PackedGame;
 use std::alloc::{AllocError, Global};
 
-/// The game that the referee plays, and the rules that START carries to the players.
+/// The game that the referee plays, and the rules that START sends to the players.
 #[derive(Clone, Copy)]
 pub struct PlayableGame<'g> {
     pub game: &'g PackedGame,
     pub rules: &'g PrintedRules,
-    /// The bytes of the longest move that an answer can name, and 64 at least.
+    /// The length in bytes of the game's longest move that fits into an answer, and at least 64.
     pub(crate) longest_move: usize,
 }
 
 impl<'g> PlayableGame<'g> {
-    /// The game with the rules for its players, and the length of its longest move.
+    /// Lends a game and the rules for its players, and computes the longest move.
     pub fn new(game: &'g PackedGame, rules: &'g PrintedRules) -> PlayableGame<'g>
         ensures game { result.game.now ≡ game.now }
         ensures rules { result.rules.now ≡ rules.now }
@@ -39,10 +39,10 @@ impl<'g> PlayableGame<'g> {
     }
 }
 
-/// The length of a short move. A game of shorter ones has it, too, so that an answer has room for some spaces.
+/// The least value of `longest_move` in bytes, so that answers may have some extra spaces even in a game with shorter moves.
 const SHORT_MOVE: usize = 64;
 
-/// The length of the longest move of a game that an answer can name, and `SHORT_MOVE` at least.
+/// The length of the longest move that fits into an answer, and at least `SHORT_MOVE`.
 fn longest_move(game: &PackedGame) -> usize
     ensures { IsLongestMove (loaded_game (tables_of game.now)) result }
 {
@@ -57,15 +57,15 @@ fn longest_move(game: &PackedGame) -> usize
     longest
 }
 
-/// The sentences of the game's own description, printed. The error is out of memory.
+/// Prints the sentences of the game's own description. The error is out of memory.
 pub fn own_rules(alloc: Global, game: &PackedGame) -> Result<PrintedRules, AllocError>
     ensures { IfOk result (λ printed. printed ≡ rules_text (expressions (sentences_of game.now))) }
 {
     PrintedRules::of(alloc, game.description())
 }
 
-/// The sentences of another description, without capitals, printed. Players get it in place of the game's own. The error is the first
-/// fault of the text as KIF, or `Memory`.
+/// Prints the sentences of another description in lower case. Players get them instead of the game's own. The error is the first
+/// error of the text as KIF, or `Memory`.
 pub fn other_rules(alloc: Global, text: &[u8]) -> Result<PrintedRules, KifFault>
     ensures spelled { IfOk result (λ printed. (sentences : Expressions) × SpellsAll text.now sentences × (printed ≡ rules_text (all_folded sentences))) }
     ensures fault { IfErr result (IsFault any_number text.now) }

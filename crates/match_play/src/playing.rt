@@ -1,4 +1,4 @@
-//! A match between players on the network, from its plan to its record.
+//! Plays a match between players on the network.
 ghost use Rattle.std.specs.Prelude.{◌≡◌, ◌≢◌, ℕ, List, None, Err, All, IfOk, IfErr, IfSome, IsFalse, IsTrue, ◌↔◌, OnOk, MatchOption, length, vec_len};
 ghost use Rattle.call_history.specs.declared.journal.Entry.{Entry};
 ghost use Rattle.ground_rules.specs.declared.state.GroundMove.{GroundMove};
@@ -30,20 +30,19 @@ use std::sync::Wait;
 use std::thread::Threads;
 use thiserror::Error;
 
-/// The limit of a role's asks for what is due to it. It is above all asks that a whole match can need, however long its clocks are
-/// (`docs/COMMANDS.md`).
+/// The limit of a role's `Next` calls. No match can need as many, however long its clocks are (`docs/COMMANDS.md`).
 const MAX_TRIES: u64 = 1_000_000_000;
 
 /// Why a match has no record.
 #[derive(Clone, Copy, Debug, PartialEq, Eq, Error)]
 pub enum MatchFault {
-    /// The opening of the match was refused.
+    /// The desk refused to open the match.
     #[error("refused {}", refusal_word(*.0))]
     Refused(Refusal),
     /// The match has neither finished nor been aborted, or its desk was full or did not close.
     #[error("match not ended")]
     NotEnded,
-    /// The referee was short of this in the match, so an answer in it is not the player's.
+    /// The referee lacked this resource in the match, so a wrong or missing answer may not be the player's fault.
     #[error("{0}")]
     Shortage(Shortage),
     #[error("out of memory")]
@@ -129,7 +128,7 @@ where
     Ok(players)
 }
 
-/// A match before it is played: its place in its season, its setup, and a player for each name in the setup.
+/// A match that can be played: its index in the schedule, its setup, and a player for each name in the setup.
 #[derive(Drop)]
 pub struct PreparedMatch<P> {
     pub place: usize,
@@ -138,7 +137,7 @@ pub struct PreparedMatch<P> {
     ghost one_each: { vec_len players ≡ length setup.players },
 }
 
-/// Prepares a match of this game at this place of its season. The error is out of memory.
+/// Makes the setup and the players of the match that is planned at this index. The error is out of memory.
 pub fn prepared_match<S: Reach>(
     alloc: Global,
     reach: &S,
@@ -161,7 +160,6 @@ where
     })
 }
 
-/// The refereed match and its game. `None` if the match is not over.
 fn ended_match_of<G: Game>(refereed: &Refereed<G>) -> Option<(&G, &Match<G>)>
     ensures ended { MatchOption result (HasNoEndedMatch G.rules refereed.now.closed.object) (λ r. HasEndedMatch G.rules refereed.now.closed.object r.1.now) }
     ensures game { IfSome result (λ r. r.1.now.game ≡ r.0.now) }
@@ -174,7 +172,6 @@ fn ended_match_of<G: Game>(refereed: &Refereed<G>) -> Option<(&G, &Match<G>)>
     }
 }
 
-/// The record of the refereed match. The error is `NotEnded` if the match is not over, or out of memory.
 fn ended_record<G: Game>(alloc: Global, refereed: &Refereed<G>) -> Result<Text, MatchFault>
     ensures ended { IfOk result (IsEndedRecord G.rules refereed.now.closed.object) }
     ensures not_ended { IfErr result (λ fault. fault ≢ MatchFault.Memory → (fault ≡ MatchFault.NotEnded) × HasNoEndedMatch G.rules refereed.now.closed.object) }
@@ -186,14 +183,13 @@ fn ended_record<G: Game>(alloc: Global, refereed: &Refereed<G>) -> Result<Text, 
     Ok(record)
 }
 
-/// The output of a match that was played to its end: its record as a line, then the account of its desk if it is wanted.
+/// The output of a match that was played to its end: its record as a line, then its call log if that was asked for.
 #[derive(Drop)]
 pub struct EndedMatch {
     pub text: Text,
     ghost is_ended: { ∥ IsEndedMatch text ∥₁ },
 }
 
-/// Whether no role's worker ran out of memory.
 fn had_memory(ends: &[Result<u64, AttendFault>]) -> bool
     ensures { IsTrue result ↔ All (λ end. end ≢ Err AttendFault.Memory) ends.now }
 {
@@ -201,7 +197,7 @@ fn had_memory(ends: &[Result<u64, AttendFault>]) -> bool
         .all(|end| !matches!(end, Err(AttendFault::Memory)))
 }
 
-/// Whether the match is not over and some role's worker ran out of memory.
+/// Whether the match is not over, and a role's worker ran out of memory.
 fn ran_out_of_memory<G: Game>(refereed: &Refereed<G>) -> bool
     ensures short { IsTrue result → HasNoEndedMatch G.rules refereed.now.closed.object × (¬ (All (λ end. end ≢ Err AttendFault.Memory) refereed.now.ends.items)) }
     ensures whole { IsFalse result → HasNoEndedMatch G.rules refereed.now.closed.object → All (λ end. end ≢ Err AttendFault.Memory) refereed.now.ends.items }
@@ -209,8 +205,8 @@ fn ran_out_of_memory<G: Game>(refereed: &Refereed<G>) -> bool
     ended_match_of(refereed).is_none() && !had_memory(&refereed.ends)
 }
 
-/// Referees a prepared match of this game. Returns the closed desk. The error is `Shortage` if the referee was short of something in
-/// the match, and `Memory` also if the match did not end because a role's worker ran out of memory.
+/// Referees a match, and returns the closed desk. The error is `Shortage` if the referee lacked a resource in the match, and `Memory`
+/// also if the match did not end because a role's worker ran out of memory.
 fn refereed_match<'g, R, S: Reach + ReportsShortages>(
     rt: &R,
     alloc: Global,
@@ -225,10 +221,10 @@ where
     ensures refereed { IfOk result (λ r. (left : List _) × IsRefereed ⟦<PackedGame as Game>⟧.rules S.Player.handed game.entry.game.now prepared.setup game.entry.rules.now max_tries prepared.players.items left
         r.closed.object r.closed.history.items r.closed.made_by_line.items r.ends.items) }
 
-    // If a role's worker ran out of memory, the match has ended.
+    // If a role's worker ran out of memory, the match is over nevertheless.
     ensures whole { IfOk result (λ r. HasNoEndedMatch ⟦<PackedGame as Game>⟧.rules r.closed.object → All (λ end. end ≢ Err AttendFault.Memory) r.ends.items) }
 
-    // If the match is refused, so is this call, for the same reason, unless memory runs out. No other fault is a refusal.
+    // If the desk refuses the match, the error has the same reason, or is out of memory. No other error is a refusal.
     ensures opens { OnOk result (packed_refusal game.entry.game.now prepared.setup ≡ None) }
     ensures refused { IfErr result (λ fault. fault ≢ MatchFault.Memory → reason_of fault ≡ packed_refusal game.entry.game.now prepared.setup) }
 {
@@ -253,15 +249,15 @@ where
     }
 }
 
-/// Reads a match that was played to its end.
+/// Computes a result from a match that was played to its end.
 pub trait MatchReader {
-    /// What it tells of the match.
+    /// The result.
     type Told: Drop;
 
-    /// This is told of the match.
+    /// What holds for the result.
     ghost is_told: { Self → GameMatch PackedGame GroundMove → Self.Told → Type 0 };
 
-    /// Reads a match of this game. No fault is a refusal.
+    /// Computes the result. The error is never a refusal.
     fn read<'g>(
         &self,
         alloc: Global,
@@ -273,7 +269,6 @@ pub trait MatchReader {
         ensures fault { IfErr result (λ fault. reason_of fault ≡ None) };
 }
 
-/// What `reader` tells of a refereed match. The error is `NotEnded` if the match is not over.
 fn told_of<T: MatchReader>(
     alloc: Global,
     refereed: &Refereed<Lent<'_, PackedGame>>,
@@ -288,8 +283,8 @@ fn told_of<T: MatchReader>(
     reader.read(alloc, game, held)
 }
 
-/// Referees a prepared match of this game. Returns what `reader` tells of the match, once it is over. There is nothing if the opening is
-/// refused, if the match does not end, or if `reach` reports a shortage.
+/// Referees a match, and returns what `reader` computes from it. Returns an error if the desk refuses the match, if the match does not
+/// end, or if the referee lacked a resource.
 pub fn told_match<R, S: Reach + ReportsShortages, T: MatchReader>(
     rt: &R,
     alloc: Global,
@@ -304,7 +299,7 @@ where
     ensures clear { IfOk result (λ told. S.is_clear reach.now prepared.place) }
     ensures told { IfOk result (λ told. IsEndedWith S.Player.handed game.entry.game.now game.entry.rules.now max_tries prepared.setup prepared.players.items (λ held. T.is_told reader.now held told)) }
 
-    // If the match is refused, so is this call, for the same reason, unless memory runs out. No other fault is a refusal.
+    // If the desk refuses the match, the error has the same reason, or is out of memory. No other error is a refusal.
     ensures opens { OnOk result (packed_refusal game.entry.game.now prepared.setup ≡ None) }
     ensures refused { IfErr result (λ fault. fault ≢ MatchFault.Memory → reason_of fault ≡ packed_refusal game.entry.game.now prepared.setup) }
 {
@@ -312,7 +307,6 @@ where
     told_of(alloc, &played, reader)
 }
 
-/// The record as a line, then the history as text if it is wanted.
 fn match_text(
     alloc: Global,
     line: Text,
@@ -329,8 +323,8 @@ fn match_text(
     Ok(Text { bytes })
 }
 
-/// Referees a prepared match of this game. Returns its output. There is none if the opening is refused, if the match does not end, or
-/// if `reach` reports a shortage.
+/// Referees a match, and returns its output. Returns an error if the desk refuses the match, if the match does not end, or if the
+/// referee lacked a resource.
 pub fn ended_match<R, S: Reach + ReportsShortages>(
     rt: &R,
     alloc: Global,
@@ -345,7 +339,7 @@ where
     ensures clear { IfOk result (λ e. S.is_clear reach.now prepared.place) }
     ensures played { IfOk result (λ e. (line : List ℕ) × (history : List (Entry DeskCall DeskReply)) × IsPlayedMatch S.Player.handed game.entry.game.now game.entry.rules.now max_tries prepared.setup prepared.players.items line history × (e.text ≡ match_text line history has_account)) }
 
-    // If the match is refused, so is this call, for the same reason, unless memory runs out. No other fault is a refusal.
+    // If the desk refuses the match, the error has the same reason, or is out of memory. No other error is a refusal.
     ensures opens { OnOk result (packed_refusal game.entry.game.now prepared.setup ≡ None) }
     ensures refused { IfErr result (λ fault. fault ≢ MatchFault.Memory → reason_of fault ≡ packed_refusal game.entry.game.now prepared.setup) }
 {

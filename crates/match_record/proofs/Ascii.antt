@@ -28,7 +28,7 @@ use Rattle.match_book.specs.declared.turn.Turn.{Turn}
 small_byte : (b : ℕ) → nat_lt b 128 ≡ true → b < 128
 small_byte b is = grind (arith, nat_tests)
 
--- by a test that computes
+-- for a given text, computing the test is enough
 tested : (bs : List ℕ) → list_all (λ b. nat_lt b 128) bs ≡ true → IsAscii bs
 tested [] is i = omega arith
 tested (b ∷ bs) is zero = small_byte b (and_parts (nat_lt b 128) (list_all (λ c. nat_lt c 128) bs) is).0
@@ -126,7 +126,6 @@ turn_error_is_ascii g strikes before t r e lawful role at =
     let judged = lawful.judged r (there t.moves r some) role in
     subst IsAscii (get_or_from_slice_get t.errors r e [] at) (part_is_ascii g (retired_by strikes before r) _ _ _ judged)
 
--- the errors of a lawful match are ASCII
 pub error_is_ascii : {S M : Type 0} (g : Rules S M) {strikes : ℕ} (turns : List (Turn M)) (k r : ℕ) (e : List ℕ) → AreLawful g strikes turns → k < length turns → r < g.roles → error_at turns k r ≡ Some e → IsAscii e
 error_is_ascii {S} {M} g {strikes} turns k r e lawful turn role at = go (slice_get turns k) refl at
   where

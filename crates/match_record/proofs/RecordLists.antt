@@ -18,28 +18,22 @@ use Rattle.record_reading.specs.declared.record_parts.Key.{Key}
 use Rattle.record_reading.specs.declared.record_parts.Key.TheVariants.{Cause as AtCause, EndMarks, Errors, GoalValues, MatchId, Moves, Phase as AtPhase, PlayClock, Players, Roles, StartClock, StartMarks, States, Strikes, Version as AtVersion}
 use Rattle.record_reading.specs.declared.record_parts.RecordParts.{RecordParts}
 
--- ---- one role more
-
 pub each_role-more : {A : Type 0} (n : ℕ) (f : ℕ → A) → each_role (n + 1) f ≡ each_role n f ++ f n ∷ []
 each_role-more n f = rw add-one refl
 
 pub goals_from-more : (n : ℕ) (goal : ℕ → Option ℕ) → goals_from (n + 1) goal ≡ goals_from n goal ++ option_to_list (goal n)
 goals_from-more n goal = rw add-one refl
 
--- and its goal
 pub goals-next : (n : ℕ) (goal : ℕ → Option ℕ) → map whole_tree (goals_from (n + 1) goal) ≡ map whole_tree (goals_from n goal) ++ map whole_tree (option_to_list (goal n))
 goals-next n goal = ap (map whole_tree) (goals_from-more n goal) ∙ map-append whole_tree (goals_from n goal) (option_to_list (goal n))
-
--- ---- one member more
 
 pub take-next : {A : Type 0} (xs : List A) (i : ℕ) (x : A) → slice_get xs i ≡ Some x → take (i + 1) xs ≡ take i xs ++ x ∷ []
 take-next xs i x at = take_more xs i x (slice_get_within xs i x at) ∙ ap (λ y. take i xs ++ y ∷ []) (get_or_from_slice_get xs i x x at)
 
--- What f makes of the first members of a list, for the turn at a place.
+-- What f makes of the first members of a list, for the turn with an index.
 abbrev pub part_of : {T A B : Type 0} → (T → List A) → (A → B) → ℕ → Option T → Option (List B)
 part_of part f r o = option_map (λ t. map f (take r (part t))) o
 
--- each turn has a move and an error for each role
 pub turn-widths : {S M : Type 0} (g : Rules S M) {strikes : ℕ} (turns : List (Turn M)) (k : ℕ) (t : Turn M) → AreLawful g strikes turns → slice_get turns k ≡ Some t → (length t.moves ≡ g.roles) × (length t.errors ≡ g.roles)
 turn-widths {S} {M} g {strikes} turns k t lawful at =
     let turn = lawful k t (slice_get_within turns k t at) in
@@ -48,8 +42,6 @@ turn-widths {S} {M} g {strikes} turns k t lawful at =
 pub map_twice : {A B C : Type 0} (f : B → C) (h : A → B) (xs : List A) → map (λ x. f (h x)) xs ≡ map f (map h xs)
 map_twice f h [] = refl
 map_twice f h (x ∷ xs) = ap (λ ys. f (h x) ∷ ys) (map_twice f h xs)
-
--- ---- prefixes
 
 prefixes-cons : {A : Type 0} (x y : A) (xs : List A) → map (λ front. x ∷ front) (prefixes xs ++ (xs ++ y ∷ []) ∷ []) ≡ map (λ front. x ∷ front) (prefixes xs) ++ (x ∷ (xs ++ y ∷ [])) ∷ []
 prefixes-cons x y xs = map-append (λ front. x ∷ front) (prefixes xs) ((xs ++ y ∷ []) ∷ [])
@@ -63,8 +55,6 @@ prefixes-next [] k lt = absurd (omega arith)
 prefixes-next (x ∷ xs) k lt =
     let more = take-next (x ∷ xs) k (slice_index_or (x ∷ xs) k x) (slice_get-get_or (x ∷ xs) k x lt) in
     ap prefixes more ∙ prefixes-push (take k (x ∷ xs)) (slice_index_or (x ∷ xs) k x) ∙ ap (λ ts. prefixes (take k (x ∷ xs)) ++ ts ∷ []) (sym more)
-
--- ---- depth
 
 texts_are_flat : (ts : List (List ℕ)) → items_depth (items_of (map string ts)) ≤ 0
 texts_are_flat [] = omega arith

@@ -1,4 +1,4 @@
--- What is written of a record, member by member, and what is read of it again.
+-- What is written of a record, member by member, and what reading it gives.
 use Rattle.std.proofs.Common.{◌≡◌, ℕ, zero, suc, ◌+◌, ◌<◌, ◌≤◌, ◌^◌, true, Option, Some, None, Ok, List, [], ◌∷◌, ◌++◌, length, map, take, get_or, refl, sym, ap, ◌∙◌, subst, append_assoc, append-nil, arith, inl, inr}
 use Rattle.std.specs.Prelude.{option_map, option_and_then, slice_get, All, IfSome}
 use Rattle.std.specs.Str.{IsUtf8}
@@ -35,13 +35,10 @@ use Rattle.record_reading.specs.declared.record_parts.Version.{Version}
 use Rattle.record_reading.specs.declared.record_parts.Version.TheVariants.{First, Second}
 use Rattle.match_record.proofs.RecordLists.{part_of, take-next, map_twice, record_is_shallow}
 
--- ---- one token, and more
+-- ---- Tokens
 
 pub one_added : {E : Type 0} {x : Unit {0}} {a b : Written} {t : Token} → Writes {E = E} (Ok x) a b t → HasAdded a b (t ∷ [])
 one_added wrote = record { before = wrote.room.0; tokens = wrote.ok }
-
-pub nothing_added : (a : Written) → HasAdded a a []
-nothing_added a = record { before = refl; tokens = sym (append-nil a.tokens) }
 
 pub added_more : {a b c : Written} {ts us : List Token} → HasAdded a b ts → HasAdded b c us → HasAdded a c (ts ++ us)
 added_more {a} {b} {c} {ts} {us} first then' = record {
@@ -49,7 +46,7 @@ added_more {a} {b} {c} {ts} {us} first then' = record {
   tokens = then'.tokens ∙ ap (λ so_far. so_far ++ us) first.tokens ∙ append_assoc a.tokens ts us;
 }
 
--- ---- lists
+-- ---- Lists
 
 each_tokens-append : (ds es : List Data) → each_tokens (ds ++ es) ≡ each_tokens ds ++ each_tokens es
 each_tokens-append [] es = refl
@@ -59,15 +56,14 @@ members_tokens_of : (ds : List Data) → items_tokens (items_outline (items_of d
 members_tokens_of [] = refl
 members_tokens_of (d ∷ ds) = ap (λ ts. tokens_of d ++ ts) (members_tokens_of ds) ∙ sym (append_assoc (tokens_of d) (each_tokens ds) (end_array ∷ []))
 
--- some members more
+-- some more members
 pub begun_many : {a b c : Written} (ds es : List Data) → HasBegun a b ds → HasAdded b c (each_tokens es) → HasBegun a c (ds ++ es)
 begun_many {a} {b} {c} ds es so_far more = subst (HasAdded a c) (ap (λ ts. begin_array ∷ ts) (sym (each_tokens-append ds es))) (added_more so_far more)
 
--- one member more
 pub begun_more : {a b c : Written} (ds : List Data) (d : Data) → HasBegun a b ds → IsWritten b c d → HasBegun a c (ds ++ d ∷ [])
 begun_more {a} {b} {c} ds d so_far more = begun_many ds (d ∷ []) so_far (subst (HasAdded b c) (sym (append-nil (tokens_of d))) more)
 
--- the member at the next place
+-- the member with the next index
 pub begun_next : {A : Type 0} {a b c : Written} (f : A → Data) (xs : List A) (i : ℕ) (x : A) → slice_get xs i ≡ Some x → HasBegun a b (map f (take i xs)) → IsWritten b c (f x) → HasBegun a c (map f (take (i + 1) xs))
 begun_next {a = a} {c = c} f xs i x at so_far value = subst (HasBegun a c) (sym (ap (map f) (take-next xs i x at) ∙ map-append f (take i xs) (x ∷ []))) (begun_more (map f (take i xs)) (f x) so_far value)
 
@@ -75,7 +71,7 @@ begun_next {a = a} {c = c} f xs i x at so_far value = subst (HasBegun a c) (sym 
 pub list_written : {a b c : Written} (ds : List Data) → HasBegun a b ds → HasAdded b c (end_array ∷ []) → IsWritten a c (list_tree ds)
 list_written {a} {b} {c} ds so_far end' = subst (HasAdded a c) (ap (λ ts. begin_array ∷ ts) (sym (members_tokens_of ds))) (added_more so_far end')
 
--- ---- what a role has in a turn
+-- ---- The values of the roles in a turn
 
 pub part_begun : {T A : Type 0} (a b : Written) (part : T → List A) (f : A → Data) (o : Option T) → HasAdded a b (begin_array ∷ []) → IfSome (part_of part f 0 o) (HasBegun a b)
 part_begun a b part f None begun = tt
@@ -87,7 +83,7 @@ part_more a b c part f r None x so_far at value = tt
 part_more a b c part f r (Some t) x so_far at value =
     subst (HasBegun a c) (sym (ap (map f) (take-next (part t) r x at) ∙ map-append f (take r (part t)) (x ∷ []))) (begun_more (map f (take r (part t))) (f x) so_far value)
 
--- and where all members are there
+-- after all members
 pub all_written : {A : Type 0} {a b c : Written} (f : A → Data) (xs : List A) (i : ℕ) → length xs ≤ i → HasBegun a b (map f (take i xs)) → HasAdded b c (end_array ∷ []) → IsWritten a c (list_tree (map f xs))
 all_written {a = a} {b = b} f xs i past so_far end' = list_written (map f xs) (subst (λ ys. HasBegun a b (map f ys)) (take_all i xs past) so_far) end'
 
@@ -99,7 +95,6 @@ part_written {T} {A} a b c part f r ts k wide begun ended = go (slice_get ts k) 
     go None at so_far = tt
     go (Some t) at so_far = list_written (map f (part t)) (subst (λ xs. HasBegun a b (map f xs)) (take_all r (part t) (omega (arith, wide t at))) so_far) ended
 
--- the texts of such a part
 pub part_texts : {T A : Type 0} (a b : Written) (part : T → List A) (f : A → List ℕ) (o : Option T) → IfSome (option_map (λ t. list_tree (map (λ x. string (f x)) (part t))) o) (IsWritten a b) → IfSome (option_map (λ t. texts_tree (map f (part t))) o) (IsWritten a b)
 part_texts a b part f None written = tt
 part_texts a b part f (Some t) written = subst (λ members. IsWritten a b (list_tree members)) (map_twice string f (part t)) written
@@ -109,13 +104,12 @@ some_at [] k within = absurd (omega arith)
 some_at (t ∷ ts) zero within = (t, refl)
 some_at (t ∷ ts) (suc k) within = some_at ts k (omega arith)
 
--- the next turn's
 pub turn_next : {T : Type 0} (a b c : Written) (f : T → Data) (ts : List T) (k : ℕ) → k < length ts → HasBegun a b (map f (take k ts)) → IfSome (option_map f (slice_get ts k)) (IsWritten b c) → HasBegun a c (map f (take (k + 1) ts))
 turn_next a b c f ts k within so_far written =
     let here = some_at ts k within in
     begun_next f ts k here.0 here.1 so_far (subst (λ o. IfSome (option_map f o) (IsWritten b c)) here.1 written)
 
--- ---- the object
+-- ---- The object
 
 member_tokens-more : (ks : List Key) (at : Key) (p : RecordParts) → member_tokens (ks ++ at ∷ []) p ≡ member_tokens ks p ++ Token.key (key_text at) ∷ tokens_of (key_tree at p)
 member_tokens-more [] at p = ap (λ ts. Token.key (key_text at) ∷ ts) (append-nil (tokens_of (key_tree at p)))
@@ -126,7 +120,6 @@ member_tokens-more (k ∷ ks) at p =
 pub members_more : {a b c d : Written} (ks : List Key) (p : RecordParts) (at : Key) → HasMembers a b ks p → HasAdded b c (Token.key (key_text at) ∷ []) → IsWritten c d (key_tree at p) → HasMembers a d (ks ++ at ∷ []) p
 members_more {a} {b} {c} {d} ks p at so_far key value = subst (HasAdded a d) (ap (λ ts. begin_object ∷ ts) (sym (member_tokens-more ks at p))) (added_more so_far (added_more key value))
 
--- the key at the next place
 pub members_next : {a b c d : Written} (i : ℕ) (other : Key) (p : RecordParts) (text : List ℕ) → i < length keys → text ≡ key_text (get_or keys i other) → HasMembers a b (take i keys) p → HasAdded b c (Token.key text ∷ []) → IsWritten c d (key_tree (get_or keys i other) p)
     → HasMembers a d (take (i + 1) keys) p
 members_next {a} {b} {c} {d} i other p text below text_is so_far key value =
@@ -141,9 +134,9 @@ object_tokens (k ∷ ks) p =
 pub object_written : {a b c : Written} (ks : List Key) (p : RecordParts) → HasMembers a b ks p → HasAdded b c (end_object ∷ []) → IsWritten a c (object (members_at ks p))
 object_written {a} {b} {c} ks p so_far end' = subst (HasAdded a c) (ap (λ ts. begin_object ∷ ts) (sym (object_tokens ks p))) (added_more so_far end')
 
--- ---- reading it again
+-- ---- Reading it
 
--- the value is read where its outline is
+-- converting the outline of the value gives the value
 abbrev pub ReadsBack : Data → Type 0
 ReadsBack d = of_json (outline d) ≡ Some d
 
@@ -207,16 +200,15 @@ key_reads g p shape States = list_reads _ (lists_read p.states)
 key_reads g p shape Strikes = strikes_read p.strikes (shape.keys Strikes)
 key_reads g p shape AtVersion = version_reads p.version
 
--- what the parts say at these keys, put into an object one after another
+-- the values of these parts at these keys, put into an object one after another
 abbrev pub put_each : List Key → RecordParts → Members → Members
 put_each [] p ms = ms
 put_each (key ∷ more) p ms = put_each more p (put (key_text key) (key_tree key p) ms)
 
--- keys that are put in byte order stand in that order
+-- keys that are put in byte order stay in this order
 pub put_all : (p : RecordParts) → put_each keys p no_members ≡ members_at keys p
 put_all p = refl
 
--- the members go in one after another
 members_read : {S M : Type 0} (g : Rules S M) (p : RecordParts) → HasShape g p → (ks : List Key) (found : Members) → of_members (members_outline (members_at ks p)) found ≡ Some (put_each ks p found)
 members_read g p shape [] found = refl
 members_read g p shape (at ∷ more) found = rw (key_reads g p shape at) (members_read g p shape more (put (key_text at) (key_tree at p) found))
@@ -224,7 +216,7 @@ members_read g p shape (at ∷ more) found = rw (key_reads g p shape at) (member
 record_reads : {S M : Type 0} (g : Rules S M) (p : RecordParts) → HasShape g p → ReadsBack (object (members_at keys p))
 record_reads g p shape = ap (option_map object) (members_read g p shape keys no_members ∙ ap Some (put_all p))
 
--- an outline nests as its value does
+-- an outline nests as deep as its value
 mutual
   outline_depth : (d : Data) → tree.depth (outline d) ≡ depth d
   outline_depth null = refl
@@ -242,7 +234,7 @@ mutual
   members_outline_depth no_members = refl
   members_outline_depth (member k d ms) = rw (outline_depth d, members_outline_depth ms) refl
 
--- what is read of the value that the tokens are
+-- the value that the tokens are read as
 whole : Option (json.Json × List Token) → Option Data
 whole o = option_and_then of_json (option_and_then (λ p. json.if_last p.0 p.1) o)
 
@@ -255,18 +247,15 @@ tree_reads : {S M : Type 0} (g : Rules S M) → LawfulPartsHaveShape g → (m : 
 unfolding record_tree
 tree_reads g shapes m lawful setup = record_reads g (parts_of g m) (shapes m Second lawful setup)
 
--- the tokens of what was written behind nothing
 tokens_written : {a b : Written} {ts : List Token} → a.tokens ≡ [] → HasAdded a b ts → b.tokens ≡ ts
 tokens_written {ts = ts} fresh added = added.tokens ∙ ap (λ so_far. so_far ++ ts) fresh
 
 printed : {S M : Type 0} (g : Rules S M) (m : MatchValue M) (a b : Written) → a.tokens ≡ [] → HasAdded a b (tokens_of (record_tree g m)) → print b.tokens ≡ record_text g m
 printed g m a b fresh added = ap print (tokens_written fresh added) ∙ print-outline (record_tree g m)
 
--- the text of a record, behind what was there
 pub text_written : {S M : Type 0} (g : Rules S M) (m : MatchValue M) (a b : Written) → a.tokens ≡ [] → HasAdded a b (tokens_of (record_tree g m)) → b.before ++ print b.tokens ≡ a.before ++ record_text g m
 text_written g m a b fresh added = ap (λ front. front ++ print b.tokens) added.before ∙ ap (λ text. a.before ++ text) (printed g m a b fresh added)
 
--- and it is the JSON text of the match's tree
 pub text_is_json : {S M : Type 0} (g : Rules S M) → LawfulPartsHaveShape g → (m : MatchValue M) (a b : Written) → IsLawfulMatch g m → IsLawfulSetup m.setup → a.tokens ≡ [] → HasAdded a b (tokens_of (record_tree g m))
     → tokens (print b.tokens) ≡ b.tokens → IsUtf8 (print b.tokens) → IsJson (record_text g m) (record_tree g m)
 text_is_json g shapes m a b lawful setup fresh added reads_back utf8 =

@@ -1,10 +1,7 @@
-//! The writing of a match's record.
+//! Writes the record of a match.
 //!
-//! `record_json` writes the record of a match: one JSON object of fifteen keys, which holds only the recorded
-//! turns. `record_reading` defines records, their keys and faults, and states what holds of them. This crate
-//! exports these too.
-//!
-//! Free functions take the allocator first.
+//! `record_json` writes one JSON object with fifteen keys, which has only the recorded turns. `record_reading` defines
+//! records, their keys and errors, and has their laws; this crate re-exports them.
 #![tactic(auto)]
 
 pub mod laws;

@@ -21,7 +21,7 @@ use record_reading::{Key, Version, phase_text};
 use std::alloc::{AllocError, Global};
 use std::mem;
 
-/// The marks of the answers to START.
+/// Writes the marks of the answers to START.
 fn write_start_marks<G: Game>(out: &mut Writer, game: &G, held: &Match<G>) -> Result<(), AllocError>
     requires game { held.now.game ≡ game.now }
     requires lawful { IsLawfulMatch (G.rules game.now) held.now.value }
@@ -36,7 +36,7 @@ fn write_start_marks<G: Game>(out: &mut Writer, game: &G, held: &Match<G>) -> Re
     Ok(())
 }
 
-/// The marks of the answers to STOP or ABORT.
+/// Writes the marks of the answers to STOP or ABORT.
 fn write_end_marks<G: Game>(out: &mut Writer, game: &G, held: &Match<G>) -> Result<(), AllocError>
     requires game { held.now.game ≡ game.now }
     requires lawful { IsLawfulMatch (G.rules game.now) held.now.value }
@@ -51,7 +51,6 @@ fn write_end_marks<G: Game>(out: &mut Writer, game: &G, held: &Match<G>) -> Resu
     Ok(())
 }
 
-/// The names of the roles.
 fn write_role_names<G: Game>(out: &mut Writer, game: &G) -> Result<(), AllocError>
     ensures before { out.new.before ≡ out.old.before }
     ensures written { OnOk result (IsWritten out.old out.new (texts_tree (each_role (G.rules game.now).roles (G.rules game.now).role_name))) }
@@ -64,7 +63,6 @@ fn write_role_names<G: Game>(out: &mut Writer, game: &G) -> Result<(), AllocErro
     Ok(())
 }
 
-/// A goal, if there is one.
 fn write_goal(out: &mut Writer, goal: Option<u8>) -> Result<(), AllocError>
     ensures before { out.new.before ≡ out.old.before }
     ensures written { OnOk result (HasAdded out.old out.new (each_tokens (map whole_tree (option_to_list goal)))) }
@@ -75,7 +73,7 @@ fn write_goal(out: &mut Writer, goal: Option<u8>) -> Result<(), AllocError>
     Ok(())
 }
 
-/// The roles' goals: none before the match stops.
+/// Writes the roles' goals: none before the match stops.
 fn write_goals<G: Game>(out: &mut Writer, game: &G, held: &Match<G>) -> Result<(), AllocError>
     requires game { held.now.game ≡ game.now }
     requires lawful { IsLawfulMatch (G.rules game.now) held.now.value }
@@ -90,7 +88,6 @@ fn write_goals<G: Game>(out: &mut Writer, game: &G, held: &Match<G>) -> Result<(
     Ok(())
 }
 
-/// The texts of the moves of a turn.
 fn write_moves_at<G: Game>(
     out: &mut Writer,
     game: &G,
@@ -111,7 +108,6 @@ fn write_moves_at<G: Game>(
     Ok(())
 }
 
-/// The errors of a turn.
 fn write_errors_at<G: Game>(
     out: &mut Writer,
     game: &G,
@@ -138,7 +134,6 @@ fn turns<G: Game>(held: &Match<G>) -> usize
     held.status().turns as usize
 }
 
-/// The texts of the moves of each recorded turn.
 fn write_moves<G: Game>(out: &mut Writer, game: &G, held: &Match<G>) -> Result<(), AllocError>
     requires game { held.now.game ≡ game.now }
     requires lawful { IsLawfulMatch (G.rules game.now) held.now.value }
@@ -153,7 +148,6 @@ fn write_moves<G: Game>(out: &mut Writer, game: &G, held: &Match<G>) -> Result<(
     Ok(())
 }
 
-/// The errors of each recorded turn.
 fn write_errors<G: Game>(out: &mut Writer, game: &G, held: &Match<G>) -> Result<(), AllocError>
     requires game { held.now.game ≡ game.now }
     requires lawful { IsLawfulMatch (G.rules game.now) held.now.value }
@@ -168,7 +162,6 @@ fn write_errors<G: Game>(out: &mut Writer, game: &G, held: &Match<G>) -> Result<
     Ok(())
 }
 
-/// The texts of a state.
 fn write_state<G: Game>(
     alloc: Global,
     out: &mut Writer,
@@ -183,7 +176,7 @@ fn write_state<G: Game>(
     write_lent_texts(out, texts.as_slice())
 }
 
-/// The texts of the state before the first turn and of the state after each turn.
+/// Writes the state before the first turn and the state after each turn.
 fn write_states<G: Game>(
     alloc: Global,
     out: &mut Writer,
@@ -203,7 +196,6 @@ fn write_states<G: Game>(
     Ok(())
 }
 
-/// The value at a key of the record.
 fn write_value_at<G: Game>(
     alloc: Global,
     out: &mut Writer,
@@ -237,7 +229,6 @@ fn write_value_at<G: Game>(
     }
 }
 
-/// The record as one object.
 fn write_record<G: Game>(
     alloc: Global,
     out: &mut Writer,
@@ -259,13 +250,13 @@ fn write_record<G: Game>(
     Ok(())
 }
 
-/// The record of a match as JSON text, in the second version: one object without white space, with its keys in byte
-/// order. It holds only the recorded turns, and nothing of the open turn.
+/// The record of a match as JSON text, in the second version: one object without white space, with its keys in byte order.
+/// It has only the recorded turns, and nothing of the open turn.
 pub fn record_json<G: Game>(alloc: Global, game: &G, held: &Match<G>) -> Result<Text, AllocError>
     requires game { held.now.game ≡ game.now }
     requires setup { IsLawfulSetup held.now.value.setup }
     ensures text { IfOk result (λ t. t ≡ record_text (G.rules game.now) held.now.value) }
-    // A reader of JSON finds the tree again.
+    // Reading the text as JSON gives the record tree.
     ensures reads_back { IfOk result (λ t. read t ≡ Some (record_tree (G.rules game.now) held.now.value)) }
     // `verify` refuses it only if it runs out of memory.
     ensures lawful { IfOk result (λ t. IsLawfulRecord (G.rules game.now) t) }
@@ -280,7 +271,7 @@ pub fn record_json<G: Game>(alloc: Global, game: &G, held: &Match<G>) -> Result<
     })
 }
 
-/// Appends to `out` what `record_json` returns, without a copy of it.
+/// Appends to `out` what `record_json` returns, without an intermediate copy.
 pub fn push_record<G: Game>(
     alloc: Global,
     out: &mut Vec<u8>,
@@ -289,7 +280,7 @@ pub fn push_record<G: Game>(
 ) -> Result<(), AllocError>
     requires game { held.now.game ≡ game.now }
     requires setup { IsLawfulSetup held.now.value.setup }
-    // Also on an error: what stood there stays in front.
+    // Also after an error: what was in `out` stays at its front.
     ensures kept { IsPrefix out.old.items out.new.items }
     ensures text { OnOk result (out.new.items ≡ out.old.items ++ record_text (G.rules game.now) held.now.value) }
     ensures reads_back { OnOk result (read (record_text (G.rules game.now) held.now.value) ≡ Some (record_tree (G.rules game.now) held.now.value)) }

@@ -1,4 +1,4 @@
-//! The parts of a record, written as JSON.
+//! Writes the parts of a record as JSON.
 ghost use Rattle.std.specs.Prelude.{◌≡◌, All, IfSome, OnOk, map, option_copied};
 ghost use Rattle.std.specs.Cow.{cow_slice_items};
 ghost use Rattle.std.specs.Str.{IsAscii};
@@ -13,19 +13,19 @@ use std::alloc::{AllocError, Global};
 use std::borrow::CowSlice;
 use std::str::from_utf8_unchecked;
 
-/// A text of ASCII bytes.
+/// Writes a text of ASCII bytes.
 pub fn write_text(out: &mut Writer, text: &[u8]) -> Result<(), AllocError>
     requires { IsAscii text.now }
     ensures before { out.new.before ≡ out.old.before }
     ensures written { OnOk result (IsWritten out.old out.new (string text.now)) }
 {
-    // ASCII is UTF-8, which is proved here, and so not tested.
+    // ASCII is UTF-8. The proof shows that all bytes are ASCII, so no test is needed.
     let text = unsafe { from_utf8_unchecked(text) };
     out.string(text)?;
     Ok(())
 }
 
-/// The text, or null where there is none.
+/// Writes the text, or null if there is none.
 pub fn write_text_or_null(out: &mut Writer, text: Option<&[u8]>) -> Result<(), AllocError>
     requires { IfSome (option_copied text) IsAscii }
     ensures before { out.new.before ≡ out.old.before }
@@ -38,7 +38,7 @@ pub fn write_text_or_null(out: &mut Writer, text: Option<&[u8]>) -> Result<(), A
     Ok(())
 }
 
-/// The texts as a list.
+/// Writes the texts as a list.
 pub fn write_texts(out: &mut Writer, texts: &[Text]) -> Result<(), AllocError>
     requires { All IsAscii texts.now }
     ensures before { out.new.before ≡ out.old.before }
@@ -52,7 +52,7 @@ pub fn write_texts(out: &mut Writer, texts: &[Text]) -> Result<(), AllocError>
     Ok(())
 }
 
-/// The lent texts as a list.
+/// Writes the borrowed texts as a list.
 pub fn write_lent_texts(
     out: &mut Writer,
     texts: &[CowSlice<'_, u8, Global>],
@@ -69,7 +69,7 @@ pub fn write_lent_texts(
     Ok(())
 }
 
-/// A whole number.
+/// Writes a whole number.
 pub fn write_whole(out: &mut Writer, number: u64) -> Result<(), AllocError>
     ensures before { out.new.before ≡ out.old.before }
     ensures written { OnOk result (IsWritten out.old out.new (whole_tree number)) }
@@ -78,7 +78,7 @@ pub fn write_whole(out: &mut Writer, number: u64) -> Result<(), AllocError>
     Ok(())
 }
 
-/// Why the match is aborted: null where it is not.
+/// Writes why the match is aborted, or null if it is not.
 pub fn write_cause(alloc: Global, out: &mut Writer, cause: Option<Cause>) -> Result<(), AllocError>
     ensures before { out.new.before ≡ out.old.before }
     ensures written { OnOk result (IsWritten out.old out.new (cause_tree cause)) }

@@ -1,11 +1,9 @@
--- The number of settled matches.
 use Rattle.std.proofs.Common.{◌≡◌, Bool, true, false, cond, List, [], ◌∷◌, length, All, refl, arith}
 use Rattle.std.specs.List.{count_by}
 use Rattle.std.proofs.lemmas.Bool.{false≢true}
 use Rattle.std.proofs.lemmas.List.Elements.{All-cons, All-head, All-nil, All-tail}
 use Rattle.std.proofs.lemmas.List.Sums.{count_by-le-length, sum_by-cons}
 
--- as many are settled as there are: all are
 pub all-settled : (settled : List Bool) → count_by (λ it. it) settled ≡ length settled → All (λ it. it ≡ true) settled
 all-settled [] is = All-nil (λ (it : Bool). it ≡ true)
 all-settled (true ∷ rest) is =

@@ -1,4 +1,4 @@
--- The numbers of the players of a match, as one player after another gets its number, and as further addresses are listed.
+-- The numbers of a match's players, as player after player gets a number, and as addresses are appended.
 use Rattle.std.proofs.Common.{◌≡◌, ℕ, ◌+◌, ◌<◌, ◌≤◌, min, Bool, true, false, cond, Bor, List, [], ◌∷◌, ◌++◌, take, length, get_or, map, All, refl, sym, ◌∙◌, ap, subst, arith, inl, inr}
 use Rattle.std.specs.Prelude.{◌==◌, if◌then◌else◌, not}
 use Rattle.std.specs.List.{AllZip, list_any, position_or_len}
@@ -16,7 +16,6 @@ one-further : (passed : Bool) (m n len whole : ℕ) → whole ≡ 1 + len → co
 one-further true m n len whole is lt kept = ap (λ (k : ℕ). 1 + k) (kept (omega (arith, is, lt)))
 one-further false m n len whole is lt kept = refl
 
--- what was found keeps its index, whatever stands behind
 place-kept : {T : Type 0} (test : T → Bool) (xs ys : List T) → position_or_len test xs < length xs → position_or_len test (xs ++ ys) ≡ position_or_len test xs
 place-kept test [] ys lt = absurd (omega (arith, lt))
 place-kept test (x ∷ xs) ys lt = one-further (not (test x)) (position_or_len test xs) (position_or_len test (xs ++ ys)) (length xs) (length (x ∷ xs)) (omega arith) lt (place-kept test xs ys)
@@ -27,7 +26,6 @@ lengthens-not addresses = ([], sym (append-nil addresses))
 pub lengthens-trans : (a b c : Addresses) → Lengthens a b → Lengthens b c → Lengthens a c
 lengthens-trans a b c first second = (first.0 ++ second.0, second.1 ∙ (ap (λ (it : Addresses). it ++ second.0) first.1 ∙ append_assoc a first.0 second.0))
 
--- one address more, unless it is among them
 pub lengthened : (has : Bool) (old new : Addresses) (address : Bor (List ℕ) × ℕ) → new ≡ (if has then old else old ++ address ∷ []) → Lengthens old new
 lengthened true old new address is = ([], is ∙ sym (append-nil old))
 lengthened false old new address is = (address ∷ [], is)
@@ -38,7 +36,7 @@ map-same {X} {Y} f g (x ∷ xs) all =
     let P : X → Type 0 = λ it. f it ≡ g it in
     ap (λ (y : Y). y ∷ map f xs) (All-head P x xs all) ∙ ap (λ (ys : List Y). g x ∷ ys) (map-same f g xs (All-tail P x xs all))
 
--- the players keep their numbers as further addresses are listed
+-- players keep their numbers when addresses are appended
 pub numbers-kept : (old new : Addresses) (players : List PlayerAddress) (numbers : List ℕ) → Lengthens old new → AreNumbersOf old players numbers → AreNumbersOf new players numbers
 numbers-kept old new players numbers (more, is) are =
     let P : PlayerAddress → Type 0 = λ it. number_of old it < length old in
@@ -49,7 +47,6 @@ numbers-kept old new players numbers (more, is) are =
       once = λ number. are.once number ∙ ap (λ (all : List ℕ). min 1 (times all number)) (sym same);
     }
 
--- a number that is not among these is there 0 times
 times-none : (numbers : List ℕ) (number : ℕ) → list_any (λ it. it == number) numbers ≡ false → times numbers number ≡ 0
 times-none [] number none = refl
 times-none (it ∷ rest) number none =
@@ -69,7 +66,6 @@ times-some (it ∷ rest) number has =
       | inr later ↦ omega (arith, step, times-some rest number later)
     ]
 
--- one number more, unless it is among them
 listed-once : (old new all : List ℕ) (added : ℕ) → ListsOnce old new added → ((number : ℕ) → times old number ≡ min 1 (times all number)) → (number : ℕ) → times new number ≡ min 1 (times (all ++ added ∷ []) number)
 listed-once old new all added (inl (has, kept)) before number =
     let more = sum_by_push (λ (it : ℕ). cond (it == number) 1 0) all added in
@@ -102,7 +98,6 @@ numbers-none addresses numbers is = record {
   once = λ number. ap (λ (them : List ℕ). times them number) is;
 }
 
--- one player more has its number
 pub numbers-more : (addresses : Addresses) (players : List PlayerAddress) (at : ℕ) (d : PlayerAddress) (old new : List ℕ) (number : ℕ) → at < length players → number ≡ number_of addresses (get_or players at d) → number < length addresses
     → ListsOnce old new number → AreNumbersOf addresses (take at players) old → AreNumbersOf addresses (take (at + 1) players) new
 numbers-more addresses players at d old new number within is listed lists before =
@@ -114,7 +109,6 @@ numbers-more addresses players at d old new number within is listed lists before
           ∙ ap (λ (all : List ℕ). min 1 (times all other)) (ap (λ (it : ℕ). map its (take at players) ++ it ∷ []) is ∙ sym (map_more its players at d within));
     }
 
--- the matches keep their numbers
 pub all-kept : (old new : Addresses) (plans : List MatchPlan) (waiting : List WaitingMatch) → Lengthens old new → AllZip (λ plan waiting_match. AreNumbersOf old plan.players.items waiting_match.players.items) plans waiting
     → AllZip (λ plan waiting_match. AreNumbersOf new plan.players.items waiting_match.players.items) plans waiting
 all-kept old new [] [] longer all = tt
@@ -122,7 +116,6 @@ all-kept old new [] (waiting_match ∷ waiting_matches) longer all = absurd all
 all-kept old new (plan ∷ plans) [] longer all = absurd all
 all-kept old new (plan ∷ plans) (waiting_match ∷ waiting_matches) longer all = (numbers-kept old new plan.players.items waiting_match.players.items longer all.0, all-kept old new plans waiting_matches longer all.1)
 
--- one match more has its numbers
 pub all-more : (old new : Addresses) (plans : List MatchPlan) (at : ℕ) (d : MatchPlan) (waiting all : List WaitingMatch) (waiting_match : WaitingMatch) → at < length plans → all ≡ waiting ++ waiting_match ∷ [] → Lengthens old new
     → AllZip (λ plan waiting_match. AreNumbersOf old plan.players.items waiting_match.players.items) (take at plans) waiting → AreNumbersOf new (get_or plans at d).players.items waiting_match.players.items
     → AllZip (λ plan waiting_match. AreNumbersOf new plan.players.items waiting_match.players.items) (take (at + 1) plans) all

@@ -1,4 +1,4 @@
--- Results at the places of their matches, and the matches that are settled, in their order.
+-- Results at the indices of their matches, and settling matches in their order.
 use Rattle.std.proofs.Common.{◌≡◌, ℕ, zero, suc, ◌+◌, ◌-◌, ◌≤◌, Bool, true, Option, None, Some, List, set, length, get_or, replicate, sym, ◌∙◌, ap, subst, arith, inl, inr}
 use Rattle.std.specs.Prelude.{slice_set}
 use Rattle.std.proofs.lemmas.Bool.{cases_eq, cases_lt}
@@ -40,7 +40,6 @@ settled-more settled from m (suc n) =
 pub settled-none : (settled : List Bool) (from count : ℕ) → count ≡ 0 → settled ≡ settled_on settled from count
 settled-none settled from count is = ap (λ (n : ℕ). settled_on settled from n) (sym is)
 
--- one match more is settled, the next one
 pub settled-next : (old now new : List Bool) (from place at : ℕ) → from ≤ place → at ≡ place → now ≡ settled_on old from (place - from) → new ≡ slice_set now at true → new ≡ settled_on old from (place + 1 - from)
 settled-next old now new from place at le is before set_one =
     let step : ◌≡◌ {A = ℕ} (place + 1 - from) (suc (place - from)) = omega (arith, le) in
@@ -48,7 +47,6 @@ settled-next old now new from place at le is before set_one =
     set_one ∙ (ap (λ (them : List Bool). slice_set them at true) before
     ∙ (ap (λ (n : ℕ). slice_set (settled_on old from (place - from)) n true) (sym here) ∙ ap (λ (n : ℕ). settled_on old from n) (sym step)))
 
--- as many again, behind those before
 pub settled-trans : (old now new : List Bool) (next place : ℕ) → next ≤ place → now ≡ settled_on old 0 next → new ≡ settled_on now next (place - next) → new ≡ settled_on old 0 place
 settled-trans old now new next place le before more =
     let whole : next + (place - next) ≡ place = omega (arith, le) in

@@ -1,4 +1,4 @@
--- The waiting matches: the first that can begin, the turn of one that waits again, and one more that waits.
+-- The waiting matches: the first one that can begin, the position of one that waits again, and appending one.
 use Rattle.std.proofs.Common.{◌≡◌, ◌++◌, [], ◌∷◌, ℕ, ◌+◌, ◌<◌, ◌≤◌, min, Bool, true, false, cond, List, Option, Some, None, All, HoldsAt, IfSome, IfNone, MatchOption, get_or, slice_get, take, length, deque_len, sym, ◌∙◌, ap, subst, inl, inr, arith, length-take, get_or-take, lt-ltb, le-ltb, unwrap_or}
 use Rattle.std.specs.Prelude.{◌↔◌, ◌==◌, is_some, nat_lt, not, position}
 use Rattle.std.specs.List.{AllWithin}
@@ -11,11 +11,10 @@ use Rattle.match_season.specs.Queues.{IsBusy, are_free, turn_of}
 use Rattle.match_season.specs.declared.queue.WaitingMatch.{WaitingMatch}
 use Rattle.match_season.specs.declared.queue.MatchQueue.{MatchQueue}
 
--- all players of the match are free
 abbrev pub IsFree : MatchQueue → WaitingMatch → Type 0
 IsFree queue waiting_match = are_free queue.sitting.items queue.concurrent waiting_match.players.items ≡ true
 
--- what `position` finds with this test
+-- the result of `position` with this test
 abbrev pub IsFirstFree : MatchQueue → Option ℕ → Type 0
 IsFirstFree queue found = MatchOption found (AllWithin (IsBusy queue) queue.waiting.items 0 (length queue.waiting.items)) (λ at. (at < length queue.waiting.items) × HoldsAt (IsFree queue) queue.waiting.items at × AllWithin (IsBusy queue) queue.waiting.items 0 at)
 
@@ -55,7 +54,6 @@ none-begins queue None waits result is some_wait says _ none =
 none-begins queue (Some at) waits result is some_wait says found _ =
     (λ yes. absurd (false≢true (sym (not-true result (sym says)) ∙ yes)), λ both. absurd (not_all_busy queue at found.0 found.1 found.2 both.1))
 
--- no turn is past all waiting matches
 pub turn-within : (place : ℕ) (waiting : List WaitingMatch) → turn_of waiting place ≤ length waiting
 turn-within place waiting =
     let turn = turn_of waiting place in
@@ -63,7 +61,6 @@ turn-within place waiting =
     let cut : length (take turn waiting) ≡ min turn (length waiting) = length-take turn waiting in
     omega (arith, whole, cut)
 
--- the turn of a match is the first index at which a later one waits, or the number of waiting matches
 pub found-turn : (place count result : ℕ) (waiting : List WaitingMatch) (found : Option ℕ) → found ≡ position (λ it. nat_lt place it.place) waiting → count ≡ length waiting → result ≡ unwrap_or found count → result ≡ turn_of waiting place
 found-turn place count result waiting found is whole reads =
     let turn = turn_of waiting place in
@@ -76,7 +73,6 @@ found-turn place count result waiting found is whole reads =
           at ∙ (ap read (le-ltb turn (length waiting) le) ∙ all)
     ]
 
--- one match more waits, the next one of the schedule
 pub in-order-more : (waiting new : List WaitingMatch) (waiting_match : WaitingMatch) (place : ℕ) → new ≡ waiting ++ waiting_match ∷ [] → length waiting ≡ place → waiting_match.place ≡ place → ((k : ℕ) (d : WaitingMatch) → k < place → (get_or waiting k d).place ≡ k)
     → (k : ℕ) (d : WaitingMatch) → k < place + 1 → (get_or new k d).place ≡ k
 in-order-more waiting new waiting_match place is each here before k d lt =

@@ -1,4 +1,4 @@
--- The output of a season, and what is appended to it.
+-- Appending to the output of a season.
 use Rattle.std.proofs.Common.{◌≡◌, ◌++◌, [], ◌∷◌, ℕ, ◌+◌, ◌-◌, ◌<◌, ◌≤◌, ◌^◌, Bool, true, false, cond, List, Option, Result, set, length, get_or, refl, sym, ◌∙◌, ap, subst, arith, inl, inr, length-set}
 use Rattle.std.specs.Prelude.{◌==◌, ◌&&◌, is_ok}
 use Rattle.std.specs.List.{AllZip, concat, count_by}
@@ -28,7 +28,6 @@ zip-append R (x ∷ xs) zs (y ∷ ys) ws first second = (first.0, zip-append R x
 pub no-matches : (I : ℕ → List ℕ → Type 0) (a : Option (List ℕ)) → WritesMatches I [] a a
 no-matches I a = record { texts = []; are_outputs = tt; appended = Appends-nil a }
 
--- a season without matches writes nothing
 pub nothing-written : (I : ℕ → List ℕ → Type 0) (order : RecordOrder) (count : ℕ) (a : Option (List ℕ)) → count ≡ 0 → WritesAllBut I order 0 count a a
 nothing-written I order count a none = record { places = []; others = sym none; once = λ place. omega arith; in_order = λ ordered. omega arith; written = no-matches I a }
 
@@ -45,7 +44,6 @@ matches-trans I a b c first second before now =
       appended = subst (Appends a c) (sym (concat-append xs ys)) (Appends-trans a b c (concat xs) (concat ys) before.appended now.appended);
     }
 
--- the output of a match, if it is not settled yet
 pub ended-match : (I : ℕ → List ℕ → Type 0) (is_new : Bool) (place : ℕ) (a b : Option (List ℕ)) (told : List ℕ) → ∥ I place told ∥₁ → Appends a b (cond is_new told []) → WritesMatches I (cond is_new (place ∷ []) []) a b
 ended-match I true place a b told output written = one-match I place a b told output written
 ended-match I false place a b told output written = record { texts = []; are_outputs = tt; appended = written }
@@ -60,7 +58,6 @@ cond-few false = omega arith
 mark-few : (settled : List Bool) (place : ℕ) → mark settled place ≤ 1
 mark-few settled place = cond-few (get_or settled place false)
 
--- a match that is settled stays so as one more is
 mark-kept : (settled : List Bool) (place at : ℕ) → mark settled at ≤ mark (set settled place true) at
 mark-kept settled place at =
     elim (cases_eq at place) [
@@ -75,7 +72,6 @@ mark-kept settled place at =
       | inr other ↦ (let is : mark (set settled place true) at ≡ mark settled at = ap (λ (b : Bool). cond b 1 0) (get_or-set_other settled place at true false other) in omega (arith, is))
     ]
 
--- a match that was open is settled
 mark-opened : (settled : List Bool) (place at : ℕ) → is_open settled place ≡ true → times (place ∷ []) at + mark settled at ≤ mark (set settled place true) at
 mark-opened settled place at is =
     let not-yet : get_or settled place true ≡ false = not-true (get_or settled place true) is in
@@ -129,7 +125,6 @@ pub rises-trans : (low : ℕ) (first : List ℕ) (mid : ℕ) (second : List ℕ)
 rises-trans low [] mid second high before now = rises-lower low mid second high before now
 rises-trans low (place ∷ places) mid second high before now = (before.0, rises-trans (place + 1) places mid second high before.1 now)
 
--- a match at the next place
 pub rises-one : (has : Bool) (place : ℕ) → Rises place (cond has (place ∷ []) []) (place + 1)
 rises-one true place = (omega arith, omega arith)
 rises-one false place = omega arith
@@ -164,7 +159,6 @@ more-weaker I O P v w a b weaker some = record {
   same_places = some.same_places;
 }
 
--- the records of one more match, where it is settled afterwards
 one-place : (I : ℕ → List ℕ → Type 0) (has : Bool) (place : ℕ) (v w : Written) (b c : Option (List ℕ)) → (has ≡ true → is_open v.is_settled.items place ≡ true)
     → WritesMatches I (cond has (place ∷ []) []) b c → Settles v w place (length (cond has (place ∷ []) [])) → WritesMore I (λ places. Rises place places (place + 1)) v w b c
 one-place I true place v w b c has-open now settles = record {
@@ -188,7 +182,6 @@ one-place I false place v w b c has-open now settles = record {
   same_places = ap length settles.settled ∙ length-set v.is_settled.items place true;
 }
 
--- One more match is settled, and its record is written if it has one.
 pub more-settled : {T E : Type 0} (I : ℕ → List ℕ → Type 0) (O Q : List ℕ → Type 0) (u v w : Written) (a b c : Option (List ℕ)) (outcome : Result T E) (place : ℕ) → ((xs ys : List ℕ) → O xs → Rises place ys (place + 1) → Q (xs ++ ys))
     → WritesMore I O u v a b → WritesMatches I (places_of v place outcome) b c → Settles v w place (length (places_of v place outcome)) → WritesMore I Q u w a c
 more-settled I O Q u v w a b c outcome place join before now settles =
@@ -210,7 +203,6 @@ all-but I order all missing before after a b none long few is some =
       written = some.written;
     }
 
--- After further matches the write of one that was open failed.
 pub more-to_part : (I : ℕ → List ℕ → Type 0) (O Q : List ℕ → Type 0) (u v : Written) (a b c : Option (List ℕ)) (last : ℕ) → ((xs : List ℕ) → O xs → Q (xs ++ last ∷ []))
     → WritesMore I O u v a b → is_open v.is_settled.items last ≡ true → WritesPart I last b c → WritesMoreAndPart I Q u a c
 more-to_part I O Q u v a b c last join before was-open part = record {
@@ -236,7 +228,6 @@ more-then_part I O P Q u v a b c join before now =
       part = now.part;
     }
 
--- no match of these is there twice
 some-and_part : (I : ℕ → List ℕ → Type 0) (order : RecordOrder) (all : ℕ) (before : Written) (a b : Option (List ℕ))
     → WritesMoreAndPart I (λ places. order ≡ OfSchedule → Rises 0 places all) before a b → WritesSomeAndPart I order all a b
 some-and_part I order all before a b it =
@@ -252,7 +243,6 @@ some-and_part I order all before a b it =
       part = it.part;
     }
 
--- what was written up to a write fault
 pub up_to-write_fault : (I : ℕ → List ℕ → Type 0) (order : RecordOrder) (all : ℕ) (before : Written) (a b : Option (List ℕ)) (fault : SeasonFault) → fault ≡ WriteFault
     → WritesMoreAndPart I (λ places. order ≡ OfSchedule → Rises 0 places all) before a b → WritesUpTo I order all a b fault
 up_to-write_fault I order all before a b fault is it = subst (WritesUpTo I order all a b) (sym is) (some-and_part I order all before a b it)

@@ -1,4 +1,4 @@
--- The end of a match in a season's thread.
+-- The end of a match in a thread of a season.
 use Rattle.std.specs.Prelude.{◌≡◌, ◌≤◌, ◌<◌, ◌+◌, ◌&&◌, ◌⊎◌, Bool, true, false}
 use Rattle.std.specs.VecDeque.{deque_capacity, deque_len}
 use Rattle.match_season.specs.Queues.{with_match}
@@ -7,19 +7,19 @@ use Rattle.match_season.specs.declared.scheduler.AfterMatch.{AfterMatch}
 use Rattle.match_season.specs.declared.scheduler.AfterMatch.TheVariants.{Report, Retry, EndThread}
 use Rattle.match_season.specs.declared.scheduler.SchedulerState.{SchedulerState}
 
--- There was no shortage, or no further match begins, or the thread is the only one and has rested, or there is no room for one more that
--- waits.
+-- The match did not run out of memory or threads; or no more matches may begin; or the only thread has already paused; or the queue has
+-- no capacity for the match.
 abbrev pub IsOver : SchedulerState → Bool → Type 0
 IsOver state is_short =
     (is_short ≡ false) ⊎ ((state.is_closed ≡ true) ⊎ (((state.threads ≤ 1) × (state.has_rested ≡ true)) ⊎ (deque_capacity state.queue.waiting ≤ deque_len state.queue.waiting)))
 
--- There was a shortage, and further matches may begin. The match waits again.
+-- The match ran out of memory or threads, and waits again.
 pub record WaitsAgain (old new : SchedulerState) (waiting_match : WaitingMatch) (is_short : Bool) : Type 0 where
   pub was_short : is_short ≡ true
   pub is_open : old.is_closed ≡ false
   pub waits : new.queue.waiting.items ≡ with_match old.queue.waiting.items waiting_match
 
--- The outcome for a match that was running, and for its thread.
+-- What happens to a match that was running, and to its thread.
 abbrev pub Ends : SchedulerState → SchedulerState → WaitingMatch → Bool → AfterMatch → Type 0
 Ends old new waiting_match is_short Report =
     IsOver old is_short × (new.queue.waiting.items ≡ old.queue.waiting.items) × (new.threads ≡ old.threads) × (new.has_rested ≡ old.has_rested && is_short)

@@ -11,19 +11,19 @@ use Rattle.match_season.specs.declared.season_output.SeasonFault.{SeasonFault}
 use Rattle.match_season.specs.declared.season_output.SeasonFault.TheVariants.{WriteFault, Memory}
 use Rattle.match_season.specs.declared.written.Written.{Written}
 
--- Between the two contents of a stream the outputs of the matches at these places were written, one after another.
+-- the outputs of the matches with these indices were written, one after another
 pub record WritesMatches (IsOutput : ℕ → List ℕ → Type 0) (places : List ℕ) (old new : Option (List ℕ)) : Type 0 where
   pub texts : List (List ℕ)
   pub are_outputs : AllZip (λ place text. ∥ IsOutput place text ∥₁) places texts
   pub appended : Appends old new (concat texts)
 
--- Between the two contents of a stream a prefix of the output of the match at this place was written.
+-- a prefix of the output of the match with this index was written
 pub record WritesPart (IsOutput : ℕ → List ℕ → Type 0) (place : ℕ) (old new : Option (List ℕ)) : Type 0 where
   pub text : List ℕ
   pub is_output : ∥ IsOutput place text ∥₁
   pub part : AppendsPart old new text
 
--- there is a match at this place, and it is not settled
+-- there is a match with this index, and it is not settled
 abbrev pub is_open : List Bool → ℕ → Bool
 is_open settled place = not (get_or settled place true)
 
@@ -31,47 +31,45 @@ is_open settled place = not (get_or settled place true)
 abbrev pub mark : List Bool → ℕ → ℕ
 mark settled place = if get_or settled place false then 1 else 0
 
--- the place of a match with this result, if it has a record and is not settled yet
+-- the index of a match with this result in a list, if the match has a record and is not settled yet; else an empty list
 abbrev pub places_of : {T E : Type 0} → Written → ℕ → Result T E → List ℕ
 places_of written place outcome = if is_ok outcome && is_open written.is_settled.items place then place ∷ [] else []
 
--- This number of further records is counted, up to the limit of the count.
+-- this many more records are counted, up to the limit of the count
 abbrev pub Counts : Written → Written → ℕ → Type 0
 Counts old new more = old.records + more < 2 ^ 64 → new.records ≡ old.records + more
 
--- The match at this place is settled, and no other one, and this number of further records is counted.
+-- the match with this index is settled, no other one is, and this many more records are counted
 pub record Settles (old new : Written) (place more : ℕ) : Type 0 where
   pub settled : new.is_settled.items ≡ slice_set old.is_settled.items place true
   pub counted : Counts old new more
 
--- each result is kept at the place of its match
+-- each result is stored at the index of its match
 abbrev pub ArePlaced : {T : Type 0} → (T → ℕ) → List (Option T) → Type 0
 ArePlaced {T} place_of waiting = (place : ℕ) (over : T) → get_or waiting place None ≡ Some over → place_of over ≡ place
 
--- this number of matches from this place on is settled, too
+-- this many more matches, from this index up, are settled
 abbrev pub settled_on : List Bool → ℕ → ℕ → List Bool
 settled_on settled from zero = settled
 settled_on settled from (suc count) = slice_set (settled_on settled from count) (from + count) true
 
--- the number of settled matches
 abbrev pub settled_in : Written → ℕ
 settled_in written = count_by (λ it. it) written.is_settled.items
 
--- each match is settled
 abbrev pub AreSettled : Written → Type 0
 AreSettled written = All (λ it. it ≡ true) written.is_settled.items
 
--- each match is settled, or no further result can come
+-- each match is settled, or no more results can come
 abbrev pub HasAll : Bool → Written → Type 0
 HasAll is_closed written = AreSettled written ⊎ (is_closed ≡ true)
 
--- the places rise, from the first bound on and below the second
+-- the indices rise, from the first bound up to below the second
 abbrev pub Rises : ℕ → List ℕ → ℕ → Type 0
 Rises low [] high = low ≤ high
 Rises low (place ∷ places) high = (low ≤ place) × Rises (place + 1) places high
 
--- The outputs of matches were written at places in this order, each once, of matches that were not settled before and are settled
--- afterwards. As many further records are counted.
+-- The outputs of matches were written in this order, each once. These matches were not settled before, and are settled afterwards. As
+-- many more records are counted.
 pub record WritesMore (IsOutput : ℕ → List ℕ → Type 0) (InOrder : List ℕ → Type 0) (before after : Written) (old new : Option (List ℕ)) : Type 0 where
   pub places : List ℕ
   pub in_order : InOrder places
@@ -81,7 +79,7 @@ pub record WritesMore (IsOutput : ℕ → List ℕ → Type 0) (InOrder : List �
   pub counted : Counts before after (length places)
   pub same_places : length after.is_settled.items ≡ length before.is_settled.items
 
--- The same, and then a prefix of the output of one more match was written, which was not settled. The order holds with its place, too.
+-- The same, and then a prefix of the output of one more match was written. It was not settled before. The order includes its index.
 pub record WritesMoreAndPart (IsOutput : ℕ → List ℕ → Type 0) (InOrder : List ℕ → Type 0) (before : Written) (old new : Option (List ℕ)) : Type 0 where
   pub last : ℕ
   pub between : Written
@@ -90,8 +88,7 @@ pub record WritesMoreAndPart (IsOutput : ℕ → List ℕ → Type 0) (InOrder :
   pub was_open : is_open between.is_settled.items last ≡ true
   pub part : WritesPart IsOutput last middle new
 
--- Of all matches the missing ones have no record. The output of each other one was written once, in the schedule's order if that is
--- asked for.
+-- The outputs of all but `missing` matches were written, each once, in the order of the schedule if that was asked for.
 pub record WritesAllBut (IsOutput : ℕ → List ℕ → Type 0) (order : RecordOrder) (missing all : ℕ) (old new : Option (List ℕ)) : Type 0 where
   pub places : List ℕ
   pub others : length places + missing ≡ all
@@ -99,8 +96,8 @@ pub record WritesAllBut (IsOutput : ℕ → List ℕ → Type 0) (order : Record
   pub in_order : order ≡ OfSchedule → Rises 0 places all
   pub written : WritesMatches IsOutput places old new
 
--- The outputs of the matches at these places were written, one after another, and then a prefix of the output of one more match. None is
--- there twice, and they stand in the schedule's order if that is asked for.
+-- The outputs of the matches with these indices were written, and then a prefix of the output of one more match. Each index occurs once,
+-- and they are in the order of the schedule if that was asked for.
 pub record WritesSomeAndPart (IsOutput : ℕ → List ℕ → Type 0) (order : RecordOrder) (all : ℕ) (old new : Option (List ℕ)) : Type 0 where
   pub places : List ℕ
   pub last : ℕ
@@ -110,17 +107,16 @@ pub record WritesSomeAndPart (IsOutput : ℕ → List ℕ → Type 0) (order : R
   pub written : WritesMatches IsOutput places old middle
   pub part : WritesPart IsOutput last middle new
 
--- What was written up to this fault: whole outputs and a part of one more before a write fault, and nothing before out of memory.
+-- before a write fault, whole outputs and a part of one more were written; before out of memory, nothing
 abbrev pub WritesUpTo : (ℕ → List ℕ → Type 0) → RecordOrder → ℕ → Option (List ℕ) → Option (List ℕ) → SeasonFault → Type 0
 WritesUpTo IsOutput order all old new WriteFault = WritesSomeAndPart IsOutput order all old new
 WritesUpTo IsOutput order all old new Memory = new ≡ old
 
--- the failed writes of a stream, after this fault: a write fault comes from one more failed write, out of memory from none
+-- a write fault counts one more failed write; out of memory counts none
 abbrev pub faults_by : SeasonFault → ℕ → ℕ
 faults_by WriteFault faults = one_more faults
 faults_by Memory faults = faults
 
--- the failed writes of a stream, after this result
 abbrev pub faults_after : {T : Type 0} → Result T SeasonFault → ℕ → ℕ
 faults_after (Ok x) faults = faults
 faults_after (Err fault) faults = faults_by fault faults

@@ -1,9 +1,7 @@
-//! A season: the matches of a schedule, some of them at once.
+//! Plays the matches of a schedule (a season), several at once.
 //!
-//! `play_season` plays the matches and writes their records, each with its account behind it if that is wanted. No player sits in
-//! more of them at a time than it may.
-//!
-//! Free functions take the allocator first, behind a handle for threads and waiting.
+//! `play_season` plays the matches and writes their records, each followed by its call log if the form asks for it. Free
+//! functions take the allocator first, after a handle for threads and waiting.
 #![tactic(auto)]
 
 mod queue;

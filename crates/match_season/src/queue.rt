@@ -1,4 +1,4 @@
-//! The waiting matches of a season, and in how many running matches each player sits.
+//! The waiting matches of a season, and the number of running matches of each player.
 ghost use Rattle.std.specs.Prelude.{◌≡◌, ◌≤◌, ◌<◌, ◌+◌, ◌-◌, ◌^◌, ◌↔◌, ℕ, [], true, All, IfNone, IfOk, IfSome, IsTrue, OnErr, OnOk, Some, get_or, length, min, slice_get, slice_set, take};
 ghost use Rattle.std.specs.List.{AllZip};
 ghost use Rattle.std.specs.VecDeque.{deque_capacity, deque_len};
@@ -9,24 +9,23 @@ use match_plans::{MatchPlan, PlayerAddress, SeasonForm};
 use std::alloc::{AllocError, AllocFailed, Global};
 use std::collections::VecDeque;
 
-/// A match of a season: its place in the schedule, and the numbers of its players' addresses, each once.
+/// A match that waits: its index in the schedule, and the numbers of its players, each once.
 #[derive(Drop)]
 pub struct WaitingMatch {
     pub place: usize,
     players: Vec<usize>,
 }
 
-/// The waiting matches of a season in the schedule's order, and the players of the running ones.
+/// The waiting matches in the order of the schedule, and the players of the running matches.
 #[derive(Drop)]
 pub struct MatchQueue {
     waiting: VecDeque<WaitingMatch>,
     /// The number of running matches of each player.
     sitting: Vec<usize>,
-    /// The limit of running matches of a player.
+    /// The largest number of running matches of a player.
     concurrent: usize,
 }
 
-/// Lists the number, unless it is listed.
 fn list_once(numbers: &mut Vec<usize>, number: usize) -> Result<(), AllocError>
     ensures { OnOk result (ListsOnce numbers.old.items numbers.new.items number) }
 {
@@ -37,14 +36,14 @@ fn list_once(numbers: &mut Vec<usize>, number: usize) -> Result<(), AllocError>
     Ok(())
 }
 
-/// The address of a player, by which it gets its number.
+/// The address of a player. Players with the same host and port have the same number.
 fn address<'a>(player: &PlayerAddress<'a>) -> (&'a str, u16)
     ensures { result ≡ (player.now.host, player.now.port) }
 {
     (player.host, player.port)
 }
 
-/// The number of a player. An address without a number gets the next one.
+/// The index of a player's address in `addresses`. Appends the address if it is new.
 fn number_of<'a>(
     addresses: &mut IndexSet<(&'a str, u16)>,
     player: &PlayerAddress<'a>,
@@ -57,7 +56,6 @@ fn number_of<'a>(
     Ok(number)
 }
 
-/// The numbers of a match's players, each once.
 fn numbers<'a>(
     alloc: Global,
     addresses: &mut IndexSet<(&'a str, u16)>,
@@ -74,7 +72,6 @@ fn numbers<'a>(
     Ok(numbers)
 }
 
-/// The number of running matches of this player.
 fn sits_in(sitting: &[usize], player: usize) -> usize
     ensures { result ≡ get_or sitting.now player 0 }
 {
@@ -84,7 +81,7 @@ fn sits_in(sitting: &[usize], player: usize) -> usize
     }
 }
 
-/// Whether each of these players sits in fewer matches than it may.
+/// Whether each of these players has fewer running matches than the limit.
 fn are_free(sitting: &[usize], concurrent: usize, players: &[usize]) -> bool
     ensures { result ≡ are_free sitting.now concurrent players.now }
 {
@@ -102,7 +99,7 @@ fn seat(sitting: &mut [usize], player: usize)
     }
 }
 
-/// Counts one running match of a player less.
+/// Counts one running match less of a player.
 fn unseat(sitting: &mut [usize], player: usize)
     ensures { sitting.new ≡ slice_set sitting.old player (get_or sitting.old player 0 - 1) }
 {
@@ -111,7 +108,6 @@ fn unseat(sitting: &mut [usize], player: usize)
     }
 }
 
-/// Counts one more running match of each of these players.
 fn seat_all(sitting: &mut [usize], players: &[usize])
     ensures { SitDown sitting.old sitting.new players.now }
 {
@@ -120,7 +116,6 @@ fn seat_all(sitting: &mut [usize], players: &[usize])
     }
 }
 
-/// Counts one running match of each of these players less.
 fn unseat_all(sitting: &mut [usize], players: &[usize])
     ensures { StandUp sitting.old sitting.new players.now }
 {
@@ -129,7 +124,6 @@ fn unseat_all(sitting: &mut [usize], players: &[usize])
     }
 }
 
-/// The matches of a schedule, in its order, each with the numbers of its players' addresses.
 fn waiting_matches<'a>(
     alloc: Global,
     addresses: &mut IndexSet<(&'a str, u16)>,
@@ -147,7 +141,7 @@ fn waiting_matches<'a>(
 }
 
 impl MatchQueue {
-    /// The queue at the beginning: all matches wait, and nobody sits.
+    /// A queue in which all matches wait.
     pub fn of(
         alloc: Global,
         plans: &[MatchPlan<'_>],
@@ -165,14 +159,13 @@ impl MatchQueue {
         })
     }
 
-    /// Whether all players of this match are free.
     fn can_begin(&self, waiting_match: &WaitingMatch) -> bool
         ensures { result ≡ are_free self.now.sitting.items self.now.concurrent waiting_match.now.players.items }
     {
         are_free(&self.sitting, self.concurrent, &waiting_match.players)
     }
 
-    /// The index, among the waiting matches, of the first one with free players.
+    /// The index, among the waiting matches, of the first one whose players are all free.
     fn first_free(&self) -> Option<usize>
         ensures some { IfSome result (λ at. (first : WaitingMatch) × (slice_get self.now.waiting.items at ≡ Some first)
             × (are_free self.now.sitting.items self.now.concurrent first.players.items ≡ true)
@@ -184,7 +177,7 @@ impl MatchQueue {
             .position(|waiting_match| self.can_begin(waiting_match))
     }
 
-    /// Whether matches wait, and none of them can begin.
+    /// Whether matches wait, but none of them can begin.
     pub fn has_to_wait(&self) -> bool
         ensures { IsTrue result ↔ ((0 < deque_len self.now.waiting) × All (IsBusy self.now) self.now.waiting.items) }
     {
@@ -201,7 +194,8 @@ impl MatchQueue {
         self.waiting.is_empty()
     }
 
-    /// Takes the first waiting match with free players, and seats them. `None` if there is no such match.
+    /// Removes the first waiting match whose players are all free, and counts it as running. Returns `None` if there is
+    /// none.
     pub fn take(&mut self) -> Option<WaitingMatch>
         ensures some { IfSome result (Begins self.old self.new) }
         ensures none { IfNone result (All (IsBusy self.old) self.old.waiting.items × (self.new ≡ self.old)) }
@@ -212,7 +206,7 @@ impl MatchQueue {
         Some(waiting_match)
     }
 
-    /// Frees the players of a match that is over, or that was not begun.
+    /// Counts a match as no longer running.
     pub fn leave(&mut self, waiting_match: &WaitingMatch)
         ensures stand { StandUp self.old.sitting.items self.new.sitting.items waiting_match.now.players.items }
         ensures same { (self.new.waiting ≡ self.old.waiting) × (self.new.concurrent ≡ self.old.concurrent) }
@@ -220,7 +214,7 @@ impl MatchQueue {
         unseat_all(&mut self.sitting, &waiting_match.players);
     }
 
-    /// The number of waiting matches before the match at this place.
+    /// The number of waiting matches that come before this index in the schedule.
     fn place_of(&self, place: usize) -> usize
         ensures turn { result ≡ turn_of self.now.waiting.items place }
         ensures within { result ≤ deque_len self.now.waiting }
@@ -231,7 +225,7 @@ impl MatchQueue {
             .unwrap_or(self.waiting.len())
     }
 
-    /// Lets a match wait again, in the schedule's order.
+    /// Lets a match wait again, at its position in the order of the schedule.
     pub fn put_back(&mut self, waiting_match: WaitingMatch) -> Result<(), AllocFailed<WaitingMatch>>
         ensures waits { OnOk result (self.new.waiting.items ≡ with_match self.old.waiting.items waiting_match) }
         ensures refused { OnErr result (self.new.waiting.items ≡ self.old.waiting.items) }

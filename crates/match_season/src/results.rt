@@ -1,4 +1,4 @@
-//! The results of a season's matches, which its threads send.
+//! The results of matches, which the threads of a season send.
 ghost use Rattle.std.specs.Prelude.{ℕ, List};
 ghost use Rattle.std.specs.Result.{ForOk};
 
@@ -8,9 +8,10 @@ use match_play::{EndedMatch, MatchFault};
 use std::marker::{Brand, PhantomData};
 use std::sync::Wait;
 
-/// The outputs of a season's matches. Each season picks it, since a contract can't name what another thread sends.
+/// Names the outputs of one season. Each season chooses its own brand, because a contract cannot name what another thread
+/// sends.
 pub trait OutputBrand {
-    /// The text is the output of the match at this place.
+    /// The text is the output of the match with this index in the schedule.
     ghost is_output: { ℕ → List ℕ → Type 0 };
 }
 
@@ -20,7 +21,7 @@ impl OutputBrand for Brand {
     ghost is_output = { λ place text. ⊤ };
 }
 
-/// A match of a season that is over: its place in the schedule, and its output or the reason why it has no record.
+/// The result of a match with this index in the schedule: its output, or why it has no record.
 #[derive(Drop)]
 pub struct MatchResult<N: OutputBrand> {
     pub place: usize,
@@ -29,11 +30,11 @@ pub struct MatchResult<N: OutputBrand> {
     ghost is_output: { ForOk outcome (λ ended. ∥ N.is_output place ended.text ∥₁) },
 }
 
-/// The results that the threads send.
+/// Receives the results that the threads send.
 #[derive(Drop)]
 pub struct Results<'r, N: OutputBrand> {
     pub receiver: &'r Receiver<MatchResult<N>>,
-    /// Whether no further result can come. A season keeps a sender of its own, so this never happens to it.
+    /// Whether no more results can come. A season keeps a sender until its end, so this never happens in a season.
     pub is_closed: bool,
 }
 
@@ -41,7 +42,7 @@ impl<N: OutputBrand> Results<'_, N> {
     ghost use Rattle.std.specs.Prelude.{IfNone};
     ghost use Rattle.match_season.specs.Seasons.{HasAll};
 
-    /// Waits for the next result. `None` means that all matches are settled, or that no further result can come.
+    /// Waits for the next result. Returns `None` if all matches are settled, or if no more results can come.
     pub fn next<R: Wait>(&mut self, rt: &R, written: &Written) -> Option<MatchResult<N>>
         ensures { IfNone result (HasAll self.new.is_closed written.now) }
     {

@@ -1,4 +1,4 @@
-//! The waiting matches of a season and its threads, as these share them.
+//! Shares the waiting matches of a season among its threads.
 ghost use Rattle.std.specs.Prelude.{◌≡◌, ◌+◌, ◌-◌, ◌^◌, [], false, true, All, IfNone, IfSome, min};
 ghost use Rattle.match_season.specs.Queues.{Begins, IsBusy, StandUp};
 ghost use Rattle.match_season.specs.Scheduling.{Ends};
@@ -8,17 +8,17 @@ use std::sync::atomic::AtomicU64;
 use std::sync::{Condvar, Mutex, Wait};
 use std::time::Duration;
 
-/// For how many milliseconds the only thread rests. By then the system has taken back what other threads held that have ended.
+/// The pause, in milliseconds, before the only thread tries a match again. By then the system has reclaimed what ended threads held.
 const REST: u64 = 500;
 
-/// What a thread does once its match is over.
+/// What a thread does after a match.
 #[derive(Clone, Copy)]
 pub enum AfterMatch {
     /// It sends the result, and begins another match.
     Report,
-    /// It has rested, and begins another match. Its own one waits again.
+    /// It begins another match after the pause. Its own match waits again.
     Retry,
-    /// It ends, so one match less is played at once. Its own one waits again.
+    /// It ends, so that one match less is played at once. Its own match waits again.
     EndThread,
 }
 
@@ -27,14 +27,13 @@ pub enum AfterMatch {
 struct SchedulerState {
     queue: MatchQueue,
     threads: usize,
-    /// Whether the only thread rests or has rested after a shortage, and no match has ended without one since.
+    /// Whether the only thread has paused because memory or threads ran out, and no match has ended since without running out of them.
     has_rested: bool,
-    /// Whether no further match begins.
+    /// Whether no more matches may begin.
     is_closed: bool,
 }
 
 impl SchedulerState {
-    /// The state at the beginning: there is no thread yet.
     fn of(queue: MatchQueue) -> SchedulerState
         ensures queue { result.queue ≡ queue }
         ensures none_yet { (result.threads ≡ 0) × (result.has_rested ≡ false) }
@@ -48,7 +47,7 @@ impl SchedulerState {
         }
     }
 
-    /// Counts one more thread. A rest of the only one before says nothing any more.
+    /// Counts one more thread. The only thread may then pause again.
     fn enter(&mut self)
         ensures { self.new ≡ record self.old { threads = min (self.old.threads + 1) (2 ^ 64 - 1); has_rested = false } }
     {
@@ -56,7 +55,7 @@ impl SchedulerState {
         self.has_rested = false;
     }
 
-    /// Begins a match if one may begin, and otherwise counts one thread less.
+    /// Begins a match if one can begin. Otherwise counts one thread less.
     fn begin(&mut self) -> Option<WaitingMatch>
         ensures first { IfSome result (Begins self.old.queue self.new.queue) }
         ensures same { IfSome result (λ waiting_match. self.new ≡ record self.old { queue = self.new.queue }) }
@@ -70,7 +69,8 @@ impl SchedulerState {
         begun
     }
 
-    /// Ends a match. One without a thread or without memory waits again, unless the only thread has rested or no further match begins.
+    /// Ends a match. If it ran out of memory or threads, it waits again, unless the only thread has already paused or no more matches may
+    /// begin.
     fn end(&mut self, waiting_match: WaitingMatch, is_short: bool) -> AfterMatch
         ensures stand { StandUp self.old.queue.sitting.items self.new.queue.sitting.items waiting_match.players.items }
         ensures same { self.new.is_closed ≡ self.old.is_closed }
@@ -93,7 +93,7 @@ impl SchedulerState {
         }
     }
 
-    /// Removes all waiting matches, and lets none wait again.
+    /// Removes all waiting matches, and lets no match wait again.
     fn close(&mut self)
         ensures none_waits { self.new.queue.waiting.items ≡ [] }
         ensures closed { self.new.is_closed ≡ true }
@@ -109,12 +109,12 @@ impl SchedulerState {
 pub struct Scheduler {
     state: Mutex<SchedulerState>,
     changed: Condvar,
-    /// What a thread sleeps on that rests: nobody wakes it.
+    /// The paused thread sleeps on this value. No thread wakes it.
     rest: AtomicU64,
 }
 
 impl Scheduler {
-    /// The scheduler at the beginning, without threads.
+    /// A scheduler without threads.
     pub fn of(queue: MatchQueue) -> Scheduler {
         Scheduler {
             state: Mutex::new(SchedulerState::of(queue)),
@@ -123,18 +123,18 @@ impl Scheduler {
         }
     }
 
-    /// Adds a thread.
+    /// Counts one more thread.
     pub fn enter<R: Wait>(&self, rt: &R) {
         self.state.lock(rt).enter();
     }
 
-    /// Begins the first waiting match with free players, as soon as there is one. `None` means that no match waits; then the thread ends.
+    /// Waits until a match can begin, and begins it. Returns `None` if no match waits; then the thread must end.
     pub fn begin<R: Wait>(&self, rt: &R) -> Option<WaitingMatch> {
         let mut state = self
             .changed
             .wait_while(rt, self.state.lock(rt), |state| state.queue.has_to_wait());
         let begun = state.begin();
-        // Another match may be able to begin as well. If none waits, all threads go on.
+        // Another match may be able to begin too. If none waits, all threads must end.
         if state.queue.is_empty() {
             self.changed.notify_all();
         } else {
@@ -143,7 +143,7 @@ impl Scheduler {
         begun
     }
 
-    /// Ends a match. `is_short` says that there was no thread or no memory for it. A thread that waits may begin one now.
+    /// Ends a match, and wakes a waiting thread. `is_short` says that the match ran out of memory or threads.
     pub fn end<R: Wait>(&self, rt: &R, waiting_match: WaitingMatch, is_short: bool) -> AfterMatch {
         let next = self.state.lock(rt).end(waiting_match, is_short);
         self.changed.notify_one();
@@ -153,7 +153,7 @@ impl Scheduler {
         next
     }
 
-    /// Lets no further match begin.
+    /// Lets no more matches begin.
     pub fn close<R: Wait>(&self, rt: &R) {
         self.state.lock(rt).close();
         self.changed.notify_all();

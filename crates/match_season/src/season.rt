@@ -1,4 +1,4 @@
-//! Plays a season: the matches of a schedule, several at once, each on a desk of its own.
+//! Plays the matches of a schedule in several threads, each match on a separate desk.
 ghost use Rattle.std.specs.Prelude.{◌≡◌, ◌↔◌, ℕ, List, false, true, Err, IfErr, IfOk, IsTrue, OnOk, length, min, replicate};
 ghost use denote.Param.Send.{IsSend, IsSync};
 ghost use Rattle.match_messages.specs.contracts.start_rules.PrintedRules.{the_row as rules_row};
@@ -24,7 +24,7 @@ use std::sync::{Mutex, Wait};
 use std::thread;
 use std::thread::Threads;
 
-/// What surrounds a season: the runtime, how players are reached, and where matches without a record are reported.
+/// What a season needs: the runtime, the way to reach players, and where to report matches without a record.
 #[derive(Drop)]
 pub struct SeasonSurroundings<'s, 'e, R, S, E> {
     pub rt: &'s R,
@@ -33,14 +33,14 @@ pub struct SeasonSurroundings<'s, 'e, R, S, E> {
     pub errors: &'e Mutex<E>,
 }
 
-/// Whether a match has no record because memory or threads were short.
+/// Whether a match has no record because memory or threads ran out.
 fn was_short(outcome: &Result<EndedMatch, MatchFault>) -> bool
     ensures { IsTrue result ↔ (outcome.now ≡ Err Memory) }
 {
     matches!(outcome, Err(MatchFault::Memory))
 }
 
-/// The matches of a season, as its threads see them.
+/// What the threads of a season share.
 #[derive(Drop)]
 struct Season<'f, 'a, S: Reach, N: OutputBrand>
 where
@@ -60,7 +60,7 @@ impl<S: Reach, N: OutputBrand> Season<'_, '_, S, N>
 where
     S::Player: Player,
 {
-    /// Plays the match at this place.
+    /// Plays the match with this index in the schedule.
     fn play<R>(&self, rt: &R, place: usize) -> Result<EndedMatch, MatchFault>
     where
         R: Threads + Wait + Sync,
@@ -83,7 +83,7 @@ where
         )
     }
 
-    /// Plays matches, one after another, until none waits, and sends each result.
+    /// Plays matches until none waits, and sends their results.
     fn play_matches<R>(&self, rt: &R, sender: &Sender<MatchResult<N>>)
     where
         R: Threads + Wait + Sync,
@@ -112,8 +112,8 @@ where
         }
     }
 
-    /// Writes the results of the season's matches. If a write fails, no further match begins. The missing records are reported. Returns
-    /// the number of missing records.
+    /// Writes the results as they come, and reports the matches without a record. After a failed write no more matches begin. Returns the
+    /// number of matches without a record.
     fn write_played<R: Wait, W: Write, E: ReportsMissing>(
         &self,
         around: &SeasonSurroundings<'_, '_, R, S, E>,
@@ -163,19 +163,18 @@ where
     }
 }
 
-/// States as a fact what the bound says: threads may share the value. The contract of a closure requires this fact.
+/// Proves that threads may share the value, from the bound of `T`. The contract of a closure needs this fact.
 fn is_shared<T: Sync>(_value: &T)
     ensures { IsSync T.row }
 {}
 
-/// The number of threads for this number of matches.
+/// The number of threads to start for this number of matches.
 fn threads_for(form: SeasonForm, matches: usize) -> usize
     ensures { result ≡ min form.at_once matches }
 {
     form.at_once.min(matches)
 }
 
-/// Plays the matches of a season in threads, and writes their results.
 fn play_in_threads<N, R, S, W: Write, E: ReportsMissing + Send>(
     around: &SeasonSurroundings<'_, '_, R, S, E>,
     season: &Season<'_, '_, S, N>,
@@ -195,7 +194,7 @@ where
     is_shared(season.game.game);
     is_shared(season.game.rules);
     let rt = around.rt;
-    // The closure returns the stream, so its content is known behind the scope.
+    // The closure returns the stream, so that its content is known after the scope.
     let (played, _stream) = thread::scope(
         thread::scope_env(),
         rt,
@@ -206,7 +205,7 @@ where
             ensures at_fault { IfErr result.0 (WritesUpTo N.is_output season.entry.now.form.order (length season.entry.now.plans.now) (W.contents writer.entry.now.stream) (W.contents result.1.now.stream)) }
             ensures faults { result.1.now.faults ≡ faults_after result.0 writer.entry.now.faults }
         {
-            // Before any match begins, since without it no result could be written.
+            // Allocated before any match begins, because no result could be written without it.
             let Ok(nothing) = Written::nothing(season.alloc, season.plans.len()) else {
                 return (Err(SeasonFault::Memory), writer);
             };
@@ -225,7 +224,6 @@ where
     played
 }
 
-/// Plays the matches of a season whose outputs are picked.
 fn play_named<'f, 'a, N, R, S, W: Write, E: ReportsMissing + Send>(
     around: &SeasonSurroundings<'f, '_, R, S, E>,
     game: PlayableGame<'f>,
@@ -244,7 +242,7 @@ where
     ensures faults { writer.new.faults ≡ faults_after result writer.old.faults }
 {
     let scheduler = Scheduler::of(MatchQueue::of(around.alloc, plans, form)?);
-    // All results find room, so no thread waits for a reader of the records.
+    // The channel has a slot for every result, so no thread waits until a record is written.
     let (sender, receiver) = bounded(around.alloc, plans.len())?;
     let season: Season<'f, 'a, S, N> = Season {
         alloc: around.alloc,
@@ -258,17 +256,17 @@ where
     play_in_threads(around, &season, &sender, &receiver, writer)
 }
 
-/// Plays the matches of a season, all of the same game, in threads. Writes the record of each, followed by its account if the form asks
-/// for that. Returns the number of matches without a record.
+/// Plays the matches of a schedule, which are all of the same game, in threads. Writes the record of each, followed by its call log if the
+/// form asks for it. Returns the number of matches without a record.
 ///
-/// A match begins once all matches before it in the schedule have begun, except those with a player at its limit of matches. A match
-/// that is short of memory or threads waits again, and from then on one match less is played at once. If only one is played at once,
-/// the season rests for half a second, and then tries again. After such a rest a match that is short has no record, until one has ended
-/// without a shortage.
+/// A match begins when all earlier matches of the schedule have begun, except those with a player that has its limit of running matches. A
+/// match that runs out of memory or threads waits again, and from then on one match less is played at once. If only one is played at once,
+/// the season pauses for half a second before it tries a match again. After this pause, a match that runs out again has no record. The
+/// season pauses again only after a match that did not run out.
 ///
-/// If there is no room to count the records, or not a single thread can be made, the result is out of memory, and no match was begun.
-/// Otherwise each match without a record is reported. After a failed write no further match begins, and the output ends with a part, maybe
-/// none or all, of the output of one match. Whenever the result is out of memory, nothing was written.
+/// If there is no memory for counting the records, or not even one thread can be started, no match begins and the result is `Memory`.
+/// Otherwise each match without a record is reported. After a failed write no more matches begin, and the output ends with a part of the
+/// output of one match, which may be empty or complete. If the result is `Memory`, nothing was written.
 pub fn play_season<'f, 'a, R, S, W: Write, E: ReportsMissing + Send>(
     around: &SeasonSurroundings<'f, '_, R, S, E>,
     game: PlayableGame<'f>,

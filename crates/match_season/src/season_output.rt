@@ -1,4 +1,4 @@
-//! Writes a season: the record of each match, followed by its account.
+//! Writes the record of each match of a season, followed by its call log if the form asks for it.
 ghost use Rattle.std.specs.Prelude.{◌≡◌, ◌<◌, ◌≤◌, ◌+◌, ◌-◌, [], ℕ, false, true, IfErr, IfOk, OnErr, OnOk, None, Some, if◌then◌else◌, is_some, length, not, replicate, slice_set};
 ghost use Rattle.std.specs.Io.KnownBytes.{Appends};
 ghost use Rattle.std.specs.List.{AllWithin, HoldsAt};
@@ -18,10 +18,10 @@ use std::io::Write;
 use std::sync::{Mutex, Wait};
 use whole_streams::{WriteFault, write_all};
 
-/// Why a season was not played, or not to its end.
+/// Why a season was not played to its end.
 #[derive(Clone, Copy)]
 pub enum SeasonFault {
-    /// A record or an account can't be written.
+    /// A record or a call log cannot be written.
     WriteFault,
     /// Out of memory.
     Memory,
@@ -49,13 +49,13 @@ impl From<AllocError> for SeasonFault {
     }
 }
 
-/// Reports the matches that have no record.
+/// Where a season reports the matches without a record.
 pub trait ReportsMissing {
-    /// Reports why the match of this id has no record.
+    /// Reports why the match with this id has no record.
     fn report_missing<F: fmt::Display>(&mut self, id: &str, why: &F);
 }
 
-/// The reports of matches without a record.
+/// Reports matches by their index in the schedule.
 #[derive(Drop)]
 pub struct Reports<'r, 'p, 'a, 'e, R, E> {
     pub rt: &'r R,
@@ -64,7 +64,6 @@ pub struct Reports<'r, 'p, 'a, 'e, R, E> {
 }
 
 impl<R: Wait, E: ReportsMissing> Reports<'_, '_, '_, '_, R, E> {
-    /// Reports why the match at this place has no record.
     fn report<F: fmt::Display>(&self, place: usize, why: &F) {
         if let Some(plan) = self.plans.get(place) {
             self.errors.lock(self.rt).report_missing(plan.id, why);
@@ -81,7 +80,7 @@ impl<R: Wait, E: ReportsMissing> Reports<'_, '_, '_, '_, R, E> {
     }
 }
 
-/// Writes the record of the match at this place, followed by its account if that is asked for. A settled match is not written again.
+/// Writes the output of the match with this index, unless the match is settled.
 fn write_ended<W: Write>(
     place: usize,
     ended: &EndedMatch,
@@ -103,7 +102,7 @@ fn write_ended<W: Write>(
     Ok(())
 }
 
-/// Writes the record of a match, or reports why it has none.
+/// Writes the output of a match, or reports why it has no record.
 fn write_outcome<N: OutputBrand, R: Wait, W: Write, E: ReportsMissing>(
     reports: &Reports<'_, '_, '_, '_, R, E>,
     over: MatchResult<N>,
@@ -131,7 +130,7 @@ fn write_outcome<N: OutputBrand, R: Wait, W: Write, E: ReportsMissing>(
     }
 }
 
-/// Writes the kept results from this place on, up to the first match that is not over. Returns the place of that match.
+/// Writes the stored results from the index `next` up to the first match that is not over. Returns the index of that match.
 fn write_waiting<N: OutputBrand, R: Wait, W: Write, E: ReportsMissing>(
     reports: &Reports<'_, '_, '_, '_, R, E>,
     waiting: &mut [Option<MatchResult<N>>],
@@ -158,7 +157,6 @@ fn write_waiting<N: OutputBrand, R: Wait, W: Write, E: ReportsMissing>(
     Ok(count)
 }
 
-/// Keeps a match that is over at its place.
 fn keep<N: OutputBrand>(waiting: &mut [Option<MatchResult<N>>], over: MatchResult<N>)
     ensures kept { waiting.new ≡ slice_set waiting.old over.place (Some over) }
     ensures placed { ArePlaced (λ over. over.place) waiting.old → ArePlaced (λ over. over.place) waiting.new }
@@ -169,7 +167,6 @@ fn keep<N: OutputBrand>(waiting: &mut [Option<MatchResult<N>>], over: MatchResul
     }
 }
 
-/// `count` empty places.
 fn none_waiting<N: OutputBrand>(
     alloc: Global,
     count: usize,
@@ -183,7 +180,7 @@ fn none_waiting<N: OutputBrand>(
     Ok(waiting)
 }
 
-/// The place from which kept results are written, if the match at this place is over.
+/// The index from which stored results are written, after the match with the index `place` is over.
 fn first_to_write(order: RecordOrder, next: usize, place: usize) -> usize
     ensures { order ≡ OfSchedule → result ≡ next }
 {
@@ -193,7 +190,7 @@ fn first_to_write(order: RecordOrder, next: usize, place: usize) -> usize
     }
 }
 
-/// Writes the records of the matches in this order, each followed by its account if that is asked for.
+/// Writes the outputs of the matches in this order as their results come.
 pub fn write_season<N: OutputBrand, R: Wait, W: Write, E: ReportsMissing>(
     alloc: Global,
     order: RecordOrder,

@@ -1,15 +1,14 @@
-//! What a season has written, and which of its matches are settled.
+//! Which matches of a season are settled, and how many records were written.
 ghost use Rattle.std.specs.Prelude.{◌≡◌, count_by};
 
 use std::alloc::{AllocError, Global};
 
-/// What a season has written.
+/// What a season has written. A match is settled once its record is written, or reported as missing.
 #[derive(Drop)]
 pub struct Written {
     pub records: u64,
-    /// The number of settled matches.
     settled: usize,
-    /// For each match, by its place: whether its record is written, or it is reported that it has none.
+    /// Whether each match is settled, by its index in the schedule.
     pub is_settled: Vec<bool>,
     ghost counted: { settled ≡ count_by (λ it. it) is_settled.items },
 }
@@ -18,7 +17,7 @@ impl Written {
     ghost use Rattle.std.specs.Prelude.{◌≡◌, ◌-◌, ◌↔◌, false, true, IfOk, IsTrue, replicate, slice_set, vec_len};
     ghost use Rattle.match_season.specs.Seasons.{AreSettled, is_open};
 
-    /// Nothing written yet, of `count` matches.
+    /// Of `count` matches none is settled.
     pub fn nothing(alloc: Global, count: usize) -> Result<Written, AllocError>
         ensures { IfOk result (λ written. (written.records ≡ 0) × (written.is_settled.items ≡ replicate count false)) }
     {
@@ -43,7 +42,7 @@ impl Written {
         self.settled == self.is_settled.len()
     }
 
-    /// Whether there is a match at this place that is not settled.
+    /// Whether there is a match with this index that is not settled.
     pub fn is_open(&self, place: usize) -> bool
         ensures { result ≡ is_open self.now.is_settled.items place }
     {
@@ -53,7 +52,7 @@ impl Written {
         }
     }
 
-    /// Settles the match at this place, and no other one.
+    /// Settles the match with this index.
     pub fn settle(&mut self, place: usize)
         ensures settled { self.new.is_settled.items ≡ slice_set self.old.is_settled.items place true }
         ensures records { self.new.records ≡ self.old.records }

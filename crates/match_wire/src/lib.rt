@@ -1,7 +1,6 @@
-//! All that leaves a match, by one path: its messages, the HTTP exchanges that carry them, its record and the check of it.
-//!
-//! Nothing is made here. `match_messages`, `http_exchange`, `match_record` and `record_check` have what is handed on, and
-//! the crates of this repository stand on those that they need.
+//! Re-exports, under one path, what a match sends and writes: its messages, the HTTP exchanges that carry them, its record
+//! and the check of the record. The program itself uses `match_messages`, `http_exchange`, `match_record` and `record_check`
+//! directly.
 #![tactic(auto)]
 
 pub mod laws;

@@ -4,7 +4,6 @@ use Rattle.std.specs.Prelude.{option_map, option_and_then}
 use Rattle.match_book.specs.MatchValue.{GameMatch}
 use Rattle.match_desk.specs.ManagerValue.{ManagerValue, DeskMatch, game_of, game_match}
 
--- the game that the manager's functions return beside a match is that match's game
 pub same_game : {G M : Type 0} (d : ManagerValue G M) (found : Option (DeskMatch M)) (g : G) (held : GameMatch G M)
     → option_and_then (game_of d) found ≡ Some g → option_and_then (game_match d) found ≡ Some held → g ≡ held.game
 same_game d None g held is_game is_held = absurd cc

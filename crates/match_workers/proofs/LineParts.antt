@@ -33,12 +33,10 @@ use Rattle.role_workers.specs.RoleLines.{HasFinished, IsLeftLine, AreLeftLines}
 pub prefix_trans : {X : Type 0} (xs ys zs : List X) → IsPrefix xs ys → IsPrefix ys zs → IsPrefix xs zs
 prefix_trans xs ys zs (more, one) (still, other) = (more ++ still, sym (append_assoc xs more still) ∙ ap (λ l. l ++ still) one ∙ other)
 
--- a front that is as long is the whole
 pub whole_prefix : {X : Type 0} (xs ys : List X) → IsPrefix xs ys → length xs ≡ length ys → xs ≡ ys
 whole_prefix xs ys ([], is) long = sym (append-nil xs) ∙ is
 whole_prefix xs ys (x ∷ more, is) long = absurd (omega (arith, ap length is, length-append xs (x ∷ more), long))
 
--- one entry whose call and first reply are known
 one_entry : (entries : List (Entry Call Reply)) (call : Call) (reply : Reply) → All (λ e. e.line ≡ 0) entries → call ∷ [] ≡ calls_of entries → IsPrefix (reply ∷ []) (replies_of entries)
     → entries ≡ record { line = 0; call = call; reply = reply } ∷ []
 one_entry [] call reply on calls replies = absurd cc
@@ -56,7 +54,6 @@ line_is e line is = grind (arith, common_steps, is)
 part_lines : (line : ℕ) (history : List (Entry Call Reply)) → All (λ e. e.line ≡ line) (part line history)
 part_lines line history = λ k d within. line_is (get_or (part line history) k d) line (filter_passes (λ (e : Entry Call Reply). e.line == line) history k d within)
 
--- the line that opened the match
 pub opens_match : (setup : Setup) (history : List (Entry Call Reply)) (opened : LineValue Call Reply) (lines : List (LineValue Call Reply))
     → opened.number ≡ 0 → posted_calls opened ≡ open_call setup ∷ [] → taken_replies opened ≡ Opened ∷ [] → HasFinished opened lines
     → HaveOwnCalls history lines → HaveOwnReplies history lines → OpensMatch setup history
@@ -100,7 +97,6 @@ module _ {P : Type 0} (handed : P → Option (List Handed)) (brief : BriefValue)
     };
   }
 
-  -- all lines came back, so each role was attended
   pub as_many : NumbersAreOfEnds Call Reply → (ports : List (Port Call Reply)) (roles : ℕ) → DeskEnds ports lines → length ports ≡ roles + 1 → HasAll (end_numbers lines) (length ports) → length ends ≡ roles
   as_many numbers ports roles of_desk count all =
       let last = numbers lines roles (all roles (omega (arith, count))) in

@@ -1,4 +1,4 @@
--- The lines of a desk that is new.
+-- The lines of a new desk.
 use Rattle.std.proofs.Common.{◌≡◌, ℕ, suc, ◌+◌, ◌<◌, List, [], ◌∷◌, Some, length, drop, subst, arith}
 use Rattle.std.specs.Prelude.{slice_get, slice_index_or}
 use Rattle.std.proofs.lemmas.Option.{slice_get_within, get_or_from_slice_get}
@@ -7,7 +7,6 @@ use Rattle.call_history.specs.RingLines.{LineValue, SamePorts}
 use Rattle.call_history.specs.RingLaws.{NewLinesStay}
 use Rattle.role_workers.specs.RoleLines.{line_of, AreSeatLines}
 
--- an element after the first of a list stands one place later in the list
 pub behind_first_at : {A : Type 0} (all rest : List A) → rest ≡ drop 1 all → (k : ℕ) (x : A) → slice_get rest k ≡ Some x → (k + 1 < length all) × (slice_index_or all (k + 1) x ≡ x)
 behind_first_at {A} all rest is k x at = at_behind all k x (subst (λ xs. slice_get xs k ≡ Some x) is at)
   where

@@ -1,4 +1,4 @@
--- The history of a match's desk: one call opens the match, and the roles' calls change it, but not its setup.
+-- The history of a match's desk: one call opens the match, and the roles' calls change the match but not its setup.
 use Rattle.std.proofs.Common.{◌≡◌, ◌≢◌, ◌==◌, ℕ, ◌+◌, ◌-◌, ◌<◌, Bool, true, false, cond, List, [], ◌∷◌, ◌++◌, All, Option, Some, None, refl, sym, ap, subst, ◌∙◌, arith}
 use Rattle.std.specs.Prelude.{if◌then◌else◌, is_none, slice_get, slice_set, length}
 use Rattle.std.proofs.lemmas.Bool.Decides.{nat_tests}
@@ -33,7 +33,7 @@ use Rattle.match_workers.specs.LineParts.{open_call, OpensMatch, AreRoleLines}
 use Rattle.match_workers.specs.OneMatch.{HasOneMatch}
 use Rattle.match_workers.specs.Refusals.{manager_of}
 
--- no answer changes a match's setup
+-- answers do not change a match's setup
 recorded-setup : {S M : Type 0} (g : Rules S M) (m : MatchValue M) → (recorded g m).setup ≡ m.setup
 recorded-setup {S} {M} g m = step (every_role g.roles (answered_in Playing m))
   where
@@ -54,7 +54,6 @@ after_answer-setup {S} {M} g m role round answer = step (is_none (refusal g m ro
     step true = answered-setup g m role answer (stage g m)
     step false = refl
 
--- the match after a role's call
 abbrev pub after_call : {S M : Type 0} → Rules S M → MatchValue M → Call → MatchValue M
 after_call g m (Open i n start play strikes players) = m
 after_call g m (Next i r) = m
@@ -71,7 +70,6 @@ after_call-setup g m (Miss i r n broken) = after_answer-setup g m r n (missed br
 after_call-setup g m (Query i) = refl
 after_call-setup g m (Abort i) = refl
 
--- the lines of the roles in a history without its first entry
 pub later-role_lines : (id : List ℕ) (roles : ℕ) (e : Entry Call Reply) (es : List (Entry Call Reply)) → AreRoleLines id roles (e ∷ es) → AreRoleLines id roles es
 later-role_lines id roles e es each role below = step (e.line == line_of role) (each role below)
   where
@@ -93,7 +91,6 @@ abbrev pub IsAdmitted : List (Entry Call Reply) → Type 0
 IsAdmitted [] = Unit {0}
 IsAdmitted (e ∷ es) = e.reply ≢ Refused NoMatch
 
--- an entry that is not of the first line is a call of a role, over its line
 pub role_entry : (id : List ℕ) (roles : ℕ) (e : Entry Call Reply) (es : List (Entry Call Reply)) → e.line < roles + 1 → (e.line == 0) ≡ false → AreRoleLines id roles (e ∷ es)
     → (role : ℕ) × IsRoleCall id role e.call × (e.line ≡ line_of role)
 role_entry id roles e es within other each =
@@ -107,7 +104,7 @@ role_entry id roles e es within other each =
     step role false is all = absurd cc
 
 module _ {G S M : Type 0} (rules : G → Rules S M) (game : G) (setup : Setup) where
-  -- the manager of the game with this one match
+  -- the manager of the game with only this match
   abbrev pub with_one : MatchValue M → ManagerValue G M
   with_one m = record { games = game ∷ []; matches = record { game = 0; value = m } ∷ [] }
 
@@ -116,7 +113,6 @@ module _ {G S M : Type 0} (rules : G → Rules S M) (game : G) (setup : Setup) w
       ap (λ b. record { games = game ∷ []; matches = (if b then changed_match rules (with_one m) f (record { game = 0; value = m }) else record { game = 0; value = m }) ∷ [] })
       ((bytes_eq-Decides id m.setup.id).1 same)
 
-  -- a role's call adds no match, and takes none away
   role_call-none : (id : List ℕ) (role : ℕ) (call : Call) → IsRoleCall id role call → (after rules (manager_of {M = M} game) call ≡ manager_of game) × (reply rules (manager_of {M = M} game) call ≡ Refused NoMatch)
   role_call-none id role (Open i n start play strikes players) is = absurd is
   role_call-none id role (Next i r) is = (refl, refl)
@@ -139,14 +135,13 @@ module _ {G S M : Type 0} (rules : G → Rules S M) (game : G) (setup : Setup) w
   opened-one None is accepted = ap (λ o. if is_none o then with_new_match rules (manager_of {M = M} game) 0 setup (slice_get (game ∷ []) 0) else manager_of game) is
   opened-one (Some reason) is accepted = absurd cc
 
-  -- the entries after the opening, which are the roles' calls
   pub record AreAfterOpening (roles : ℕ) (history later : List (Entry Call Reply)) : Type 0 where
     pub leaves : run (after rules) (manager_of {M = M} game) history ≡ run (after rules) (with_one (new_match (rules game) setup)) later
     pub legal : IsLegalHistory (reply rules) (after rules) (with_one (new_match (rules game) setup)) later
     pub within : All (λ e. e.line < roles + 1) later
     pub each : AreRoleLines setup.id roles later
     pub no_first : part 0 later ≡ []
-    -- a line that was admitted made all its calls after the opening
+    -- a line whose first reply is not that there is no match made all its calls after the opening
     pub same_part : (line : ℕ) → 0 < line → IsAdmitted (part line history) → part line later ≡ part line history
 
   pub after_opening : (roles : ℕ) (history : List (Entry Call Reply)) → All (λ e. e.line < roles + 1) history → AreRoleLines setup.id roles history → OpensMatch setup history
@@ -200,7 +195,6 @@ module _ {G S M : Type 0} (rules : G → Rules S M) (game : G) (setup : Setup) w
             },
           )
 
-  -- the roles' calls after the opening
   run-one : (roles : ℕ) (history : List (Entry Call Reply)) (m : MatchValue M) → m.setup ≡ setup → All (λ e. e.line < roles + 1) history → AreRoleLines setup.id roles history
       → part 0 history ≡ [] → HasOneMatch game setup (run (after rules) (with_one m) history)
   run-one roles [] m same within each none = record { held = m; is_all = refl; setup_is = same }
@@ -217,7 +211,6 @@ module _ {G S M : Type 0} (rules : G → Rules S M) (game : G) (setup : Setup) w
           let now = role_call-one setup.id called.0 e.call m called.1 (sym (ap (λ (x : Setup). x.id) same)) in
           subst (λ d. HasOneMatch game setup (run (after rules) d es)) (sym now) (later (after_call (rules game) m e.call) (after_call-setup (rules game) m e.call ∙ same) rest)
 
-  -- so the manager that the history leaves has exactly one match
   pub one_match : (roles : ℕ) (d : ManagerValue G M) (history : List (Entry Call Reply)) → IsReplay (reply rules) (after rules) opening d history → opening d ≡ manager_of game
       → All (λ e. e.line < roles + 1) history → OpensMatch setup history → AreRoleLines setup.id roles history → HasOneMatch game setup d
   one_match roles d history replay begins within first each =
@@ -226,6 +219,6 @@ module _ {G S M : Type 0} (rules : G → Rules S M) (game : G) (setup : Setup) w
       subst (HasOneMatch game setup) (sym (replay.leaves ∙ ap (λ x. run (after rules) x history) begins ∙ later.leaves))
       (run-one roles opened.0 (new_match (rules game) setup) refl later.within later.each later.no_first)
 
--- what a result of a refereed match keeps of that
+-- what the result of a refereed match states of that
 pub length-one : {G M : Type 0} (game : G) (setup : Setup) (d : ManagerValue G M) → HasOneMatch game setup d → length d.matches ≡ 1
 length-one {G} {M} game setup d one = ap (λ (x : ManagerValue G M). length x.matches) one.is_all

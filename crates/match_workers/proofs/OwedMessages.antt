@@ -41,7 +41,7 @@ use Rattle.match_workers.specs.LineParts.{AreRoleLines}
 use Rattle.match_workers.specs.Laws.{RolesAreOwed}
 use Rattle.match_workers.proofs.OneMatch.{after_call, after_call-setup, later-role_lines, role_entry, IsAdmitted, with_one, role_call-one, after_opening}
 
--- the entries of a worker that goes on by these steps, and then finds the end
+-- the entries of a worker that makes these steps and then finds the end
 record AreStepsOf (brief : BriefValue) (role : ℕ) (steps : List Step) (entries : List (Entry Call Reply)) : Type 0 where
   go_on : All (λ step. goes_on step ≡ true) steps
   calls : calls_of entries ≡ filter_map call_in (events_of_all brief role (steps ++ finds_the_end ∷ []))
@@ -62,7 +62,7 @@ no_calls : (entries : List (Entry Call Reply)) → calls_of entries ≡ [] → e
 no_calls [] none = refl
 no_calls (e ∷ es) none = absurd cc
 
--- a worker that finds the end has made a call, and was told what is due
+-- a worker that finds the end has made a call
 some_call : (brief : BriefValue) (role : ℕ) (steps : List Step) → AreStepsOf brief role steps [] → ⊥
 some_call brief role [] of = let calls = of.calls in cc
 some_call brief role (rests n ∷ steps) of = let calls = of.calls in cc
@@ -78,14 +78,12 @@ admitted brief role (hands_over n owed answer said ∷ steps) (e ∷ es) of = λ
 admitted brief role (finds_the_end ∷ steps) (e ∷ es) of = let goes = All-head (λ s. goes_on s ≡ true) finds_the_end steps of.go_on in absurd cc
 admitted brief role (finds_no_due said ∷ steps) (e ∷ es) of = let goes = All-head (λ s. goes_on s ≡ true) (finds_no_due said) steps of.go_on in absurd cc
 
--- Where a role stands in a match, when these entries of its line are to come, and these are all messages that it is owed.
+-- The position of a role in a match, if these entries of its line are still to come, and these are all messages that it is owed.
 data IsAt {S M : Type 0} (g : Rules S M) (brief : BriefValue) (role : ℕ) (messages : List Owed) (m : MatchValue M) (entries : List (Entry Call Reply)) : Type 0 where
-  -- its worker asks next
+  -- the worker asks next
   asks : (steps : List Step) → AreStepsOf brief role steps entries → messages ≡ answered_messages g m role ++ owed_on entries → IsAt g brief role messages m entries
-  -- it owes an answer, which comes next
   answers : (e : Entry Call Reply) (es : List (Entry Call Reply)) (n : ℕ) (owed : Owed) (answer : Answer) (steps : List Step) → entries ≡ e ∷ es → e.call ≡ answer_call brief.id role n answer → owed_of e.reply ≡ None
       → AreStepsOf brief role steps es → due g m role ≡ Owe n owed → messages ≡ (answered_messages g m role ++ owed ∷ []) ++ owed_on es → IsAt g brief role messages m entries
-  -- the match is over
   found : entries ≡ [] → is_over g m ≡ true → messages ≡ answered_messages g m role → IsAt g brief role messages m entries
 
 over_is : {S M : Type 0} (g : Rules S M) (m : MatchValue M) (role : ℕ) → due g m role ≡ Over → is_over g m ≡ true
@@ -102,7 +100,6 @@ after_call-answer g m id role n Silent = refl
 after_call-answer g m id role n Broken = refl
 
 module _ {S M : Type 0} (g : Rules S M) (own : OwedIsAnswered g) (others : OthersAreUntouched g) (over : AllAreAnswered g) (brief : BriefValue) (role : ℕ) (lt : role < g.roles) (messages : List Owed) (m : MatchValue M) (lawful : IsLawfulMatch g m) where
-  -- a call of the role
   own_step : (e : Entry Call Reply) (es : List (Entry Call Reply)) → (e.call ≡ Next brief.id role → e.reply ≡ Due (due g m role)) → IsAt g brief role messages m (e ∷ es) → IsAt g brief role messages (after_call g m e.call) es
   own_step e es said (asks [] of all) =
       let calls = of.calls in
@@ -148,7 +145,6 @@ module _ {S M : Type 0} (g : Rules S M) (own : OwedIsAnswered g) (others : Other
       (subst (IsAt g brief role messages (after_answer g m role n answer)) rest (asks steps of (all ∙ ap (λ l. l ++ owed_on fs) more)))
   own_step e es said (found none is all) = absurd cc
 
-  -- an answer of another role
   other_answer : (other n : ℕ) (answer : Answer) (entries : List (Entry Call Reply)) → role ≢ other → IsAt g brief role messages m entries → IsAt g brief role messages (after_answer g m other n answer) entries
   other_answer other n answer entries apart (asks steps of all) =
       let same = others m role other n answer lawful lt apart in asks steps of (all ∙ ap (λ l. l ++ owed_on entries) (sym same.answered))
@@ -158,7 +154,6 @@ module _ {S M : Type 0} (g : Rules S M) (own : OwedIsAnswered g) (others : Other
   other_answer other n answer entries apart (found none is all) =
       subst (λ (x : MatchValue M). IsAt g brief role messages x entries) (sym ((over m is).stays other n answer)) (found none is all)
 
-  -- a call of another role
   other_step : (id : List ℕ) (other : ℕ) (call : Call) (entries : List (Entry Call Reply)) → IsRoleCall id other call → role ≢ other → IsAt g brief role messages m entries → IsAt g brief role messages (after_call g m call) entries
   other_step id other (Open i n start play strikes players) entries is apart at = absurd is
   other_step id other (Next i r) entries is apart at = at
@@ -173,7 +168,7 @@ module _ {S M : Type 0} (g : Rules S M) (own : OwedIsAnswered g) (others : Other
   all_messages (answers e es n owed answer steps is call none of now all) = absurd cc
   all_messages (found none is all) = all ∙ (over m is).answered role lt
 
--- ---- over a history
+-- ---- Over a history
 
 after_call-lawful : {S M : Type 0} (g : Rules S M) → AnswersKeepLawful g → (m : MatchValue M) (call : Call) → IsLawfulMatch g m → IsLawfulMatch g (after_call g m call)
 after_call-lawful g keep m (Open i n start play strikes players) lawful = lawful
@@ -227,7 +222,7 @@ module _ {G S M : Type 0} (rules : G → Rules S M) (game : G) (setup : Setup) (
               let called = role_entry setup.id (rules game).roles e es (All-head (λ (x : Entry Call Reply). x.line < (rules game).roles + 1) e es within) is each in
               other_step (rules game) own others over brief role lt messages m lawful setup.id called.0 e.call (part (line_of role) es) called.1 (other_roles role called.0 e.line not_own called.2) at
 
--- ---- the law
+-- ---- The law
 
 pub roles_are_owed : {G S M P : Type 0} (rules : G → Rules S M) (handed : P → Option (List Handed)) → ((game : G) → NewMatchIsLawful (rules game)) → ((game : G) → AnswersKeepLawful (rules game)) → ((game : G) → NoneIsAnswered (rules game))
     → ((game : G) → OwedIsAnswered (rules game)) → ((game : G) → OthersAreUntouched (rules game)) → ((game : G) → AllAreAnswered (rules game)) → RolesAreOwed rules handed

@@ -1,4 +1,4 @@
--- A manager of matches may go to another thread if its games, their states and their moves may.
+-- A manager of matches may be sent to another thread if its games, their states and their moves may.
 use denote.RattleType.{RattleType}
 use denote.Param.Send.{IsSend, sendable}
 use Rattle.std.proofs.Crossing.{crosses}

@@ -4,12 +4,11 @@ use Rattle.game_core.specs.Play.{Rules}
 use Rattle.desk_calls.specs.declared.setup.Setup.{Setup}
 use Rattle.match_messages.specs.BriefValue.{BriefValue}
 
--- the names of the game's roles, in their order
 pub record AreRoleNames {S M : Type 0} (g : Rules S M) (names : List (List ℕ)) : Type 0 where
   pub one_each : length names ≡ g.roles
   pub each : (role : ℕ) → role < g.roles → slice_index_or names role [] ≡ g.role_name role
 
--- the setup's id and clocks, the names of the game's roles, and these rules in print
+-- the setup's id and clocks, the names of the game's roles, and the text of these rules
 pub record IsBriefOf {S M : Type 0} (g : Rules S M) (setup : Setup) (rules : List ℕ) (brief : BriefValue) : Type 0 where
   pub id : brief.id ≡ setup.id
   pub roles : AreRoleNames g brief.roles

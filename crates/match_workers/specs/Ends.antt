@@ -13,10 +13,10 @@ use Rattle.role_workers.specs.Events.{telling}
 use Rattle.role_workers.specs.RoleLines.{line_of}
 use Rattle.role_workers.specs.Places.{EachAt}
 
--- The role was attended with this player, who was left in this state, over a line that has these entries of the history, and this was
--- its end.
+-- A worker attended the role with this player over a line that has these entries of the history. This was the result, and the player
+-- afterwards.
 pub record IsEndOf {P : Type 0} (handed : P → Option (List Handed)) (brief : BriefValue) (tries role : ℕ) (player player_left : P) (entries : List (Entry Call Reply)) (end : Result ℕ AttendFault) : Type 0 where
-  -- the replies that came to the worker: the first replies to its calls, and all of them if it found the end of the match
+  -- the replies to the worker: the first replies to its calls, and all of them if it found the end of the match
   pub replies : List Reply
   pub are_first : IsPrefix replies (replies_of entries)
   pub are_all : IsOk end → replies ≡ replies_of entries
@@ -24,7 +24,7 @@ pub record IsEndOf {P : Type 0} (handed : P → Option (List Handed)) (brief : B
       (telling (Some []) (Some []) (handed player))
       (telling (Some (calls_of entries)) (Some replies) (handed player_left)) end
 
--- the end at this place is that of the role, with the player at its place, over the role's line
+-- the result at this index belongs to the role, its player and its line
 pub record IsEndAt {P : Type 0} (handed : P → Option (List Handed)) (brief : BriefValue) (tries : ℕ) (players left : List P) (history : List (Entry Call Reply)) (role : ℕ) (end : Result ℕ AttendFault) : Type 0 where
   pub player : P
   pub is_player : slice_get players role ≡ Some player
@@ -32,7 +32,7 @@ pub record IsEndAt {P : Type 0} (handed : P → Option (List Handed)) (brief : B
   pub is_left : slice_get left role ≡ Some player_left
   pub is_end : IsEndOf handed brief tries role player player_left (part (line_of role) history) end
 
--- Each role was attended with the player at its place, over the role's line. The ends, and the players as they were left, stand in the
+-- For each role, a worker attended it with the player at its index, over its line. The results and the players afterwards are in the
 -- order of the roles.
 pub record AreEndsOf {P : Type 0} (handed : P → Option (List Handed)) (brief : BriefValue) (tries : ℕ) (players left : List P) (history : List (Entry Call Reply)) (ends : List (Result ℕ AttendFault)) : Type 0 where
   pub one_each : length left ≡ length ends

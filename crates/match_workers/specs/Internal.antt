@@ -1,2 +1,2 @@
--- What only private functions cite: nothing in it needs to be believed.
+-- Definitions that only private functions use. The guarantees do not depend on them.
 pub mod Closings

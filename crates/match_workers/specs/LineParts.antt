@@ -1,5 +1,4 @@
--- The calls of the lines of a match's desk: the first line opened the match, and each other asked and answered for
--- one role.
+-- The calls on the lines of a match's desk: the first line opened the match, and each other line asked and answered for one role.
 use Rattle.std.specs.Prelude.{◌≡◌, ℕ, ◌<◌, List, [], ◌∷◌, All, length, slice_index_or}
 use Rattle.call_history.specs.declared.journal.Entry.{Entry}
 use Rattle.call_history.specs.Parts.{part, calls_of}
@@ -15,11 +14,11 @@ use Rattle.role_workers.specs.RoleLines.{line_of}
 abbrev pub open_call : Setup → Call
 open_call setup = Open setup.id 0 setup.start setup.play setup.strikes setup.players
 
--- the first line made this one call, which opened the match
+-- the first line made only this call, which opened the match
 abbrev pub OpensMatch : Setup → List (Entry Call Reply) → Type 0
 OpensMatch setup history = part 0 history ≡ record { line = 0; call = open_call setup; reply = Opened } ∷ []
 
--- only a role's own calls went over its line
+-- each role's line made only calls of the role
 abbrev pub AreRoleLines : List ℕ → ℕ → List (Entry Call Reply) → Type 0
 AreRoleLines id roles history = (role : ℕ) → role < roles → All (IsRoleCall id role) (calls_of (part (line_of role) history))
 

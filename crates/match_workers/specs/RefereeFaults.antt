@@ -6,13 +6,13 @@ use Rattle.desk_calls.specs.declared.call.Refusal.{Refusal}
 use Rattle.match_workers.specs.declared.refereeing.RefereeFault.{RefereeFault}
 use Rattle.match_workers.specs.declared.refereeing.RefereeFault.TheVariants.{Refused, Full as IsFull, Memory as IsMemory, Unclosed as IsUnclosed}
 
--- the fault of a match for whose opening no reply came, for this reason
+-- the error of a match whose opening got no reply, for this reason
 abbrev pub referee_fault : AskFault → RefereeFault
 referee_fault Full = IsFull
 referee_fault Memory = IsMemory
 referee_fault Stalled = IsUnclosed
 
--- the reason of a refusal: none for any other fault
+-- the reason of a refusal, or None for any other error
 abbrev pub reason_of : RefereeFault → Option Refusal
 reason_of (Refused reason) = Some reason
 reason_of IsUnclosed = None

@@ -5,13 +5,13 @@ use game_core::Game;
 use match_book::laws::{answers_keep_lawful, messages_are_answered, new_match_is_lawful};
 use match_messages::Player;
 
-/// A role of a refereed match whose worker found its end was owed these messages over its line, each once and in this order:
+/// If the worker of a role found the end of a refereed match, its line was owed these messages, each once and in this order:
 ///
 /// - START;
-/// - PLAY before each turn, with the joint move of the turn before it, unless the turns before it retire the role;
+/// - PLAY before each turn, with the joint move of the previous turn, unless the earlier turns retire the role;
 /// - STOP or ABORT.
 ///
-/// The turns are those of the match that the closed desk holds.
+/// The turns are those of the match in the closed desk.
 pub fn roles_are_owed<G: Game, P: Player>()
     ensures { RolesAreOwed G.rules P.handed }
 {

@@ -1,6 +1,7 @@
-//! A whole match between players: each role of a match has a player, and a thread of its own attends it.
+//! Referees a whole match between players.
 //!
-//! `referee` opens a desk with the match, has the roles attended, and returns the closed desk with the match's history.
+//! `referee` opens a desk with the match, runs a thread that attends each role, and returns the closed desk with the history
+//! of the match.
 #![tactic(auto)]
 
 mod closing;

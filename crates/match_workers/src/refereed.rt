@@ -1,4 +1,3 @@
-//! The result of a refereed match.
 ghost use Rattle.std.specs.Prelude.{◌≡◌, Some, length};
 ghost use Rattle.desk_calls.specs.Names.{IsLawfulSetup};
 ghost use Rattle.match_workers.specs.OneMatch.{first_match};
@@ -15,14 +14,14 @@ use role_workers::AttendFault;
 pub struct Refereed<G: Game> {
     /// The desk's history, and its manager with the one match.
     pub closed: Closed<Manager<G>>,
-    /// How attending each role ended, in the order of the roles: with the number of messages that its player was handed, or with a
-    /// fault.
+    /// How attending each role ended, in the order of the roles: with the number of messages that its player received, or
+    /// with an error.
     pub ends: Vec<Result<u64, AttendFault>>,
     ghost one_match: { length closed.object.matches ≡ 1 },
 }
 
 impl<G: Game> Refereed<G> {
-    /// The one match, with its game.
+    /// The one match, and its game.
     pub fn game_and_match(&self) -> (&G, &Match<G>)
         ensures one { length self.now.closed.object.matches ≡ 1 }
         ensures held { first_match self.now.closed.object ≡ Some result.1.now }

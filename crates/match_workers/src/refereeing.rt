@@ -1,4 +1,4 @@
-//! A whole match between players.
+//! Referees a whole match between players.
 ghost use Rattle.std.specs.Prelude.{◌≡◌, ◌≢◌, ◌∷◌, ◌++◌, [], ◌+◌, ◌<◌, List, None, IfOk, IfErr, OnOk, length, vec_len};
 ghost use Rattle.call_history.specs.Faults.{ask_fault};
 ghost use Rattle.call_history.specs.Limits.{max_entries};
@@ -33,19 +33,19 @@ use std::sync::Wait;
 use std::thread::Threads;
 use thiserror::Error;
 
-/// Why a match was not refereed to a closed desk.
+/// Why a match did not get to a closed desk.
 #[derive(Clone, Copy, Debug, PartialEq, Eq, Error)]
 pub enum RefereeFault {
-    /// The desk refused to open the match, for this reason. No player was asked anything.
+    /// The desk refused to open the match, for this reason. No player received anything.
     #[error("refused: {0}")]
     Refused(Refusal),
-    /// The desk did not close, or its opening got no reply.
+    /// The desk could not be closed, or the call that opens the match got no reply.
     #[error("the desk did not close")]
     Unclosed,
-    /// The desk's history was full before the match was opened, or at the closing, while calls still waited.
+    /// The desk's history was full before the match was opened, or while calls still waited at the end.
     #[error("the history is full")]
     Full,
-    /// Out of memory, or a thread can't be made.
+    /// Out of memory, or a thread cannot be created.
     #[error("out of memory")]
     Memory,
 }
@@ -89,7 +89,6 @@ impl From<DeskFault> for RefereeFault {
     }
 }
 
-/// The names of the game's roles, in their order.
 fn role_names<G: Game>(alloc: Global, game: &G) -> Result<Texts, AllocError>
     ensures { IfOk result (λ names. AreRoleNames (G.rules game.now) names) }
 {
@@ -100,7 +99,7 @@ fn role_names<G: Game>(alloc: Global, game: &G) -> Result<Texts, AllocError>
     Ok(Texts { items })
 }
 
-/// The data of the match that its players get, lent.
+/// The data of the match that its players get, borrowed.
 fn brief_of<'r>(
     id: &'r Text,
     roles: &'r Texts,
@@ -119,7 +118,7 @@ fn brief_of<'r>(
     }
 }
 
-/// A desk of this one game. It has a line for the calling thread, which holds the desk, and one for each role.
+/// Opens a desk with only this game. It has a line for the calling thread, which has the desk, and one for each role.
 fn open_desk<G: Game + Drop>(
     alloc: Global,
     game: G,
@@ -143,8 +142,8 @@ fn open_desk<G: Game + Drop>(
     Ok((DeskHolder { desk, line }, lines))
 }
 
-/// The call that opens a match of the manager's first game, not made yet. The error is the refusal with which the manager would reply,
-/// or out of memory.
+/// The call that opens a match of the manager's first game. The error is the manager's refusal of this call, or out of
+/// memory.
 fn accepted_call<G: Game>(
     alloc: Global,
     manager: &Manager<G>,
@@ -161,8 +160,8 @@ fn accepted_call<G: Game>(
     }
 }
 
-/// Opens a match of the desk's one game. The manager is asked first whether it refuses the call, since nothing ties a reply that came
-/// over a ring to it until the desk is closed.
+/// Opens a match of the desk's only game. It first checks whether the manager refuses the call, because no contract says
+/// what a reply over a ring means before the desk is closed.
 fn open_match<G: Game + Drop>(
     alloc: Global,
     holder: &mut DeskHolder<Manager<G>>,
@@ -184,8 +183,8 @@ fn open_match<G: Game + Drop>(
     }
 }
 
-/// Referees a match of the game between these players to its end, as `referee` does, with rules that are lent. The players come back,
-/// in the order of the roles: each was handed the messages of its role, and nothing after them.
+/// Referees a match of the game between these players to its end, as `referee` does, with borrowed rules. The players come
+/// back in the order of the roles. Each received the messages of its role and nothing after them.
 pub fn referee_shared<G, P, R>(
     rt: &R,
     alloc: Global,
@@ -206,7 +205,7 @@ where
     ensures refereed { IfOk result (λ r. IsRefereed G.rules P.handed game setup (start_rules_text rules.entry) tries players.items r.1.items
         r.0.closed.object r.0.closed.history.items r.0.closed.made_by_line.items r.0.ends.items) }
 
-    // If the match is refused, so is this call, for the same reason, unless memory runs out. No other fault is a refusal.
+    // If the match is refused, this call fails for the same reason, unless memory runs out. No other error is a refusal.
     ensures opens { OnOk result (match_refusal G.rules game setup ≡ None) }
     ensures refused { IfErr result (λ fault. fault ≢ RefereeFault.Memory → reason_of fault ≡ match_refusal G.rules game setup) }
 {
@@ -237,16 +236,16 @@ where
 
 /// Referees a match of the game between these players to its end. There is one player for each name in the setup.
 ///
-/// A desk of this one game is opened, with a line for the calling thread and one for each role. The calling thread opens the match.
-/// Then each role is attended in a thread of its own, in at most `tries` tries. These threads serve the desk, and so does the calling
-/// thread. START carries these rules. Then the desk is closed.
+/// It opens a desk with only this game, a line for the calling thread, and a line for each role. The calling thread opens
+/// the match. Then a separate thread attends each role, in at most `tries` tries. These threads serve the desk, and so does
+/// the calling thread. START has these rules. At the end the desk is closed.
 ///
-/// The result is that of any closed desk of matches. Its history replays: made again call by call on one thread, by a manager of
-/// the same game without a match, it gives every kept reply and the manager as it stands. It holds as many calls as the lines
-/// made. The manager holds exactly one match, of this game and with this setup. The match is lawful, and its recorded moves were
-/// legal. For each recorded move of a role that the earlier turns do not retire, the history took exactly one answer, and the move
-/// and its error are the judgement of that answer. For each player, it is known which messages it was handed, and how attending it
-/// ended.
+/// The result is that of any closed desk of matches. Its history replays: a manager of the same game without matches, given
+/// these calls one by one on one thread, gives every stored reply and ends as this manager. The history has as many calls as
+/// the lines made. The manager has exactly one match, of this game and with this setup. The match is lawful, and its
+/// recorded moves were legal. For each recorded move of a role that was not yet retired, the history took exactly one
+/// answer, and the move and its error are the judgement of this answer. For each player, the contract says which messages it
+/// received and how attending its role ended.
 pub fn referee<G, P, R>(
     rt: &R,
     alloc: Global,
@@ -267,7 +266,7 @@ where
     ensures refereed { IfOk result (λ r. (left : List _) × IsRefereed G.rules P.handed game setup (rules_text (views rules.items)) tries players.items left
         r.closed.object r.closed.history.items r.closed.made_by_line.items r.ends.items) }
 
-    // If the match is refused, so is this call, for the same reason, unless memory runs out. No other fault is a refusal.
+    // If the match is refused, this call fails for the same reason, unless memory runs out. No other error is a refusal.
     ensures opens { OnOk result (match_refusal G.rules game setup ≡ None) }
     ensures refused { IfErr result (λ fault. fault ≢ RefereeFault.Memory → reason_of fault ≡ match_refusal G.rules game setup) }
 {

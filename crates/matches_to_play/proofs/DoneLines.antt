@@ -1,4 +1,4 @@
--- The lines whose matches are noted, one after another.
+-- Adding the matches of lines one after another.
 use Rattle.std.proofs.Common.{◌≡◌, ◌⊎◌, ◌↔◌, ◌∙◌, true, false, List, ℕ, [], ◌∷◌, ◌++◌, Option, Some, None, inl, inr, ap, arith, subst, sym}
 use Rattle.std.specs.Prelude.{Contains, bytes_eq}
 use Rattle.std.specs.List.{list_any}
@@ -6,7 +6,7 @@ use Rattle.std.proofs.lemmas.List.Elements.{Contains-append_left, Contains-push,
 use Rattle.game_core.specs.Play.{Rules}
 use Rattle.matches_to_play.specs.Done.{AreNamesOf, IsDone, IsDoneIn}
 
--- no match is over by a record in no lines, and none is noted at first
+-- without lines, no match is over and none was added
 pub nothing_noted : {S M K : Type 0} (g : Rules S M) (items : K → List ℕ) (keys : List K) → keys ≡ [] → (names : List ℕ) → (list_any (λ k. bytes_eq names (items k)) keys ≡ true) ↔ IsDoneIn g [] names
 nothing_noted g items keys none names = (no_key, no_line)
   where
@@ -17,7 +17,7 @@ nothing_noted g items keys none names = (no_key, no_line)
     no_line (line, among, is) = let lt = among.1 in absurd (omega arith)
 
 module _ {S M : Type 0} (g : Rules S M) (first : List (List ℕ)) (line : List ℕ) (found : Option (List ℕ)) (of_line : AreNamesOf g line found) (names : List ℕ) where
-  -- a match is over by its record in these lines, or by this one
+  -- a match is over by its record in these lines, or in this one
   pub done_in_more : IsDoneIn g (first ++ line ∷ []) names ↔ (IsDoneIn g first names ⊎ (found ≡ Some names))
   done_in_more = (from_more, to_more)
     where
@@ -33,7 +33,6 @@ module _ {S M : Type 0} (g : Rules S M) (first : List (List ℕ)) (line : List �
       to_more (inr some) = (line, Contains-push first line, (of_line names).0 some)
 
   module _ {Before : Type 0} (are : Before ↔ IsDoneIn g first names) where
-    -- nothing is noted for a line without names
     pub done_still : found ≡ None → Before ↔ IsDoneIn g (first ++ line ∷ []) names
     done_still none = ((λ is. done_in_more.1 (inl (are.0 is))), λ is. step (done_in_more.0 is))
       where
@@ -41,7 +40,6 @@ module _ {S M : Type 0} (g : Rules S M) (first : List (List ℕ)) (line : List �
         step (inl before) = are.1 before
         step (inr some) = let bad : ⊥ = cc in absurd bad
 
-    -- the line's names are noted
     pub done_now : {After : Type 0} (own : List ℕ) → found ≡ Some own → (After ↔ (Before ⊎ (own ≡ names))) → After ↔ IsDoneIn g (first ++ line ∷ []) names
     done_now own some added = ((λ is. on (added.0 is)), λ is. added.1 (back (done_in_more.0 is)))
       where

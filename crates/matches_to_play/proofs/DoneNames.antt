@@ -1,4 +1,4 @@
--- The names of a line's match, by what is read of the line.
+-- The names in a line, according to its parsed record.
 use Rattle.std.proofs.Common.{◌≡◌, ◌∙◌, ℕ, Bool, true, false, List, Option, Some, None, ap, sym, subst, refl}
 use Rattle.std.specs.Prelude.{if◌then◌else◌}
 use Rattle.serde_json.specs.Data.{Data}
@@ -11,12 +11,10 @@ use Rattle.record_reading.specs.RecordTree.{HasShape, Holds}
 use Rattle.record_reading.specs.declared.record_parts.RecordParts.{RecordParts}
 use Rattle.matches_to_play.specs.Done.{AreNamesOf, IsDone, match_names}
 
--- the names that are found by these parts
 abbrev pub found_by : RecordParts → Option (List ℕ)
 found_by p = if is_last p.phase then Some (match_names p.id p.players) else None
 
 module _ {S M : Type 0} (g : Rules S M) (shapes : LawfulPartsHaveShape g) (one : HoldsOnePartsAtMost g) (line : List ℕ) (read : Data) (p : RecordParts) (json : IsJson line read) (holds : Holds read p) (shape : HasShape g p) where
-  -- what was read is what the match says whose record the line is
   said_by : (tree : Data) (m : MatchValue M) (is : IsRecordOf g line tree m) → p ≡ parts_in g is.version m
   said_by tree m is =
       let same : Some read ≡ Some tree = sym json.is_read ∙ is.json.is_read in
@@ -40,6 +38,5 @@ module _ {S M : Type 0} (g : Rules S M) (shapes : LawfulPartsHaveShape g) (one :
           let here : names ≡ match_names p.id p.players = same ∙ sym (ap (λ (q : RecordParts). match_names q.id q.players) said) in
           ap (λ b. if b then Some (match_names p.id p.players) else None) over ∙ ap Some (sym here)
 
--- a line that is no lawful record has no names
 pub no_names : {S M : Type 0} (g : Rules S M) (line : List ℕ) → ¬ IsLawfulRecord g line → AreNamesOf g line None
 no_names g line unlawful names = ((λ none. let bad : ⊥ = cc in absurd bad), λ (tree, m, is, last, same). absurd (unlawful (tree, m, is)))

@@ -1,4 +1,4 @@
--- The names that a set of noted names has.
+-- The names in the set of added matches.
 use Rattle.std.proofs.Common.{◌≡◌, ◌⊎◌, ◌↔◌, ◌∙◌, ◌||◌, Bool, true, false, List, ℕ, [], ◌∷◌, ◌++◌, inl, inr, ap, sym, refl}
 use Rattle.std.specs.Prelude.{bytes_eq, if◌then◌else◌}
 use Rattle.std.specs.List.{list_any}
@@ -11,7 +11,6 @@ module _ {K : Type 0} (eq : K → K → Bool) (items : K → List ℕ) (same : (
   abbrev pub has : List K → List ℕ → Bool
   has ks names = list_any (λ k. bytes_eq names (items k)) ks
 
-  -- the names of an equal key
   has_equal : (ks : List K) (k : K) → list_any (eq k) ks ≡ true → has ks (items k) ≡ true
   has_equal [] k none = let bad : ⊥ = cc in absurd bad
   has_equal (x ∷ xs) k some = step (eq k x) refl (has_equal xs k)
@@ -26,7 +25,7 @@ module _ {K : Type 0} (eq : K → K → Bool) (items : K → List ℕ) (same : (
           let rest : list_any (eq k) xs ≡ true = sym (ap (λ b. b || list_any (eq k) xs) other) ∙ some in
           either (bytes_eq (items k) (items x)) (has xs (items k)) (later rest)
 
-  -- after a key is inserted: the names from before, and its own
+  -- after a key is inserted, the set has the names from before and those of the key
   pub has_after_insert : (ks : List K) (k : K) (names : List ℕ) → (has (insert_key eq ks k) names ≡ true) ↔ ((has ks names ≡ true) ⊎ (items k ≡ names))
   has_after_insert ks k names = step (list_any (eq k) ks) refl
     where

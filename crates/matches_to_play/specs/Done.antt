@@ -1,4 +1,4 @@
--- The matches that are over, by their records.
+-- The matches that are over according to their records.
 use Rattle.std.specs.Prelude.{◌≡◌, ◌↔◌, ℕ, Bool, true, List, [], ◌∷◌, ◌++◌, Contains, IsTrue, Option, Some}
 use Rattle.std.specs.Str.{bytes_eq}
 use Rattle.indexmap.specs.IndexSet.{contains_by}
@@ -20,7 +20,7 @@ joined (name ∷ names) = name ++ space ∷ joined names
 abbrev pub match_names : List ℕ → List (List ℕ) → List ℕ
 match_names id players = joined (id ∷ players)
 
--- a match with these names is noted
+-- a match with these names was added
 abbrev pub is_noted : DoneMatches → List ℕ → Bool
 is_noted done names = contains_by (λ noted. bytes_eq names noted.items) done.names
 
@@ -28,7 +28,7 @@ is_noted done names = contains_by (λ noted. bytes_eq names noted.items) done.na
 abbrev pub IsDone : {S M : Type 0} → Rules S M → List ℕ → List ℕ → Type 0
 IsDone {S} {M} g line names = (tree : Data) × (m : MatchValue M) × IsRecordOf g line tree m × (is_last (phase g m) ≡ true) × (names ≡ match_names m.setup.id m.setup.players)
 
--- these are the names of the line's match, if the line is the record of a lawful match that is over, and there are none otherwise
+-- the names in the line, if the line is the record of a lawful match that is over, and otherwise None
 abbrev pub AreNamesOf : {S M : Type 0} → Rules S M → List ℕ → Option (List ℕ) → Type 0
 AreNamesOf g line found = (names : List ℕ) → (found ≡ Some names) ↔ IsDone g line names
 
@@ -36,6 +36,6 @@ AreNamesOf g line found = (names : List ℕ) → (found ≡ Some names) ↔ IsDo
 abbrev pub IsDoneIn : {S M : Type 0} → Rules S M → List (List ℕ) → List ℕ → Type 0
 IsDoneIn g lines names = (line : List ℕ) × Contains lines line × IsDone g line names
 
--- the noted matches are those that are over by their records in these lines
+-- exactly the matches were added that are over according to their records in these lines
 abbrev pub AreDone : {S M : Type 0} → Rules S M → List (List ℕ) → DoneMatches → Type 0
 AreDone g lines done = (names : List ℕ) → IsTrue (is_noted done names) ↔ IsDoneIn g lines names

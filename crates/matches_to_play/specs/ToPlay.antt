@@ -15,35 +15,33 @@ use Rattle.command_faults.specs.declared.files.NamedFile.TheVariants.{Records}
 use Rattle.matches_to_play.specs.Done.{AreDone, is_noted, match_names}
 use Rattle.matches_to_play.specs.declared.done.DoneMatches.{DoneMatches}
 
--- the match is not noted: none with its id and its players is over
+-- no match with the plan's id and players is over
 abbrev pub is_left : DoneMatches → MatchPlan → Bool
 is_left noted plan = not (is_noted noted (match_names plan.id.now (map (λ p. p.name.now) plan.players.items)))
 
--- these matches without those that are noted, in their order
 abbrev pub left_of : DoneMatches → List MatchPlan → List MatchPlan
 left_of noted plans = filter (is_left noted) plans
 
--- If a file of finished matches is given, these are the others of all matches: without those that are over by their records in the lines
--- of a text.
+-- If a file of finished matches is named, these are the matches that are not over according to the records in the lines of some text;
+-- otherwise they are all matches.
 abbrev pub AreLeft : {F : Type 0} → PackedGame → Option F → List MatchPlan → List MatchPlan → Type 0
 AreLeft game file all plans =
     MatchOption file (plans ≡ all) (λ name. (noted : DoneMatches) × ((records : List ℕ) × AreDone (loaded_game (tables_of game)) (lines records) noted) × (plans ≡ left_of noted all))
 
--- The matches of a schedule with this number of strikes, without those that are over by a file of finished matches, if one is given.
+-- The matches of a schedule with this number of strikes, except those that are over according to the file of finished matches.
 abbrev pub AreUndone : {F : Type 0} → PackedGame → ℕ → Option F → List ℕ → List MatchPlan → Type 0
 AreUndone game strikes done schedule plans = (all : List MatchPlan) × AllZip (IsPlanned strikes) (match_lines schedule) all × AreLeft game done all plans
 
--- The same, without those that are over by the file that records are added to, if there is one.
+-- The same, except those that are over according to the file to which records are appended, if there is one.
 abbrev pub AreToPlay : {F G : Type 0} → PackedGame → ℕ → Option F → Option G → List ℕ → List MatchPlan → Type 0
 AreToPlay game strikes done records schedule plans = (undone : List MatchPlan) × AreUndone game strikes done schedule undone × AreLeft game records undone plans
 
--- Why there are no undone matches: out of memory, the schedule's first bad line, or the file of the finished matches that is named can't be
--- read.
+-- Why there are no matches: out of memory, the first bad line of the schedule, or the file of finished matches cannot be read.
 abbrev pub HasNoUndone : {F : Type 0} → PackedGame → ℕ → Option F → List ℕ → Fault → Type 0
 HasNoUndone game strikes done schedule fault = (fault ≡ Memory)
     ⊎ (((bad : ScheduleFault) × (fault ≡ schedule_fault bad) × IsBadLine (loaded_game (tables_of game)).roles strikes (cut_lines schedule) bad)
     ⊎ ((is_some done ≡ true) × IsFileFault Records fault))
 
--- Why there are no matches to play: the same, or the file that records are added to can't be read or added to.
+-- Why there are no matches to play: the same, or the file to which records are appended cannot be read or written.
 abbrev pub HasNoPlans : {F G : Type 0} → PackedGame → ℕ → Option F → Option G → List ℕ → Fault → Type 0
 HasNoPlans game strikes done records schedule fault = HasNoUndone game strikes done schedule fault ⊎ ((is_some records ≡ true) × IsFileFault Records fault)

@@ -1,4 +1,4 @@
-//! The accounts behind the records of a file: whether each is whole.
+//! Finds records in a file that have an incomplete call log.
 ghost use Rattle.std.specs.Prelude.{IfErr};
 ghost use Rattle.command_faults.specs.Faults.{IsFileFault};
 ghost use Rattle.command_faults.specs.declared.files.NamedFile.TheVariants.{Records};
@@ -14,34 +14,33 @@ use std::alloc::{AllocError, Global};
 use std::rt::Files;
 use whole_streams::{LineBuffer, NextLine};
 
-/// The limit of an account's bytes, which is that of `replay`.
+/// The largest size of a call log in bytes, the same as for `replay`.
 const MAX_ACCOUNT: usize = 268_435_456;
 
-/// The end of an account's line for a role that has nothing more to do. The last line of an account is such a line.
+/// The end of a line with the reply `over`. The last call of each role gets this reply.
 const OVER: &[u8] = b"\tover";
 
-/// A record whose account is not whole.
+/// A record with an incomplete call log.
 #[derive(Clone, Copy)]
 pub struct PartialRecord {
     /// The number of the record's line, counted from 1.
     pub line: u64,
-    /// Whether no other record follows.
+    /// Whether it is the last record of the file.
     pub is_last: bool,
 }
 
-/// A record, and the lines behind it up to the next one.
+/// A record, and the lines from it to the next record.
 #[derive(Drop)]
 struct RecordBlock {
     line: u64,
     record: Vec<u8>,
-    /// The lines, each with a line feed.
+    /// The lines after the record, each with a line feed.
     account: Vec<u8>,
-    /// Whether they are more than an account can have.
+    /// Whether there are more of them than a call log can have.
     is_too_long: bool,
 }
 
 impl RecordBlock {
-    /// Adds a line that follows the record.
     fn push(&mut self, line: &[u8]) -> Result<(), AllocError> {
         let room = MAX_ACCOUNT.saturating_sub(self.account.len());
         if room <= line.len() {
@@ -54,7 +53,6 @@ impl RecordBlock {
     }
 }
 
-/// The records of a desk's matches, each with a line feed.
 fn records_of<G: Game>(alloc: Global, manager: &Manager<G>) -> Result<Vec<u8>, AllocError> {
     let mut records = Vec::new(alloc);
     for place in 0..manager.matches() {
@@ -66,7 +64,7 @@ fn records_of<G: Game>(alloc: Global, manager: &Manager<G>) -> Result<Vec<u8>, A
     Ok(records)
 }
 
-/// Whether the calls of an account, made again on a desk of these games, give exactly this record.
+/// Whether replaying the call log on a new desk with these games gives exactly this record.
 fn gives_record<G: Game + Drop>(
     alloc: Global,
     games: Vec<G>,
@@ -85,14 +83,12 @@ fn gives_record<G: Game + Drop>(
     }
 }
 
-/// The number of calls of an account to which the reply was `over`.
 fn overs(account: &[u8]) -> usize {
     let lines = account.split(|byte| *byte == b'\n');
     lines.filter(|line| line.ends_with(OVER)).count()
 }
 
-/// Whether an account is whole. Its calls give the record, and the last call for each role had the reply `over`: no line of it can be
-/// taken away from its end.
+/// Whether a call log is complete: replaying it gives the record, and every role has got the reply `over`.
 fn is_whole<G: Game>(alloc: Global, game: &G, block: &RecordBlock) -> Result<bool, AllocError> {
     if block.is_too_long || overs(&block.account) < game.roles() {
         return Ok(false);
@@ -102,7 +98,7 @@ fn is_whole<G: Game>(alloc: Global, game: &G, block: &RecordBlock) -> Result<boo
     gives_record(alloc, games, &block.account, &block.record)
 }
 
-/// Whether a record shows a match to be over, but its account is not whole.
+/// Whether a record is of a match that is over, but has an incomplete call log.
 fn is_partial<G: Game>(alloc: Global, game: &G, block: &RecordBlock) -> Result<bool, AllocError> {
     if is_whole(alloc, game, block)? {
         return Ok(false);
@@ -114,7 +110,6 @@ fn is_partial<G: Game>(alloc: Global, game: &G, block: &RecordBlock) -> Result<b
     }
 }
 
-/// The record of this block, if its account is not whole.
 fn partial_in<G: Game>(
     alloc: Global,
     game: &G,
@@ -130,8 +125,8 @@ fn partial_in<G: Game>(
     }
 }
 
-/// The first record in the file at this path that shows a match of the game to be over, but whose account is not whole. A last line
-/// without its line feed belongs to no account.
+/// The first record in the file at this path that is of a match of the game which is over, but has an incomplete call log. A last
+/// line without a line feed does not belong to a call log.
 pub fn partial_record<F: Files, G: Game>(
     files: &F,
     alloc: Global,

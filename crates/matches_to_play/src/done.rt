@@ -1,4 +1,4 @@
-//! The matches that are over, by a file of records.
+//! Finds the matches that are over according to a file of records.
 ghost use Rattle.std.specs.Prelude.{◌≡◌, ◌⊎◌, ◌↔◌, ◌∷◌, ◌++◌, [], ℕ, List, Some, None, if◌then◌else◌, map, option_map, IfErr, IfOk, IsTrue, OnOk};
 ghost use Rattle.std.specs.Io.KnownBytes.{Consumes, IsAtEnd};
 ghost use Rattle.std.specs.Str.Lines.{lines};
@@ -22,16 +22,14 @@ use std::rt::Files;
 use whole_streams::laws::lines_are_taken;
 use whole_streams::{LineBuffer, NextLine};
 
-/// The matches that are over, by their records.
+/// The matches that are over according to their records.
 #[derive(Drop)]
 pub struct DoneMatches {
-    /// The names of each match. Lawful names have no spaces, so different matches have different texts.
+    /// The id and the players of each match, as one text. Lawful names have no spaces, so different matches have different texts.
     names: IndexSet<Vec<u8>>,
-    /// The number of lines that are neither lawful records nor lines of accounts.
     other_lines: u64,
 }
 
-/// Appends a name and a space to `names`.
 fn push_name(names: &mut Vec<u8>, name: &[u8]) -> Result<(), AllocError>
     ensures { OnOk result (names.new.items ≡ names.old.items ++ name.now ++ space ∷ []) }
 {
@@ -39,7 +37,6 @@ fn push_name(names: &mut Vec<u8>, name: &[u8]) -> Result<(), AllocError>
     names.extend_from_slice(b" ")
 }
 
-/// The names of a record's match.
 fn recorded_names(alloc: Global, parts: &RecordParts) -> Result<Vec<u8>, AllocError>
     ensures { IfOk result (λ names. names.items ≡ match_names parts.now.id parts.now.players) }
 {
@@ -51,7 +48,6 @@ fn recorded_names(alloc: Global, parts: &RecordParts) -> Result<Vec<u8>, AllocEr
     Ok(names)
 }
 
-/// The names of a planned match.
 fn planned_names(alloc: Global, plan: &MatchPlan<'_>) -> Result<Vec<u8>, AllocError>
     ensures { IfOk result (λ names. names.items ≡ match_names plan.now.id.now (map (λ p. p.name.now) plan.now.players.items)) }
 {
@@ -63,7 +59,7 @@ fn planned_names(alloc: Global, plan: &MatchPlan<'_>) -> Result<Vec<u8>, AllocEr
     Ok(names)
 }
 
-/// The names of a record's match, if the match is over.
+/// The names in a record, if its match is over.
 fn names_if_over(alloc: Global, parts: &RecordParts) -> Result<Option<Vec<u8>>, AllocError>
     ensures { IfOk result (λ o. option_map (λ names. names.items) o ≡ if is_last parts.now.phase then Some (match_names parts.now.id parts.now.players) else None) }
 {
@@ -74,8 +70,8 @@ fn names_if_over(alloc: Global, parts: &RecordParts) -> Result<Option<Vec<u8>>, 
     }
 }
 
-/// The names of a line's match. `None` if the line is no lawful record, or the match is not over. A line that is neither a lawful record
-/// nor one of an account is counted among the others.
+/// The names in a line, or `None` if the line is not a lawful record of a match that is over. Counts the line if it is neither a lawful
+/// record nor a line of a call log.
 fn done_names<G: Game>(
     alloc: Global,
     game: &G,
@@ -99,12 +95,12 @@ fn done_names<G: Game>(
 }
 
 impl DoneMatches {
-    /// The number of lines that are neither lawful records nor lines of accounts.
+    /// The number of lines that are neither lawful records nor lines of call logs.
     pub fn other_lines(&self) -> u64 {
         self.other_lines
     }
 
-    /// Whether a match with this id and these players is over.
+    /// Whether a match with the plan's id and players is over.
     pub fn has(&self, alloc: Global, plan: &MatchPlan<'_>) -> Result<bool, AllocError>
         ensures { IfOk result (λ found. found ≡ is_noted self.now (match_names plan.now.id.now (map (λ p. p.name.now) plan.now.players.items))) }
     {
@@ -112,8 +108,8 @@ impl DoneMatches {
         Ok(self.names.contains(names.as_slice()))
     }
 
-    /// Notes the match of a line, if the line is its lawful record and the match is over. Any other line is skipped, and counted if it is
-    /// neither a lawful record nor one of an account.
+    /// Adds the match of a line, if the line is a lawful record and the match is over. Counts the line if it is neither a lawful record
+    /// nor a line of a call log.
     fn note<G: Game>(&mut self, alloc: Global, game: &G, line: &[u8]) -> Result<(), AllocError>
         ensures { OnOk result ((first : List (List ℕ)) → AreDone (G.rules game.now) first self.old → AreDone (G.rules game.now) (first ++ line.now ∷ []) self.new) }
     {
@@ -124,7 +120,6 @@ impl DoneMatches {
         }
     }
 
-    /// Adds the names of a match.
     fn add(&mut self, names: Vec<u8>) -> Result<(), AllocError>
         ensures { OnOk result ((others : List ℕ) → IsTrue (is_noted self.new others) ↔ (IsTrue (is_noted self.old others) ⊎ (names.items ≡ others))) }
     {
@@ -133,8 +128,7 @@ impl DoneMatches {
     }
 }
 
-/// The matches that are over, by the lines of an input. Each line is one record. Other lines are skipped, and one line is in memory at a
-/// time.
+/// Reads the records in the lines of an input, with one line in memory at a time.
 fn done_in<G: Game, R: Read>(
     alloc: Global,
     game: &G,
@@ -166,8 +160,7 @@ fn done_in<G: Game, R: Read>(
     Err(Fault::File(NamedFile::Records, FileFault::TooLong))
 }
 
-/// The matches of the game that are over, by the file of records at this path. Each line is one record. Other lines are skipped, and so
-/// are those of accounts.
+/// Reads the records of the game in the file at this path, one in each line. Skips all other lines.
 pub(crate) fn done_matches<F: Files, G: Game>(
     files: &F,
     alloc: Global,

@@ -1,9 +1,7 @@
-//! The matches of a schedule that are still to be played: those that no lawful record of a file shows to be over.
+//! Decides which matches of a schedule to play: those that are not over according to the lawful records of a file.
 //!
-//! `plans_of` reads a schedule and leaves out the matches that are over by the file of `--done`, and `undone` does so by one more file.
-//! `DoneMatches` holds the names of the matches that are over. `partial_record` finds a record whose account is not whole.
-//!
-//! Free functions take the allocator first, behind a handle for files.
+//! `plans_of` reads a schedule and removes the matches that the file of `--done` has, and `undone` removes those of another file.
+//! `partial_record` finds a record with an incomplete call log. Free functions take the allocator first, after a handle for files.
 #![tactic(auto)]
 
 mod accounts;

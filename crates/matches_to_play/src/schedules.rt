@@ -1,4 +1,4 @@
-//! The matches of a season that are played.
+//! Decides which matches of a schedule to play.
 ghost use Rattle.std.specs.Prelude.{◌≡◌, ◌⊎◌, ℕ, List, IfErr, IfOk, is_some, true};
 ghost use Rattle.std.specs.Str.Lines.{lines};
 ghost use Rattle.ground_rules.specs.LoadedGame.{loaded_game};
@@ -21,14 +21,12 @@ use std::io::Write;
 use std::rt::Files;
 use whole_streams::Pieces;
 
-/// Whether a match is not done.
 fn is_left(alloc: Global, done: &DoneMatches, plan: &MatchPlan<'_>) -> Result<bool, AllocError>
     ensures { IfOk result (λ left. left ≡ is_left done.now plan.now) }
 {
     Ok(!done.has(alloc, plan)?)
 }
 
-/// The matches that are not done, in their order.
 fn left_over<'a>(
     alloc: Global,
     plans: Vec<MatchPlan<'a>>,
@@ -45,7 +43,7 @@ fn left_over<'a>(
     Ok(left)
 }
 
-/// Reports how many lines of a file are neither lawful records nor lines of accounts, if there are any.
+/// Reports how many lines of a file are neither lawful records nor lines of call logs, if there are any.
 fn tell_other_lines<E: Write>(errors: &mut E, path: &str, count: u64) {
     let mut pieces = Pieces { stream: errors };
     let _ = match count {
@@ -63,8 +61,8 @@ fn tell_other_lines<E: Write>(errors: &mut E, path: &str, count: u64) {
     };
 }
 
-/// The matches that are over by the file of records at this path. It is reported how many of its lines are neither lawful records nor lines
-/// of accounts, or why the file can't be used.
+/// The matches that are over according to the file of records at this path. Reports how many of its lines are neither lawful records nor
+/// lines of call logs, or why the file cannot be read.
 fn done_by<F: Files, E: Write>(
     files: &F,
     alloc: Global,
@@ -82,15 +80,15 @@ fn done_by<F: Files, E: Write>(
         }
         Err(fault) => {
             if let Fault::File(_, why) = fault {
-                tell_of_file(errors, path, why.words());
+                tell_of_file(errors, path, why);
             }
             Err(fault)
         }
     }
 }
 
-/// The matches that are not over by the file of records that is named, if one is. It is reported how many of its lines are neither lawful
-/// records nor lines of accounts.
+/// The plans whose matches are not over according to this file of records, if one is named. Reports how many lines of the file are neither
+/// lawful records nor lines of call logs.
 pub fn undone<'a, F: Files, E: Write>(
     files: &F,
     alloc: Global,
@@ -111,7 +109,7 @@ pub fn undone<'a, F: Files, E: Write>(
     }
 }
 
-/// Reports the first record in the file of finished matches whose account is not whole. Its match counts as over.
+/// Reports the first record in the file that has an incomplete call log. Its match counts as over.
 fn tell_partial<F: Files, E: Write>(
     files: &F,
     alloc: Global,
@@ -132,7 +130,7 @@ fn tell_partial<F: Files, E: Write>(
     Ok(())
 }
 
-/// Reports that no match of a schedule is over by the file that is named.
+/// Reports that the file has a record of none of the matches of a schedule.
 fn tell_none_done<E: Write>(errors: &mut E, path: &str) {
     let mut pieces = Pieces { stream: errors };
     let _ = writeln!(
@@ -142,8 +140,8 @@ fn tell_none_done<E: Write>(errors: &mut E, path: &str) {
     );
 }
 
-/// The matches of a schedule, without those that are over by the file of finished matches, if one is named. It is reported if the file
-/// shows none of them to be over.
+/// The matches of a schedule, except those that are over according to the file of `--done`. Reports if this file has a record of none of
+/// them.
 pub fn plans_of<'a, F: Files, E: Write>(
     files: &F,
     alloc: Global,

@@ -16,23 +16,22 @@ use Rattle.network_players.specs.declared.contacting.ContactFault.TheVariants as
 use Rattle.network_players.specs.declared.contacting.AfterTry.{AfterTry}
 use Rattle.network_players.specs.declared.contacting.AfterTry.TheVariants.{Waits, Tries, Ends}
 
--- no answer in time is a silence, every other fault a broken answer
+-- silent if no answer came in time, and broken after any other error
 abbrev pub answer_of : Result (List ℕ) WireFault → Answer
 answer_of (Ok text) = Text text
 answer_of (Err (exchange_faults.ReadFault WouldBlock)) = Silent
 answer_of (Err (exchange_faults.ReadFault TimedOut)) = Silent
 answer_of (Err fault) = Broken
 
--- An exchange counts as `answer_of` says. It is a silence if the time was over, and a broken answer for every other fault. A shortage of the
--- referee counts as broken too, and its match has no record.
+-- An exchange counts as `answer_of` says. The answer is silent if the time was over, and broken after any other error. If the referee lacked
+-- a resource, it counts as broken too, and the match has no record.
 abbrev pub contact_answer : Result (List ℕ) ContactFault → Answer
 contact_answer (Ok text) = answer_of (Ok text)
 contact_answer (Err (faults.Exchange fault received)) = answer_of (Err fault)
 contact_answer (Err (faults.Late received)) = Silent
 contact_answer (Err fault) = Broken
 
--- The fault of a message whose seconds are over after a try with this fault. It stays, unless it is the player's and the referee is short of
--- something.
+-- The error of a message whose time is over after a try with this error: what the referee lacks, if one of the two says so, or else this error.
 abbrev pub fault_at_end : ContactFault → ContactFault → ContactFault
 fault_at_end (faults.Shortage shortage) halt = faults.Shortage shortage
 fault_at_end fault (faults.Shortage shortage) = faults.Shortage shortage
@@ -42,19 +41,19 @@ abbrev pub short_fault : Option Shortage → ContactFault
 short_fault (Some shortage) = faults.Shortage shortage
 short_fault None = faults.NoConnection
 
--- The fault of an address to which no connection was made, by the kind of the error and its number. It is late if the time left was over:
--- this error has no number, as the system's own has, by which it gives a connection up.
+-- The error of an address to which no connection was made, from the error's kind and number. It is late if the time was over: this error has
+-- no number. With a number, the system gave up the connection.
 abbrev pub address_fault : ErrorKind → Option ℤ → ContactFault
 address_fault TimedOut None = faults.Late Unconnected
 address_fault kind number = short_fault (system_shortage kind number)
 
--- The fault of an address to which no connection was made. If the error may come from this computer or from the player, it is this
--- computer's if it would not send to the address: this is what it is short of for that.
+-- The error of an address to which no connection was made. If both this computer and the player can cause it, it is this computer's error if
+-- this computer cannot send to the address, and says what it lacks.
 abbrev pub connect_fault : ErrorKind → Option ℤ → Bool → Option Shortage → ContactFault
 connect_fault kind number true refusal = short_fault refusal
 connect_fault kind number false refusal = address_fault kind number
 
--- whether a message failed on the network, and not by what the player sent
+-- whether a message failed in the network, and not because of what the player sent
 abbrev pub is_of_network : ContactFault → Bool
 is_of_network (faults.Late received) = true
 is_of_network faults.NoConnection = true
@@ -62,13 +61,13 @@ is_of_network (faults.Exchange (exchange_faults.ReadFault kind) received) = true
 is_of_network (faults.Exchange exchange_faults.WriteFault received) = true
 is_of_network fault = false
 
--- What the player is blamed for: nothing if this computer would not send to the player.
+-- What the player is blamed for: nothing if this computer cannot send to the player.
 abbrev pub fault_at_refusal : Option Shortage → ContactFault → ContactFault
 fault_at_refusal (Some shortage) fault = faults.Shortage shortage
 fault_at_refusal None fault = fault
 
--- The fault of all addresses so far, by the fault of those before and of the last one. A lack of ports or of a network counts only if no
--- address gave another fault.
+-- The error of all addresses so far, from that of the earlier ones and that of the last one. A lack of ports or of a network counts only if
+-- no address gave another error.
 abbrev pub fault_so_far : ContactFault → ContactFault → ContactFault
 fault_so_far (faults.Shortage Ports) last = last
 fault_so_far (faults.Shortage Network) last = last
@@ -78,23 +77,24 @@ fault_so_far before (faults.Shortage Ports) = before
 fault_so_far before (faults.Shortage Network) = before
 fault_so_far before last = last
 
--- The fault of an exchange that failed so. If the program was not running for a part of it, a player that ended the connection may have waited
--- long enough.
+-- The error of an exchange that failed with this error. If the message's seconds have passed while the program was not running for a part of
+-- them, a player that closed the connection may have waited long enough.
 abbrev pub fault_after_stall : Bool → ContactFault → ContactFault
 fault_after_stall true (faults.Exchange exchange_faults.CutShort received) = faults.Shortage NotRunning
 fault_after_stall true (faults.Exchange (exchange_faults.ReadFault kind) received) = faults.Shortage NotRunning
 fault_after_stall true (faults.Exchange exchange_faults.WriteFault received) = faults.Shortage NotRunning
-fault_after_stall has_stalled fault = fault
+fault_after_stall is_over fault = fault
 
--- What follows a try to connect: after a shortage another one, also if the player has taken no connection for some seconds; after a player
--- that takes no connection another one, if there is patience left. A try without time is none, so the fault before it counts.
+-- What follows a try to connect: another one if the referee lacked a resource, even if the player has accepted no connection for some
+-- seconds; another one after a player that accepts no connection, if the flag is set. A try without time does not count, so the earlier
+-- error does.
 abbrev pub after_try : ContactFault → Bool → ContactFault → AfterTry
 after_try before is_patient (faults.Shortage shortage) = Waits shortage
 after_try before is_patient faults.NoConnection = if is_patient then Tries else Ends faults.NoConnection
 after_try before is_patient (faults.Late received) = Ends before
 after_try before is_patient fault = Ends fault
 
--- a message that had to wait for a shortage and then had no time has the shortage for its fault
+-- if a message had to wait because the referee lacked a resource, and then had no time, this is its error
 abbrev pub fault_after : Option Shortage → ContactFault → ContactFault
 fault_after (Some shortage) (faults.Late received) = faults.Shortage shortage
 fault_after waited fault = fault
@@ -104,8 +104,8 @@ exchange_fault received exchange_faults.Memory = faults.Shortage Memory
 exchange_fault (Status status have) exchange_faults.BadStatus = faults.Status status
 exchange_fault received fault = faults.Exchange fault received
 
--- The outcome of an exchange: the halt of the last read or write, if it does not count; otherwise the body, or the exchange's own fault
--- with the status that was received. Without a body the fault says how far the exchange came.
+-- The outcome of an exchange: the halt of the last read or write, if that does not count; or else the body, or the error of the exchange with
+-- the status that was received. Without a body the error says how far the exchange came.
 abbrev pub outcome_of : Option ContactFault → Received → Result (List ℕ) WireFault → Result (List ℕ) ContactFault
 outcome_of (Some (faults.Late before)) received exchanged = Err (faults.Late received)
 outcome_of (Some halt) received exchanged = Err halt

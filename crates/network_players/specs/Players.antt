@@ -4,7 +4,7 @@ use Rattle.match_plans.specs.declared.addresses.PlayerAddress.{PlayerAddress}
 use Rattle.match_plans.specs.declared.reach.RolePlace.{RolePlace}
 use Rattle.network_players.specs.declared.socket_player.SocketPlayer.{SocketPlayer}
 
--- The player is the one at this address, for this role of a match, and was asked nothing yet.
+-- The player has this address and this role of a match, and has received nothing yet.
 pub record IsPlayerAt {H : Type 0} (at : RolePlace) (address : PlayerAddress) (player : SocketPlayer H) : Type 0 where
   pub host : string_bytes player.host ≡ address.host.now
   pub port : player.port ≡ address.port

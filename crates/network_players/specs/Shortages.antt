@@ -1,4 +1,4 @@
--- Shortages of the referee.
+-- What the referee may lack.
 use Rattle.std.specs.Prelude.{◌≡◌, ◌⊎◌, ℕ, ℤ, unsigned_abs, ◌==◌, if◌then◌else◌, Bool, true, false, List, [], ◌∷◌, Option, Some, None, unwrap_or, Result, Ok, Err}
 use Rattle.std.specs.declared.io.ErrorKind.{ErrorKind}
 use Rattle.std.specs.declared.io.ErrorKind.TheVariants.{WouldBlock, TimedOut, AddrNotAvailable, OutOfMemory, NetworkDown}
@@ -12,12 +12,12 @@ abbrev pub shortage_in : List (ℕ × Shortage) → ℕ → Option Shortage
 shortage_in [] number = None
 shortage_in (row ∷ rows) number = if number == row.0 then Some row.1 else shortage_in rows number
 
--- The errors of Linux that only this computer causes, and whose kind says too little: EPERM (a rule of its firewall), ENFILE, EMFILE,
+-- The errors of Linux that only this computer causes and whose kind does not show it: EPERM (a rule of its firewall), ENFILE, EMFILE,
 -- EAFNOSUPPORT and ENOBUFS.
 abbrev pub error_shortages : List (ℕ × Shortage)
 error_shortages = (1, Network) ∷ (23, Descriptors) ∷ (24, Descriptors) ∷ (97, Network) ∷ (105, Memory) ∷ []
 
--- numbers of errors are above 0
+-- error numbers are above 0
 abbrev pub number_shortage : Option ℤ → Option Shortage
 number_shortage (Some number) = shortage_in error_shortages (unsigned_abs number)
 number_shortage None = None
@@ -26,7 +26,7 @@ abbrev pub is_among : List ℕ → ℕ → Bool
 is_among [] number = false
 is_among (row ∷ rows) number = if number == row then true else is_among rows number
 
--- The errors of Linux that may come from this computer's routes or from an ICMP message, which the player or a router sends: EACCES, EINVAL,
+-- The errors of Linux that can come from this computer's routes, or from an ICMP message of the player or a router: EACCES, EINVAL,
 -- ENETUNREACH and EHOSTUNREACH. A probe that only this computer answers decides.
 abbrev pub errors_of_either : List ℕ
 errors_of_either = 13 ∷ 22 ∷ 101 ∷ 113 ∷ []
@@ -35,9 +35,9 @@ abbrev pub is_of_either : Option ℤ → Bool
 is_of_either (Some number) = is_among errors_of_either (unsigned_abs number)
 is_of_either None = false
 
--- The shortage that an error of the system reports, by its kind and its number. Only this computer causes these errors. A peer, a router or a
--- firewall on the way can cause each other one: by ICMP ECONNREFUSED, EHOSTUNREACH, ENETUNREACH, EACCES, EPROTO, ENOPROTOOPT, EOPNOTSUPP,
--- EHOSTDOWN, ENONET and EMSGSIZE, by TCP ECONNREFUSED, ECONNRESET, EPIPE and ETIMEDOUT.
+-- What the referee lacks at a system error, from its kind and number. Only this computer causes these errors. A peer, a router or a firewall
+-- on the way can cause all others: by ICMP ECONNREFUSED, EHOSTUNREACH, ENETUNREACH, EACCES, EPROTO, ENOPROTOOPT, EOPNOTSUPP, EHOSTDOWN,
+-- ENONET and EMSGSIZE, by TCP ECONNREFUSED, ECONNRESET, EPIPE and ETIMEDOUT.
 abbrev pub system_shortage : ErrorKind → Option ℤ → Option Shortage
 system_shortage OutOfMemory number = Some Memory
 system_shortage AddrNotAvailable number = Some Ports
@@ -45,15 +45,15 @@ system_shortage WouldBlock number = Some Ports
 system_shortage NetworkDown number = Some Network
 system_shortage kind number = number_shortage number
 
--- What the referee was short of as the lookup of a host failed. The system's own error has a number. The resolver's has none: the host has no
--- address if the resolver says that there is no such name, or if it says anything else while this computer has a network.
+-- What the referee lacked when the lookup of a host failed. The system's own error has a number, the resolver's has none. The host has no
+-- address if the resolver reports that the name does not exist, or reports anything else while this computer has a network.
 abbrev pub lookup_shortage : ErrorKind → Option ℤ → Bool → Option Shortage → Option Shortage
 lookup_shortage OutOfMemory number is_unknown without_network = Some Memory
 lookup_shortage kind (Some number) is_unknown without_network = Some (unwrap_or (number_shortage (Some number)) Resolver)
 lookup_shortage kind None true without_network = None
 lookup_shortage kind None false without_network = without_network
 
--- What this computer is short of if it finds no route: it has none if the error says nothing else.
+-- What this computer lacks if it finds no route: a network, unless the error says something else.
 abbrev pub lack_by : Option Shortage → Shortage
 lack_by (Some Descriptors) = Descriptors
 lack_by (Some Memory) = Memory
@@ -66,17 +66,17 @@ abbrev pub short_halt : Option Shortage → Option ContactFault
 short_halt (Some shortage) = Some (faults.Shortage shortage)
 short_halt None = None
 
--- A read or a write that ran out of time fails so. With a number `TimedOut` is the system's own: it gave the connection up.
+-- A read or a write that ran out of time fails like this. `TimedOut` with a number means that the system gave up the connection.
 abbrev pub IsTimeOut : ErrorKind → Option ℤ → Type 0
 IsTimeOut kind number = (kind ≡ WouldBlock) ⊎ ((kind ≡ TimedOut) × (number ≡ None))
 
--- A read or a write that ran out of time is late, and one that failed by a shortage is short of it. Otherwise the player was the cause.
+-- The halt is late if a read or a write ran out of time, and a lack of a resource if that made it fail. Otherwise the player was the cause.
 abbrev pub failed_halt : ErrorKind → Option ℤ → Option ContactFault
 failed_halt WouldBlock number = Some (faults.Late Unconnected)
 failed_halt TimedOut None = Some (faults.Late Unconnected)
 failed_halt kind number = short_halt (system_shortage kind number)
 
--- the codes of shortages, by which threads share one
+-- the codes by which threads share what the referee lacks
 abbrev pub shortage_codes : List (ℕ × Shortage)
 shortage_codes = (1, Descriptors) ∷ (2, Ports) ∷ (3, Memory) ∷ (4, Clock) ∷ (5, Resolver) ∷ (6, Network) ∷ (7, NotRunning) ∷ []
 

@@ -1,25 +1,25 @@
-//! How many bytes the answers of a player may have in a match.
+//! Limits how many bytes the answers of a player may have in a match.
 ghost use Rattle.std.specs.Prelude.{◌≡◌, ◌↔◌, max, IsTrue};
 ghost use Rattle.network_players.specs.Budgets.{IsPaid, spent_after};
 
 use std::cmp;
 
-/// The bytes that the answers of a player may have in a match, beyond the free part of each.
+/// The largest number of bytes that the answers of a player may have in a match, beyond the free part of each.
 const BUDGET: usize = 1_048_576;
 
-/// Each answer has at least so many bytes free.
+/// At least this many bytes of each answer are free.
 const LEAST_FREE: usize = 64;
 
-/// The bytes of a player's answers in a match that are not free.
+/// How many bytes of a player's answers in a match were not free so far.
 #[derive(Drop)]
 pub struct AnswerBudget {
-    /// So many bytes of each answer are free.
+    /// The number of bytes of each answer that are free.
     free: usize,
     spent: usize,
 }
 
 impl AnswerBudget {
-    /// The budget of a player that has answered nothing. An answer as long as the longest move is free.
+    /// Creates the budget of a player that has not answered yet. An answer as long as the longest move is free.
     pub fn new(longest_move: usize) -> AnswerBudget
         ensures free { result.free ≡ max 64 longest_move }
         ensures spent { result.spent ≡ 0 }
@@ -30,8 +30,8 @@ impl AnswerBudget {
         }
     }
 
-    /// Spends what an answer of this length has beyond its free part. Returns whether the answer counts: one that is free does, and each other
-    /// one for which the budget is enough.
+    /// Spends the part of an answer of this length that is not free. Returns whether the answer counts: it does if it is free, or if the
+    /// budget is large enough.
     pub fn pay(&mut self, length: usize) -> bool
         ensures free { self.new.free ≡ self.old.free }
         ensures spent { self.new.spent ≡ spent_after self.old.spent self.old.free length }

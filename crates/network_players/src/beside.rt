@@ -1,4 +1,4 @@
-//! A network whose lookups are made while the players' messages go on.
+//! A network that looks up hosts while the players' messages continue.
 
 use crate::lookup::{HostQuery, Resolves};
 use crate::routes::Routes;
@@ -12,10 +12,10 @@ use std::os::unix::net::UnixStream;
 use std::sync::{Arc, Wait};
 use std::time::{Clock, Duration};
 
-/// The network and the clock of a runtime, and a function that begins a lookup and does not wait for its end.
+/// The network and the clock of a runtime, and a function that starts a lookup and does not wait for its end.
 ///
-/// The function is made where the type of the runtime is known, as in `main`. A method that is generic over the runtime can't show that a
-/// thread may use it.
+/// The function must be made where the type of the runtime is known, as in `main`: a method that is generic over the runtime cannot show
+/// that a thread may use it.
 #[derive(Drop)]
 pub struct Beside<'a, H> {
     pub rt: &'a H,
@@ -89,7 +89,7 @@ impl<H: Routes> Resolves for Beside<'_, H> {
         (self.begin)(self.host, query)
     }
 
-    // The thread waits for the lookup, and the message for the thread.
+    // The thread waits for the lookup, and the message waits for the thread.
     fn longest_begin(&self, _: Duration) -> Duration {
         Duration::ZERO
     }

@@ -1,4 +1,4 @@
-//! A message to a player, on a connection of its own.
+//! Sends a player one message over a separate connection.
 ghost use Rattle.std.specs.Prelude.{◌≡◌, ◌-◌};
 ghost use Rattle.std.specs.Duration.{as_nanos};
 ghost use Rattle.std.specs.IoError.{error_kind, raw_os_error};
@@ -23,19 +23,19 @@ use std::{fmt, io, thread};
 /// Why a message brought no answer.
 #[derive(Clone, Copy, PartialEq, Eq)]
 pub enum ContactFault {
-    /// The host has no address that this computer could use.
+    /// The host has no address that this computer can use.
     NoAddress,
-    /// None of the host's addresses takes a connection. The system may also have given it up before the seconds were over.
+    /// None of the host's addresses accepts a connection. The system may have given up before the time was over.
     NoConnection,
-    /// The seconds were over before the connection was made, the request written or the reply read.
+    /// The time was over before the connection was made, the request written or the reply read.
     Late(Received),
-    /// The referee was short of this. The message was not sent, or it was sent too late for an answer in time, or its answer was lost.
+    /// The referee lacked this resource. The message was not sent, or was sent too late to be answered in time, or its answer was lost.
     Shortage(Shortage),
-    /// The player's answers of the match have more bytes than they may have together.
+    /// The player's answers in the match have more bytes together than allowed.
     OverBudget,
     /// The reply has this status, which is not 200.
     Status(u16),
-    /// The exchange on the connection failed with this fault.
+    /// The exchange on the connection failed with this error.
     Exchange(WireFault, Received),
 }
 
@@ -60,7 +60,7 @@ impl fmt::Display for ContactFault {
     }
 }
 
-/// The same words.
+/// The same text.
 impl fmt::Debug for ContactFault {
     fn fmt<W: fmt::Write>(&self, f: &mut fmt::Formatter<W>) -> fmt::Result {
         fmt::Display::fmt(self, f)
@@ -71,28 +71,28 @@ impl Error for ContactFault {}
 
 /// Explains why the last message brought no answer.
 pub trait Explains {
-    /// The reason. `None` if there was an answer, or if no reason is known.
+    /// The reason, or `None` if there was an answer or no reason is known.
     fn why(&self) -> Option<ContactFault> {
         None
     }
 }
 
-/// The number of the error with which this computer's firewall stops a packet.
+/// The error number for a packet that this computer's firewall stops.
 const EPERM: i32 = 1;
 
-/// For so many seconds connections that fail are tried again. A player that restarts meanwhile has lost nothing.
+/// For how many seconds connections that fail are tried again. A player that restarts in this time loses nothing.
 const RETRY_SECONDS: u64 = 2;
 
-/// The pause before another try to connect, in milliseconds.
+/// The pause before the next try to connect, in milliseconds.
 const PAUSE_MILLIS: u64 = 50;
 
-/// The limit of tries to connect for one message. With their pauses these take longer than any clock.
+/// The largest number of tries to connect for one message. With their pauses they take longer than any clock.
 const MAX_CONNECTS: u32 = 2_000_000;
 
 const _: () = prove!(MAX_CONNECTS as u64 * PAUSE_MILLIS > MAX_CLOCK as u64 * 1_000);
 
-/// The fault of a message whose seconds are over after a try with this fault. It stays, unless it is the player's and the referee is short of
-/// something.
+/// The error of a message whose time is over after a try with the error `fault`: what the referee lacks, if one of the two says so, or else
+/// `fault`.
 fn fault_at_end(fault: ContactFault, halt: ContactFault) -> ContactFault
     ensures { result ≡ fault_at_end fault halt }
 {
@@ -103,8 +103,8 @@ fn fault_at_end(fault: ContactFault, halt: ContactFault) -> ContactFault
     }
 }
 
-/// The fault of an address to which no connection was made. When the time left is over, the error is `TimedOut` and has no number. An
-/// error with a number is the system's: with `ETIMEDOUT` it gave the connection up by a limit of its own, so the address took none.
+/// The error of an address to which no connection was made. If the time is over, the error is `TimedOut` without a number. An error with a
+/// number comes from the system: `ETIMEDOUT` means that the system gave up at its own limit, so the address accepted no connection.
 fn address_fault(error: &io::Error) -> ContactFault
     ensures { result ≡ address_fault (error_kind error.now) (raw_os_error error.now) }
 {
@@ -117,7 +117,7 @@ fn address_fault(error: &io::Error) -> ContactFault
     }
 }
 
-/// Whether the address may be that of one host. The system refuses a connection to any other: that is an error of the address.
+/// Whether the address can belong to a single host. The system refuses connections to all others, and this is the address's error.
 fn is_of_a_host(address: &SocketAddr) -> bool {
     let is_zoned = match address {
         SocketAddr::V4(_) => true,
@@ -131,12 +131,12 @@ fn is_of_a_host(address: &SocketAddr) -> bool {
     }
 }
 
-/// Tries to send an empty datagram to the address. Only this computer's interfaces, routes and firewall can make that fail: the socket is
-/// new, so no answer can have come.
+/// Tries to send an empty datagram to the address. Only this computer's interfaces, routes and firewall can make this fail: the socket is
+/// new, so no reply can have come.
 fn send_nothing<N: Net>(net: &N, address: &SocketAddr) -> io::Result<()> {
     let socket = UdpSocket::bind(net, any_address(address))?;
     if socket.connect(*address).is_err() {
-        // The system refuses a broadcast address only to a socket that has not asked for it, and a route for any socket.
+        // Without this, the system refuses a broadcast address. With it, only a missing route makes the system refuse.
         socket.set_broadcast(true)?;
         return socket.connect(*address);
     }
@@ -146,12 +146,12 @@ fn send_nothing<N: Net>(net: &N, address: &SocketAddr) -> io::Result<()> {
     }
 }
 
-/// Whether an error says that this computer's firewall has stopped a datagram.
+/// Whether the error says that this computer's firewall stopped a datagram.
 fn is_forbidden(error: &io::Error) -> bool {
     error.raw_os_error() == Some(EPERM)
 }
 
-/// Whether this computer's firewall stops datagrams of the address's family in general. Then a stopped one says nothing of connections.
+/// Whether this computer's firewall stops all datagrams of the address's family. If so, a stopped datagram says nothing about connections.
 fn stops_datagrams<N: Net>(net: &N, address: &SocketAddr) -> bool {
     match send_nothing(net, &outside(address.ip().to_canonical().is_ipv4())) {
         Ok(()) => false,
@@ -159,8 +159,8 @@ fn stops_datagrams<N: Net>(net: &N, address: &SocketAddr) -> bool {
     }
 }
 
-/// What this computer is short of, so that it sends nothing to the address. `None` if it would send, if nobody could, if it lacks only the
-/// family of the address, which a router of the player can take away, or if its firewall lets out connections alone.
+/// What this computer lacks to send anything to the address. `None` if it can send, if no computer could, if it lacks only the address's
+/// family, which a router of the player can remove, or if its firewall passes only connections.
 fn refusal<N: Routes>(net: &N, address: &SocketAddr) -> Option<Shortage> {
     if !is_of_a_host(address) {
         return None;
@@ -179,7 +179,7 @@ fn refusal<N: Routes>(net: &N, address: &SocketAddr) -> Option<Shortage> {
     Some(shortage)
 }
 
-/// What this computer is short of, so that it sends nothing to any of the addresses. `None` if it would send to one, or if there is none.
+/// What this computer lacks to send anything to any of the addresses. `None` if it can send to one, or if there are none.
 fn refusal_of_all<N: Routes>(net: &N, addresses: &[SocketAddr]) -> Option<Shortage> {
     let mut last = None;
     for address in addresses {
@@ -188,7 +188,7 @@ fn refusal_of_all<N: Routes>(net: &N, addresses: &[SocketAddr]) -> Option<Shorta
     last
 }
 
-/// The fault of an address to which no connection was made. If the error `may_be_own`, a probe said what this computer is short of.
+/// The error of an address to which no connection was made. If the error `may_be_own`, a probe has found what this computer lacks.
 fn connect_fault(error: &io::Error, may_be_own: bool, refusal: Option<Shortage>) -> ContactFault
     ensures { result ≡ connect_fault (error_kind error.now) (raw_os_error error.now) may_be_own refusal }
 {
@@ -199,8 +199,8 @@ fn connect_fault(error: &io::Error, may_be_own: bool, refusal: Option<Shortage>)
     }
 }
 
-/// The fault of an address to which no connection was made. Where the player or a router on the way can cause the error too, this computer is
-/// asked. If it has lost the family of the address, each address of that family gives the error of a lack of ports.
+/// The error of an address to which no connection was made. If the player or a router on the way can cause it too, this probes what this
+/// computer lacks. If the computer has lost the family of the address, each address of that family gives the error for a lack of ports.
 fn fault_of<N: Routes>(net: &N, address: &SocketAddr, error: &io::Error) -> ContactFault {
     let may_be_own = is_of_either(error.raw_os_error());
     let refusal = if may_be_own {
@@ -215,7 +215,7 @@ fn fault_of<N: Routes>(net: &N, address: &SocketAddr, error: &io::Error) -> Cont
     fault
 }
 
-/// Whether a message failed on the network, and not by what the player sent.
+/// Whether a message failed in the network, and not because of what the player sent.
 fn is_of_network(fault: ContactFault) -> bool
     ensures { result ≡ is_of_network fault }
 {
@@ -227,7 +227,7 @@ fn is_of_network(fault: ContactFault) -> bool
     )
 }
 
-/// The fault of a message that failed on the network. It is the player's only if this computer would send to the player.
+/// The error of a message that failed in the network. The player is blamed only if this computer can send to it.
 fn fault_at_refusal(fault: ContactFault, refusal: Option<Shortage>) -> ContactFault
     ensures { result ≡ fault_at_refusal refusal fault }
 {
@@ -237,7 +237,8 @@ fn fault_at_refusal(fault: ContactFault, refusal: Option<Shortage>) -> ContactFa
     }
 }
 
-/// The fault of a message that failed so. One that failed on the network is a shortage if this computer sends nothing to the player now.
+/// The error of a message that failed with `fault`. If it failed in the network, and this computer now cannot send to the player, the error
+/// is what this computer lacks.
 fn blamed<N: Routes>(net: &N, addresses: &[SocketAddr], fault: ContactFault) -> ContactFault {
     if is_of_network(fault) {
         fault_at_refusal(fault, refusal_of_all(net, addresses))
@@ -246,8 +247,8 @@ fn blamed<N: Routes>(net: &N, addresses: &[SocketAddr], fault: ContactFault) -> 
     }
 }
 
-/// The fault of all addresses so far. `before` is that of the earlier ones, `last` that of the last one. A lack of ports or of a network
-/// counts only if no address gave another fault.
+/// The error of all addresses so far, from that of the earlier ones and that of the last one. A lack of ports or of a network counts only if
+/// no address gave another error.
 fn fault_so_far(before: ContactFault, last: ContactFault) -> ContactFault
     ensures { result ≡ fault_so_far before last }
 {
@@ -260,7 +261,8 @@ fn fault_so_far(before: ContactFault, last: ContactFault) -> ContactFault
     }
 }
 
-/// The fault of a message. If it had to wait for a shortage, `waited`, and then had no time left, the shortage is its fault.
+/// The error of a message. If the message had to wait because the referee lacked a resource (`waited`), and then had no time left, this is
+/// the error.
 fn fault_after(waited: Option<Shortage>, fault: ContactFault) -> ContactFault
     ensures { result ≡ fault_after waited fault }
 {
@@ -270,7 +272,7 @@ fn fault_after(waited: Option<Shortage>, fault: ContactFault) -> ContactFault
     }
 }
 
-/// The outcome of an exchange, by the halt of the last read or write, if there was one, and by how far it came.
+/// The outcome of an exchange, from the halt of the last read or write, if there was one, and from how far the exchange came.
 fn outcome_of(
     halt: Option<ContactFault>,
     received: Received,
@@ -293,7 +295,7 @@ fn outcome_of(
     }
 }
 
-/// Connects to an address within the time left, at the second try if the first one is not answered.
+/// Connects to an address within the time that is left. If the first try gets no reply, a second one follows.
 fn connect_to<N: Routes + Clock>(
     net: &N,
     address: &SocketAddr,
@@ -302,7 +304,7 @@ fn connect_to<N: Routes + Clock>(
     let mut limit = first_limit(deadline.after(net, Duration::ZERO)?);
     for _ in 0..2 {
         let tried = TcpStream::connect_timeout(net, address, limit);
-        // The next step finds whether time is left.
+        // The next step finds out whether time is left.
         let _ = deadline.after(net, limit);
         match tried {
             Ok(stream) => return Ok(stream),
@@ -314,9 +316,9 @@ fn connect_to<N: Routes + Clock>(
     Err(LATE)
 }
 
-/// Connects to the first of the addresses that takes a connection, within the time left. Once one has taken a connection, it comes first, and
-/// the others are tried only while this computer lacks something. Otherwise a player could refuse a connection and so pass its message on to
-/// the address of another player, if its name has that address too.
+/// Connects to the first of the addresses that accepts a connection, within the time that is left. An address that has accepted one comes
+/// first, and the others are then tried only while this computer lacks a resource. Otherwise, if the player's name also has the address of
+/// another player, the player could pass its message on to that one by refusing a connection.
 fn connect_once<N: Routes + Clock>(
     net: &N,
     lookup: &mut Lookup,
@@ -342,7 +344,7 @@ fn connect_once<N: Routes + Clock>(
     Err(fault)
 }
 
-/// Pauses before another try to connect. The error is the fault of the message if it has no time left for one; `fault` is that of this try.
+/// Pauses before the next try to connect. If no time is left for one, returns the error of the message; `fault` is the error of this try.
 fn pause<N: Clock>(
     net: &N,
     deadline: &mut Deadline,
@@ -362,18 +364,18 @@ fn pause<N: Clock>(
     }
 }
 
-/// What follows a try to connect that has failed.
+/// What follows a try to connect that failed.
 enum AfterTry {
-    /// Another one, and the player may take no connection for some seconds more: the referee was short of this.
+    /// Another try. The referee lacked this, so a player that accepts no connection is tried for some more seconds.
     Waits(Shortage),
-    /// Another one.
+    /// Another try.
     Tries,
-    /// Nothing: the message has this fault.
+    /// No other try: the message has this error.
     Ends(ContactFault),
 }
 
-/// What follows a try with this fault, behind one with the fault `before`. A player that takes no connection is tried again only if there is
-/// patience left. A try without time is none, so then the fault before it counts.
+/// What follows a try with the error `fault`, after one with the error `before`. A player that accepts no connection is tried again only
+/// if `is_patient`. A try without time does not count, so the earlier error does.
 fn after_try(fault: ContactFault, before: ContactFault, is_patient: bool) -> AfterTry
     ensures { result ≡ after_try before is_patient fault }
 {
@@ -385,15 +387,15 @@ fn after_try(fault: ContactFault, before: ContactFault, is_patient: bool) -> Aft
     }
 }
 
-/// A player that takes no connection is tried again down to this time left of the message, by the time left now.
+/// A player that accepts no connection is tried again until only this time is left. `left` is the time that is left now.
 fn patience_from(left: Duration) -> Duration
     ensures { as_nanos result ≡ as_nanos left - 2_000_000_000 }
 {
     left.saturating_sub(Duration::from_secs(RETRY_SECONDS))
 }
 
-/// Connects to the player within the time left. Tries again while the referee is short of something, and notes this in `waited`. Where the
-/// player takes no connection it is tried again for some seconds, since the message began or since such a shortage.
+/// Connects to the player within the time that is left. Tries again while the referee lacks a resource, and stores this in `waited`. If the
+/// player accepts no connection, tries again for some seconds, counted from the start of the message or from such a lack.
 fn connect<N: Resolves + Clock>(
     net: &N,
     alloc: Global,
@@ -427,12 +429,12 @@ fn connect<N: Resolves + Clock>(
     Err(before)
 }
 
-/// The fault of an exchange that failed so. If the program was not running for a part of it, `has_stalled`, a player that ended the
-/// connection may have waited long enough.
-fn fault_after_stall(has_stalled: bool, fault: ContactFault) -> ContactFault
-    ensures { result ≡ fault_after_stall has_stalled fault }
+/// The error of an exchange that failed with `fault`. If the message's seconds have passed while the program was not running for a part of
+/// them (`is_over`), a player that closed the connection may have waited long enough.
+fn fault_after_stall(is_over: bool, fault: ContactFault) -> ContactFault
+    ensures { result ≡ fault_after_stall is_over fault }
 {
-    match (has_stalled, fault) {
+    match (is_over, fault) {
         (
             true,
             ContactFault::Exchange(
@@ -444,7 +446,7 @@ fn fault_after_stall(has_stalled: bool, fault: ContactFault) -> ContactFault
     }
 }
 
-/// Sends the player the message and reads its answer, over the connection.
+/// Sends the player the message over the connection, and reads its answer.
 fn exchange_over<N: Net + Clock>(
     net: &N,
     alloc: Global,
@@ -465,11 +467,11 @@ fn exchange_over<N: Net + Clock>(
     let stream = stream.end();
     match outcome_of(stream.halt, received, exchanged) {
         Ok(text) => Ok(text),
-        Err(fault) => Err(fault_after_stall(stream.deadline.has_stalled, fault)),
+        Err(fault) => Err(fault_after_stall(stream.deadline.is_over_for_players(), fault)),
     }
 }
 
-/// Hands a player a message and returns the body of its answer. Looking up the host, connecting, writing and reading have `seconds`
+/// Sends a player a message and returns the body of its answer. The lookup of the host, connecting, writing and reading have `seconds`
 /// seconds together. The error says why there is no answer.
 pub fn contact_found<N: Resolves + Clock>(
     net: &N,
@@ -491,8 +493,8 @@ pub fn contact_found<N: Resolves + Clock>(
     }
 }
 
-/// Hands a player one message and returns the body of its answer. The host is looked up for this message. All of it has `seconds`
-/// seconds. The error says why there is no answer.
+/// Sends a player a message and returns the body of its answer. The host is looked up only for this message. All of it has `seconds` seconds.
+/// The error says why there is no answer.
 pub fn contact<N: Resolves + Clock>(
     net: &N,
     alloc: Global,

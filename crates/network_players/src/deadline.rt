@@ -1,6 +1,6 @@
 //! One deadline for all steps of a message.
-ghost use Rattle.std.specs.Prelude.{◌≡◌, ◌⊎◌, ◌-◌, ◌*◌, ◌/◌, max, min, ◌<◌, ◌≤◌, ◌↔◌, Err, IfErr, IfOk, IsOkAnd, IsSome, IsTrue, None, OnOk};
-ghost use Rattle.std.specs.Duration.{as_nanos};
+ghost use Rattle.std.specs.Prelude.{◌≡◌, ◌⊎◌, ◌+◌, ◌-◌, ◌*◌, ◌/◌, max, min, ◌<◌, ◌≤◌, ◌↔◌, Err, IfErr, IfOk, IsOkAnd, IsSome, IsTrue, None, OnOk};
+ghost use Rattle.std.specs.Duration.{as_nanos, max_nanos};
 ghost use Rattle.std.specs.Io.{ReadsAtMost, WritesAtMost};
 ghost use Rattle.std.specs.Io.KnownBytes.{ReadConsumes, WriteAppends};
 ghost use Rattle.std.specs.IoError.{error_kind, raw_os_error};
@@ -19,19 +19,20 @@ use std::net::OpenStream;
 use std::time::{Clock, Duration, Instant};
 use std::{io, thread};
 
-/// A step that takes so much longer than it was asked to, and an eighth of that, shows that the program was not running. In milliseconds.
+/// If a step takes this many milliseconds, and an eighth of the requested time, longer than requested, the program was not running.
 const STALL_MILLIS: u64 = 100;
 
-/// The last part of a message's time is slept through, since the system ends a sleep exactly, and a wait for bytes too late. In milliseconds.
+/// The program sleeps through this last part of a message's time, in milliseconds, because the system ends a sleep exactly but a wait for
+/// bytes too late.
 const LAST_MILLIS: u64 = 20;
 
-/// So many reads may take what is there once the time is over. Together they hold the longest answer.
+/// When the time is over, this many reads may still take the bytes that are there. Together they can take the longest answer.
 const LOOKS: u32 = 64;
 
-/// The limit of a read whose bytes are there, in milliseconds.
+/// The time limit of a read whose bytes are there, in milliseconds.
 const AT_ONCE_MILLIS: u64 = 1;
 
-/// The time that a step costs a message. If the program was not running for a part of it, only what the step was asked to take.
+/// The time that a step costs a message. If the program was not running for a part of it, the step costs only what was requested.
 fn charged(asked: Duration, passed: Duration) -> Duration
     ensures { IsCharged (as_nanos asked) (as_nanos passed) (as_nanos result) }
 {
@@ -44,8 +45,8 @@ fn charged(asked: Duration, passed: Duration) -> Duration
     }
 }
 
-/// The limit of the first try to connect or to write, by the time left: a quarter, and at most a second. Such a step mostly ends at once, so a
-/// program that is stopped in it loses no more of the message's time.
+/// The time limit of the first try to connect or to write: a quarter of the time that is left, and at most a second. Such a step mostly ends
+/// at once, so a program that is stopped during it loses no more of the message's time than this.
 pub(crate) fn first_limit(left: Duration) -> Duration
     ensures { as_nanos result ≡ max 1_000_000 (min 1_000_000_000 (as_nanos left / 4)) }
 {
@@ -54,26 +55,26 @@ pub(crate) fn first_limit(left: Duration) -> Duration
         .max(Duration::from_millis(1))
 }
 
-/// The fault of a message whose seconds are over. What was received of its answer by then is not known here.
+/// The error of a message whose time is over. How much of its answer has come is not known here.
 pub(crate) const LATE: ContactFault = ContactFault::Late(Received::Unconnected);
 
-/// The fault of a message for which the clock can't be read.
+/// The error of a message if the clock cannot be read.
 const NO_CLOCK: ContactFault = ContactFault::Shortage(Shortage::Clock);
 
-/// The time that a message has left. It runs while the referee runs.
+/// The time that a message has left. It runs only while the referee runs.
 #[derive(Clone, Copy)]
 pub struct Deadline {
-    /// The moment of the last reading of the clock, and the time left at it.
+    /// When the clock was last read. `left` is the time that was left then.
     seen: Instant,
     pub(crate) left: Duration,
-    /// Whether the program was not running for a part of the message.
-    pub(crate) has_stalled: bool,
-    /// So many reads may still take what is there once the time is over.
+    /// The time of the message that was not charged, because the program was not running.
+    stalled: Duration,
+    /// How many reads may still take the bytes that are there when the time is over.
     looks: u32,
 }
 
 impl Deadline {
-    /// A deadline `seconds` from now. The error is `Clock` if the clock can't be read.
+    /// Creates a deadline `seconds` from now. The error is `Clock` if the clock cannot be read.
     pub fn within(clock: &impl Clock, seconds: u32) -> Result<Deadline, ContactFault>
         ensures limit { IfOk result (λ deadline. as_nanos deadline.left ≡ seconds * 1_000_000_000) }
         ensures clock { IfErr result (λ fault. fault ≡ faults.Shortage Clock) }
@@ -82,27 +83,33 @@ impl Deadline {
             Ok(seen) => Ok(Deadline {
                 seen,
                 left: Duration::from_secs(u64::from(seconds)),
-                has_stalled: false,
+                stalled: Duration::ZERO,
                 looks: LOOKS,
             }),
             Err(_) => Err(NO_CLOCK),
         }
     }
 
-    /// Takes what a step costs from the time left. It took the time `passed`.
+    /// Subtracts the cost of a step that took the time `passed`.
     fn charge(&mut self, charged: Duration, passed: Duration)
         ensures left { as_nanos self.new.left ≡ as_nanos self.old.left - as_nanos charged }
-        ensures stalled { IsTrue self.new.has_stalled ↔ (IsTrue self.old.has_stalled ⊎ (as_nanos charged < as_nanos passed)) }
+        ensures stalled { as_nanos self.new.stalled ≡ min (as_nanos self.old.stalled + (as_nanos passed - as_nanos charged)) max_nanos }
         ensures looks { self.new.looks ≡ self.old.looks }
     {
         self.left = self.left.saturating_sub(charged);
-        if !passed.saturating_sub(charged).is_zero() {
-            self.has_stalled = true;
-        }
+        self.stalled = self.stalled.saturating_add(passed.saturating_sub(charged));
     }
 
-    /// The time left after a step that was asked to take this long, 0 for one that waits for nothing. Without any the error is `Late`, and
-    /// `Clock` if the clock can't be read.
+    /// Whether the message's seconds have passed although the program was not running for a part of them. A player that closes the
+    /// connection only now may have waited long enough.
+    pub(crate) fn is_over_for_players(&self) -> bool
+        ensures { IsTrue result ↔ (0 < as_nanos self.now.stalled) × (as_nanos self.now.left ≤ as_nanos self.now.stalled) }
+    {
+        !self.stalled.is_zero() && self.left.saturating_sub(self.stalled).is_zero()
+    }
+
+    /// The time that is left after a step for which the time `asked` was requested, 0 if the step does not wait. The error is `Late` if no
+    /// time is left, and `Clock` if the clock cannot be read.
     pub fn after(&mut self, clock: &impl Clock, asked: Duration) -> Result<Duration, ContactFault>
         ensures some { IfOk result (λ left. 0 < as_nanos left) }
         ensures left { IfOk result (λ left. left ≡ self.new.left) }
@@ -121,7 +128,7 @@ impl Deadline {
         }
     }
 
-    /// What a read does next. A look at what is there is one less to come.
+    /// The next step of a read. Counts a read that takes the bytes that are there.
     fn next_step(&mut self) -> Step
         ensures step { IsStep (as_nanos self.old.left) self.old.looks result }
         ensures left { self.new.left ≡ self.old.left }
@@ -138,18 +145,18 @@ impl Deadline {
 /// What a read of a message does next, until its bytes are there.
 #[derive(Clone, Copy)]
 enum Step {
-    /// It waits for them.
+    /// It waits for bytes.
     Waits(Duration),
     /// It sleeps to the end of the time.
     Sleeps(Duration),
-    /// It takes what is there.
+    /// It takes the bytes that are there.
     Looks,
     /// It ends.
     Ends,
 }
 
 impl Step {
-    /// How long the step was asked to take.
+    /// The time that is requested for the step.
     fn asked(&self) -> Duration {
         match *self {
             Step::Waits(time) | Step::Sleeps(time) => time,
@@ -158,8 +165,8 @@ impl Step {
     }
 }
 
-/// The next step of a read, by the time left, and by how many looks are left. A wait takes half the time: the system may end it an eighth
-/// too late.
+/// The next step of a read, given the time that is left and how many final reads are left. A wait takes half the time, because the system may
+/// end it an eighth too late.
 fn step_at(left: Duration, looks: u32) -> Step
     ensures { IsStep (as_nanos left) looks result }
 {
@@ -177,7 +184,7 @@ fn step_at(left: Duration, looks: u32) -> Step
 /// More steps than a wait for bytes takes, unless the program is stopped as often.
 const MAX_STEPS: u32 = 1_000_000;
 
-/// Whether an error says that a step ran out of time. With a number it is the system's own: it gave the connection up.
+/// Whether the error means that a step ran out of time. An error with a number means that the system gave up the connection.
 pub(crate) fn is_time_out(error: &io::Error) -> bool
     ensures { IsTrue result ↔ IsTimeOut (error_kind error.now) (raw_os_error error.now) }
 {
@@ -188,7 +195,7 @@ pub(crate) fn is_time_out(error: &io::Error) -> bool
     }
 }
 
-/// Takes the step. Returns whether bytes are there, or the end of the stream.
+/// Takes the step. Returns whether bytes or the end of the stream are there.
 fn take_step<C: Clock, S: OpenStream>(clock: &C, stream: &S, step: &Step) -> io::Result<bool> {
     let mut byte = [0];
     let peeked = match *step {
@@ -215,7 +222,7 @@ fn take_step<C: Clock, S: OpenStream>(clock: &C, stream: &S, step: &Step) -> io:
     }
 }
 
-/// Waits until bytes are there, or the stream has ended. The result is the halt of a message that has no time left for that.
+/// Waits for bytes or the end of the stream. Returns the halt of a message that has no time left for it.
 fn wait_for_bytes<C: Clock, S: OpenStream>(
     clock: &C,
     stream: &S,
@@ -240,8 +247,8 @@ fn wait_for_bytes<C: Clock, S: OpenStream>(
     Ok(Some(LATE))
 }
 
-/// The halt of a failed read or write, by the error's kind and its number. `None` if the player caused the failure. A connection that the
-/// system gave up by a limit of its own counts as closed by the player.
+/// The halt for a failed read or write, from the error's kind and number. `None` if the player caused the failure. A connection that the
+/// system gave up at its own limit counts as closed by the player.
 fn failed_halt(kind: ErrorKind, number: Option<i32>) -> Option<ContactFault>
     ensures { result ≡ failed_halt kind number }
 {
@@ -254,8 +261,8 @@ fn failed_halt(kind: ErrorKind, number: Option<i32>) -> Option<ContactFault>
     }
 }
 
-/// A stream with one deadline for all its reads and writes. The bytes of a read count if they were there when the program looked first after
-/// the deadline: it looks at once if it runs.
+/// A stream with one deadline for all its reads and writes. Bytes count if they were there when the program first checked after the deadline.
+/// If the program runs, it checks at once.
 #[derive(Drop)]
 pub struct TimedStream<'a, C, S> {
     clock: &'a C,
@@ -278,7 +285,7 @@ impl<'a, C: Clock, S: OpenStream> TimedStream<'a, C, S> {
         }
     }
 
-    /// Notes the halt of a step that is not taken, and returns its error.
+    /// Stores the halt of a step that is not taken, and returns its error.
     fn halted(&mut self, halt: ContactFault) -> io::Error
         ensures kept { self.new.stream ≡ self.old.stream }
         ensures halted { IsSome self.new.halt }
@@ -287,7 +294,7 @@ impl<'a, C: Clock, S: OpenStream> TimedStream<'a, C, S> {
         io::Error::from(ErrorKind::TimedOut)
     }
 
-    /// Notes the halt of a step that failed so, and returns the error.
+    /// Stores the halt of a step that failed with this error, and returns the error.
     fn failed(&mut self, error: io::Error) -> io::Error
         ensures kept { self.new.stream ≡ self.old.stream }
         ensures halt { self.new.halt ≡ failed_halt (error_kind error) (raw_os_error error) }
@@ -328,7 +335,7 @@ impl<C: Clock, S: Read + OpenStream> Read for TimedStream<'_, C, S> {
 }
 
 impl<C: Clock, S: Write + OpenStream> TimedStream<'_, C, S> {
-    /// Writes for so long at most, which the message has as time left.
+    /// Writes for at most `limit`, which is within the message's time.
     fn write_within(&mut self, buf: &[u8], limit: Duration) -> io::Result<usize>
         ensures bound { WritesAtMost result buf.now }
         ensures bytes { WriteAppends (S.contents self.old.stream) (S.contents self.new.stream) result buf.now }
@@ -337,7 +344,7 @@ impl<C: Clock, S: Write + OpenStream> TimedStream<'_, C, S> {
             Ok(()) => self.stream.write(buf),
             Err(error) => Err(error),
         };
-        // The next step finds whether time is left.
+        // The next step finds out whether time is left.
         let _ = self.deadline.after(self.clock, limit);
         taken
     }

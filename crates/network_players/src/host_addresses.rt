@@ -1,4 +1,4 @@
-//! Looking up the addresses of a host, which may take as long as the resolver of this computer likes.
+//! Looks up the addresses of a host. This takes as long as the resolver of this computer takes.
 
 use crate::routes::{Routes, lack_of_network, lacks_family};
 use crate::shortage::{lookup_shortage, shortage_of};
@@ -9,10 +9,10 @@ use std::io::ErrorKind;
 use std::net::{IpAddr, Ipv6Addr, Net, SocketAddr, ToSocketAddrs};
 use std::os::unix::net::UnixStream;
 
-/// So often in succession the resolver has to find no address. Without a descriptor it finds none for any name.
+/// How many times in a row the resolver must find no address. Without a file descriptor it finds none for any name.
 const DENIALS: u32 = 3;
 
-/// The host without its brackets if it is an IPv6 address with a zone. `None` if it is anything else.
+/// The host without its brackets if it is an IPv6 address with a zone, or else `None`.
 fn zoned(host: &str) -> Option<&str> {
     let inner = host.strip_prefix('[')?.strip_suffix(']')?;
     let (address, _) = inner.split_once('%')?;
@@ -20,13 +20,12 @@ fn zoned(host: &str) -> Option<&str> {
     Some(inner)
 }
 
-/// Whether the host is an address itself, so that no resolver is asked for it.
 pub(crate) fn is_address(host: &str) -> bool {
     host.parse::<IpAddr>().is_ok() || zoned(host).is_some()
 }
 
-/// Whether the resolver says with this error that there is no such name, or no address of it: only the end of its words tells. A host with
-/// a byte of 0 is no name either.
+/// Whether the resolver reports that the name does not exist or has no address. Only the end of its message shows this. A host with a zero
+/// byte is not a name either.
 fn is_unknown(alloc: Global, error: &io::Error) -> Result<bool, AllocError> {
     let words = error.to_string(alloc)?;
     Ok(
@@ -38,7 +37,7 @@ fn is_unknown(alloc: Global, error: &io::Error) -> Result<bool, AllocError> {
     )
 }
 
-/// What the referee was short of as a lookup failed so. `None` if the host has no address.
+/// What the referee lacked when a lookup failed with this error. `None` if the host has no address.
 fn failed_lookup<N: Routes>(net: &N, alloc: Global, error: &io::Error) -> Option<Shortage> {
     let (is_unknown, lack) = match is_unknown(alloc, error) {
         Ok(true) => (true, None),
@@ -48,7 +47,7 @@ fn failed_lookup<N: Routes>(net: &N, alloc: Global, error: &io::Error) -> Option
     lookup_shortage(error.kind(), error.raw_os_error(), is_unknown, lack)
 }
 
-/// Looks up the addresses of the host once. The list is empty if none was found. The error is a shortage of the referee.
+/// Looks up the addresses of the host once. Returns an empty list if there are none. The error is what the referee lacked.
 fn told_addresses<N: Routes>(
     net: &N,
     alloc: Global,
@@ -69,7 +68,8 @@ fn told_addresses<N: Routes>(
     }
 }
 
-/// The shortage for which the resolver may find no address: it has as many descriptors open at once as two pairs of sockets have.
+/// What the referee lacks if the resolver may find no address for that reason: the resolver needs as many open descriptors as two pairs of
+/// sockets.
 fn resolver_shortage<N: Net>(net: &N) -> Option<Shortage> {
     let first = UnixStream::pair(net);
     let second = UnixStream::pair(net);
@@ -82,8 +82,8 @@ fn resolver_shortage<N: Net>(net: &N) -> Option<Shortage> {
     }
 }
 
-/// Looks up the addresses of the host. The list is empty if it has none that this computer could use. The error is a shortage of the
-/// referee.
+/// Looks up the addresses of the host. Returns an empty list if it has none that this computer can use. The error is what the referee
+/// lacked.
 pub(crate) fn addresses<N: Routes>(
     net: &N,
     alloc: Global,

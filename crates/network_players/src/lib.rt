@@ -1,8 +1,6 @@
-//! Players over the network. Each message has a connection of its own with one deadline, and a player rests between two messages.
+//! Players over the network. Each message has a separate connection with one deadline. A player waits between two messages.
 //!
-//! `Sockets` reaches players over HTTP.
-//!
-//! Free functions take the allocator first, after a handle for waiting or the network.
+//! `Sockets` makes players that are reached over HTTP.
 #![tactic(auto)]
 
 mod answer_budget;

@@ -1,4 +1,4 @@
-//! The addresses of a player's host, which a thread looks up while the player waits as long as its message has time.
+//! The addresses of a player's host. A thread looks them up while the player waits, for as long as its message has time.
 ghost use Rattle.std.specs.Prelude.{◌≡◌, ◌*◌, min, IfErr, IfSome, IsSome, None, OnErr, OnOk, Some};
 ghost use Rattle.std.specs.Duration.{as_nanos};
 ghost use Rattle.http_exchange.specs.declared.received.Received.{Received};
@@ -20,15 +20,15 @@ use std::time::{Clock, Duration};
 /// The first pause between two checks whether a lookup has ended, in milliseconds. Each further pause is twice as long.
 const FIRST_PAUSE_MILLIS: u64 = 1;
 
-/// The limit of such a pause, in milliseconds.
+/// The longest such pause, in milliseconds.
 const LONGEST_PAUSE_MILLIS: u64 = 50;
 
-/// A message checks so often whether a lookup has ended. With their pauses these checks take longer than any clock.
+/// How often a message checks whether a lookup has ended. With their pauses these checks take longer than any clock.
 const MAX_CHECKS: u32 = 2_000_000;
 
 const _: () = prove!((MAX_CHECKS as u64 - 10) * LONGEST_PAUSE_MILLIS > MAX_CLOCK as u64 * 1_000);
 
-/// What comes of a lookup: the addresses, none if the host has no address, or what the referee was short of.
+/// The result of a lookup: the addresses, none if the host has no address, or what the referee lacked.
 pub type Found = Result<Vec<SocketAddr>, Shortage>;
 
 /// A lookup of a host's addresses. The thread that makes it shares it with the player that waits for it.
@@ -41,14 +41,14 @@ pub struct HostQuery {
 }
 
 impl HostQuery {
-    /// Makes the lookup, which may take long, and notes what comes of it.
+    /// Makes the lookup, which may take long, and stores the result.
     pub fn make<N: Routes>(&self, net: &N) {
         let found = addresses(net, self.alloc, self.host.as_str(), self.port);
         // Only the first lookup counts.
         let _ = self.found.try_set(found);
     }
 
-    /// What came of the lookup. `None` if it has not ended yet.
+    /// The result of the lookup, or `None` if it has not ended yet.
     pub fn found(&self) -> Option<&Found> {
         self.found.get()
     }
@@ -56,20 +56,20 @@ impl HostQuery {
 
 /// A network on which hosts have names.
 pub trait Resolves: Routes {
-    /// Begins to make the lookup. The error: there is no memory or thread for it.
+    /// Starts the lookup. The error means that there is no memory or thread for it.
     fn begin(&self, query: Arc<HostQuery>) -> Result<(), AllocError>;
 
-    /// How long the beginning may take, if the message has so much time left.
+    /// How long starting may take if the message has this much time left.
     fn longest_begin(&self, left: Duration) -> Duration;
 
-    /// What came of the lookup. `None` if it has not ended yet.
+    /// The result of the lookup, or `None` if it has not ended yet.
     fn found<'q>(&self, query: &'q HostQuery) -> Option<&'q Found> {
         query.found()
     }
 }
 
-/// Makes the lookup in a thread of its own, which nobody waits for. The error: no thread can be made. The types of the sockets are named, else
-/// nothing shows that the thread may use the network.
+/// Makes the lookup in a separate thread, for which nothing waits. The error means that no thread can be created. The types of the sockets
+/// are named because otherwise nothing shows that the thread may use the network.
 pub fn make_beside<R>(rt: R, query: Arc<HostQuery>) -> Result<(), AllocError>
 where
     R: Net<Listener = TcpListener, Stream = TcpStream> + Threads + Copy + Send + 'static,
@@ -78,7 +78,7 @@ where
     Ok(())
 }
 
-/// A runtime by itself makes the lookup while the message waits.
+/// A runtime without such a function makes the lookup while the message waits.
 impl<R: Net + Copy + Send + 'static> Resolves for R {
     fn begin(&self, query: Arc<HostQuery>) -> Result<(), AllocError> {
         query.make(self);
@@ -94,13 +94,13 @@ impl<R: Net + Copy + Send + 'static> Resolves for R {
 #[derive(Drop)]
 pub struct Lookup {
     found: Option<Vec<SocketAddr>>,
-    /// Whether the first address is there because it has taken a connection.
+    /// Whether the first address is first because it has accepted a connection.
     pub(crate) has_preferred: bool,
-    /// The lookup that is under way.
+    /// The lookup that has not ended yet.
     query: Option<Arc<HostQuery>>,
 }
 
-/// A lookup of the addresses of a player's host, which is not made yet.
+/// A lookup of the addresses of a player's host, which has not started.
 fn query_of(alloc: Global, player: &PlayerAddress<'_>) -> Result<Arc<HostQuery>, AllocError> {
     let host = String::from_str(alloc, player.host)?;
     let query = HostQuery {
@@ -112,7 +112,8 @@ fn query_of(alloc: Global, player: &PlayerAddress<'_>) -> Result<Arc<HostQuery>,
     Ok(Arc::new(alloc, query)?)
 }
 
-/// Begins a lookup. That of an address asks no resolver, so it is made at once. `None`: there is no memory or thread for it.
+/// Starts a lookup. If the host is an address, the lookup needs no resolver and is made at once. `None` means that there is no memory or
+/// thread for it.
 fn begun<N: Resolves>(
     net: &N,
     alloc: Global,
@@ -134,7 +135,7 @@ fn begun<N: Resolves>(
     }
 }
 
-/// What came of a lookup, for the player that waited for it.
+/// Copies the result of a lookup for the player that waited for it.
 fn copied(alloc: Global, found: &Found) -> Found {
     match found {
         Ok(found) => match Vec::from_slice(alloc, found) {
@@ -154,8 +155,8 @@ fn pause_after(limit: Duration) -> Duration
         .min(Duration::from_millis(LONGEST_PAUSE_MILLIS))
 }
 
-/// Waits for the end of the lookup as long as the message has time. Its beginning was asked to take so long. The message sleeps between two
-/// checks: a wait for another thread may never end.
+/// Waits for the end of the lookup, for as long as the message has time. `asked` is the time that was requested for its start. The message
+/// sleeps between two checks, because a wait for another thread may never end.
 fn wait_for<N: Resolves + Clock>(
     net: &N,
     alloc: Global,
@@ -178,7 +179,7 @@ fn wait_for<N: Resolves + Clock>(
 }
 
 impl Lookup {
-    /// A host that is not looked up yet.
+    /// Creates the state of a host that has not been looked up.
     pub const fn new() -> Lookup
         ensures { result.found ≡ None }
     {
@@ -189,8 +190,8 @@ impl Lookup {
         }
     }
 
-    /// Looks up the addresses of the player's host, as long as the message has time. They are the same at each call. A lookup that takes
-    /// longer goes on for the next message. Only after a shortage there is another one.
+    /// Looks up the addresses of the player's host, for as long as the message has time. Later calls return the same addresses. A lookup that
+    /// takes longer continues for the next message. Another one follows only if the referee lacked a resource.
     pub fn look_up<N: Resolves + Clock>(
         &mut self,
         net: &N,
@@ -207,7 +208,7 @@ impl Lookup {
             return Ok(());
         }
         let left = deadline.after(net, Duration::ZERO)?;
-        // Nobody is asked for an address: if that takes time, the referee was not running.
+        // An address needs no resolver: if that takes time, the referee was not running.
         let asked = if is_address(player.host) {
             Duration::ZERO
         } else {
@@ -230,7 +231,7 @@ impl Lookup {
         }
     }
 
-    /// Puts the address at this place first, since it has taken a connection.
+    /// Moves the address with this index to the front, because it has accepted a connection.
     pub fn prefer(&mut self, place: usize) {
         if let Some(found) = &mut self.found {
             if place < found.len() {
@@ -240,7 +241,7 @@ impl Lookup {
         }
     }
 
-    /// The addresses that were found. There are none before the host is looked up.
+    /// The addresses that were found; none before the lookup has ended.
     pub fn addresses(&self) -> &[SocketAddr]
         ensures { IfSome self.now.found (λ found. result.now ≡ found.items) }
     {

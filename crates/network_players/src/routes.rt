@@ -1,4 +1,4 @@
-//! The routes of this computer. Nothing is sent.
+//! The routes of this computer. Finding them sends nothing.
 ghost use Rattle.std.specs.Prelude.{◌≡◌, ◌↔◌, IsTrue, None, Some};
 ghost use Rattle.std.specs.IoError.{error_kind, raw_os_error};
 ghost use Rattle.std.specs.Net.Addr.{is_ipv4};
@@ -11,7 +11,7 @@ use match_plans::Shortage;
 use std::io;
 use std::net::{IpAddr, Ipv4Addr, Ipv6Addr, Net, SocketAddr, UdpSocket};
 
-/// The address of this computer from which one of the same family is reached.
+/// The address of this computer from which it reaches others of the same family.
 pub(crate) fn any_address(address: &SocketAddr) -> SocketAddr
     ensures { is_ipv4 (socket_ip result) ≡ is_ipv4 (socket_ip address.now) }
 {
@@ -21,7 +21,7 @@ pub(crate) fn any_address(address: &SocketAddr) -> SocketAddr
     }
 }
 
-/// An address of IPv4 or IPv6 that no computer has, since it is reserved for documents. Only a default route leads there.
+/// An IPv4 or IPv6 address that no computer has, because it is reserved for documentation. Only a default route leads there.
 pub(crate) fn outside(is_of_ipv4: bool) -> SocketAddr
     ensures { is_ipv4 (socket_ip result) ≡ is_of_ipv4 }
 {
@@ -33,7 +33,7 @@ pub(crate) fn outside(is_of_ipv4: bool) -> SocketAddr
     SocketAddr::new(ip, 9)
 }
 
-/// What this computer is short of if it finds no route with this error.
+/// What this computer lacks if it finds no route with this error.
 fn route_shortage(error: &io::Error) -> Shortage
     ensures { result ≡ route_shortage (error_kind error.now) (raw_os_error error.now) }
 {
@@ -44,9 +44,9 @@ fn route_shortage(error: &io::Error) -> Shortage
     }
 }
 
-/// A network whose routes are known.
+/// A network with known routes.
 pub trait Routes: Net {
-    /// What this computer is short of, so that it has no route to the address. Nothing is sent.
+    /// What this computer lacks to have a route to the address. Sends nothing.
     fn lack_of_route(&self, address: &SocketAddr) -> Option<Shortage>;
 }
 
@@ -64,14 +64,14 @@ impl<R: Net + Copy + Send + 'static> Routes for R {
     }
 }
 
-/// What this computer is short of, so that it has no default route, neither of IPv4 nor of IPv6.
+/// What this computer lacks to have a default route, of IPv4 or of IPv6.
 pub(crate) fn lack_of_network<N: Routes>(net: &N) -> Option<Shortage> {
     net.lack_of_route(&outside(true))?;
     net.lack_of_route(&outside(false))
 }
 
-/// Whether this computer lacks the family of an address, by what it is short of for a route to the address, a default route of its family, and
-/// one of the other family.
+/// Whether this computer lacks the family of an address, given what it lacks for a route to the address, for a default route of the same
+/// family, and for one of the other family.
 fn is_without_family(
     to_address: Option<Shortage>,
     by_family: Option<Shortage>,
@@ -85,7 +85,7 @@ fn is_without_family(
     )
 }
 
-/// Whether this computer has a network, but no route to the address, nor a default route of its family.
+/// Whether this computer has a network, but neither a route to the address nor a default route of its family.
 pub(crate) fn lacks_family<N: Routes>(net: &N, address: &SocketAddr) -> bool {
     let to_address = net.lack_of_route(address);
     if to_address.is_none() {

@@ -1,4 +1,4 @@
-//! The errors of the system that are shortages of the referee.
+//! Errors of the system that mean that the referee lacks a resource.
 ghost use Rattle.std.specs.Prelude.{◌≡◌, Some};
 ghost use Rattle.std.specs.IoError.{error_kind, raw_os_error};
 ghost use Rattle.network_players.specs.Shortages.{coded_shortage, error_shortages, is_of_either, lookup_shortage, shortage_in, system_shortage};
@@ -7,12 +7,12 @@ use match_plans::Shortage;
 use std::io;
 use std::io::ErrorKind;
 
-/// The shortage of the error with this number, for the errors of Linux whose kind says too little.
+/// What the referee lacks at an error of Linux with this number, for errors whose kind does not show it.
 fn error_shortage(number: u32) -> Option<Shortage>
     ensures { result ≡ shortage_in error_shortages number }
 {
     match number {
-        // EPERM, by a rule of this computer's own firewall.
+        // EPERM, from a rule of this computer's firewall.
         1 => Some(Shortage::Network),
         // ENFILE and EMFILE.
         23 | 24 => Some(Shortage::Descriptors),
@@ -24,7 +24,7 @@ fn error_shortage(number: u32) -> Option<Shortage>
     }
 }
 
-/// Whether an error with this number may come from this computer, or from the player or a router on the way to it. A probe decides.
+/// Whether an error with this number can come both from this computer and from the player or a router on the way to it. A probe decides.
 pub(crate) fn is_of_either(number: Option<i32>) -> bool
     ensures { result ≡ is_of_either number }
 {
@@ -35,7 +35,7 @@ pub(crate) fn is_of_either(number: Option<i32>) -> bool
     }
 }
 
-/// The shortage of an error with this kind, and with this number if it has one.
+/// What the referee lacks at an error with this kind and number.
 pub(crate) fn system_shortage(kind: ErrorKind, number: Option<i32>) -> Option<Shortage>
     ensures { result ≡ system_shortage kind number }
 {
@@ -50,17 +50,16 @@ pub(crate) fn system_shortage(kind: ErrorKind, number: Option<i32>) -> Option<Sh
     }
 }
 
-/// The shortage of the referee that an error of the system on the way to a player reports. `None` if the player or its network can cause the
-/// error.
+/// What the referee lacks according to a system error on the way to a player. `None` if the player or its network can cause the error.
 pub fn shortage_of(error: &io::Error) -> Option<Shortage>
     ensures { result ≡ system_shortage (error_kind error.now) (raw_os_error error.now) }
 {
     system_shortage(error.kind(), error.raw_os_error())
 }
 
-/// What the referee was short of as the lookup of a host failed, by the error's kind and its number, and by what this computer is short of,
-/// so that it has no network. `None` if the host has no address. If the resolver says that there is no such name, `is_unknown`, or if it
-/// can't tell, the error has no number.
+/// What the referee lacked when the lookup of a host failed, from the error's kind and number, and from what this computer lacks to have a
+/// network. `None` if the host has no address. If the resolver reports that the name does not exist (`is_unknown`), or that it cannot tell,
+/// the error has no number.
 pub(crate) fn lookup_shortage(
     kind: ErrorKind,
     number: Option<i32>,
@@ -80,7 +79,7 @@ pub(crate) fn lookup_shortage(
     }
 }
 
-/// The code of a shortage, by which threads share it.
+/// The code by which threads share what the referee lacks.
 pub(crate) fn code_of(shortage: Shortage) -> u64
     ensures { coded_shortage result ≡ Some shortage }
 {
@@ -95,7 +94,7 @@ pub(crate) fn code_of(shortage: Shortage) -> u64
     }
 }
 
-/// The shortage with this code. 0 is the code of none.
+/// What the referee lacks according to this code. 0 means nothing.
 pub(crate) fn coded(code: u64) -> Option<Shortage>
     ensures { result ≡ coded_shortage code }
 {

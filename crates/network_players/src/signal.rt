@@ -1,4 +1,4 @@
-//! The rests of a match's players between their messages, and the signal that wakes them and keeps the match's shortage.
+//! How the players of a match wait between their messages, and the signal that wakes them and stores what the referee lacked.
 ghost use Rattle.std.specs.Prelude.{◌≡◌, ◌+◌, ◌-◌, ◌*◌, ◌^◌, min, IfNone, IfOk, IsFalse, IsTrue, length, true};
 ghost use Rattle.std.specs.Duration.{as_nanos};
 
@@ -9,36 +9,35 @@ use std::sync::Wait;
 use std::sync::atomic::{AtomicU64, Ordering};
 use std::time::{Clock, Duration, Instant};
 
-/// The limit of a player's first rest after a message, in milliseconds.
+/// The longest first wait of a player after a message, in milliseconds.
 const FIRST_REST_MILLIS: u64 = 100;
 
-/// The limit of any rest, in milliseconds.
+/// The longest wait, in milliseconds.
 const LONGEST_REST_MILLIS: u64 = 2_000;
 
-/// The code of no shortage.
 const NO_SHORTAGE: u64 = 0;
 
-/// The signal that the players of a match share: it says when a round begins, and what the referee was short of.
+/// The signal that the players of a match share. It signals that a round begins, and what the referee lacked.
 ///
-/// A round begins when a player gets its next message, since each role gets one message in a round. No promise depends on when a player
-/// is woken: a player that is not woken goes on when its rest is over.
+/// A round begins when a player gets its next message, since each role gets one message in a round. No guarantee depends on when a
+/// player is woken: a player that is not woken continues when its wait is over.
 #[derive(Drop)]
 pub struct RoundSignal {
-    /// The highest number of a message that one of the players got.
+    /// The highest number of a message that a player got.
     latest: AtomicU64,
-    /// The number of times that the resting players were woken.
+    /// How often the waiting players were woken.
     calls: AtomicU64,
-    /// The number of players that were made and are not dropped yet.
+    /// The number of players that exist.
     seated: AtomicU64,
-    /// The number of players that may get a further message, and of those that rest.
+    /// The number of players that may get another message, and of those that wait.
     players: AtomicU64,
     resting: AtomicU64,
-    /// The code of the shortage that was noted last.
+    /// The code of what the referee lacked last.
     shortage: AtomicU64,
 }
 
 impl RoundSignal {
-    /// The signal of a new match.
+    /// Creates the signal of a new match.
     pub const fn new() -> RoundSignal {
         RoundSignal {
             latest: AtomicU64::new(0),
@@ -50,7 +49,7 @@ impl RoundSignal {
         }
     }
 
-    /// The signals of `count` new matches. The error is out of memory.
+    /// Creates the signals of `count` new matches. The only error is out of memory.
     pub fn many(alloc: Global, count: usize) -> Result<Vec<RoundSignal>, AllocError>
         ensures { IfOk result (λ signals. length signals.items ≡ count) }
     {
@@ -61,12 +60,12 @@ impl RoundSignal {
         Ok(signals)
     }
 
-    /// Notes that the referee was short of this in the match. The match then has no record.
+    /// Stores what the referee lacked in the match. Such a match has no record.
     pub(crate) fn note(&self, shortage: Shortage) {
         self.shortage.store(code_of(shortage), Ordering::SeqCst);
     }
 
-    /// The shortage in the match that was noted last, if there was one. It is forgotten once a player is made and no other one is left.
+    /// What the referee lacked in the match last, if anything. This is reset when a player is made while there are no others.
     pub fn shortage(&self) -> Option<Shortage> {
         coded(self.shortage.load(Ordering::SeqCst))
     }
@@ -75,21 +74,21 @@ impl RoundSignal {
         self.calls.load(Ordering::SeqCst)
     }
 
-    /// Wakes all resting players. Returns the number of times that they had been woken before.
+    /// Wakes all waiting players. Returns how often they had been woken before.
     fn call(&self) -> u64 {
         let calls = self.calls.fetch_add(1, Ordering::SeqCst);
         self.calls.wake_all();
         calls
     }
 
-    /// Notes that a player leaves. The match is usually over then, so the others are woken.
+    /// Notes that a player leaves. The match is then usually over, so this wakes the others.
     fn leave(&self) {
         self.players.fetch_sub(1, Ordering::SeqCst);
         self.call();
     }
 }
 
-/// The time since `moment`. It is 0 if there is no moment or the clock can't be read.
+/// The time since `moment`, or 0 if there is no moment or the clock cannot be read.
 pub fn time_since(clock: &impl Clock, moment: Option<Instant>) -> Duration
     ensures { IfNone moment (as_nanos result ≡ 0) }
 {
@@ -99,7 +98,7 @@ pub fn time_since(clock: &impl Clock, moment: Option<Instant>) -> Duration
     }
 }
 
-/// The limit of the rest after one with the limit `rest`.
+/// The longest wait after one of at most `rest`.
 fn rest_after(rest: Duration) -> Duration
     ensures { as_nanos result ≡ min 2_000_000_000 (as_nanos rest * 2) }
 {
@@ -108,22 +107,22 @@ fn rest_after(rest: Duration) -> Duration
     if doubled < longest { doubled } else { longest }
 }
 
-/// The rests of a player between its messages. Each ends when a round begins. The first one after a message takes a tenth of a second at
-/// most, and each further one twice as long, up to two seconds.
+/// The waits of a player between its messages. Each ends when a round begins. The first wait after a message takes at most a tenth of a
+/// second, and each further one twice as long, up to two seconds.
 pub struct Pace<'a> {
     signal: &'a RoundSignal,
     /// The number of messages that the player got.
     messages: u64,
-    /// The number of times that the players had been woken before the role last asked what is due.
+    /// How often the players had been woken when the role last asked what is due.
     seen: u64,
-    /// The limit of the next rest.
+    /// The longest next wait.
     rest: Duration,
-    /// Whether the player has rested since its last message.
+    /// Whether the player has waited since its last message.
     has_rested: bool,
     has_left: bool,
 }
 
-/// A player that is dropped leaves, if it has not left before.
+/// A player leaves when it is dropped, if it has not left before.
 impl Drop for Pace<'_> {
     fn drop(self) {
         let Pace {
@@ -142,12 +141,12 @@ impl Drop for Pace<'_> {
 }
 
 impl<'a> Pace<'a> {
-    /// The pace of a new player, in the match of this signal.
+    /// Creates the pace of a new player in the match of this signal.
     pub fn new(signal: &'a RoundSignal) -> Pace<'a>
         ensures rest { as_nanos result.rest ≡ 100_000_000 }
         ensures here { IsFalse result.has_left }
     {
-        // The first player begins a match, so what an earlier attempt at it noted is forgotten.
+        // The first player begins a match, so what an earlier attempt has stored is reset.
         if signal.seated.fetch_add(1, Ordering::SeqCst) == 0 {
             signal.latest.store(0, Ordering::SeqCst);
             signal.shortage.store(NO_SHORTAGE, Ordering::SeqCst);
@@ -163,8 +162,8 @@ impl<'a> Pace<'a> {
         }
     }
 
-    /// Notes that the player gets a message, with which a round has begun. If its number is the highest so far, all resting players are
-    /// woken.
+    /// Notes that the player gets a message, so a round has begun. If the number of the message is the highest so far, this wakes all
+    /// waiting players.
     pub fn begin(&mut self)
         ensures { self.new ≡ record self.old { messages = min (2 ^ 64 - 1) (self.old.messages + 1) } }
     {
@@ -189,7 +188,7 @@ impl<'a> Pace<'a> {
         self.has_rested = false;
     }
 
-    /// Notes that the player gets no further message.
+    /// Notes that the player gets no more messages.
     pub fn leave(&mut self)
         ensures { self.new ≡ record self.old { has_left = true } }
     {
@@ -199,7 +198,7 @@ impl<'a> Pace<'a> {
         }
     }
 
-    /// Rests. If the others rest already they are woken, once after each message: the player's answer may have retired it, and the
+    /// Waits. If all others are waiting too, it wakes them, once after each message: the player's answer may have retired it, and the
     /// round may have begun without a message to it.
     pub fn rest<R: Wait>(&mut self, rt: &R)
         ensures rest { as_nanos self.new.rest ≡ min 2_000_000_000 (as_nanos self.old.rest * 2) }
@@ -210,16 +209,16 @@ impl<'a> Pace<'a> {
         let others = signal.resting.fetch_add(1, Ordering::SeqCst);
         let all_rest = others.saturating_add(1) >= signal.players.load(Ordering::SeqCst);
         if all_rest && !self.has_rested && signal.call() == self.seen {
-            // Its own call must not end its rest.
+            // Its own wake-up must not end its wait.
             self.seen = self.seen.wrapping_add(1);
         }
         self.has_rested = true;
-        // It may end for no reason.
+        // The wait may end for no reason.
         let seen = (self.seen & 0xffff_ffff) as u32;
         signal.calls.park_timeout(rt, seen, self.rest);
         signal.resting.fetch_sub(1, Ordering::SeqCst);
         self.rest = rest_after(self.rest);
-        // This is read before the role asks again, so whatever is raised after that ends the next rest.
+        // This is read before the role asks again, so that any later signal ends the next wait.
         self.seen = signal.calls();
     }
 }

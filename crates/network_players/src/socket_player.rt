@@ -1,4 +1,4 @@
-//! Players that are reached over the network.
+//! Players over the network.
 ghost use Rattle.std.specs.Prelude.{◌≡◌, ◌<◌, Err, IfErr, IfOk, IsOkAnd, IsTrue, MatchOption, MatchResult, None, OnErr, length};
 ghost use Rattle.network_players.specs.Budgets.{IsPaidBy, IsPaidText};
 ghost use Rattle.network_players.specs.Contacts.{answer_of, contact_answer};
@@ -20,19 +20,19 @@ use std::io::ErrorKind;
 use std::sync::Wait;
 use std::time::Clock;
 
-/// The network of a runtime. It is made where the type of the runtime is known, as in `main`: a player goes to another thread, and a
-/// function over any runtime can't show that its players may.
+/// The network of a runtime. It must be made where the type of the runtime is known, as in `main`: players are sent to other threads, and a
+/// function over any runtime cannot show that they may be.
 #[derive(Drop)]
 pub struct Sockets<'a, H> {
     pub rt: &'a H,
-    /// A signal for each place of a match. With fewer signals some matches share one: their players may rest longer, and a shortage in
-    /// one of these matches counts for all of them.
+    /// A signal for each match at once. With fewer signals some matches share one: their players may wait longer, and what the referee lacked
+    /// in one of them counts for all.
     pub signals: &'a [RoundSignal],
     ghost has_one: { 0 < length signals.now },
 }
 
-/// A player on the network. Each message goes over a connection of its own, to the addresses that its host had at the first message. Once one
-/// of them has taken a connection, the others are used only while this computer lacks something.
+/// A player on the network. Each message goes over a separate connection to the addresses that the host had at the first message. Once one of
+/// them has accepted a connection, the others are used only while this computer lacks a resource.
 #[derive(Drop)]
 pub struct SocketPlayer<'a, H> {
     rt: &'a H,
@@ -49,14 +49,14 @@ pub struct SocketPlayer<'a, H> {
 }
 
 impl<'a, H> Sockets<'a, H> {
-    /// The signal of the match at this place. No clause says which: to contracts all signals are one, since none can name what they carry.
+    /// The signal of the match with this index. No clause says which: contracts cannot distinguish signals.
     fn signal_at(&self, place: usize) -> &'a RoundSignal {
         &self.signals[place % self.signals.len()]
     }
 }
 
 impl<H> ReportsShortages for Sockets<'_, H> {
-    // No contract can name what a signal carries.
+    // A contract cannot name what a signal carries.
     ghost is_clear = { λ s place. Unit {0} };
 
     fn shortage(&self, place: usize) -> Option<Shortage> {
@@ -95,7 +95,7 @@ impl<'a, H> Reach for Sockets<'a, H> {
     }
 }
 
-/// The answer that an exchange with a player counts as. No answer in time is a silence, and every other fault a broken answer.
+/// The answer that an exchange with a player counts as: silent if no answer came in time, and broken after any other error.
 pub fn answer_of(exchanged: Result<Text, WireFault>) -> Answer
     ensures { result ≡ answer_of exchanged }
 {
@@ -106,8 +106,8 @@ pub fn answer_of(exchanged: Result<Text, WireFault>) -> Answer
     }
 }
 
-/// The answer that handing over a message counts as. It is a silence if the time was over, and a broken answer without a connection. A
-/// shortage of the referee counts as a broken answer too, and its match has no record.
+/// The answer that sending a message counts as: silent if the time was over, and broken after any other error. If the referee lacked a
+/// resource, the answer counts as broken too, and the match has no record.
 fn contact_answer(reached: Result<Text, ContactFault>) -> Answer
     ensures { result ≡ contact_answer reached }
 {
@@ -125,7 +125,7 @@ fn contact_answer(reached: Result<Text, ContactFault>) -> Answer
     }
 }
 
-/// What a message came to once its answer is paid for. An answer for which the budget is not enough is a fault.
+/// The result of a message after its answer has been charged to the budget. An answer beyond the budget is an error.
 fn paid(
     budget: &mut AnswerBudget,
     reached: Result<Text, ContactFault>,
@@ -152,7 +152,7 @@ impl<H> Explains for SocketPlayer<'_, H> {
 }
 
 impl<H: Resolves + Clock> SocketPlayer<'_, H> {
-    /// Hands a message over, which begins a round, and whose answer ends the player's wait. Notes why it brought none.
+    /// Sends a message, which begins a round, and waits for the answer. Stores why there was none.
     fn hand_over(&mut self, seconds: u32, message: &SharedText<'_>) -> Answer
         ensures answer { MatchOption self.new.fault (IsPaidText self.old.budget self.new.budget result) (λ fault. result ≡ contact_answer (Err fault)) }
         ensures pace { HasAnswered self.old.pace self.new.pace }
@@ -185,7 +185,7 @@ impl<H: Resolves + Clock> SocketPlayer<'_, H> {
 }
 
 impl<H: Resolves + Clock + Wait> Player for SocketPlayer<'_, H> {
-    // No contract can name what a socket carries.
+    // A contract cannot name what a socket carries.
     ghost handed = { λ p. None };
 
     fn ask(&mut self, seconds: u32, body: &[u8]) -> Answer

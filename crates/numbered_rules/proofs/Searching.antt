@@ -1,4 +1,4 @@
--- What the search keeps.
+-- What the search keeps true.
 use Rattle.std.proofs.Common.{ℕ, zero, suc, ◌<◌, ◌≤◌, ◌≡◌, ◌≢◌, ◌+◌, ◌-◌, List, [], ◌∷◌, ◌++◌, refl, ap, sym, ◌∙◌, arith, length, set, get_or, length-set, get_or-set_other, get_or-set_same, length-append, replicate}
 use Rattle.std.proofs.Common.{◌⊎◌, inl, inr, slice_index}
 use Rattle.std.proofs.lemmas.Bool.{cases_order, cases_eq, cases_lt}
@@ -9,13 +9,12 @@ use Rattle.numbered_rules.specs.declared.rank.Mark.TheVariants.{New, Open, Done}
 use Rattle.numbered_rules.specs.Order.{IsDown, IsGraphAcyclic, IsRanking, needs_at}
 use Rattle.numbered_rules.specs.Internal.Search.{IsSearching, IsPlaced, IsBefore, IsNeed, IsLinked, mark, work, weight}
 
--- a mark that is not the one written is an old one, at another place
 mark-old : (marks : List Mark) (d n : ℕ) (x y : Mark) → d < length marks → mark (set marks d x) n ≡ y → x ≢ y → (n ≢ d) × (mark marks n ≡ y)
 mark-old marks d n x y lt is ne =
     let other : n ≢ d = λ e. ne (sym (get_or-set_same marks d x New lt) ∙ (ap (λ k. mark (set marks d x) k) (sym e) ∙ is)) in
     (other, sym (get_or-set_other marks d n x New other) ∙ is)
 
--- a mark other than the one written over stays
+-- writing one mark keeps the others
 mark-kept : (marks : List Mark) (d n : ℕ) (x y : Mark) → mark marks n ≡ y → mark marks d ≢ y → mark (set marks d x) n ≡ y
 mark-kept marks d n x y is ne =
     let other : n ≢ d = λ e. ne (ap (λ k. mark marks k) (sym e) ∙ is) in
@@ -33,7 +32,6 @@ placed-kept marks d n x ne is = (is.0, mark-kept marks d n x (Done is.0) is.1 (n
 before-kept : (marks : List Mark) (d n r : ℕ) (x : Mark) → ((q : ℕ) → mark marks d ≢ Done q) → IsBefore marks r n → IsBefore (set marks d x) r n
 before-kept marks d n r x ne is = (is.0, mark-kept marks d n x (Done is.0) is.1 (ne is.0), is.2)
 
--- an element of a list with one more
 push-left : (xs : List ℕ) (y k : ℕ) → k < length xs → get_or (xs ++ y ∷ []) k 0 ≡ get_or xs k 0
 push-left xs y k lt = get_or_append_left xs (y ∷ []) 0 k lt
 
@@ -43,7 +41,6 @@ push-right xs y k e = get_or_push xs y 0 k e
 length-push : (xs : List ℕ) (y : ℕ) → length (xs ++ y ∷ []) ≡ length xs + 1
 length-push xs y = length-append xs (y ∷ [])
 
--- a place below a length of one more is a place before, or the last
 pub last_or : (k n : ℕ) → k < n + 1 → (k < n) ⊎ (k ≡ n)
 last_or k n lt = elim (cases_order k n) [ inl e ↦ inr e | inr f ↦ elim f [ inl g ↦ inl g | inr g ↦ absurd (omega arith) ] ]
 
@@ -174,7 +171,6 @@ finished needs marks next rest order top s ready =
       chain = λ k lt. need-at needs _ _ _ _ (sym (push-left rest top k (omega (arith, lt)))) (sym (push-left rest top (k + 1) lt)) (s.chain k (omega (arith, more, lt)));
     }
 
--- going down a path takes the number down
 chain-down : (needs : List (List ℕ)) (number : ℕ → ℕ) (path : List ℕ) → IsDown number needs → ((k : ℕ) → k < length path → slice_index path k < length needs) → ((k : ℕ) → k + 1 < length path → IsNeed needs (slice_index path k) (slice_index path (k + 1))) → (k m : ℕ) → k + m < length path → number (slice_index path (k + m)) ≤ number (slice_index path k)
 chain-down needs number path down within chain k zero lt = let e : k + 0 ≡ k = omega arith in let f = ap (λ j. number (slice_index path j)) e in omega (arith, f)
 chain-down needs number path down within chain k (suc m) lt =
@@ -186,7 +182,6 @@ chain-down needs number path down within chain k (suc m) lt =
     let g = ap (λ j. number (slice_index path j)) e in
     omega (arith, before, here, f, g)
 
--- a need that is on the path closes a cycle
 pub cycle : (needs : List (List ℕ)) (marks : List Mark) (next path order : List ℕ) (d k : ℕ) → IsSearching needs marks next path order → IsLinked needs path d → mark marks d ≡ Open k → ¬ (IsGraphAcyclic needs)
 cycle needs marks next path order d k s linked is acyclic =
     let at = s.open' d k is in
@@ -208,7 +203,6 @@ work-finished marks rest top size k lt is =
     let g = length-push rest top in
     omega (arith, e, f, g)
 
--- the last atom of the path is open
 pub last-open : (needs : List (List ℕ)) (marks : List Mark) (next rest order : List ℕ) (top : ℕ) → IsSearching needs marks next (rest ++ top ∷ []) order → (mark marks top ≡ Open (length rest)) × (top < length marks)
 last-open needs marks next rest order top s =
     let more = length-push rest top in
@@ -249,23 +243,18 @@ advanced needs marks next path order atom place s within le more =
       chain = s.chain;
     }
 
--- what a read of the marks gives
 pub mark-read : (marks : List Mark) (k : ℕ) (x y : Mark) → k < length marks → x ≡ get_or marks k x → x ≡ y → mark marks k ≡ y
 mark-read marks k x y lt is e = get_or_default marks k New x lt ∙ (sym is ∙ e)
 
--- what a read of the needs gives
 pub needs-read : (needs : List (List ℕ)) (n : ℕ) (x y : List ℕ) → n < length needs → x ≡ get_or needs n x → y ≡ x → y ≡ needs_at needs n
 needs-read needs n x y lt is e = e ∙ (is ∙ sym (get_or_default needs n [] x lt))
 
--- passed before, and passed now
 pub passed-more : (marks : List Mark) (wants : List ℕ) (from to : ℕ) → ((i : ℕ) → i < from → IsPlaced marks (slice_index wants i)) → ((i : ℕ) → from ≤ i → i < to → IsPlaced marks (slice_index wants i)) → (i : ℕ) → i < to → IsPlaced marks (slice_index wants i)
 passed-more marks wants from to old new i lt = elim (cases_lt i from) [ inl h ↦ old i h | inr h ↦ new i h lt ]
 
--- what a read of numbers gives
 pub number-read : (xs : List ℕ) (k x : ℕ) → k < length xs → x ≡ get_or xs k x → x ≡ slice_index xs k
 number-read xs k x lt is = is ∙ get_or_default xs k x 0 lt
 
--- what a read of the last number gives
 pub last-read : (path path' : List ℕ) (n x : ℕ) → 0 < length path → n ≡ length path → path' ≡ path → x ≡ get_or path (n - 1) x → slice_index path' (length path' - 1) ≡ x
 last-read path path' n x some size same is =
     let e : n - 1 ≡ length path - 1 = ap (λ k. k - 1) size in
@@ -285,7 +274,6 @@ all-placed New a b = absurd (a refl)
 all-placed (Open k) a b = absurd (b k refl)
 all-placed (Done r) a b = (r, refl)
 
--- with an empty path, an atom that was met is placed
 pub met-placed : (needs : List (List ℕ)) (marks : List Mark) (next path order : List ℕ) (n : ℕ) → IsSearching needs marks next path order → length path ≡ 0 → mark marks n ≢ New → IsPlaced marks n
 met-placed needs marks next path order n s over met = all-placed (mark marks n) met (λ k e. let at = s.open' n k e in omega (arith, over, at.0))
 

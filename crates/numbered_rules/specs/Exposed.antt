@@ -1,10 +1,11 @@
--- Dependence as a fit: an atom depends on something given if a rule of it speaks of that, or of an atom that depends on it.
+-- Dependence expressed as a fit: an atom depends on given sentences if one of its rules has such a sentence, or an atom that depends
+-- on them.
 
 use Rattle.std.specs.Prelude.{Bool, true, false, List, map}
 use Rattle.numbered_rules.specs.Literals.{Literal, Literals, Holds, InState, Does, Distinct, Not, Or, End, More, Rule}
 use Rattle.numbered_rules.specs.Numbered.{known}
 
--- the literal with its `not` left out, each does sentence true, and each true sentence true where it counts
+-- the literal without its `not`; each does sentence counts as true, and so does each true sentence if of_state is set
 abbrev mutual
   pub exposed : {A T : Type 0} → Bool → Literal A T → Literal A T
   exposed of_state (Holds a) = Holds a

@@ -1,5 +1,5 @@
--- Literals and rules, over the names of derived atoms and the names of terms.
--- In a description these are sentences and canonical texts; in the loaded game they are numbers.
+-- Literals and rules over the names of derived atoms and the names of terms. In a description the names are sentences and canonical
+-- texts. In a loaded game they are numbers.
 use Rattle.std.specs.Prelude.{List, [], ◌∷◌}
 
 mutual
@@ -22,12 +22,12 @@ abbrev pub literals : {A T : Type 0} → List (Literal A T) → Literals A T
 literals [] = End
 literals (l ∷ ls) = More l (literals ls)
 
--- a head and its literals; a fact has none
+-- a head and its literals; a fact has no literals
 pub record Rule (A T : Type 0) : Type 0 where
   pub head : A
   pub body : Literals A T
 
--- each derived atom in the literal is one of P
+-- P holds for each derived atom of the literal
 abbrev mutual
   pub AtomsAre : {A T : Type 0} → (A → Type 0) → Literal A T → Type 0
   AtomsAre P (Holds a) = P a

@@ -1,8 +1,8 @@
--- What the derived atoms of numbered rules need.
+-- Which atoms the derived atoms of numbered rules need.
 use Rattle.std.specs.Prelude.{ℕ, nat_lt, nat_eq, if◌then◌else◌, List, [], ◌∷◌, ◌++◌}
 use Rattle.numbered_rules.specs.Literals.{Literal, Literals, Holds, InState, Does, Distinct, Not, Or, End, More, Rule}
 
--- the atoms below this number in a literal
+-- the atoms of a literal that are below this number
 abbrev mutual
   pub atoms_in : ℕ → Literal ℕ ℕ → List ℕ
   atoms_in size (Holds a) = if nat_lt a size then a ∷ [] else []
@@ -16,7 +16,7 @@ abbrev mutual
   all_atoms_in size End = []
   all_atoms_in size (More l ls) = atoms_in size l ++ all_atoms_in size ls
 
--- the atoms below this number in the bodies of the rules with this head
+-- the atoms, below this number, in the bodies of the rules with this head
 abbrev pub needs_of : ℕ → ℕ → List (Rule ℕ ℕ) → List ℕ
 needs_of size n [] = []
 needs_of size n (r ∷ rs) = (if nat_eq r.head n then all_atoms_in size r.body else []) ++ needs_of size n rs

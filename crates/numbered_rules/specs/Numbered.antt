@@ -1,4 +1,4 @@
--- What numbered rules stand for, and the pass over them.
+-- Numbered rules, and one pass over them.
 use Rattle.std.specs.Prelude.{ℕ, Bool, true, false, nat_eq, if◌then◌else◌, List, [], ◌∷◌, map, slice_index_or, slice_set, slice_get, Option, Some, None, replicate, box_value}
 use Rattle.numbered_rules.specs.Literals.{Literal, Literals, literals, Holds, InState, Does, Not, Or, End, Rule}
 use Rattle.numbered_rules.specs.Fit.{Situation, all_true}
@@ -11,7 +11,7 @@ abbrev pub known : {A T : Type 0} → Bool → Literal A T
 known true = Not (Or End)
 known false = Or End
 
--- one level, with each literal inside already seen
+-- one level of a literal whose inner literals have been converted
 abbrev pub view_step : Literal-F (Literal ℕ ℕ) → Literal ℕ ℕ
 view_step (Literal-F.Holds a) = Holds a
 view_step (Literal-F.InState t) = InState t
@@ -32,7 +32,7 @@ rule_of r = record { head = r.head; body = views r.body.items }
 abbrev pub rules_of : List CodeRule → List (Rule ℕ ℕ)
 rules_of rs = map rule_of rs
 
--- the value at this place, false past the end
+-- the value at this place, or false past the end
 abbrev pub bit : List Bool → ℕ → Bool
 bit row i = slice_index_or row i false
 
@@ -40,14 +40,14 @@ abbrev pub is_number : Option ℕ → ℕ → Bool
 is_number (Some n) m = nat_eq n m
 is_number None m = false
 
--- a state as a row by term, and each role's move as its term; no move made where the list is empty
+-- a state as a row over the terms, and each role's move as its term; an empty list of moves means that no role has moved
 abbrev pub numbered : List Bool → List ℕ → Situation ℕ ℕ
 numbered state joint = record { same = nat_eq; same_term = nat_eq; in_state = bit state; does = λ r m. is_number (slice_get joint r) m }
 
 abbrev pub unset : ℕ → List Bool
 unset n = replicate n false
 
--- the row after a pass over the rules, each of which sets its head
+-- the row after a pass in which each rule sets its head
 abbrev pub row_after : Situation ℕ ℕ → List Bool → List (Rule ℕ ℕ) → List Bool
 row_after w row [] = row
 row_after w row (r ∷ rs) = row_after w (if all_true w (bit row) r.body then slice_set row r.head true else row) rs

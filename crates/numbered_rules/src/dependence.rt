@@ -8,8 +8,7 @@ use crate::numbered::{Literal, Rule};
 use crate::row::Row;
 use std::alloc::{AllocError, Global};
 
-/// Whether the literal contains a `does` sentence, an atom that is set, or, with `of_state`, a `true`
-/// sentence.
+/// Whether the literal contains a `does` sentence, an atom that is set in the row or, with `of_state`, a `true` sentence.
 #[cycle(speaks)]
 fn speaks(literal: &Literal, row: &Row, of_state: bool) -> bool
     ensures { result ≡ truth (numbered [] []) (bit row.now) (exposed of_state (view literal.now)) }
@@ -36,8 +35,8 @@ fn any_speaks(literals: &Vec<Literal>, row: &Row, of_state: bool) -> bool
     false
 }
 
-/// For each derived atom, whether it depends on a `does` sentence or, with `of_state`, on a `true`
-/// sentence. The rules stand in the order of a ranking.
+/// For each derived atom, whether it depends on a `does` sentence or, with `of_state`, on a `true` sentence. The rules must
+/// be in the order of a ranking.
 pub fn dependence(
     alloc: Global,
     rules: &[Rule],

@@ -1,8 +1,8 @@
-//! Rules with numbers for the names of a ground description.
+//! Rules of a ground description, with numbers instead of names.
 //!
-//! `rank` orders derived atoms so that each comes after those that it needs, and `sort_by_rank` orders
-//! the rules by it. `dependence` finds, by one pass over rules in that order, which atoms depend on the
-//! moves or on the state. `split` divides the rules by that.
+//! `rank` orders derived atoms so that each comes after the atoms that it needs, and `sort_by_rank` orders the rules by
+//! that. `dependence` finds, in one pass over the ordered rules, which atoms depend on the moves or on the state. `split`
+//! divides the rules by that.
 #![tactic(auto)]
 
 pub mod dependence;

@@ -1,4 +1,4 @@
-//! What the derived atoms need.
+//! Which atoms the derived atoms need.
 ghost use Rattle.std.specs.Prelude.{◌≡◌, ℕ, ◌<◌, ◌++◌, IfOk, OnOk, length, replicate, []};
 ghost use Rattle.numbered_rules.specs.Numbered.{view, views, rules_of};
 ghost use Rattle.numbered_rules.specs.Order.{needs_at};
@@ -8,7 +8,6 @@ use crate::numbered::{Literal, Rule};
 use crate::rank::Needs;
 use std::alloc::{AllocError, Global};
 
-/// Adds the atoms of the literal that are below this number.
 #[cycle(add_atoms)]
 fn add_atoms(literal: &Literal, size: usize, out: &mut Vec<usize>) -> Result<(), AllocError>
     ensures { OnOk result (out.new.items ≡ out.old.items ++ atoms_in size (view literal.now)) }

@@ -5,11 +5,11 @@
 pub enum Literal {
     Holds(usize),
     InState(usize),
-    /// A role and the term of its move.
+    /// A role, and the term of its move.
     Does(usize, usize),
     Not(Box<Literal>),
     Or(Vec<Literal>),
-    /// A literal with a truth that never changes, as a `distinct` literal.
+    /// A literal whose truth never changes, for example a `distinct` literal.
     Known(bool),
 }
 

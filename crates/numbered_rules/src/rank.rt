@@ -7,7 +7,7 @@ ghost use Rattle.numbered_rules.specs.declared.rank.Mark.TheVariants.{New, Open,
 use std::alloc::{AllocError, Global};
 use std::marker::Model;
 
-/// The atoms in the bodies of an atom's rules. Contracts see them as a list.
+/// The atoms in the bodies of an atom's rules. Contracts see a list.
 #[derive(Drop)]
 pub struct Needs {
     pub atoms: Vec<usize>,
@@ -30,7 +30,7 @@ impl Needs {
     }
 }
 
-/// How far the search has come with an atom: not met, on the path at this place, or placed in the order.
+/// The state of an atom in the search: not met, at this index of the path, or at this place of the order.
 #[derive(Clone, Copy)]
 pub enum Mark {
     New,
@@ -38,8 +38,8 @@ pub enum Mark {
     Done(usize),
 }
 
-/// A depth-first search for a ranking: the marks of the atoms, how many needs of each are done, the
-/// path to the current atom, and the order so far.
+/// A depth-first search for a ranking: the mark of each atom, how many of its needs are done, the path to the current atom,
+/// and the order so far.
 #[derive(Drop)]
 pub struct Search {
     marks: Vec<Mark>,
@@ -49,7 +49,7 @@ pub struct Search {
 }
 
 impl Search {
-    /// Goes on to an atom that was not met before.
+    /// Adds an atom that was not met before to the path.
     fn open(&mut self, needs: &[Needs], atom: usize) -> Result<(), AllocError>
         requires search { IsSearching needs.now self.old.marks.items self.old.next.items self.old.path.items self.old.order.items }
         requires within { atom < length needs.now }
@@ -66,7 +66,7 @@ impl Search {
         Ok(())
     }
 
-    /// Places the atom at the end of the path. All its needs are placed.
+    /// Moves the last atom of the path to the order. All its needs have a place already.
     fn finish(&mut self, needs: &[Needs]) -> Result<(), AllocError>
         requires search { IsSearching needs.now self.old.marks.items self.old.next.items self.old.path.items self.old.order.items }
         requires some { 0 < length self.old.path.items }
@@ -83,7 +83,7 @@ impl Search {
         Ok(())
     }
 
-    /// The place, from this one on, of the first atom that has no place in the order.
+    /// The index of the first atom, from `from`, that has no place in the order.
     fn skip(&self, wants: &[usize], from: usize) -> usize
         requires graph { (i : ℕ) → i < length wants.now → slice_index wants.now i < length self.now.marks.items }
         requires from { from ≤ length wants.now }
@@ -100,7 +100,7 @@ impl Search {
         wants.len()
     }
 
-    /// Skips the needs of this atom that are placed. Returns how many of its needs are done.
+    /// Skips the needs of this atom that have a place. Returns how many of its needs are done.
     fn advance(&mut self, needs: &[Needs], atom: usize) -> usize
         requires search { IsSearching needs.now self.old.marks.items self.old.next.items self.old.path.items self.old.order.items }
         requires within { atom < length needs.now }
@@ -116,7 +116,7 @@ impl Search {
         place
     }
 
-    /// Makes one step at the end of the path. Returns whether it closes a cycle.
+    /// Makes one step at the end of the path. Returns true if it closes a cycle.
     fn step(&mut self, needs: &[Needs]) -> Result<bool, AllocError>
         requires search { IsSearching needs.now self.old.marks.items self.old.next.items self.old.path.items self.old.order.items }
         requires some { 0 < length self.old.path.items }
@@ -143,7 +143,7 @@ impl Search {
         }
     }
 
-    /// Goes on until the path is empty or a cycle is met. Returns whether a cycle was met.
+    /// Continues until the path is empty or a cycle is found. Returns true if a cycle was found.
     fn explore(&mut self, needs: &[Needs]) -> Result<bool, AllocError>
         requires { IsSearching needs.now self.old.marks.items self.old.next.items self.old.path.items self.old.order.items }
         ensures cycle { IfOk result (λ found. found ≡ true → ¬ (IsGraphAcyclic needs.now)) }
@@ -159,7 +159,7 @@ impl Search {
         Ok(false)
     }
 
-    /// Places this atom and all that it needs, unless a cycle is met. Returns whether one was met.
+    /// Orders this atom and all that it needs. Returns true if a cycle was found.
     fn visit(&mut self, needs: &[Needs], start: usize) -> Result<bool, AllocError>
         requires search { IsSearching needs.now self.old.marks.items self.old.next.items self.old.path.items self.old.order.items }
         requires empty { length self.old.path.items ≡ 0 }
@@ -180,14 +180,13 @@ impl Search {
     }
 }
 
-/// The atoms in an order in which each comes after what it needs, and each atom's place in it.
+/// The atoms in an order in which each comes after the atoms that it needs, and each atom's place in the order.
 #[derive(Drop)]
 pub struct Ranking {
     pub order: Vec<usize>,
     pub places: Vec<usize>,
 }
 
-/// The places of the atoms in the order.
 fn places_of(alloc: Global, marks: &[Mark]) -> Result<Vec<usize>, AllocError>
     requires { (n : ℕ) → n < length marks.now → IsPlaced marks.now n }
     ensures { IfOk result (λ v. (length v.items ≡ length marks.now) × ((n : ℕ) → n < length marks.now → mark marks.now n ≡ Done (slice_index v.items n))) }
@@ -202,7 +201,7 @@ fn places_of(alloc: Global, marks: &[Mark]) -> Result<Vec<usize>, AllocError>
     Ok(places)
 }
 
-/// A ranking of the atoms. `None` if there is none.
+/// Ranks the atoms. Returns `None` if they need one another in a cycle.
 pub fn rank(alloc: Global, needs: &[Needs]) -> Result<Option<Ranking>, AllocError>
     requires { IsGraph needs.now }
     ensures found { IfOk result (λ o. IfSome o (λ r. IsRanking needs.now r.order.items r.places.items)) }

@@ -5,7 +5,7 @@ ghost use Rattle.numbered_rules.specs.Numbered.{bit, unset};
 use std::alloc::{AllocError, Global};
 use std::marker::Model;
 
-/// A truth value for each place. Contracts see the list of them.
+/// A list of truth values. Contracts see the list.
 #[derive(Drop)]
 pub struct Row {
     values: Vec<bool>,
@@ -20,7 +20,7 @@ impl Model for Row {
 }
 
 impl Row {
-    /// A row of `size` values, all false.
+    /// Creates a row of `size` values, all false.
     pub fn unset(alloc: Global, size: usize) -> Result<Row, AllocError>
         ensures { IfOk result (λ r. r ≡ unset size) }
     {
@@ -28,7 +28,7 @@ impl Row {
         Ok(Row { values })
     }
 
-    /// The value at this place, false past the end.
+    /// The value at this place, or false past the end.
     pub fn is_set(&self, place: usize) -> bool
         ensures { result ≡ bit self.now place }
     {
@@ -39,7 +39,7 @@ impl Row {
         }
     }
 
-    /// Makes the value at this place true, if there is one.
+    /// Sets the value at this place to true. Does nothing past the end.
     pub fn set(&mut self, place: usize)
         ensures { self.new ≡ slice_set self.old place true }
     {

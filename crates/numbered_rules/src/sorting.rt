@@ -11,7 +11,7 @@ fn rank_at(places: &[usize], atom: usize) -> usize
     if atom < places.len() { places[atom] } else { 0 }
 }
 
-/// The rules by the places of their heads.
+/// Sorts the rules by the places of their heads.
 pub fn sort_by_rank(rules: Vec<Rule>, places: &[usize]) -> Result<Vec<Rule>, AllocError>
     ensures moved { IfOk result (λ v. IsPermutation rules.items v.items) }
     ensures sorted { IfOk result (λ v. IsNonDecreasingBy (λ r. slice_index places.now r.head) v.items) }

@@ -1,4 +1,4 @@
--- Rows of bits, place by place.
+-- Rows of bits, one place after another.
 use Rattle.std.proofs.Common.{inl, inr, ℕ, zero, suc, ◌<◌, ◌≤◌, ◌≡◌, ◌≢◌, ◌/◌, ◌%◌, true, false, List, [], ◌∷◌, refl, sym, ◌∙◌, arith, length, set, get_or, length-set, get_or-set_other, get_or-set_same, length-append}
 use Rattle.std.specs.Int.{bit_at}
 use Rattle.std.proofs.lemmas.List.{get_or_append_left, get_or_push, get_or_past, ext_get_or}

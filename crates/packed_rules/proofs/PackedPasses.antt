@@ -1,4 +1,4 @@
--- A pass over rules by places is the pass over the rules.
+-- A pass over packed rules gives the same as a pass over the rules.
 use Rattle.std.proofs.Common.{ℕ, zero, suc, ◌+◌, ◌-◌, ◌<◌, ◌≤◌, ◌≡◌, Bool, true, false, ◌&&◌, if◌then◌else◌, List, [], ◌∷◌, ◌++◌, length, take, drop, set, get_or, map, refl, sym, ap, ◌∙◌, arith, subst, length-drop, length-append}
 use Rattle.std.proofs.lemmas.List.{length-take, get_or_past, take_all, drop_all, take-set-le, drop-set-add, drop_more, take_more, take-replicate, drop-replicate, take-append-le, drop-append-le, nil_from_length, map_push}
 use mathlib.Core.Bool.{and-true, and_assoc}
@@ -29,7 +29,7 @@ step-atoms : (n : ℕ) (bits : List Bool) (h : ℕ) (test : Bool) → drop n (if
 step-atoms n bits h true = drop-set-add n bits h true
 step-atoms n bits h false = refl
 
--- the pass leaves the terms, and sets the derived atoms that the pass over the rules sets
+-- the pass keeps the terms, and sets the derived atoms that the pass over the rules sets
 pub record IsPass (n : ℕ) (joint : List ℕ) (bits after : List Bool) (rs : List (Rule ℕ ℕ)) : Type 0 where
   pub terms : take n after ≡ take n bits
   pub atoms : drop n after ≡ row_after (numbered (take n bits) joint) (drop n bits) rs
@@ -52,7 +52,6 @@ packed-pass n joint bits (p ∷ ps) (r ∷ rs) are =
       atoms = rest.atoms ∙ ap (λ (xs : List Bool). row_after (numbered xs joint) (drop n next) rs) terms ∙ ap (λ (xs : List Bool). row_after w xs rs) atoms;
     }
 
--- one more rule
 pub packed-push : (n : ℕ) (ps : List PlacedRule) (rs : List (Rule ℕ ℕ)) (p : PlacedRule) (r : Rule ℕ ℕ) → ArePacked n ps rs → IsPacked n p r → ArePacked n (ps ++ p ∷ []) (rs ++ r ∷ [])
 packed-push n [] [] p r are is = (is, tt)
 packed-push n [] (q ∷ rs) p r are is = absurd are
@@ -71,7 +70,6 @@ all-true-push : (w : Situation ℕ ℕ) (v : ℕ → Bool) (ls : List (Literal �
 all-true-push w v [] l = and-true (truth w v l)
 all-true-push w v (k ∷ ls) l = ap (λ x. truth w v k && x) (all-true-push w v ls l) ∙ sym (and_assoc (truth w v k) (all_true w v (literals ls)) (truth w v l))
 
--- rules that have no literals but their tests
 only-tests : (n : ℕ) (joint : List ℕ) (bits : List Bool) (ss : List RuleSize) (ts : List Test) → packed_after n joint bits (placed_rules ss ts [] []) ≡ tests_after n bits ss ts
 only-tests n joint bits [] ts = refl
 only-tests n joint bits (s ∷ ss) ts =
@@ -85,7 +83,7 @@ pub tests-cut : (ss : List RuleSize) (ts : List Test) (ms : List MoveTest) (os :
 tests-cut [] ts ms os cut = tt
 tests-cut (s ∷ ss) ts ms os cut = (cut.0, tests-cut ss (drop s.tests ts) (drop s.moves ms) (drop s.others os) cut.3)
 
--- the literals passed so far, as moves, tests and others, and those to come, say what all literals say
+-- the literals so far, as moves, tests and others, together with the remaining ones, mean the same as all literals
 abbrev pub SaysSoFar : ℕ → List MoveTest → List Test → List (Literal ℕ ℕ) → List (Literal ℕ ℕ) → List (Literal ℕ ℕ) → Type 0
 SaysSoFar n moves tests others rest all =
     (bits : List Bool) (joint : List ℕ)
@@ -144,14 +142,14 @@ other-more n moves tests others rest all l says bits joint =
     let q = all_true w v (literals rest) in
     ap (λ x. (m && (p && x)) && q) (all-true-push w v others l) ∙ other-back m p o (truth w v l) q ∙ says bits joint
 
--- a row is empty in both parts
+-- an empty row is empty in both parts
 pub none-terms : (n m : ℕ) → take n (unset (n + m)) ≡ unset n
 none-terms n m = take-replicate n (n + m) false (omega arith)
 
 pub none-atoms : (n m : ℕ) → drop n (unset (n + m)) ≡ unset m
 none-atoms n m = let e : n + m - n ≡ m = omega arith in drop-replicate n (n + m) false ∙ ap unset e
 
--- a row cut at two places with as many terms before them
+-- both cuts of the row have the same terms
 pub record AreSameCut (m n : ℕ) (bits : List Bool) : Type 0 where
   pub terms : take n bits ≡ take m bits
   pub atoms : drop n bits ≡ drop m bits
@@ -163,7 +161,6 @@ same-cut (suc m) n (b ∷ bits) e =
     let rest = same-cut m (length (take m bits)) bits refl in
     rw (sym e) (record { terms = ap (λ xs. b ∷ xs) rest.terms; atoms = rest.atoms })
 
--- the literal at this place is the next one
 pub says-next : (n : ℕ) (moves : List MoveTest) (tests : List Test) (others : List (Literal ℕ ℕ)) (items : List CodeLiteral) (i : ℕ) (item : CodeLiteral) (all : List (Literal ℕ ℕ)) → i < length items → item ≡ get_or items i item
     → SaysSoFar n moves tests others (map view (drop i items)) all → SaysSoFar n moves tests others (view item ∷ map view (drop (i + 1) items)) all
 says-next n moves tests others items i item all lt is says =
@@ -175,7 +172,6 @@ pub other-next : (n : ℕ) (moves : List MoveTest) (tests : List Test) (others :
 other-next n moves tests others rest all l copied same says =
     subst (λ (ls : List (Literal ℕ ℕ)). SaysSoFar n moves tests ls rest all) (sym (map_push view others copied ∙ ap (λ x. map view others ++ x ∷ []) same)) (other-more n moves tests (map view others) rest all (view l) says)
 
--- one more rule, whose literals stand behind all others
 pub placed-push : (ss : List RuleSize) (s : RuleSize) (ts us : List Test) (ms ns : List MoveTest) (os ps : List CodeLiteral) → AreCut ss ts ms os → s.tests ≡ length us → s.moves ≡ length ns → s.others ≡ length ps
     → placed_rules (ss ++ s ∷ []) (ts ++ us) (ms ++ ns) (os ++ ps) ≡ placed_rules ss ts ms os ++ record { head = s.head; tests = us; moves = ns; others = ps } ∷ []
 placed-push [] s [] us [] ns [] ps cut e f g = rw (take_all s.tests us (omega (arith, e)), take_all s.moves ns (omega (arith, f)), take_all s.others ps (omega (arith, g))) refl
@@ -199,18 +195,12 @@ cut-push (q ∷ ss) s ts us ms ns os ps cut e f g = (
   rw (drop-append-le q.tests ts us cut.0, drop-append-le q.moves ms ns cut.1, drop-append-le q.others os ps cut.2) (cut-push ss s (drop q.tests ts) us (drop q.moves ms) ns (drop q.others os) ps cut.3 e f g),
 )
 
-pub cut-next : (sizes : List RuleSize) (i : ℕ) (s : RuleSize) (ts : List Test) (ms : List MoveTest) (os : List CodeLiteral) → i < length sizes → s ≡ get_or sizes i s → AreCut (drop i sizes) ts ms os → AreCut (s ∷ drop (i + 1) sizes) ts ms os
-cut-next sizes i s ts ms os lt is cut =
-    subst (λ (x : RuleSize). AreCut (x ∷ drop (i + 1) sizes) ts ms os) (sym is) (subst (λ (xs : List RuleSize). AreCut xs ts ms os) (drop_more sizes i s lt) cut)
-
--- one more rule of the code
 pub packed-next : (n : ℕ) (ps : List PlacedRule) (rules : List CodeRule) (i : ℕ) (rule : CodeRule) (p : PlacedRule) → i < length rules → rule ≡ get_or rules i rule → IsPacked n p (rule_of rule)
     → ArePacked n ps (rules_of (take i rules)) → ArePacked n (ps ++ p ∷ []) (rules_of (take (i + 1) rules))
 packed-next n ps rules i rule p lt is packed are =
     subst (λ (rs : List (Rule ℕ ℕ)). ArePacked n (ps ++ p ∷ []) rs) (sym (ap rules_of (take_more rules i rule lt) ∙ map_push rule_of (take i rules) (get_or rules i rule)))
     (packed-push n ps (rules_of (take i rules)) p (rule_of (get_or rules i rule)) are (subst (λ (r : CodeRule). IsPacked n p (rule_of r)) is packed))
 
--- one more rule of the code, with the row of its size behind the others, and its literals behind all literals
 pub table-next : (n : ℕ) (rules : List CodeRule) (i : ℕ) (rule : CodeRule) (p : PackedRule) (t m o : ℕ) (ss ss' : List RuleSize) (ts ts' : List Test) (ms ms' : List MoveTest) (os os' : List CodeLiteral) → i < length rules → rule ≡ get_or rules i rule → IsPacked n (placed p) (rule_of rule)
     → t ≡ length p.tests.items → m ≡ length p.moves.items → o ≡ length p.others.items → ss' ≡ ss ++ record { head = p.head; tests = t; moves = m; others = o } ∷ [] → ts' ≡ ts ++ p.tests.items → ms' ≡ ms ++ p.moves.items → os' ≡ os ++ p.others.items
     → AreCut ss ts ms os → ArePacked n (placed_rules ss ts ms os) (rules_of (take i rules)) → ArePacked n (placed_rules ss' ts' ms' os') (rules_of (take (i + 1) rules))
@@ -233,7 +223,7 @@ begun-at n atoms none first second rest turn empty terms kept after =
     kept ∙ ap (λ (xs : List Bool). row_after (numbered xs []) (drop n none) rest) no_terms ∙ ap (λ (xs : List Bool). row_after (numbered (unset n) []) xs rest) no_atoms in
     after ∙ ap (λ (xs : List Bool). row_after (numbered xs []) (drop n first) turn) (terms ∙ no_terms) ∙ ap (λ (xs : List Bool). row_after (numbered (unset n) []) xs turn) is_kept
 
--- both passes where the state has no term, from a row with nothing set
+-- both passes from a row with nothing set
 pub begun : (n m atoms : ℕ) (none first second : List Bool) (rest turn : List (Rule ℕ ℕ)) → m ≡ n → none ≡ unset (n + atoms) → take m first ≡ take m none → drop m first ≡ row_after (numbered (take m none) []) (drop m none) rest
     → drop m second ≡ row_after (numbered (take m first) []) (drop m first) turn → drop n second ≡ row_after (numbered (unset n) []) (row_after (numbered (unset n) []) (unset atoms) rest) turn
 begun n m atoms none first second rest turn same =

@@ -1,4 +1,4 @@
--- Picking texts, one place on.
+-- The loop that picks texts.
 use Rattle.std.proofs.Common.{ℕ, ◌<◌, ◌+◌, ◌≡◌, Bool, true, false, if◌then◌else◌, List, [], ◌∷◌, ◌++◌, refl, length, get_or, drop, append_assoc}
 use Rattle.std.proofs.lemmas.List.{drop_more}
 use Rattle.ground_rules.specs.Lookups.{picked}

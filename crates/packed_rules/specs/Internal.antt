@@ -1,3 +1,3 @@
--- Cited only by private functions and proofs.
+-- Definitions that only private functions and proofs use.
 pub mod PlacedRules
 pub mod PackedPass

@@ -4,7 +4,7 @@ use Rattle.numbered_rules.specs.declared.split.SplitRules.{SplitRules}
 use Rattle.ground_rules.specs.Literals.{Rule}
 use Rattle.ground_rules.specs.Numbered.{rules_of}
 
--- how many terms a state's row has, and the rules that were packed
+-- the number of terms in the row of a state, and the rules that were packed
 pub record PackedTable : Type 0 where
   pub terms : ℕ
   pub plain : SplitRules

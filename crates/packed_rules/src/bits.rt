@@ -1,4 +1,4 @@
-//! Rows of bits in words.
+//! Rows of bits in 64-bit words.
 ghost use Rattle.std.specs.Prelude.{◌≡◌, ◌<◌, ◌+◌, ◌*◌, ◌≤◌, ℕ, IfOk, length, slice_set, take, drop, true};
 ghost use Rattle.ground_rules.specs.Numbered.{bit, unset};
 ghost use Rattle.packed_rules.specs.Bits.{bit_of, bits_of};
@@ -8,7 +8,7 @@ use std::marker::Model;
 
 const WORD: usize = 64;
 
-/// A truth value for each place, 64 in a word. Contracts see the list of them.
+/// A list of truth values, 64 in a word. Contracts see the list.
 #[derive(Drop)]
 pub struct BitRow {
     pub(crate) words: Vec<u64>,
@@ -40,7 +40,7 @@ fn raise(words: &mut [u64], place: usize)
     words[place / WORD] |= 1 << (place % WORD);
 }
 
-/// The value at this place of a row of `size` values, false past the end.
+/// The value at this place of a row of `size` values, or false past the end.
 pub fn is_on(words: &[u64], size: usize, place: usize) -> bool
     requires { size ≤ length words.now * 64 }
     ensures { result ≡ bit (bits_of words.now size) place }
@@ -52,7 +52,7 @@ pub fn is_on(words: &[u64], size: usize, place: usize) -> bool
     }
 }
 
-/// The value at this place of such a row before `end`, false past that.
+/// The value at this place if it is before `end`, or false.
 pub fn is_on_before(words: &[u64], size: usize, end: usize, place: usize) -> bool
     requires { size ≤ length words.now * 64 }
     ensures { result ≡ bit (take end (bits_of words.now size)) place }
@@ -64,7 +64,7 @@ pub fn is_on_before(words: &[u64], size: usize, end: usize, place: usize) -> boo
     }
 }
 
-/// The value at this place of such a row from `start` on, false past the end.
+/// The value at this place counted from `start`, or false past the end.
 pub fn is_on_after(words: &[u64], size: usize, start: usize, place: usize) -> bool
     requires { size ≤ length words.now * 64 }
     ensures { result ≡ bit (drop start (bits_of words.now size)) place }
@@ -76,7 +76,7 @@ pub fn is_on_after(words: &[u64], size: usize, start: usize, place: usize) -> bo
     }
 }
 
-/// Makes the value at this place of such a row from `start` on true, if there is one.
+/// Sets the value at this place counted from `start` to true. Does nothing past the end.
 pub fn turn_on_after(words: &mut [u64], size: usize, start: usize, place: usize)
     requires { size ≤ length words.old * 64 }
     ensures { bits_of words.new size ≡ slice_set (bits_of words.old size) (start + place) true }
@@ -87,7 +87,7 @@ pub fn turn_on_after(words: &mut [u64], size: usize, start: usize, place: usize)
 }
 
 impl BitRow {
-    /// A row of `size` values, all false.
+    /// Creates a row of `size` values, all false.
     pub fn unset(alloc: Global, size: usize) -> Result<BitRow, AllocError>
         ensures { IfOk result (λ r. r ≡ unset size) }
     {
@@ -95,14 +95,14 @@ impl BitRow {
         Ok(BitRow { words, size })
     }
 
-    /// The value at this place, false past the end.
+    /// The value at this place, or false past the end.
     pub fn is_set(&self, place: usize) -> bool
         ensures { result ≡ bit self.now place }
     {
         is_on(&self.words, self.size, place)
     }
 
-    /// Makes the value at this place true, if there is one.
+    /// Sets the value at this place to true. Does nothing past the end.
     pub fn set(&mut self, place: usize)
         ensures { self.new ≡ slice_set self.old place true }
     {
@@ -111,21 +111,21 @@ impl BitRow {
         }
     }
 
-    /// The value at this place of the row before `end`, false past that.
+    /// The value at this place if it is before `end`, or false.
     pub fn is_set_before(&self, end: usize, place: usize) -> bool
         ensures { result ≡ bit (take end self.now) place }
     {
         is_on_before(&self.words, self.size, end, place)
     }
 
-    /// The value at this place of the row from `start` on, false past the end.
+    /// The value at this place counted from `start`, or false past the end.
     pub fn is_set_after(&self, start: usize, place: usize) -> bool
         ensures { result ≡ bit (drop start self.now) place }
     {
         is_on_after(&self.words, self.size, start, place)
     }
 
-    /// Makes the value at this place of the row before `end` true, if there is one.
+    /// Sets the value at this place to true if the place is before `end`.
     pub fn set_before(&mut self, end: usize, place: usize)
         ensures before { take end self.new ≡ slice_set (take end self.old) place true }
         ensures after { drop end self.new ≡ drop end self.old }

@@ -1,9 +1,8 @@
-//! Games by their rules, in a form that is fast to play.
+//! A form of ground games that is fast to play.
 //!
-//! `pack` makes the packed form of a `GroundGame`: the same game, and so a `Game` with the same
-//! answers. A state is one row of bits: one for each term of an `init` or `next` head, and one for
-//! each derived atom that does not depend on moves. A literal asks for the bit at one place. A turn
-//! evaluates each rule once, and takes memory for the rows alone.
+//! `pack` makes it from a `GroundGame`; the packed game gives the same answers. A state is one row of bits: one bit for each
+//! term of an `init` or `next` head, and one for each derived atom that does not depend on moves. A literal reads the bit at
+//! one place. A turn evaluates each rule once and allocates only the rows.
 #![tactic(auto)]
 
 mod bits;

@@ -1,4 +1,4 @@
-//! What a packed game looks up in a row.
+//! Looks up the answers of a packed game in a row.
 ghost use Rattle.std.specs.Prelude.{◌≡◌, ◌+◌, ◌<◌, ◌^◌, length, map, IfOk, take, drop};
 ghost use Rattle.std.specs.Cow.{cow_slice_items};
 ghost use Rattle.ground_rules.specs.Lookups.{marked, chosen, only_goal, picked};
@@ -12,7 +12,7 @@ use ground_rules::tables::{GoalHead, Mention};
 use std::alloc::{AllocError, Global};
 use std::borrow::CowSlice;
 
-/// A row of `terms` terms and `atoms` atoms, with the terms of the true mentions set.
+/// Makes a row of `terms` terms and `atoms` atoms, in which the terms of the true mentions are set.
 pub fn mark(
     alloc: Global,
     mentions: &[Mention],
@@ -33,7 +33,7 @@ pub fn mark(
     Ok(bits)
 }
 
-/// The moves with true heads.
+/// The moves whose heads are true.
 pub fn choose(
     alloc: Global,
     heads: &[Mention],
@@ -50,7 +50,7 @@ pub fn choose(
     Ok(moves)
 }
 
-/// The value of the true head, if exactly one head is true.
+/// The value of the true head, or `None` unless exactly one head is true.
 pub fn find_goal(heads: &[GoalHead], state: &PackedState) -> Option<u8>
     ensures { result ≡ only_goal state.now.kept heads.now }
 {
@@ -66,7 +66,7 @@ pub fn find_goal(heads: &[GoalHead], state: &PackedState) -> Option<u8>
     found
 }
 
-/// The texts of the terms that are set, in their order. They are borrowed.
+/// The texts of the terms that are set, in order.
 pub fn pick<'a>(
     alloc: Global,
     state: &PackedState,

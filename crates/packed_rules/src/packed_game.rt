@@ -118,7 +118,7 @@ impl PackedGame {
     ghost use Rattle.packed_rules.specs.PackedTables.{rest_of, turn_of};
     ghost use Rattle.packed_rules.specs.PackedGames.{sentences_of, tables_of};
 
-    /// The state with the terms of the true mentions, by a row of terms and derived atoms.
+    /// The state in which the terms of the true mentions are set. The row has the truth of terms and derived atoms.
     fn state_of(
         &self,
         alloc: Global,
@@ -135,21 +135,20 @@ impl PackedGame {
         })
     }
 
-    /// The sentences of the description, without capitals.
+    /// The sentences of the description, in lower case.
     pub fn description(&self) -> &[Expr]
         ensures { map expression result.now ≡ sentences_of self.now }
     {
         self.vocabulary.description.as_slice()
     }
 
-    /// The texts of the moves in the heads of `legal`, each once, by the numbers of their terms.
+    /// The texts of the moves in the heads of `legal`, each once. The index is the number of the move's term.
     pub fn move_texts(&self) -> &[Text]
         ensures { result.now ≡ (tables_of self.now).moves }
     {
         self.vocabulary.moves.as_slice()
     }
 
-    /// The game of this vocabulary and these rules.
     pub(crate) fn new(vocabulary: Vocabulary, rules: PackedRules) -> PackedGame
         requires { rules.terms ≡ length vocabulary.states.items }
         ensures tables { tables_of result ≡ tables_with vocabulary (rest_of rules) (turn_of rules) }

@@ -1,4 +1,4 @@
-//! Both parts of a game's rules, by places.
+//! Both parts of a game's rules, with places in a row.
 ghost use Rattle.std.specs.Prelude.{◌≡◌, [], IfOk, take, drop};
 ghost use Rattle.ground_rules.specs.Numbered.{numbered, row_after};
 ghost use Rattle.packed_rules.specs.PackedTables.{rest_of, turn_of};
@@ -12,11 +12,10 @@ use std::alloc::{AllocError, Global};
 use std::marker::Model;
 use std::snapshot::Snapshot;
 
-/// The rules with heads that do not depend on moves, and the others. Contracts see the rules that they
-/// were packed from.
+/// The rules whose heads do not depend on moves, and the others. Contracts see the rules that were packed.
 #[derive(Drop)]
 pub struct PackedRules {
-    /// The number of terms in a state's row.
+    /// The number of terms in the row of a state.
     terms: usize,
     rest: RuleTable,
     turn: RuleTable,
@@ -40,7 +39,7 @@ impl Model for PackedRules {
 }
 
 impl PackedRules {
-    /// The rules, by places in a row with `terms` terms.
+    /// Packs the rules for a row with `terms` terms.
     pub fn new(alloc: Global, rules: &SplitRules, terms: usize) -> Result<PackedRules, AllocError>
         ensures { IfOk result (λ p. p ≡ record { terms = terms; plain = rules.now }) }
     {
@@ -54,7 +53,7 @@ impl PackedRules {
         })
     }
 
-    /// The row after a pass over the rules with heads that do not depend on moves.
+    /// The row after a pass over the rules whose heads do not depend on moves.
     pub fn pass_rest(&self, bits: BitRow) -> BitRow
         ensures terms { take self.now.terms result ≡ take self.now.terms bits }
         ensures atoms { drop self.now.terms result ≡ row_after (numbered (take self.now.terms bits) []) (drop self.now.terms bits) (rest_of self.now) }
@@ -62,7 +61,7 @@ impl PackedRules {
         pass(&self.rest, bits, self.terms, &[])
     }
 
-    /// The row after a pass over the other rules, with the terms of the moves by role.
+    /// The row after a pass over the other rules. `joint` has the term of each role's move.
     pub fn pass_turn(&self, bits: BitRow, joint: &[usize]) -> BitRow
         ensures terms { take self.now.terms result ≡ take self.now.terms bits }
         ensures atoms { drop self.now.terms result ≡ row_after (numbered (take self.now.terms bits) joint.now) (drop self.now.terms bits) (turn_of self.now) }

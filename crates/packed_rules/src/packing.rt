@@ -1,4 +1,4 @@
-//! From numbered rules to rules by places.
+//! Packs numbered rules.
 ghost use Rattle.std.specs.Prelude.{◌≡◌, ℕ, ◌++◌, IfOk, IfSome, OnOk, map, true};
 ghost use Rattle.ground_rules.specs.Numbered.{view, rule_of, rules_of};
 ghost use Rattle.packed_rules.specs.Internal.PackedPass.{IsTestOf, IsMoveTestOf, IsPacked, IsPackedTable};
@@ -37,7 +37,7 @@ fn copy_all(alloc: Global, literals: &Vec<Literal>) -> Result<Vec<Literal>, Allo
     Ok(copies)
 }
 
-/// The test whether the value at this place is true, if the place fits into 32 bits.
+/// The test that the value at this place is true, if the place fits into 32 bits.
 fn test_at(place: usize) -> Option<Test>
     ensures { IfSome result (λ t. (t.place ≡ place) × (t.value ≡ true)) }
 {
@@ -45,8 +45,7 @@ fn test_at(place: usize) -> Option<Test>
     Some(Test { place, value: true })
 }
 
-/// The literal as a test, if it asks for one value of a row. The row has `terms` terms and, behind them,
-/// the derived atoms.
+/// The literal as a test, if it depends on one value of a row. The row has `terms` terms and then the derived atoms.
 fn test_of(literal: &Literal, terms: usize) -> Option<Test>
     ensures { IfSome result (IsTestOf terms (view literal.now)) }
 {
@@ -64,7 +63,7 @@ fn test_of(literal: &Literal, terms: usize) -> Option<Test>
     }
 }
 
-/// The test whether the role makes this move, if both fit into 32 bits.
+/// The test that the role makes this move, if both numbers fit into 32 bits.
 fn move_test_at(role: usize, term: usize) -> Option<MoveTest>
     ensures { IfSome result (λ t. (t.role ≡ role) × (t.term ≡ term) × (t.value ≡ true)) }
 {
@@ -77,7 +76,6 @@ fn move_test_at(role: usize, term: usize) -> Option<MoveTest>
     })
 }
 
-/// The literal as a test, if it asks for the move of one role.
 fn move_test_of(literal: &Literal) -> Option<MoveTest>
     ensures { IfSome result (λ t. (terms : ℕ) → IsMoveTestOf terms (view literal.now) t) }
 {
@@ -118,7 +116,6 @@ fn pack_rule(alloc: Global, rule: &Rule, terms: usize) -> Result<PackedRule, All
     })
 }
 
-/// Moves the items of one list behind those of another.
 fn append<T: Drop>(items: Vec<T>, into: &mut Vec<T>) -> Result<(), AllocError>
     ensures { OnOk result (into.new.items ≡ into.old.items ++ items.items) }
 {
@@ -128,7 +125,7 @@ fn append<T: Drop>(items: Vec<T>, into: &mut Vec<T>) -> Result<(), AllocError>
     Ok(())
 }
 
-/// The rules in their order, by places in a row with `terms` terms.
+/// Packs the rules, in order, for a row with `terms` terms.
 pub fn pack_rules(alloc: Global, rules: &[Rule], terms: usize) -> Result<RuleTable, AllocError>
     ensures { IfOk result (λ t. IsPackedTable terms t (rules_of rules.now)) }
 {

@@ -1,4 +1,4 @@
-//! The pass over rules by places.
+//! The pass over packed rules.
 ghost use Rattle.std.specs.Prelude.{◌≡◌, ◌≤◌, ◌*◌, length, take, drop};
 ghost use Rattle.ground_rules.specs.Fit.{truth, any_true, all_true};
 ghost use Rattle.ground_rules.specs.Numbered.{bit, numbered, view, views};
@@ -12,8 +12,8 @@ use crate::rules::{MoveTest, RuleSize, Test};
 use ground_rules::makes;
 use numbered_rules::numbered::Literal;
 
-/// Whether the literal is true. The row has `size` values: `terms` terms, and behind them the derived
-/// atoms. `joint` has the term of each role's move.
+/// Whether the literal is true. The row has `size` values: `terms` terms and then the derived atoms. `joint` has the term of
+/// each role's move.
 #[cycle(holds)]
 fn holds(literal: &Literal, words: &[u64], size: usize, terms: usize, joint: &[usize]) -> bool
     requires { size ≤ length words.now * 64 }
@@ -83,7 +83,7 @@ fn all_agree(tests: &[MoveTest], joint: &[usize]) -> bool
     true
 }
 
-/// Whether the literals of a rule are all true. Its tests come first, since they fail most often.
+/// Whether all literals of a rule are true. Tests come first, since they fail most often.
 fn fires(
     tests: &[Test],
     moves: &[MoveTest],
@@ -101,8 +101,8 @@ fn fires(
         && all_hold(others, words, size, terms, joint)
 }
 
-/// Goes over the rules in their order, and sets the head of each rule with true literals. The literals
-/// of a rule are the first of those that are left.
+/// Goes over the rules in order, and sets the head of each rule whose literals are true. Each rule takes its literals from
+/// the front of the remaining ones.
 fn sweep(table: &RuleTable, words: &mut [u64], size: usize, terms: usize, joint: &[usize])
     requires size { size ≤ length words.old * 64 }
     requires cut { IsCut table.now }
@@ -130,8 +130,8 @@ fn sweep(table: &RuleTable, words: &mut [u64], size: usize, terms: usize, joint:
     }
 }
 
-/// Goes over the rules in their order, and sets the head of each rule with tests that pass. A loop
-/// without other literals is twice as fast.
+/// Goes over the rules in order, and sets the head of each rule whose tests pass. This loop, without other literals, is
+/// twice as fast.
 fn sweep_tests(rules: &[RuleSize], tests: &[Test], words: &mut [u64], size: usize, terms: usize)
     requires size { size ≤ length words.old * 64 }
     requires cut { AreTestsCut rules.now tests.now }
@@ -147,7 +147,7 @@ fn sweep_tests(rules: &[RuleSize], tests: &[Test], words: &mut [u64], size: usiz
     }
 }
 
-/// Goes over the table's rules, by tests alone if the rules have no other literals.
+/// Goes over the rules of the table, with the faster loop if the rules have only tests.
 fn sweep_table(table: &RuleTable, words: &mut [u64], size: usize, terms: usize, joint: &[usize])
     requires size { size ≤ length words.old * 64 }
     requires cut { IsCut table.now }
@@ -160,7 +160,7 @@ fn sweep_table(table: &RuleTable, words: &mut [u64], size: usize, terms: usize, 
     }
 }
 
-/// The row after a pass over the rules. The loop goes over the words themselves, which is faster.
+/// The row after a pass over the rules. The loop works on the words, which is faster.
 pub fn pass(table: &RuleTable, bits: BitRow, terms: usize, joint: &[usize]) -> BitRow
     requires { IsCut table.now }
     ensures { result ≡ packed_after terms joint.now bits (rules_in table.now) }

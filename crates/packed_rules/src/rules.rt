@@ -1,14 +1,14 @@
-//! Rules by places.
+//! Packed rules.
 use numbered_rules::numbered::Literal;
 
-/// A place of a state's row, and the value that is asked for there.
+/// A place in the row of a state, and the value that it must have.
 #[derive(Clone, Copy)]
 pub struct Test {
     pub place: u32,
     pub value: bool,
 }
 
-/// A role and the term of a move, and whether the role is asked to make that move or another.
+/// A role and the term of a move, and whether the role must make this move or must not.
 #[derive(Clone, Copy)]
 pub struct MoveTest {
     pub role: u32,
@@ -16,23 +16,23 @@ pub struct MoveTest {
     pub value: bool,
 }
 
-/// A rule by places with lists of its own, as it is packed.
+/// A packed rule with separate lists of literals.
 #[derive(Drop)]
 pub struct PackedRule {
-    /// The number of its derived atom.
+    /// The number of the derived atom.
     pub head: usize,
-    /// The literals that ask for the value at one place.
+    /// The literals that depend on the value at one place.
     pub tests: Vec<Test>,
-    /// The literals that ask for the move of one role.
+    /// The literals that depend on the move of one role.
     pub moves: Vec<MoveTest>,
     /// The other literals.
     pub others: Vec<Literal>,
 }
 
-/// The head of a rule by places, and the number of its literals of each kind.
+/// The head of a packed rule, and how many literals of each kind it has.
 #[derive(Clone, Copy)]
 pub struct RuleSize {
-    /// The number of its derived atom.
+    /// The number of the derived atom.
     pub head: usize,
     pub tests: usize,
     pub moves: usize,

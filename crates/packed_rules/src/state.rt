@@ -5,8 +5,8 @@ ghost use Rattle.ground_rules.specs.Numbered.{bit};
 use crate::bits::BitRow;
 use std::marker::Model;
 
-/// A state of a packed game, as one row of bits: one for each term, and behind them one for each derived
-/// atom that does not depend on moves. Contracts see both rows.
+/// A state as one row of bits: one for each term, then one for each derived atom that does not depend on moves. Contracts
+/// see both rows.
 #[derive(Drop)]
 pub struct PackedState {
     pub(crate) bits: BitRow,
@@ -23,14 +23,13 @@ impl Model for PackedState {
 }
 
 impl PackedState {
-    /// Whether the state has the term with this number.
     pub(crate) fn has_term(&self, term: usize) -> bool
         ensures { result ≡ bit self.now.row term }
     {
         self.bits.is_set_before(self.terms, term)
     }
 
-    /// Whether the derived atom with this number is true, in the row of those that do not depend on moves.
+    /// Whether the derived atom, which does not depend on moves, is true.
     pub(crate) fn has_atom(&self, atom: usize) -> bool
         ensures { result ≡ bit self.now.kept atom }
     {

@@ -1,4 +1,4 @@
--- What is told of the match of one role.
+-- The rows of the match of one role.
 use Rattle.std.proofs.Common.{◌≡◌, ℕ, List, subst}
 use Rattle.match_plans.specs.declared.plan.CheckPlan.{CheckPlan}
 use Rattle.match_plans.specs.declared.plan.MatchPlan.{MatchPlan}
@@ -9,11 +9,9 @@ use Rattle.player_check.specs.Seats.{IsPlanFor}
 use Rattle.player_check.specs.Tables.{AreRows}
 use Rattle.player_check.specs.declared.watched.Exchange.{Exchange}
 
--- the plan of a match, with this id and so many roles
 pub planned-for : (plan : CheckPlan) (id it : List ℕ) (role roles number : ℕ) (made : MatchPlan) → id ≡ it → roles ≡ number → IsPlanFor plan id role roles made → IsPlanFor plan it role number made
 planned-for plan id it role roles number made same as-many planned = subst (λ (n : ℕ). IsPlanFor plan it role n made) as-many (subst (λ (x : List ℕ). IsPlanFor plan x role roles made) same planned)
 
--- the rows of these exchanges, for a role with this name and these turns
 pub told-of : (T : List RoleTurn → Type 0) (name role : List ℕ) (exchanges : List Exchange) (lent turns : List RoleTurn) (rows : List ℕ) (bad : ℕ) → name ≡ role → lent ≡ turns → T turns → AreRows name exchanges lent rows
     → bad ≡ bad_answers exchanges lent → IsToldOf T role rows bad
 told-of T name role exchanges lent turns rows bad named same are-turns are-rows is-bad = record {

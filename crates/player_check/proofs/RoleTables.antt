@@ -1,4 +1,4 @@
--- What was written of the roles so far.
+-- What was written about the roles so far.
 use Rattle.std.proofs.Common.{◌≡◌, ◌≢◌, ◌∙◌, ◌+◌, ◌<◌, ◌≤◌, ◌++◌, [], ◌∷◌, ℕ, List, Option, ap, arith, length, min, refl, subst, sym, take}
 use Rattle.std.specs.Prelude.{Result, Ok, Err, IfErr, IsErrAnd}
 use Rattle.std.specs.Io.KnownBytes.{Appends}
@@ -21,12 +21,12 @@ use Rattle.player_check.specs.Tables.{header}
 use Rattle.player_check.specs.declared.check.CheckFault.{CheckFault}
 use Rattle.player_check.specs.declared.check.CheckFault.TheVariants as faults
 
--- what waits to be written before the rows of the next role: the header, before the first one
+-- the text to write before the rows of the next role: the header before the first one
 abbrev pub waiting : List Told → List ℕ
 waiting [] = header
 waiting (role ∷ roles) = []
 
--- The table of the first roles was written, and this text waits.
+-- The table of the first roles was written, and this text is to be written next.
 pub record AreTold {S M : Type 0} (AreTurns : ℕ → List RoleTurn → Type 0) (g : Rules S M) (count bad : ℕ) (old new : Option (List ℕ)) (text : List ℕ) : Type 0 where
   pub written : List ℕ
   pub table : IsTable AreTurns g count bad written
@@ -51,15 +51,12 @@ nothing-waits (one ∷ roles) told = refl
 pub none-at : (Q : ℕ → Told → Type 0) → EachAt Q []
 none-at Q role told is = absurd cc
 
--- no role is told
 abbrev pub no-table : {S M : Type 0} (T : ℕ → List RoleTurn → Type 0) (g : Rules S M) → IsTable T g 0 0 []
 no-table T g = record { roles = []; so_many = refl; each = none-at _; is_bad = omega arith; is_text = refl }
 
--- the header waits
 pub none-told : {S M : Type 0} (T : ℕ → List RoleTurn → Type 0) (g : Rules S M) (a : Option (List ℕ)) (text : List ℕ) → text ≡ header → AreTold T g 0 0 a a text
 none-told T g a text is = record { written = []; table = no-table T g; appended = Appends-nil a; waits = is }
 
--- one more role's rows, behind what waited
 abbrev more-table : {S M : Type 0} (T : ℕ → List RoleTurn → Type 0) (g : Rules S M) (count before now more : ℕ) (written rows out : List ℕ) (table : IsTable T g count before written) → IsToldOf (T count) (g.role_name count) rows more
     → now ≡ min (before + more) last_count → out ≡ waiting table.roles ++ rows → IsTable T g (count + 1) now (written ++ out)
 more-table T g count before now more written rows out table told added is =
@@ -73,11 +70,9 @@ more-table T g count before now more written rows out table told added is =
       is_text = ap (λ (it : List ℕ). it ++ out) table.is_text ∙ ap (λ (it : List ℕ). table_text table.roles ++ it) is ∙ sym (table-next table.roles one);
     }
 
--- what is written: what waited, and then the rows
 behind : (text waits rows whole out : List ℕ) → text ≡ waits → whole ≡ text ++ rows → out ≡ whole → out ≡ waits ++ rows
 behind text waits rows whole out is whole-is lent = lent ∙ whole-is ∙ ap (λ (it : List ℕ). it ++ rows) is
 
--- One more role's rows are written, behind what waited, and nothing waits.
 pub told-next : {S M : Type 0} (T : ℕ → List RoleTurn → Type 0) (g : Rules S M) (count before now more : ℕ) (a b c : Option (List ℕ)) (text rows whole out left : List ℕ) → AreTold T g count before a b text
     → IsToldOf (T count) (g.role_name count) rows more → now ≡ min (before + more) last_count → whole ≡ text ++ rows → out ≡ whole → Appends b c out → left ≡ [] → AreTold T g (count + 1) now a c left
 told-next T g count before now more a b c text rows whole out left so-far told added whole-is lent written cleared = record {
@@ -87,7 +82,7 @@ told-next T g count before now more a b c text rows whole out left so-far told a
   waits = cleared ∙ sym (nothing-waits so-far.table.roles (record { rows = rows; bad = more }));
 }
 
--- A part of what waited and one more role's rows is written: up to there it is the table with this role.
+-- If a part of the waiting text and of one more role's rows is written, the output is a prefix of the table with this role.
 pub part-next : {S M : Type 0} (T : ℕ → List RoleTurn → Type 0) (g : Rules S M) (count before more taken : ℕ) (a b c : Option (List ℕ)) (text rows whole out : List ℕ) → count < g.roles → AreTold T g count before a b text
     → IsToldOf (T count) (g.role_name count) rows more → whole ≡ text ++ rows → out ≡ whole → taken ≤ length out → Appends b c (take taken out)
     → (number bad end : ℕ) × (table : List ℕ) × (0 < number) × (number ≤ g.roles) × IsTable T g number bad table × (end ≤ length table) × Appends a c (take end table)
@@ -104,17 +99,14 @@ part-next T g count before more taken a b c text rows whole out within so-far to
       subst (Appends a c) (sym (take-append-add front out taken)) (Appends-trans a b c front (take taken out) so-far.appended written),
     )
 
--- This is the table of all roles.
 pub all-told : {S M : Type 0} (T : ℕ → List RoleTurn → Type 0) (g : Rules S M) (count bad : ℕ) (a b : Option (List ℕ)) (text : List ℕ) → count ≡ g.roles → AreTold T g count bad a b text
     → (table : List ℕ) × IsTable T g g.roles bad table × Appends a b table
 all-told T g count bad a b text all told = (told.written, subst (λ (n : ℕ). IsTable T g n bad told.written) all told.table, told.appended)
 
--- what holds of this fault holds of an error that is it
 pub if-is : (r : Result ℕ CheckFault) (Q : CheckFault → Type 0) (fault : CheckFault) → IsErrAnd r (λ it. it ≡ fault) → Q fault → IfErr r Q
 if-is (Ok bad) Q fault is holds = tt
 if-is (Err it) Q fault is holds = subst Q (sym is) holds
 
--- what was written before a fault that is no write fault
 pub ends-earlier : (H : Type 0) {P : Type 0} (R : RolePlace → PlayerAddress → P → Type 0) (handed : P → Option (List Handed)) (game : PlayableGame) (plan : CheckPlan) (a b : Option (List ℕ)) (fault : CheckFault) → fault ≢ faults.WriteFault
     → WritesEarlier H R handed game plan a b → EndsEarly H R handed game plan fault a b
 ends-earlier H R handed game plan a b (faults.Match fault) other earlier = earlier

@@ -6,7 +6,6 @@ use Rattle.player_check.specs.Rows.{later_turns, next_turn}
 use Rattle.player_check.specs.Tables.{AreRows, IsRow}
 use Rattle.player_check.specs.declared.watched.Exchange.{Exchange}
 
--- The row of the next exchange stands behind those so far.
 pub next-row : (role : List ℕ) (all : List Exchange) (turns : List RoleTurn) (index : ℕ) (exchange : Exchange) (left later : List RoleTurn) (text row : List ℕ) → index < length all → exchange ≡ get_or all index exchange
     → later ≡ later_turns exchange.is_play left → IsRow role exchange (next_turn exchange.is_play left) row → ((rows : List ℕ) → AreRows role (drop index all) left rows → AreRows role all turns (text ++ rows))
     → (rows : List ℕ) → AreRows role (drop (index + 1) all) later rows → AreRows role all turns ((text ++ row) ++ rows)
@@ -16,7 +15,6 @@ next-row role all turns index exchange left later text row within at is is-row b
     let both : AreRows role (drop index all) left (row ++ rows) = subst (λ (them : List Exchange). AreRows role them left (row ++ rows)) (sym here) (row, rows, is-row, behind, refl) in
     subst (AreRows role all turns) (sym (append_assoc text row rows)) (before (row ++ rows) both)
 
--- These are the rows of all exchanges once none is left.
 pub all-rows : (role : List ℕ) (exchanges all : List Exchange) (turns : List RoleTurn) (index : ℕ) (left : List RoleTurn) (text : List ℕ) → all ≡ exchanges → length all ≤ index
     → ((rows : List ℕ) → AreRows role (drop index all) left rows → AreRows role all turns (text ++ rows)) → AreRows role exchanges turns text
 all-rows role exchanges all turns index left text same past before =

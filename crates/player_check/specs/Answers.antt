@@ -1,4 +1,4 @@
--- What an answer brought, and what is shown of it and of its message.
+-- What an exchange shows of a message and its answer.
 use Rattle.std.specs.Prelude.{◌≡◌, ◌↔◌, ℕ, Bool, List, [], IsTrue}
 use mathlib.Core.List.{IsPrefix}
 use Rattle.desk_calls.specs.declared.answer.Answer.{Answer}
@@ -14,12 +14,11 @@ brought_by (answers.Text text) = Text
 brought_by answers.Silent = Silence
 brought_by answers.Broken = Break
 
--- the text of an answer; it is empty without one
 abbrev pub answer_text : Answer → List ℕ
 answer_text (answers.Text text) = text
 answer_text answer = []
 
--- These are the beginnings of a message and of the text that answers it, whether the message asks for a move, and what it brought.
+-- These are the beginnings of a message and of the answer's text, whether the message asks for a move, and what came after it.
 pub record AreOfMessage (message : List ℕ) (is_play : Bool) (answer : List ℕ) (brought : AnswerKind) : Type 0 where
   pub body : List ℕ
   pub given : Answer

@@ -31,15 +31,15 @@ use Rattle.player_check.specs.declared.watched.CheckedPlayer.{CheckedPlayer}
 abbrev pub match_id : ℕ → List ℕ
 match_id role = codes "check-" ++ decimal role
 
--- A participant of this match is watched exactly if it has this role. Then it is around a player that was reached at the address.
+-- A player of this match is watched if and only if it has this role. Then it wraps a player that was reached at the address.
 abbrev pub is_watched : (H : Type 0) → {P : Type 0} → (RolePlace → PlayerAddress → P → Type 0) → ℕ → RolePlace → PlayerAddress → CheckedPlayer H P → Type 0
 is_watched H is_reached role at address participant = (is_some participant.watched ≡ (at.role == role)) × IfSome participant.watched (is_reached at address)
 
--- what a participant was handed: what its player was, if it is watched
+-- the messages to a player of the match: those to the watched player, if it is the one
 abbrev pub watched_handed : (H : Type 0) → {P : Type 0} → (P → Option (List Handed)) → CheckedPlayer H P → Option (List Handed)
 watched_handed H handed participant = option_and_then handed participant.watched
 
--- A match of this game was played, in which the player has this role and was handed the role's messages. These are the role's turns in it.
+-- A match of this game was played, in which the checked player had this role and got the role's messages. These are the role's turns.
 pub record AreTurnsIn (H : Type 0) {P : Type 0} (is_reached : RolePlace → PlayerAddress → P → Type 0) (handed : P → Option (List Handed)) (game : PlayableGame) (plan : CheckPlan) (role : ℕ) (turns : List RoleTurn) : Type 0 where
   pub made : MatchPlan
   pub planned : IsPlanFor plan (match_id role) role (loaded_game (tables_of game.game.now)).roles made
@@ -49,8 +49,8 @@ pub record AreTurnsIn (H : Type 0) {P : Type 0} (is_reached : RolePlace → Play
   pub reached : AreReached (is_watched H is_reached role) game.longest_move 0 made participants
   pub played : ArePlayedTurns (watched_handed H handed) game.game.now game.rules.now max_tries setup participants role turns
 
--- These are the rows, and this is the number of bad answers, of some exchanges and turns of a role. Which exchanges there were is not
--- said.
+-- These are the rows, and the number of bad answers, for some exchanges and for the role's turns. Which exchanges there were is not
+-- specified.
 pub record IsToldOf (AreTurns : List RoleTurn → Type 0) (role : List ℕ) (rows : List ℕ) (bad : ℕ) : Type 0 where
   pub exchanges : List Exchange
   pub turns : List RoleTurn
@@ -58,12 +58,11 @@ pub record IsToldOf (AreTurns : List RoleTurn → Type 0) (role : List ℕ) (row
   pub are_rows : AreRows role exchanges turns rows
   pub is_bad : bad ≡ bad_answers exchanges turns
 
--- what was told of a role: its rows, and the number of bad answers
+-- the rows of a role, and its number of bad answers
 pub record Told : Type 0 where
   pub rows : List ℕ
   pub bad : ℕ
 
--- the rows of these roles, one after another
 abbrev pub all_rows : List Told → List ℕ
 all_rows roles = concat (map (λ told. told.rows) roles)
 
@@ -71,13 +70,12 @@ all_rows roles = concat (map (λ told. told.rows) roles)
 abbrev pub all_bad : List Told → ℕ
 all_bad roles = min (sum_by (λ told. told.bad) roles) last_count
 
--- the text of a table of these roles: its header, and then their rows; nothing without a role
+-- the table of these roles: the header, and then their rows; empty if there are no roles
 abbrev pub table_text : List Told → List ℕ
 table_text [] = []
 table_text (role ∷ roles) = header ++ all_rows (role ∷ roles)
 
--- The text is the table of the first roles of a game, so many of them, in their order. The number of bad answers is that of all of
--- these.
+-- The text is the table of the first `count` roles of a game, in order, and they have this number of bad answers.
 pub record IsTable {S M : Type 0} (AreTurns : ℕ → List RoleTurn → Type 0) (g : Rules S M) (count bad : ℕ) (text : List ℕ) : Type 0 where
   pub roles : List Told
   pub so_many : length roles ≡ count
@@ -85,29 +83,27 @@ pub record IsTable {S M : Type 0} (AreTurns : ℕ → List RoleTurn → Type 0) 
   pub is_bad : bad ≡ all_bad roles
   pub is_text : text ≡ table_text roles
 
--- the number of roles of this game
 abbrev pub roles_of : PlayableGame → ℕ
 roles_of game = (loaded_game (tables_of game.game.now)).roles
 
 module _ (H : Type 0) {P : Type 0} (is_reached : RolePlace → PlayerAddress → P → Type 0) (handed : P → Option (List Handed)) (game : PlayableGame) (plan : CheckPlan) where
-  -- the text is the table of the check of a player in the first roles of this game
   abbrev pub IsTableOf : ℕ → ℕ → List ℕ → Type 0
   IsTableOf count bad text = IsTable (AreTurnsIn H is_reached handed game plan) (loaded_game (tables_of game.game.now)) count bad text
 
-  -- between the two contents of a stream the table of all roles was written
+  -- the table of all roles was written
   abbrev pub WritesCheck : ℕ → Option (List ℕ) → Option (List ℕ) → Type 0
   WritesCheck bad old new = (text : List ℕ) × IsTableOf (roles_of game) bad text × Appends old new text
 
-  -- the table of the first roles was written: some role is missing, and each role after it
+  -- the table of the first roles was written, but not of all roles
   abbrev pub WritesEarlier : Option (List ℕ) → Option (List ℕ) → Type 0
   WritesEarlier old new = (count bad : ℕ) × (text : List ℕ) × (count < roles_of game) × IsTableOf count bad text × Appends old new text
 
-  -- a beginning of the table of the first roles was written, of one or more of them
+  -- a prefix of the table of the first roles was written, for one or more roles
   abbrev pub WritesPart : Option (List ℕ) → Option (List ℕ) → Type 0
   WritesPart old new = (count bad taken : ℕ) × (text : List ℕ) × (0 < count) × (count ≤ roles_of game) × IsTableOf count bad text
       × (taken ≤ length text) × Appends old new (take taken text)
 
-  -- what was written of a check that ended early with this fault
+  -- what a check has written that ended early with this fault
   abbrev pub EndsEarly : CheckFault → Option (List ℕ) → Option (List ℕ) → Type 0
   EndsEarly WriteFault old new = WritesPart old new
   EndsEarly fault old new = WritesEarlier old new

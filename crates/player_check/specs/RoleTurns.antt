@@ -1,4 +1,4 @@
--- The turns of a match for one role.
+-- The turns of one role in a match.
 use Rattle.std.specs.Prelude.{◌≡◌, ℕ, List, Option, Some, length, slice_get, option_map}
 use Rattle.game_core.specs.Play.{Rules}
 use Rattle.ground_rules.specs.LoadedGame.{loaded_game}
@@ -11,17 +11,15 @@ use Rattle.match_messages.specs.Handing.{Handed}
 use Rattle.match_play.specs.PlayedMatches.{IsEndedWith}
 use Rattle.player_check.specs.declared.role_turns.RoleTurn.{RoleTurn}
 
--- a role's turn is the text of its move in this turn, and the error beside it
+-- the turn of a role has the text of its move in this turn, and its error
 pub record IsTurnOf {S M : Type 0} (g : Rules S M) (turns : List (Turn M)) (role : ℕ) (turn : ℕ) (told : RoleTurn) : Type 0 where
   pub played : option_map g.move_text (move_at turns turn role) ≡ Some told.played
   pub error : error_at turns turn role ≡ Some told.error
 
--- every turn, in order
 pub record AreTurnsOf {S M : Type 0} (g : Rules S M) (turns : List (Turn M)) (role : ℕ) (told : List RoleTurn) : Type 0 where
   pub count : length told ≡ length turns
   pub each : (turn : ℕ) (t : RoleTurn) → slice_get told turn ≡ Some t → IsTurnOf g turns role turn t
 
--- A match of this game was opened with this setup and played by these players, who got these rules in print. These are the role's turns
--- in it.
+-- A match of this game was opened with this setup and played by these players, who got these printed rules. These are the role's turns.
 abbrev pub ArePlayedTurns : {P : Type 0} → (P → Option (List Handed)) → PackedGame → List ℕ → ℕ → Setup → List P → ℕ → List RoleTurn → Type 0
 ArePlayedTurns handed game rules tries setup players role told = IsEndedWith handed game rules tries setup players (λ held. AreTurnsOf (loaded_game (tables_of held.game)) held.value.turns role told)

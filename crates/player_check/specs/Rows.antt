@@ -5,8 +5,7 @@ use Rattle.player_check.specs.Verdicts.{verdict_of, is_good}
 use Rattle.player_check.specs.declared.table.Verdict.{Verdict}
 use Rattle.player_check.specs.declared.watched.Exchange.{Exchange}
 
--- the turn of the next exchange, from the turns that are left: only an exchange that asks for a
--- move has one
+-- the turn of the next exchange; only an exchange that asks for a move has one
 abbrev pub next_turn : Bool → List RoleTurn → Option RoleTurn
 next_turn true (turn ∷ turns) = Some turn
 next_turn is_play turns = None
@@ -15,11 +14,10 @@ abbrev pub later_turns : Bool → List RoleTurn → List RoleTurn
 later_turns true (turn ∷ turns) = turns
 later_turns is_play turns = turns
 
--- the verdict on an exchange with this turn
 abbrev pub row_verdict : Exchange → Option RoleTurn → Verdict
 row_verdict exchange turn = verdict_of exchange.is_play exchange.brought (option_map (λ (t : RoleTurn). t.error) turn)
 
--- the verdicts on exchanges; those that ask for a move have these turns, in their order
+-- the verdicts on exchanges; those that ask for a move have these turns, in order
 abbrev pub verdicts : List Exchange → List RoleTurn → List Verdict
 verdicts [] turns = []
 verdicts (exchange ∷ exchanges) turns =

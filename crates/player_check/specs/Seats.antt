@@ -1,14 +1,13 @@
--- The plan of the match in which the player has one of the roles.
+-- The plan of the match in which the checked player has one of the roles.
 use Rattle.std.specs.Prelude.{◌≡◌, ◌≢◌, ℕ, ◌<◌, List, length, codes, HoldsAt}
 use Rattle.match_plans.specs.declared.addresses.PlayerAddress.{PlayerAddress}
 use Rattle.match_plans.specs.declared.plan.CheckPlan.{CheckPlan}
 use Rattle.match_plans.specs.declared.plan.MatchPlan.{MatchPlan}
 
--- the name of the players that answer nothing
 abbrev pub nobody : List ℕ
 nobody = codes "nobody"
 
--- of this many players, the one at this role is the player, and every other is nobody
+-- the player at this role is the checked one, and every other one is nobody
 pub record AreSeated (player : PlayerAddress) (role roles : ℕ) (players : List PlayerAddress) : Type 0 where
   pub count : length players ≡ roles
   pub seat : role < roles → HoldsAt (λ it. it ≡ player) players role

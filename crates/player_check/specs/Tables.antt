@@ -8,16 +8,15 @@ use Rattle.player_check.specs.Rows.{later_turns, next_turn, row_verdict}
 use Rattle.player_check.specs.Verdicts.{is_refused, verdict_text}
 use Rattle.player_check.specs.declared.watched.Exchange.{Exchange}
 
--- the text of the move in a turn; it is empty without a turn
+-- the text of the move in a turn, or empty without a turn
 abbrev pub played_text : Option RoleTurn → List ℕ
 played_text None = []
 played_text (Some turn) = turn.played
 
--- a column, with the tab between it and the columns after it
 abbrev pub column : List ℕ → List ℕ → List ℕ
 column text columns = text ++ tab ∷ columns
 
--- a row, with the words on what was wrong
+-- a row that ends with this explanation of what is wrong
 abbrev pub row_text : List ℕ → Exchange → Option RoleTurn → List ℕ → List ℕ
 row_text role exchange turn words =
     column (shown_text role)
@@ -27,19 +26,18 @@ row_text role exchange turn words =
     (column (shown_text (played_text turn))
     (column (decimal exchange.millis) (words ++ line_feed ∷ []))))))
 
--- The text is the row of an exchange with this turn. Its words are not said here. There are none without a fault, unless an answer was
--- refused as a move.
+-- The text is the row of an exchange with this turn. The text of its explanation is not specified, but it is empty if there is no
+-- fault and no answer was rejected as a move.
 pub record IsRow (role : List ℕ) (exchange : Exchange) (turn : Option RoleTurn) (text : List ℕ) : Type 0 where
   pub words : List ℕ
   pub no_words : exchange.fault ≡ None → is_refused (row_verdict exchange turn) ≡ false → words ≡ []
   pub is_text : text ≡ row_text role exchange turn words
 
--- The text is the rows of exchanges, one after another. The exchanges that ask for a move have these turns, in their order.
+-- The text is the rows of exchanges, in order. The exchanges that ask for a move have these turns, in order.
 abbrev pub AreRows : List ℕ → List Exchange → List RoleTurn → List ℕ → Type 0
 AreRows role [] turns text = text ≡ []
 AreRows role (exchange ∷ exchanges) turns text = (row : List ℕ) × (rows : List ℕ) × IsRow role exchange (next_turn exchange.is_play turns) row
     × AreRows role exchanges (later_turns exchange.is_play turns) rows × (text ≡ row ++ rows)
 
--- the names of the columns
 abbrev pub header : List ℕ
 header = codes "role\tmessage\tanswer\tverdict\tplayed\tms\tfault\n"

@@ -1,4 +1,4 @@
--- What an answer counted as.
+-- The verdict on an answer.
 use Rattle.std.specs.Prelude.{◌==◌, ℕ, Bool, true, false, List, Option, Some, None, length, bytes_eq, codes}
 use Rattle.match_book.specs.Judgement.{unreadable_text}
 use Rattle.player_check.specs.declared.watched.AnswerKind.{AnswerKind}
@@ -6,13 +6,13 @@ use Rattle.player_check.specs.declared.watched.AnswerKind.TheVariants.{Text, Sil
 use Rattle.player_check.specs.declared.table.Verdict.{Verdict}
 use Rattle.player_check.specs.declared.table.Verdict.TheVariants.{Taken, Legal, Illegal, NoMove, Late, Broken, Dropped}
 
--- by whether the error is empty, and whether it says that the text was no expression
+-- by whether the error is empty, and whether it says that the text is not an expression
 abbrev pub judged_as : Bool → Bool → Verdict
 judged_as true b = Legal
 judged_as false true = NoMove
 judged_as false false = Illegal
 
--- by the error beside the move of the turn, if one was recorded
+-- by the error of the turn, if the turn was recorded
 abbrev pub judged : Option (List ℕ) → Verdict
 judged None = Dropped
 judged (Some error) = judged_as (length error == 0) (bytes_eq error unreadable_text)
@@ -23,14 +23,13 @@ verdict_of is_play Break error = Broken
 verdict_of false Text error = Taken
 verdict_of true Text error = judged error
 
--- nothing was wrong with the answer
 abbrev pub is_good : Verdict → Bool
 is_good Taken = true
 is_good Legal = true
 is_good Dropped = true
 is_good verdict = false
 
--- the answer came for a move, and another move was played
+-- the message asked for a move, and another move was played than the answer
 abbrev pub is_refused : Verdict → Bool
 is_refused Illegal = true
 is_refused NoMove = true

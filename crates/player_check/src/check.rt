@@ -1,4 +1,4 @@
-//! The check of a player: a match for each role of a game, in which the player is watched.
+//! Checks a player: plays a match for each role of a game, and watches the player in it.
 ghost use Rattle.std.specs.Prelude.{◌≡◌, ◌≢◌, ◌<◌, ◌++◌, ℕ, List, Err, IfErr, IfOk, OnOk, option_copied};
 ghost use Rattle.game_core.specs.Counting.{one_more};
 ghost use Rattle.player_check.specs.Checks.{AreTurnsIn, EndsEarly, IsToldOf, WritesCheck};
@@ -24,13 +24,13 @@ use std::time::Clock;
 use thiserror::Error;
 use whole_streams::{WriteFault, write_all};
 
-/// Why a check did not end. The table has the rows of the earlier matches, and after a write fault a beginning of the last one's.
+/// Why a check did not end. The table has the rows of the earlier matches, and after a write fault also a part of the last one's.
 #[derive(Clone, Copy, Debug, PartialEq, Eq, Error)]
 pub enum CheckFault {
-    /// A match has no turns to show, for this reason.
+    /// A match ended without a result, for this reason.
     #[error("{0}")]
     Match(MatchFault),
-    /// The table can't be written.
+    /// The table cannot be written.
     #[error("write fault")]
     WriteFault,
     #[error("out of memory")]
@@ -72,7 +72,7 @@ impl From<WriteFault> for CheckFault {
 /// The name of the players that answer nothing.
 const NOBODY: &str = "nobody";
 
-/// The player at this place of the match in which the player has this role.
+/// The player with this index in the match in which the checked player has this role.
 fn seated<'a>(player: PlayerAddress<'a>, role: usize, place: usize) -> PlayerAddress<'a>
     ensures player { place ≡ role → result ≡ player.entry }
     ensures other { place ≢ role → result.name.now ≡ nobody }
@@ -88,7 +88,7 @@ fn seated<'a>(player: PlayerAddress<'a>, role: usize, place: usize) -> PlayerAdd
     }
 }
 
-/// The plan of the match in which the player has this role, of `roles` roles.
+/// The plan of the match in which the checked player has this role, in a game with this many roles.
 fn match_plan<'a>(
     alloc: Global,
     plan: &CheckPlan<'a>,
@@ -111,7 +111,7 @@ fn match_plan<'a>(
     })
 }
 
-/// The turn of the next exchange, and the turns of those after it. Only an exchange that asks for a move has a turn.
+/// The turn of the next exchange, and the turns of the exchanges after it. Only an exchange that asks for a move has a turn.
 fn next_turn(is_play: bool, turns: &[RoleTurn]) -> (Option<&RoleTurn>, &[RoleTurn])
     ensures turn { option_copied result.0 ≡ next_turn is_play turns.now }
     ensures later { result.1.now ≡ later_turns is_play turns.now }
@@ -122,7 +122,7 @@ fn next_turn(is_play: bool, turns: &[RoleTurn]) -> (Option<&RoleTurn>, &[RoleTur
     }
 }
 
-/// Appends a row for each exchange to the table. The turns belong to the exchanges that asked for a move, in their order. Returns the
+/// Appends a row for each exchange to the table. The turns are those of the exchanges that ask for a move, in order. Returns the
 /// number of bad answers.
 fn push_rows<'a>(
     alloc: Global,
@@ -156,7 +156,7 @@ fn push_rows<'a>(
     Ok(bad)
 }
 
-/// Plays the match in which the player has this role, and appends its rows to the table. Returns the number of bad answers.
+/// Plays the match in which the checked player has this role, and appends its rows to the table. Returns the number of bad answers.
 fn check_role<H, S>(
     alloc: Global,
     watching: &CheckReach<'_, H, S>,
@@ -194,8 +194,8 @@ where
     Ok(push_rows(alloc, table, game.game.role_name(role), &exchanges, &turns)?)
 }
 
-/// Plays a match for each role of the game, one after another. Writes a row for each message to the player once its match is over.
-/// Returns the number of its bad answers.
+/// Plays a match for each role of the game, one after another. After each match, writes a row for each message to the player. Returns
+/// the number of bad answers.
 pub fn check_player<H, S, W: Write>(
     rt: &H,
     alloc: Global,

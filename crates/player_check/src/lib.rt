@@ -1,7 +1,5 @@
-//! The check of a player: a match for each role of a game, in which the player plays this role, and a table of its messages, its answers
-//! and what these counted as.
-//!
-//! The other roles answer nothing, so their first legal moves are played.
+//! Checks a player: plays a match for each role of a game, in which the player has this role, and writes a table of the messages, the
+//! answers and their verdicts. The other roles answer nothing, so the referee plays their first legal moves.
 //!
 //! Free functions take the allocator first, after a handle for threads and waiting.
 #![tactic(auto)]

@@ -1,4 +1,4 @@
-//! Why an answer names no legal move, in words.
+//! Explains why an answer is not a legal move.
 ghost use Rattle.std.specs.Prelude.{◌≡◌, ◌<◌, All, length};
 
 use game_core::Game;
@@ -6,7 +6,7 @@ use match_book::{ILLEGAL_PREFIX, Match, place_of};
 use match_log::Shown;
 use std::alloc::{AllocError, Global};
 
-/// The limit of bytes up to which legal moves are told. Two dots stand for the others.
+/// The limit of bytes for listing legal moves. Two dots replace the others.
 const TOLD: usize = 200;
 
 /// Whether a move with this text is legal for the role in the state.
@@ -42,8 +42,8 @@ fn push_legal<G: Game>(game: &G, moves: &[G::Move], words: &mut String) -> Resul
     Ok(())
 }
 
-/// Appends the words on the role's answer in a recorded turn, if it named no legal move: the roles for which its move was legal, whether
-/// it was legal for this role a turn before, and the legal moves. There are none for any other answer.
+/// If the role's answer in a recorded turn was not a legal move, appends an explanation: the roles for which its move was legal, whether
+/// it was legal for this role one turn earlier, and the legal moves. Otherwise appends nothing.
 pub fn push_illegal_words<G: Game>(
     alloc: Global,
     game: &G,

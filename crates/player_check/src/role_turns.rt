@@ -1,4 +1,4 @@
-//! The turns of a match for one of its roles.
+//! The turns of one role in a match.
 ghost use Rattle.std.specs.Prelude.{◌≡◌, ◌<◌, IfOk};
 ghost use Rattle.player_check.specs.RoleTurns.{AreTurnsOf};
 
@@ -10,18 +10,17 @@ use match_play::{MatchFault, MatchReader};
 use packed_rules::PackedGame;
 use std::alloc::{AllocError, Global};
 
-/// A turn of a match for one role.
+/// One turn of a match, for one role.
 #[derive(Drop)]
 pub struct RoleTurn {
     /// The text of the role's recorded move.
     pub played: Text,
-    /// The error beside it. It is empty if the role's answer named the move.
+    /// The error that is recorded with the move. It is empty if the role's answer was the move.
     pub error: Text,
-    /// What to mend in an answer that named no legal move. It is empty for any other.
+    /// The explanation if the answer was not a legal move; otherwise empty.
     pub words: String,
 }
 
-/// The turns of a role in a match.
 fn turns_of<G: Game>(
     alloc: Global,
     game: &G,

@@ -1,4 +1,4 @@
-//! The table of the messages to a player, with its answers and what these counted as.
+//! The table of a check: the messages to the player, its answers, and their verdicts.
 ghost use Rattle.std.specs.Prelude.{◌≡◌, [], IfOk, None, false, option_copied, string_bytes};
 ghost use Rattle.player_check.specs.Rows.{row_verdict};
 ghost use Rattle.player_check.specs.Tables.{played_text};
@@ -12,32 +12,32 @@ use match_log::Shown;
 use std::alloc::{AllocError, Global};
 use std::fmt;
 
-/// The names of the columns, as the table's first line.
+/// The names of the columns, as the first line of the table.
 pub const HEADER: &[u8] = b"role\tmessage\tanswer\tverdict\tplayed\tms\tfault\n";
 
-/// What an answer counted as.
+/// The verdict on an answer.
 #[derive(Clone, Copy)]
 pub enum Verdict {
-    /// An answer to a message that asks for no move.
+    /// The message did not ask for a move.
     Taken,
-    /// A legal move.
+    /// The answer is a legal move.
     Legal,
-    /// A move that is not legal.
+    /// The answer is a move, but not a legal one.
     Illegal,
-    /// A text that is no move.
+    /// The answer is not a move.
     NoMove,
-    /// No answer in time.
+    /// No answer came in time.
     Late,
-    /// A broken answer.
+    /// The answer cannot be read, or the connection failed.
     Broken,
-    /// An answer for a turn that was not recorded, since the match was aborted.
+    /// The turn was not recorded, because the match was aborted.
     Dropped,
 }
 
 impl Verdict {
     ghost use Rattle.player_check.specs.Verdicts.{is_good};
 
-    /// Whether nothing was wrong with the answer.
+    /// Whether the verdict is taken, legal or dropped. Any other answer is bad.
     pub fn is_good(self) -> bool
         ensures { result ≡ is_good self }
     {
@@ -64,7 +64,7 @@ impl fmt::Display for Verdict {
     }
 }
 
-/// What an answer counted as. `error` is the error of its turn, if that was recorded.
+/// The verdict on an answer. `error` is the error of its turn, if the turn was recorded.
 pub fn verdict_of(is_play: bool, brought: AnswerKind, error: Option<&[u8]>) -> Verdict
     ensures { result ≡ verdict_of is_play brought (option_copied error.entry) }
 {
@@ -79,7 +79,7 @@ pub fn verdict_of(is_play: bool, brought: AnswerKind, error: Option<&[u8]>) -> V
     }
 }
 
-/// What an exchange's answer counted as.
+/// The verdict on an exchange, given its turn if that was recorded.
 pub fn row_verdict(exchange: &Exchange, turn: Option<&RoleTurn>) -> Verdict
     ensures { result ≡ row_verdict exchange.now (option_copied turn.entry) }
 {
@@ -90,7 +90,8 @@ pub fn row_verdict(exchange: &Exchange, turn: Option<&RoleTurn>) -> Verdict
     verdict_of(exchange.is_play, exchange.brought, error)
 }
 
-/// What was wrong with an exchange with this turn and verdict: its fault, or else why the answer is no move, or no legal one.
+/// What is wrong with an exchange that has this turn and verdict: its fault, or why the answer is not a move or not a legal
+/// one.
 pub fn fault_words(
     alloc: Global,
     exchange: &Exchange,
@@ -113,18 +114,18 @@ pub fn fault_words(
     }
 }
 
-/// A row of the table.
+/// A row of the table, for one message to the player.
 #[derive(Drop)]
 pub struct Row<'a> {
     pub role: &'a [u8],
     pub exchange: &'a Exchange,
-    /// The turn for which the answer was given, if that was recorded.
+    /// The turn that the message asked for, if it was recorded.
     pub turn: Option<&'a RoleTurn>,
-    /// What was wrong with the exchange.
+    /// What is wrong with the exchange.
     pub words: &'a str,
 }
 
-/// The text of the move in a turn. It is empty without a turn.
+/// The text of the move in a turn, or empty without a turn.
 fn played_text(turn: Option<&RoleTurn>) -> &[u8]
     ensures { result.now ≡ played_text (option_copied turn.entry) }
 {

@@ -1,4 +1,4 @@
-//! A watched player, among players that answer nothing.
+//! A watched player, and the players that answer nothing.
 ghost use Rattle.std.specs.Prelude.{◌≡◌, ◌==◌, ◌↔◌, ◌⊎◌, ◌++◌, ◌∷◌, ◌+◌, ◌-◌, ◌^◌, ◌/◌, [], IfOk, IfSome, IsFalse, IsTrue, min, OnErr, is_some, option_and_then, string_bytes};
 ghost use Rattle.std.specs.Duration.{as_nanos};
 ghost use mathlib.Core.List.{IsPrefix};
@@ -21,40 +21,40 @@ use std::alloc::{AllocError, Global};
 use std::sync::{Mutex, Wait};
 use std::time::{Clock, Duration, Instant};
 
-/// What a message brought.
+/// What came after a message.
 #[derive(Clone, Copy)]
 pub enum AnswerKind {
     Text,
     /// No answer in time.
     Silence,
-    /// An answer that can't be taken, or no connection.
+    /// An answer that cannot be read, or no connection.
     Break,
 }
 
-/// A message to the watched player, and what it brought.
+/// A message to the watched player, and the answer to it.
 #[derive(Drop)]
 pub struct Exchange {
-    /// The beginning of the message, as `Shown` writes it.
+    /// The beginning of the message, as `Shown` formats it.
     pub message: String,
-    /// Whether it asks for a move.
+    /// Whether the message asks for a move.
     pub is_play: bool,
     /// The beginning of the answer's text. It is empty without an answer.
     pub answer: String,
     pub brought: AnswerKind,
-    /// Why the answer's text is no move, if a move was asked for.
+    /// Why the answer is not a move, if the message asks for one.
     pub unread: Option<KifFault>,
     /// Why there is no answer, if that is known.
     pub fault: Option<ContactFault>,
-    /// The time that the message took, in milliseconds.
+    /// The time from the message to the answer, in milliseconds.
     pub millis: u128,
     ghost of_message: { ∥ AreOfMessage (string_bytes message) is_play (string_bytes answer) brought ∥₁ },
 }
 
-/// The exchanges with the watched player, in their order.
+/// The exchanges with the watched player, in order.
 #[derive(Drop)]
 pub struct Exchanges {
     pub items: Vec<Exchange>,
-    /// Whether memory ran out, and an exchange is missing.
+    /// Whether exchanges are missing because memory ran out.
     pub is_cut: bool,
 }
 
@@ -67,7 +67,7 @@ impl Exchanges {
         }
     }
 
-    /// Keeps the exchange, or notes that it is missing.
+    /// Stores the exchange, or notes that it is missing.
     fn keep(&mut self, exchange: Result<Exchange, AllocError>)
         ensures kept { IfOk exchange (λ exchange. (self.new.items.items ≡ self.old.items.items ++ exchange ∷ []) ⊎ IsTrue self.new.is_cut) }
         ensures missing { OnErr exchange (IsTrue self.new.is_cut) }
@@ -83,7 +83,6 @@ impl Exchanges {
     }
 }
 
-/// Whether a message asks for a move.
 fn asks_for_move(message: &SharedText<'_>) -> bool
     ensures { IsTrue result ↔ IsPrefix (kind_word Play) message.now }
 {
@@ -93,7 +92,6 @@ fn asks_for_move(message: &SharedText<'_>) -> bool
     }
 }
 
-/// What an answer brought, and its text. The text is empty without an answer.
 fn brought_of(answer: &Answer) -> (AnswerKind, &[u8])
     ensures brought { result.0 ≡ brought_by answer.now }
     ensures text { result.1.now ≡ answer_text answer.now }
@@ -105,7 +103,7 @@ fn brought_of(answer: &Answer) -> (AnswerKind, &[u8])
     }
 }
 
-/// Why this text is no move. `None` if it spells one expression.
+/// Why this text is not one expression, or `None` if it is.
 fn unread_fault(alloc: Global, text: &[u8]) -> Result<Option<KifFault>, AllocError> {
     if text.len() > MAX_ANSWER {
         return Ok(Some(KifFault::TooLong));
@@ -117,7 +115,6 @@ fn unread_fault(alloc: Global, text: &[u8]) -> Result<Option<KifFault>, AllocErr
     }
 }
 
-/// The exchange of a message, with the time that it took and the reason if there is no answer.
 fn exchange_of(
     alloc: Global,
     message: &SharedText<'_>,
@@ -147,7 +144,7 @@ fn exchange_of(
     })
 }
 
-/// Reaches the watched player for its role as `reach` does, and players that answer nothing for the other roles.
+/// Reaches the watched player by `reach`. The other roles get players that answer nothing.
 #[derive(Drop)]
 pub struct CheckReach<'a, H, S> {
     pub rt: &'a H,
@@ -165,7 +162,7 @@ pub struct CheckedPlayer<'a, H, P> {
     alloc: Global,
     pace: Pace<'a>,
     exchanges: &'a Mutex<Exchanges>,
-    /// The watched player. `None` for a player that answers nothing.
+    /// The watched player, or `None` for a player that answers nothing.
     watched: Option<P>,
 }
 
@@ -204,7 +201,7 @@ impl<H, S: ReportsShortages> ReportsShortages for CheckReach<'_, H, S> {
 }
 
 impl<H: Clock + Wait, P: Explains> CheckedPlayer<'_, H, P> {
-    /// Notes that a message is handed over now. Returns the present time, if the clock can be read.
+    /// Notes that a message begins. Returns the time now, if the clock can be read.
     fn begin(&mut self) -> Option<Instant>
         ensures begun { self.new.pace ≡ record self.old.pace { messages = min (2 ^ 64 - 1) (self.old.pace.messages + 1) } }
         ensures watched { self.new.watched ≡ self.old.watched }
@@ -213,8 +210,8 @@ impl<H: Clock + Wait, P: Explains> CheckedPlayer<'_, H, P> {
         Instant::now(self.rt).ok()
     }
 
-    /// Notes that a message is over that was handed over at the time `began`. Keeps the exchange, if the player is watched and there is an
-    /// answer: when out of memory there is none.
+    /// Notes that a message has ended which began at the time `began`. If the player is watched and there is an answer, stores the
+    /// exchange. There is no answer if memory ran out.
     fn end(&mut self, message: &SharedText<'_>, answer: Option<&Answer>, began: Option<Instant>)
         ensures rest { as_nanos self.new.pace.rest ≡ 100_000_000 }
         ensures ended { IsFalse self.new.pace.has_rested }

@@ -1,11 +1,11 @@
--- The fault of a command to players.
+-- The error of a command to players.
 use Rattle.match_plans.specs.declared.shortages.Shortage.TheVariants.{Memory as MemoryShortage}
 use Rattle.network_players.specs.declared.contacting.ContactFault.{ContactFault}
 use Rattle.network_players.specs.declared.contacting.ContactFault.TheVariants.{Shortage as ContactShortage}
 use Rattle.player_commands.specs.declared.fault.CommandFault.{CommandFault}
 use Rattle.player_commands.specs.declared.fault.CommandFault.TheVariants.{Memory, NoAnswer, NotSent}
 
--- a shortage is the referee's fault, everything else a missing answer
+-- if the referee lacks a resource, that is the error; any other failure is a missing answer
 abbrev pub contact_fault : ContactFault → CommandFault
 contact_fault (ContactShortage MemoryShortage) = Memory
 contact_fault (ContactShortage shortage) = NotSent shortage

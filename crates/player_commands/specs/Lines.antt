@@ -1,4 +1,4 @@
--- Single messages to players, and the lines of output about them.
+-- Messages to single players, and the output about them.
 use Rattle.std.specs.Prelude.{◌≡◌, ◌⊎◌, ℕ, Bool, true, false, List, [], ◌∷◌, ◌++◌, Option, codes, flat_map, map}
 use Rattle.std.specs.List.{list_all}
 use Rattle.std.specs.Io.KnownBytes.{Appends}
@@ -22,16 +22,15 @@ info_word Ready = codes "ready"
 info_word Busy = codes "busy"
 info_word Unknown = codes "unknown"
 
--- the object for a player of this name
+-- the JSON object for a player with this name
 abbrev pub verdict_line : List ℕ → List ℕ → List ℕ
 verdict_line name verdict = codes "{\"player\":\"" ++ (name ++ (codes "\",\"verdict\":\"" ++ (verdict ++ codes "\"}\n")))
 
--- the line for the answer of a player of this name to INFO, as JSON or in words
+-- the line for a player's answer to INFO, as JSON or as plain text
 abbrev pub info_line : Bool → List ℕ → Info → List ℕ
 info_line true name info = verdict_line name (info_word info)
 info_line false name info = info_word info ++ line_feed ∷ []
 
--- what the referee is short of
 abbrev pub shortage_word : Shortage → List ℕ
 shortage_word Descriptors = codes "descriptors"
 shortage_word Ports = codes "ports"
@@ -41,46 +40,43 @@ shortage_word Resolver = codes "resolver"
 shortage_word Network = codes "network"
 shortage_word NotRunning = codes "not_running"
 
--- the object for a player that gave no answer, or to which nothing was sent
+-- the JSON object for a player that gave no answer, or to which nothing was sent
 abbrev pub unanswered_line : List ℕ → CommandFault → List ℕ
 unanswered_line name NoAnswer = verdict_line name (codes "no_answer")
 unanswered_line name (NotSent shortage) =
     codes "{\"player\":\"" ++ (name ++ (codes "\",\"verdict\":\"not_sent\",\"lacks\":\"" ++ (shortage_word shortage ++ codes "\"}\n")))
 unanswered_line name fault = []
 
--- what was written of such a player: only JSON
+-- what was written about such a player: nothing, or one line as JSON
 abbrev pub TellsUnanswered : {W : Type 0} → (W → Option (List ℕ)) → Bool → List ℕ → CommandFault → Counting W → Counting W → Type 0
 TellsUnanswered contents true name NoAnswer writer writer' = Appends (contents writer.stream) (contents writer'.stream) (unanswered_line name NoAnswer)
 TellsUnanswered contents true name (NotSent shortage) writer writer' = Appends (contents writer.stream) (contents writer'.stream) (unanswered_line name (NotSent shortage))
 TellsUnanswered contents is_json name fault writer writer' = writer' ≡ writer
 
--- a line that `info` writes for a player of this name
 abbrev pub IsInfoOutput : Bool → List ℕ → List ℕ → Type 0
 IsInfoOutput is_json name line = ((answer : List ℕ) × (line ≡ info_line is_json name (info_reading answer)))
     ⊎ ((is_json ≡ true) × ((fault : CommandFault) × (line ≡ unanswered_line name fault)))
 
--- what `info` wrote if it ended with this fault
+-- what `info` has written if it fails
 abbrev pub InfoFails : {W : Type 0} → (W → Option (List ℕ)) → Bool → List ℕ → CommandFault → Counting W → Counting W → Type 0
 InfoFails contents is_json name fault writer writer' = TellsUnanswered contents is_json name fault writer writer'
     ⊎ ((fault ≡ WriteFault) × ((line : List ℕ) × IsInfoOutput is_json name line × AppendsPart (contents writer.stream) (contents writer'.stream) line))
 
--- the text of ABORT for the match of this id
 abbrev pub abort_text : List ℕ → List ℕ
 abort_text id = canonical (message_form (abort id))
 
--- the line for a player of this name that answered or did not, as JSON or in words
+-- the line for a player, which answered or not, as JSON or as plain text
 abbrev pub abort_line : Bool → List ℕ → Bool → List ℕ
 abort_line false name true = name ++ (codes " aborted" ++ line_feed ∷ [])
 abort_line false name false = name ++ (codes " no answer" ++ line_feed ∷ [])
 abort_line true name true = verdict_line name (codes "aborted")
 abort_line true name false = verdict_line name (codes "no_answer")
 
--- the lines for players that have all answered
 abbrev pub aborted_lines : Bool → List PlayerAddress → List ℕ
 aborted_lines is_json players = flat_map (λ p. abort_line is_json p.name.now true) players
 
--- From one content of a stream to the other a line was written for each of these players, in their order: whether it answered. The Bool says
--- whether all did.
+-- One line was written for each of these players, in their order, which says whether the player answered. The Bool says whether all players
+-- answered.
 pub record TellsAnswers (is_json : Bool) (players : List PlayerAddress) (have_answered : Bool) (old new : Option (List ℕ)) : Type 0 where
   pub told : List (PlayerAddress × Bool)
   pub are_told : map (λ it. it.0) told ≡ players

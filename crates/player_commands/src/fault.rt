@@ -1,4 +1,4 @@
-//! Why a command to players did not end well.
+//! Why `info` or `abort` failed.
 ghost use Rattle.std.specs.Prelude.{◌≡◌};
 ghost use Rattle.player_commands.specs.Faults.{contact_fault};
 ghost use Rattle.player_commands.specs.declared.fault.CommandFault.TheVariants as faults;
@@ -8,16 +8,17 @@ use network_players::ContactFault;
 use std::alloc::AllocError;
 use whole_streams::WriteFault;
 
-/// Why `info` or `abort` did not end well.
+/// Why `info` or `abort` failed.
 #[derive(Clone, Copy)]
 pub enum CommandFault {
-    /// The match's id is not lawful. No message was sent.
+    /// The match's id is invalid. No message was sent.
     BadId,
-    /// A player can't be reached, or its answer can't be read.
+    /// A player cannot be reached, or its answer cannot be read.
     NoAnswer,
-    /// The referee was short of this, so a message was not sent, or not in time, or its answer was lost. No player is to blame.
+    /// The referee lacked this resource, so it did not send a message, or sent it too late, or lost the answer. The player did
+    /// nothing wrong.
     NotSent(Shortage),
-    /// The output failed.
+    /// The output cannot be written.
     WriteFault,
     /// Out of memory.
     Memory,
@@ -39,7 +40,7 @@ impl From<WriteFault> for CommandFault {
     }
 }
 
-/// The fault of a command where a message to a player fails.
+/// The error of a command if a message to a player fails.
 pub fn contact_fault(fault: ContactFault) -> CommandFault
     ensures { result ≡ contact_fault fault }
 {

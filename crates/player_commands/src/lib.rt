@@ -1,5 +1,5 @@
-//! The commands that send single messages to players: `info` asks whether one is free, and `abort` sends ABORT for a match whose referee is
-//! gone. They work over any streams and any network.
+//! The commands that send single messages to players: `info` asks whether a player is available, and `abort` sends ABORT for a match whose
+//! referee has stopped. They work over any streams and any network.
 //!
 //! Free functions take the allocator first, after a handle for waiting or the network.
 #![tactic(auto)]

@@ -1,4 +1,4 @@
-//! Single messages to players: a question whether one is free, and ABORT for a match whose referee is gone.
+//! Sends INFO or ABORT to players, and prints their answers.
 ghost use Rattle.std.specs.Prelude.{◌≡◌, ◌≢◌, ◌⊎◌, ◌↔◌, ℕ, List, false, true, Err, IfErr, IfOk, OnOk, string_bytes};
 ghost use Rattle.std.specs.Io.KnownBytes.{Appends};
 ghost use Rattle.desk_calls.specs.Names.{is_name};
@@ -20,10 +20,10 @@ use std::io::Write;
 use std::time::Clock;
 use whole_streams::write_all;
 
-/// A player's seconds for an answer.
+/// The time that a player has for an answer, in seconds.
 const SECONDS: u32 = 10;
 
-/// The answer of a player to a message. It is reported why there is none.
+/// Sends a message to a player and returns its answer. If there is none, reports why.
 fn answer_to<N: Resolves + Clock, E: Write>(
     rt: &N,
     alloc: Global,
@@ -53,14 +53,13 @@ fn info_word(info: Info) -> &'static str
     }
 }
 
-/// The object for a player of this name.
+/// A JSON object with the name of a player and this verdict, as a line.
 fn verdict_line(alloc: Global, name: &str, verdict: &str) -> Result<String, AllocError>
     ensures { IfOk result (λ line. string_bytes line ≡ verdict_line name.now verdict.now) }
 {
     format!(in alloc; "{{\"player\":\"{name}\",\"verdict\":\"{verdict}\"}}\n")
 }
 
-/// The line of output for the answer of a player of this name to INFO.
 fn info_line(alloc: Global, is_json: bool, name: &str, info: Info) -> Result<String, AllocError>
     ensures { IfOk result (λ line. string_bytes line ≡ info_line is_json name.now info) }
 {
@@ -72,7 +71,7 @@ fn info_line(alloc: Global, is_json: bool, name: &str, info: Info) -> Result<Str
     }
 }
 
-/// What the referee is short of.
+/// The word for the resource that the referee lacked.
 fn shortage_word(shortage: Shortage) -> &'static str
     ensures { result.now ≡ shortage_word shortage }
 {
@@ -87,7 +86,7 @@ fn shortage_word(shortage: Shortage) -> &'static str
     }
 }
 
-/// The object for a player that gave no answer, or to which nothing was sent.
+/// The JSON object for a player that gave no answer, or to which nothing was sent.
 fn unanswered_line(alloc: Global, name: &str, fault: CommandFault) -> Result<String, AllocError>
     ensures { IfOk result (λ line. string_bytes line ≡ unanswered_line name.now fault) }
 {
@@ -103,7 +102,6 @@ fn unanswered_line(alloc: Global, name: &str, fault: CommandFault) -> Result<Str
     }
 }
 
-/// Writes as JSON that a player gave no answer, or that nothing was sent to it.
 fn tell_unanswered<W: Write>(
     alloc: Global,
     name: &str,
@@ -123,7 +121,7 @@ fn tell_unanswered<W: Write>(
     }
 }
 
-/// Asks a player whether it is free, and writes its answer. As JSON it is also written that there is none.
+/// Asks a player whether it is available, and prints its answer. With JSON, also prints that there is no answer.
 pub fn info<N: Resolves + Clock, W: Write, E: Write + Drop>(
     rt: &N,
     alloc: Global,
@@ -151,7 +149,6 @@ pub fn info<N: Resolves + Clock, W: Write, E: Write + Drop>(
     }
 }
 
-/// The text of ABORT for the match of this id.
 fn abort_message(alloc: Global, id: &str) -> Result<Text, AllocError>
     ensures { IfOk result (λ text. text ≡ abort_text id.now) }
 {
@@ -167,7 +164,7 @@ fn abort_message(alloc: Global, id: &str) -> Result<Text, AllocError>
     message(alloc, &brief, 0, &Owed::Abort)
 }
 
-/// The line of output for a player.
+/// The output for a player after ABORT.
 fn abort_line(
     alloc: Global,
     is_json: bool,
@@ -201,7 +198,6 @@ fn has_answered<N: Resolves + Clock, E: Write>(
     }
 }
 
-/// Writes whether a player answered ABORT.
 fn tell_abort<W: Write>(
     alloc: Global,
     is_json: bool,
@@ -216,8 +212,8 @@ fn tell_abort<W: Write>(
     Ok(write_all(writer, line.as_bytes())?)
 }
 
-/// Sends ABORT to the players of a match, one after another, and writes for each whether it answered. A player for which the referee is
-/// short of something has a line only as JSON, and the others are sent ABORT all the same.
+/// Sends ABORT to the players of a match, one after another, and prints for each whether it answered. If the referee lacks a resource
+/// for a player, it prints this only as JSON, and goes on with the next player.
 pub fn abort<N: Resolves + Clock, W: Write, E: Write + Drop>(
     rt: &N,
     alloc: Global,

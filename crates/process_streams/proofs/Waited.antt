@@ -1,4 +1,4 @@
--- What a stream takes or gives in the end that kept its bytes before.
+-- Reads and writes that are repeated after the stream would have blocked.
 use Rattle.std.proofs.Common.{◌≡◌, ◌∙◌, ◌++◌, ℕ, List, Option, None, Some, subst, sym, take}
 use Rattle.std.proofs.KnownBytes.{Keeps-refl, Keeps-trans}
 use Rattle.std.specs.Prelude.{Result, Ok, Err}
@@ -16,7 +16,6 @@ appends_in_the_end (Some x) None c bs kept adds = absurd kept
 appends_in_the_end (Some x) (Some y) None bs kept adds = absurd adds
 appends_in_the_end (Some x) (Some y) (Some z) bs kept adds = subst (λ it. z ≡ it ++ bs) kept adds
 
--- A write that ends, after others that would have blocked.
 pub writes_in_the_end : {E : Type 0} (a b c : Option (List ℕ)) (r : Result ℕ E) (buf : List ℕ) → Keeps a b → WriteAppends b c r buf → WriteAppends a c r buf
 writes_in_the_end a b c (Ok n) buf kept adds = appends_in_the_end a b c (take n buf) kept adds
 writes_in_the_end a b c (Err e) buf kept adds = Keeps-trans a b c kept adds
@@ -27,7 +26,6 @@ consumes_in_the_end (Some x) None c bs kept gives = absurd kept
 consumes_in_the_end (Some x) (Some y) None bs kept gives = absurd gives
 consumes_in_the_end (Some x) (Some y) (Some z) bs kept gives = sym kept ∙ gives
 
--- A read that ends, after others that would have blocked.
 pub reads_in_the_end : {E : Type 0} (a b c : Option (List ℕ)) (r : Result ℕ E) (buf : List ℕ) → Keeps a b → ReadConsumes b c r buf → ReadConsumes a c r buf
 reads_in_the_end a b c (Ok n) buf kept gives = (consumes_in_the_end a b c (take n buf) kept gives.0, gives.1)
 reads_in_the_end a b c (Err e) buf kept gives = Keeps-trans a b c kept gives

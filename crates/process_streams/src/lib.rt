@@ -1,5 +1,5 @@
-//! What the system gives the process: its limits; its standard streams, of which one may be closed, may block, or may go to a file with a
-//! limit of its size; and the files that records and the log are added to.
+//! What the operating system provides: the limits of the process, its standard streams, which may be closed, non-blocking or files with a
+//! size limit, and the files to which records and the log are appended.
 #![tactic(auto)]
 
 mod limits;

@@ -1,4 +1,4 @@
-//! The limits that the system sets the process.
+//! The limits that the operating system sets for the process.
 
 use game_core::Counted;
 use std::alloc::Global;
@@ -7,19 +7,20 @@ use std::rt::Files;
 use std::{fs, io, str};
 use whole_streams::read_to_end;
 
-/// The file with the limits of a process under Linux.
+/// Linux lists the limits of the process in this file.
 const LIMITS: &str = "/proc/self/limits";
 
-/// The limit of bytes that are read of this file.
+/// The largest number of bytes to read from this file.
 const MAX_LIMITS: usize = 65_536;
 
-/// The name of the limit of open descriptors.
+/// The name of the limit of open file descriptors in `/proc/self/limits`.
 pub const DESCRIPTORS: &str = "Max open files";
 
-/// The name of the limit of a file's size, in bytes.
+/// The name of the limit of a file's size in bytes.
 pub const FILE_SIZE: &str = "Max file size";
 
-/// The soft limit of this name in a text of limits. `None` if the text has none, or if there is no limit.
+/// The soft limit with this name in the text of `/proc/self/limits`, or `None` if the text does not have it or there is no
+/// limit.
 pub fn limit_in(limits: &str, name: &str) -> Option<u64> {
     for line in limits.lines() {
         if let Some(rest) = line.strip_prefix(name) {
@@ -29,7 +30,7 @@ pub fn limit_in(limits: &str, name: &str) -> Option<u64> {
     None
 }
 
-/// The soft limit of this name. `None` if there is no limit, or the system does not say it.
+/// The soft limit with this name, or `None` if there is no limit or it cannot be read.
 pub fn limit_of<F: Files>(files: &F, alloc: Global, name: &str) -> Option<u64> {
     let Ok(file) = fs::open(files, LIMITS) else {
         return None;
@@ -40,7 +41,7 @@ pub fn limit_of<F: Files>(files: &F, alloc: Global, name: &str) -> Option<u64> {
     }
 }
 
-/// Whether a file is as large as the limit of its size. One more byte there would end the process by a signal.
+/// Whether a file is as large as its size limit. Writing one more byte would end the process by a signal.
 pub(crate) fn is_full(limit: u64, found: io::Result<Metadata>) -> bool {
     match found {
         Ok(found) => found.is_file() && found.len() >= limit,

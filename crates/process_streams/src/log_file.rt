@@ -1,4 +1,4 @@
-//! The file that the log is added to.
+//! The file to which the log is appended.
 ghost use Rattle.std.specs.Prelude.{None, IfOk, take};
 ghost use Rattle.std.specs.Io.{WritesAtMost};
 ghost use Rattle.std.specs.Io.KnownBytes.{Appends, WriteAppends};
@@ -9,11 +9,11 @@ use std::io;
 use std::io::{Error, ErrorKind, Read, Seek, SeekFrom, Write};
 use std::rt::Files;
 
-/// A file that the log is added to.
+/// A log file, opened for appending.
 #[derive(Drop)]
 pub struct LogFile<F> {
     file: F,
-    /// The limit of the file's size in bytes.
+    /// The size limit of the file in bytes.
     limit: Option<u64>,
 }
 
@@ -34,7 +34,7 @@ impl<F: Write + OpenFile> Write for LogFile<F> {
     }
 }
 
-/// Whether the last line of a file of this length has no line feed: a program that wrote it was interrupted.
+/// Whether the last line of a file of this length has no line feed. Then the program that wrote it was interrupted.
 pub(crate) fn is_torn<F: Read + Seek>(file: &mut F, length: u64) -> io::Result<bool> {
     file.seek(SeekFrom::Start(length.saturating_sub(1)))?;
     let mut last = [0u8; 1];
@@ -42,7 +42,8 @@ pub(crate) fn is_torn<F: Read + Seek>(file: &mut F, length: u64) -> io::Result<b
     Ok(last[0] != b'\n')
 }
 
-/// Opens the file at this path to add the log to it, and makes it if it is not there. Ends its last line if that is torn.
+/// Opens the log file at this path for appending, and creates it if it does not exist. Ends its last line if that has no
+/// line feed.
 pub fn open_log<R: Files>(
     files: &R,
     path: &str,
@@ -54,7 +55,7 @@ pub fn open_log<R: Files>(
     let found = file.metadata()?;
     let mut log = LogFile { file, limit };
     if found.is_file() && found.len() > 0 {
-        // A file that can't be read counts as whole.
+        // If the file cannot be read, its last line is assumed to be complete.
         if let Ok(mut file) = File::open(files, path) {
             if is_torn(&mut file, found.len()).unwrap_or(false) {
                 let _ = log.write(b"\n");

@@ -1,16 +1,17 @@
-//! What takes the place of standard streams that are closed.
+//! Placeholders for closed standard streams.
 
 use std::net::Net;
 use std::os::fd::{BorrowedFd, IntoRawFd, OwnedFd};
 use std::{fs, io};
 
-/// The system's number of the error that a descriptor is not open.
+/// Linux's error number `EBADF`: the descriptor is not open.
 const NOT_OPEN: i32 = 9;
 
-/// Holds the number of a stream if it is closed, and those below are held: by a socket without a peer, or by the root folder if the
-/// system refuses that for no permission. Neither can be read or written, as a closed stream can't. It gets the lowest number that is free.
+/// If the stream is closed, takes its descriptor number with a socket without a peer, or with the root directory if the system refuses the
+/// socket. Both fail to read and write, as a closed stream does. The system assigns the lowest free number, so call this for lower numbers
+/// first.
 fn held(rt: &HostRuntime, stream: BorrowedFd<'_>) -> io::Result<()> {
-    // A copy that is refused for another reason says that the stream is open.
+    // If copying it fails for any other reason, the stream is open.
     let is_closed = match stream.try_clone_to_owned() {
         Ok(_) => false,
         Err(error) => error.raw_os_error() == Some(NOT_OPEN),
@@ -20,15 +21,15 @@ fn held(rt: &HostRuntime, stream: BorrowedFd<'_>) -> io::Result<()> {
             Ok(socket) => socket,
             Err(_) => OwnedFd::from(fs::open(rt, "/")?),
         };
-        // Nothing closes the number.
+        // The number is never closed.
         let _number = placeholder.into_raw_fd();
     }
     Ok(())
 }
 
-/// Holds the numbers of the standard streams that are closed until the program ends: otherwise a connection would get one, and its player
-/// what is written to the stream. Streams that are open cost no descriptor. An error says that a stream is closed and nothing can be
-/// opened in its place.
+/// Takes the descriptor numbers of closed standard streams until the program ends. Otherwise a connection to a player would get one, and
+/// the player would get the text that is written to the stream. Open streams cost no descriptor. Returns an error if a stream is closed and
+/// no placeholder can be opened.
 pub fn hold_closed(
     rt: &HostRuntime,
     input: BorrowedFd<'_>,

@@ -1,4 +1,4 @@
-//! A file that records are added to.
+//! The file to which records are appended.
 ghost use Rattle.std.specs.Prelude.{◌≡◌, ◌≤◌, None, IfOk, IfSome, take};
 ghost use Rattle.std.specs.Io.{WritesAtMost};
 ghost use Rattle.std.specs.Io.KnownBytes.{Appends, WriteAppends};
@@ -12,34 +12,34 @@ use std::os::unix::fs::MetadataExt;
 use std::rt::Files;
 use std::{fs, io};
 
-/// The number of bytes of a file that are read together.
+/// The number of bytes to read at once.
 const PIECE: usize = 16_384;
 
-/// The limit of the number behind `.torn.` in the name of a file.
+/// The limit of N in the name `FILE.torn.N`.
 const MOST_TORN: usize = 1_000;
 
-/// Why a file can't be added to.
+/// Why records cannot be appended to a file.
 #[derive(Clone, Copy)]
 pub enum RecordsFault {
-    /// It can't be opened, made or locked, or its path named another file by then.
+    /// The file cannot be opened, created or locked, or its path named another file after it was opened.
     Unopened,
-    /// It is a directory, a pipe or a device.
+    /// The path names a directory, a pipe or a device.
     NotRegular,
-    /// Another program adds to it.
+    /// Another program has locked the file.
     InUse,
-    /// Its first byte can't be read.
+    /// The file's first byte cannot be read.
     Unread,
-    /// It does not begin as a record does.
+    /// The file does not begin with `{`, as a record does.
     NoRecords,
-    /// What is cut off at its end can't be moved to another file.
+    /// The incomplete end of the file cannot be moved to another file.
     Unmended,
     /// Out of memory.
     Memory,
 }
 
-/// Files that can be locked, so that one program at a time adds to them.
+/// A file system with locks, so that only one program at a time appends to a file.
 pub trait LockedFiles: Files {
-    /// Locks an open file, until it is closed. `Ok(false)`: another program has it locked.
+    /// Locks an open file until it is closed. Returns `Ok(false)` if another program has locked it.
     fn lock(&self, file: &Self::File) -> io::Result<bool>;
 }
 
@@ -53,12 +53,12 @@ impl LockedFiles for HostRuntime {
     }
 }
 
-/// Whether two files are one.
+/// Whether two files are the same file.
 fn is_same(one: &Metadata, other: &Metadata) -> bool {
     one.dev() == other.dev() && one.ino() == other.ino()
 }
 
-/// The length of what a path names now, in bytes. An error says that it is not the file that was opened.
+/// The length in bytes of the file that a path names now. Returns an error if that is not the file that was opened.
 fn length_of(opened: &Metadata, named: io::Result<Metadata>) -> io::Result<u64> {
     match named {
         Ok(named) if is_same(&named, opened) => Ok(named.len()),
@@ -67,43 +67,42 @@ fn length_of(opened: &Metadata, named: io::Result<Metadata>) -> io::Result<u64> 
     }
 }
 
-/// What became of a file while records were added to it.
+/// What has happened to a file while records were appended to it.
 #[derive(Clone, Copy)]
 pub enum RecordsState {
-    /// It has only what was added.
+    /// Only this program has changed it.
     Kept,
-    /// It was removed, renamed or replaced: its path does not name it any more.
+    /// It was removed, renamed or replaced, so its path no longer names it.
     Lost,
-    /// Another program has cut it.
+    /// Another program has shortened it.
     Cut,
-    /// Another program has added to it.
+    /// Another program has appended to it.
     Grown,
 }
 
-/// A file that records are added to. What a write took is on the disk before the write returns, and the file's path still names it then.
-/// If another program has added to the file and has left its last line open, a write ends that line first.
+/// A file to which records are appended. When a write returns, its bytes are on the disk, and the path still named the file after the
+/// write. If another program has appended to the file and has left its last line incomplete, a write ends that line first.
 #[derive(Drop)]
 pub struct RecordsFile<'a, R, F> {
     files: &'a R,
     path: &'a str,
     file: F,
-    /// What the file was when it was opened.
+    /// The file's metadata when it was opened.
     opened: Metadata,
-    /// The limit of the file's size in bytes.
+    /// The size limit of the file in bytes.
     limit: Option<u64>,
-    /// The file's length in bytes when it was opened, mended or written to last.
+    /// The file's length in bytes when it was last opened, repaired or written.
     length: u64,
-    /// Whether another program has added to the file.
+    /// Whether another program has appended to the file.
     is_shared: bool,
 }
 
 impl<R: Files, F> RecordsFile<'_, R, F> {
-    /// The file's length now. An error says that its path does not name it any more.
     fn length_now(&self) -> io::Result<u64> {
         length_of(&self.opened, fs::metadata(self.files, self.path))
     }
 
-    /// What became of the file since it was opened.
+    /// Compares the file with what it was after the last write.
     pub fn state(&self) -> RecordsState {
         match self.length_now() {
             Err(_) => RecordsState::Lost,
@@ -113,7 +112,7 @@ impl<R: Files, F> RecordsFile<'_, R, F> {
         }
     }
 
-    /// Ends the last line of the file, which another program has made this long. An error says that it was cut instead.
+    /// Ends the last line of the file, which another program has changed to this length. Returns an error if it is shorter than before.
     fn end_line(&self, length: u64) -> io::Result<()> {
         if length < self.length {
             return Err(Error::from(ErrorKind::UnexpectedEof));
@@ -141,7 +140,7 @@ impl<R: Files, F: Write + OpenFile> Write for RecordsFile<'_, R, F> {
             begin = self.length_now()?;
         }
         if let Some(limit) = self.limit {
-            // One more byte there would end the process by a signal.
+            // Writing one more byte would end the process by a signal.
             if begin >= limit {
                 return Err(Error::from(ErrorKind::FileTooLarge));
             }
@@ -150,7 +149,7 @@ impl<R: Files, F: Write + OpenFile> Write for RecordsFile<'_, R, F> {
         self.file.sync_data()?;
         self.length = self.length_now()?;
         if self.length != begin.saturating_add(count as u64) {
-            // What another program added in between may stand on the same line.
+            // Another program may have written to the same line.
             self.is_shared = true;
             return Err(Error::from(ErrorKind::InvalidData));
         }
@@ -162,7 +161,7 @@ impl<R: Files, F: Write + OpenFile> Write for RecordsFile<'_, R, F> {
     }
 }
 
-/// Whether these two paths name one regular file.
+/// Whether both paths name the same regular file.
 pub fn is_one_file<F: Files>(files: &F, path: &str, other: &str) -> bool {
     match (fs::metadata(files, path), fs::metadata(files, other)) {
         (Ok(file), Ok(other)) => file.is_file() && is_same(&file, &other),
@@ -170,8 +169,8 @@ pub fn is_one_file<F: Files>(files: &F, path: &str, other: &str) -> bool {
     }
 }
 
-/// Whether a file that was just opened is empty, or begins as a record does. A mark of the byte order or a blank is no such beginning:
-/// no reader of records would take the line.
+/// Whether a newly opened file is empty or begins with `{`. A byte order mark or white space before the brace is refused, because readers
+/// of records would not accept the line.
 fn may_hold_records<F: Read>(file: &mut F) -> io::Result<bool>
     ensures { IfOk result (λ may. IfSome (F.remaining file.old) (λ text. may ≡ may_hold_records text)) }
 {
@@ -180,7 +179,7 @@ fn may_hold_records<F: Read>(file: &mut F) -> io::Result<bool>
     Ok(count == 0 || first[0] == b'{')
 }
 
-/// The number of bytes up to the last line feed, and with it.
+/// The number of bytes up to and including the last line feed.
 fn line_end(bytes: &[u8]) -> Option<usize>
     ensures { EndsLine bytes.now result }
 {
@@ -190,7 +189,7 @@ fn line_end(bytes: &[u8]) -> Option<usize>
     }
 }
 
-/// The number of a file's bytes up to its last line feed.
+/// The number of bytes of a file up to and including its last line feed.
 fn whole_lines<F: Read + Seek>(file: &mut F, length: u64) -> io::Result<u64>
     ensures { IfOk result (λ whole. whole ≤ length) }
 {
@@ -209,7 +208,7 @@ fn whole_lines<F: Read + Seek>(file: &mut F, length: u64) -> io::Result<u64>
     Ok(0)
 }
 
-/// Makes a file beside the one at this path, with the first name that is free.
+/// Creates a file next to the one at this path, with the first free name `FILE.torn.N`.
 fn new_beside<F: Files>(files: &F, alloc: Global, path: &str) -> io::Result<(String, F::File)> {
     for number in 1..=MOST_TORN {
         let name = format!(in alloc; "{path}.torn.{number}")?;
@@ -222,7 +221,7 @@ fn new_beside<F: Files>(files: &F, alloc: Global, path: &str) -> io::Result<(Str
     Err(Error::from(ErrorKind::AlreadyExists))
 }
 
-/// Moves what follows the whole lines to another file. It is there on the disk before it is taken away here.
+/// Moves the bytes of a file after the first `whole` ones to another file. The copy is on the disk before the file is cut.
 fn move_rest<F: Read + Write + Seek + OpenFile>(
     file: &mut F,
     torn: &mut F,
@@ -234,7 +233,7 @@ fn move_rest<F: Read + Write + Seek + OpenFile>(
     file.set_len(whole)
 }
 
-/// The number of a file's bytes before the line of this number, counted from 1.
+/// The number of bytes of a file before the line with this number, counted from 1.
 fn line_start<F: Read + Seek>(file: &mut F, number: u64) -> io::Result<u64> {
     let mut piece = [0u8; PIECE];
     let mut left = number.saturating_sub(1);
@@ -260,7 +259,8 @@ fn line_start<F: Read + Seek>(file: &mut F, number: u64) -> io::Result<u64> {
     Err(Error::from(ErrorKind::UnexpectedEof))
 }
 
-/// Moves what follows these bytes of a file to a new file beside it, which is removed again if it can't be written whole. Returns its name.
+/// Moves the bytes of a file after the first `whole` ones to a new file next to it, and returns the name of that file. If the copy fails,
+/// the new file is removed.
 fn move_beside<F: Files>(
     files: &F,
     alloc: Global,
@@ -278,8 +278,8 @@ fn move_beside<F: Files>(
 }
 
 impl<'a, R: Files> RecordsFile<'a, R, <R as Files>::File> {
-    /// Moves the end of the file that is not whole to another file, which gets a name that is free: what begins with the line of this
-    /// number, counted from 1, or without a number a last line that lacks its line feed. Returns the name, if there is such an end.
+    /// Cuts off the incomplete end of the file, if there is one, and moves it to a new file, whose name is returned. The end begins with
+    /// the line number `first`, counted from 1. If `first` is `None`, the end is a last line without its line feed.
     pub fn mend(
         &mut self,
         alloc: Global,
@@ -304,7 +304,6 @@ impl<'a, R: Files> RecordsFile<'a, R, <R as Files>::File> {
     }
 }
 
-/// The fault for an error where there may be no memory.
 fn fault_of(error: Error, other: RecordsFault) -> RecordsFault {
     match error.kind() {
         ErrorKind::OutOfMemory => RecordsFault::Memory,
@@ -312,7 +311,7 @@ fn fault_of(error: Error, other: RecordsFault) -> RecordsFault {
     }
 }
 
-/// Whether the path names something else than a regular file: a directory, a pipe or a device. None of them is opened, since that may wait.
+/// Whether the path names a directory, a pipe or a device. The program does not open these, because opening a pipe may block.
 fn is_special<F: Files>(files: &F, path: &str) -> bool {
     match fs::metadata(files, path) {
         Ok(found) => !found.is_file(),
@@ -320,8 +319,8 @@ fn is_special<F: Files>(files: &F, path: &str) -> bool {
     }
 }
 
-/// Opens the file at this path to add to it, and makes it if it is not there. It is locked as long as it is open. A file that does not
-/// begin as a record does is refused as it is.
+/// Opens the file at this path for appending, and creates it if it does not exist. The file stays locked until it is closed. A file that
+/// does not begin as a record does is refused unchanged.
 pub fn open_records<'a, R: LockedFiles>(
     files: &'a R,
     path: &'a str,

@@ -1,4 +1,4 @@
-//! Standard streams that would block, or that go to a file with a limit of its size.
+//! Standard streams that may be non-blocking, or files with a size limit.
 
 use crate::limits::is_full;
 use std::io::{Error, ErrorKind, Read, Result, Write};
@@ -7,24 +7,25 @@ use std::sync::Wait;
 use std::time::{Clock, Duration};
 use std::{fs, thread};
 
-/// The names under which Linux shows what the standard streams go to.
+/// Linux shows the files of the standard streams under these names.
 pub const INPUT: &str = "/proc/self/fd/0";
 
 pub const OUTPUT: &str = "/proc/self/fd/1";
 
 pub const ERRORS: &str = "/proc/self/fd/2";
 
-/// For how many milliseconds a stream rests that would block.
+/// The pause, in milliseconds, before a non-blocking stream is tried again.
 const REST: u64 = 5;
 
-/// A standard stream. Where it would block, it rests until it does not: a reader may take as long as it likes.
+/// A standard stream. If it would block, reads and writes pause and try again as often as needed, because its other end may
+/// take any time.
 #[derive(Drop)]
 pub struct Standard<'a, R, S> {
     rt: &'a R,
     stream: S,
-    /// The name under which the system shows what the stream goes to.
+    /// The name under which Linux shows the stream's file.
     place: &'static str,
-    /// The limit of a file's size in bytes.
+    /// The size limit of the stream's file in bytes.
     limit: Option<u64>,
 }
 

@@ -1,4 +1,4 @@
--- A record that is replayed without a fault is that of a lawful match, and one with a fault is not.
+-- A record whose replay has no error is that of a lawful match, and one with an error is not.
 use Rattle.std.proofs.Common.{◌≡◌, ◌≢◌, ℕ, zero, suc, ◌<◌, ◌≤◌, Bool, false, Some, None, List, [], ◌∷◌, length, take, map, refl, sym, ap, ◌∙◌, subst, arith, inl, inr, Contains}
 use Rattle.std.proofs.Math.Nat.{eq-or-lt_of_le}
 use Rattle.std.specs.Prelude.{slice_index_or, slice_get, option_map, ◌==◌}
@@ -27,7 +27,7 @@ use Rattle.record_check.proofs.RecordedMoves.{element-at, part-not_wrong, part-n
 use Rattle.record_check.proofs.RecordEnds.{goals-shown, lawful-right_end, lawful-goals}
 use Rattle.record_check.proofs.Replays.{leads-within, leads-front}
 
--- ---- prefixes
+-- ---- Prefixes
 
 length_prefixes : {A : Type 0} (xs : List A) → length (prefixes xs) ≡ suc (length xs)
 length_prefixes [] = refl
@@ -52,7 +52,7 @@ same-gets (x ∷ xs) (y ∷ ys) many at =
     let tail = same-gets xs ys (omega arith) (λ k lt. at (suc k) (omega arith)) in
     cc
 
--- ---- a record without a fault
+-- ---- A record without an error
 
 none-blank : {A : Type 0} (n r : ℕ) (x : A) → at_role (blank n) r ≡ Some x → ⊥
 none-blank zero r x is = cc
@@ -66,7 +66,6 @@ module _ {S M : Type 0} (g : Rules S M) (begun : BegunRoundsAreOpen g) (p : Reco
   few : length played.leads.turns ≡ length p.moves
   few = played.leads.many
 
-  -- the match with these turns is lawful
   made-lawful : IsLawfulMatch g (match_of g p played.leads.turns)
   made-lawful =
       let n = match_of g p played.leads.turns in
@@ -124,11 +123,11 @@ module _ {S M : Type 0} (g : Rules S M) (begun : BegunRoundsAreOpen g) (p : Reco
     version = p.version;
   }
 
-  -- a record without a fault is that of a lawful match
+  -- a record without an error is that of a lawful match
   pub record-lawful : AreLawfulParts g p
   record-lawful = (match_of g p played.leads.turns, made-lawful, made-shows)
 
--- ---- the record of a lawful match has no fault
+-- ---- The record of a lawful match has no error
 
 none-lowest : (n : ℕ) (test : ℕ → Bool) → ((k : ℕ) → k < n → test k ≡ false) → lowest_role n test ≡ None
 none-lowest zero test none = refl
@@ -168,7 +167,6 @@ module _ {S M : Type 0} (g : Rules S M) (laws : IsLawful g) (states : TurnsLeadT
       let le : t ≤ length m.turns = omega (arith, leads-within g p t s leads, as-many) in
       ap (λ (q : RecordParts). slice_get q.states t) (sym shows) ∙ front-get (λ (ts : List (Turn M)). g.state_text (state_after g ts)) m.turns t le ∙ ap (λ (x : S). Some (g.state_text x)) (sym (state-is t s leads))
 
-  -- the turn that follows
   next-turn : (t : ℕ) (s : S) (comes : ComesTo g p t s) → (u : Turn M) × IsRightJoint g (retired_in p comes) s (turn_at p.moves t) (turn_at p.errors t) u.moves
   next-turn t s comes =
       let lt : t < length m.turns = omega (arith, comes.follows, as-many) in
@@ -217,7 +215,6 @@ module _ {S M : Type 0} (g : Rules S M) (laws : IsLawful g) (states : TurnsLeadT
       read (x ∷ xs) zero d t lt is = is
       read (x ∷ xs) (suc k) d t lt is = read xs k d t (omega arith) is
 
-  -- the move of a role in it
   next-part : (t : ℕ) (s : S) (comes : ComesTo g p t s) (r : ℕ) → r < g.roles → (m : M) × (g.move_text m ≡ text_at (turn_at p.moves t) r) × IsPart g (retired_in p comes r) (g.legal s r) m (text_at (turn_at p.errors t) r)
   next-part t s comes r within =
       let u = next-turn t s comes in
@@ -253,6 +250,5 @@ module _ {S M : Type 0} (g : Rules S M) (laws : IsLawful g) (states : TurnsLeadT
   no-fault WrongEnd other (inr late) = late.3 (subst (λ (ts : List (Turn M)). IsRightEnd g p ts) (sym (all-turns late.0 late.1.leads)) (lawful-right_end g m lawful p shows))
   no-fault Memory other fault = other refl
 
--- a record with a fault is that of no lawful match
 pub fault-not_lawful : {S M : Type 0} (g : Rules S M) → IsLawful g → TurnsLeadToStates g → TurnsHaveMoves g → StoppingMeans g → (p : RecordParts) (f : VerifyFault) → IsFirstFault g p f → f ≢ Memory → ¬ (AreLawfulParts g p)
 fault-not_lawful g laws states of_game stops p f fault other record' = no-fault g laws states of_game stops p record'.0 record'.1 record'.2 f other fault

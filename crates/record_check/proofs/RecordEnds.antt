@@ -20,8 +20,6 @@ use Rattle.record_check.specs.Replaying.{AreGoalsOf, AreGoalsIn, IsRightEnd, mat
 use Rattle.record_check.specs.Internal.ReplaySteps.{stage_by, has_started, has_ended, AgreesWith, AreRetired, IsEndAnswer}
 use Rattle.record_reading.specs.declared.record_parts.RecordParts.{RecordParts}
 
--- ---- goals
-
 get-before : {A : Type 0} (xs : List A) (y : A) (k : ℕ) → k < length xs → slice_get (xs ++ y ∷ []) k ≡ slice_get xs k
 get-before [] y k lt = absurd (omega arith)
 get-before (x ∷ xs) y zero lt = refl
@@ -39,7 +37,6 @@ record AreAll (n : ℕ) (f : ℕ → Option ℕ) (goals : List ℕ) : Type 0 whe
   many : length goals ≡ n
   each : (r : ℕ) → r < n → f r ≡ slice_get goals r
 
--- where each role has a goal, these are the goals
 goals_from-all : (n : ℕ) (f : ℕ → Option ℕ) → ((r : ℕ) → r < n → is_none (f r) ≡ false) → AreAll n f (goals_from n f)
 goals_from-all zero f some = record { many = refl; each = λ r lt. absurd (omega arith) }
 goals_from-all (suc n) f some = step (f n) refl (some n (omega arith)) (goals_from-all n f (λ r lt. some r (omega arith)))
@@ -68,7 +65,6 @@ goals_from-front (suc n) f goals le each =
     let more : take (suc n) goals ≡ take n goals ++ slice_index_or goals n 0 ∷ [] = rw add-one at (take_more goals n 0 (omega arith)) in
     ap (λ gs. gs ++ option_to_list (f n)) (goals_from-front n f goals (omega arith) (λ r lt. each r (omega arith))) ∙ ap (λ o. take n goals ++ option_to_list o) here ∙ sym more
 
--- the goals of a record are those of the match at its stage
 pub goals-shown : {S M : Type 0} (g : Rules S M) (s : S) (at : Stage) (ended : Bool) (goals : List ℕ) → AreGoalsIn g (phase_in at ended) s goals → goals_from g.roles (goal_in at g s) ≡ goals
 goals-shown g s Starting ended goals are = goals_from-none g.roles (goal_in Starting g s) (λ r. refl) ∙ sym are
 goals-shown g s Playing ended goals are = goals_from-none g.roles (goal_in Playing g s) (λ r. refl) ∙ sym are
@@ -87,8 +83,6 @@ goals-in g s Stopping true some = goals-all g s (some refl)
 goals-in g s Stopping false some = goals-all g s (some refl)
 goals-in g s (Aborting c) true some = goals_from-none g.roles (goal_in (Aborting c) g s) (λ r. refl)
 goals-in g s (Aborting c) false some = goals_from-none g.roles (goal_in (Aborting c) g s) (λ r. refl)
-
--- ---- the stage of a match with these turns
 
 module _ {S M : Type 0} (g : Rules S M) (p : RecordParts) (turns : List (Turn M)) (s : S) (retired : ℕ) (many : length turns ≡ length p.moves) (at : s ≡ state_after g turns) (out : AreRetired g p turns retired) where
   settles : settled g (length turns) (are_all_retired g.roles (match_of g p turns)) (state_after g turns) ≡ settled g (length p.moves) (retired == g.roles) s
@@ -127,8 +121,6 @@ end-answer {S} {M} g p s retired roles at right same_roles same_stage agrees tur
   λ end. agrees.1 (subst (λ (x : Stage). AgreesWith roles p x) (sym same_stage) (subst (λ n. AgreesWith n p (settled g (length p.moves) (retired == g.roles) s)) (sym same_roles) (agrees-from_right g p turns s retired many is out end))),
 )
 
--- ---- the end of a lawful match is right
-
 settled-not_asked : {S M : Type 0} (g : Rules S M) (t : ℕ) (out : Bool) (s : S) → is_asked (cause_in (settled g t out s)) ≡ false
 unfolding settled
 settled-not_asked g t out s = step (g.terminal s) (nat_le max_turns t) out (lowest_role g.roles (has_no_goal g s)) (lowest_role g.roles (has_no_move g s))
@@ -141,12 +133,10 @@ settled-not_asked g t out s = step (g.terminal s) (nat_le max_turns t) out (lowe
     step false false false goals None = refl
     step false false out goals (Some r) = refl
 
--- the stage depends on the setup, the turns, the START marks and whether an abort was asked
 stage-by : {S M : Type 0} (g : Rules S M) (m n : MatchValue M) → n.setup ≡ m.setup → n.abort_asked ≡ m.abort_asked → n.start_marks ≡ m.start_marks → n.turns ≡ m.turns → stage g n ≡ stage g m
 unfolding stage
 stage-by g m n setup asked starts turns = rw (setup, asked, starts, turns) refl
 
--- the cause tells whether an abort was asked
 asked-is : {S M : Type 0} (g : Rules S M) (m : MatchValue M) → is_asked (cause g m) ≡ m.abort_asked
 unfolding stage
 asked-is g m = step m.abort_asked (every_role g.roles (is_there m.start_marks)) (settled g (length m.turns) (are_all_retired g.roles m) (state_after g m.turns)) (settled-not_asked g (length m.turns) (are_all_retired g.roles m) (state_after g m.turns))

@@ -17,7 +17,7 @@ use Rattle.record_reading.specs.RecordParts.{IsErrorText, MayBeGiven}
 use Rattle.record_check.specs.Replaying.{GoesOn, IsRightMove, DeniesOne, IsWrongError, IsWrongFor, IsWrongRetired, text_at}
 use Rattle.record_check.specs.Internal.ReplaySteps.{IsRightJoint}
 
--- ---- members
+-- ---- Members
 
 pub element-at : {A : Type 0} (xs : List A) (k : ℕ) → k < length xs → (x : A) × (slice_index_or xs k x ≡ x)
 element-at [] k lt = absurd (omega arith)
@@ -31,21 +31,16 @@ first-contains : {M : Type 0} (moves : List M) (m : M) → slice_get moves 0 ≡
 first-contains [] m first = absurd cc
 first-contains (x ∷ xs) m first = let same : x ≡ m = cc in (0, omega arith, same)
 
--- a legal move is of the game
 Contains-move : {S M : Type 0} (g : Rules S M) → IsLawful g → (s : S) (r : ℕ) (m : M) → g.IsState s → r < g.roles → Contains (g.legal s r) m → g.IsMove m
 Contains-move {S} {M} g laws s r m is_state role among = subst (λ (x : M). g.IsMove x) among.2 (laws.legal_are_moves s r is_state role among.0 m among.1)
 
 named-none : {S M : Type 0} (g : Rules S M) (moves : List M) (x : List ℕ) (m : M) → NamesNone g moves x → Contains moves m → g.move_text m ≢ x
 named-none {S} {M} g moves x m none among = subst (λ (n : M). g.move_text n ≢ x) among.2 (none among.0 m among.1)
 
--- ---- errors
+-- ---- Errors
 
 illegal_text : (x y : List ℕ) → error_text (Illegal x) ≡ error_text (Illegal y) → x ≡ y
 illegal_text x y same = append_cancel_left illegal_prefix x y same
-
--- an error without the first three bytes denies nothing
-pub denies-none : {S M : Type 0} (g : Rules S M) (moves : List M) (e : List ℕ) → ((rest : List ℕ) → e ≢ illegal_prefix ++ rest) → IsTrue false ↔ DeniesOne g moves e
-denies-none g moves e other = (λ w. absurd cc, λ d. absurd (other (g.move_text d.0) d.2))
 
 pub denies-place : {S M : Type 0} (g : Rules S M) (moves : List M) (e x : List ℕ) (o : Option ℕ) → e ≡ illegal_prefix ++ x → IsPlaceOf g moves x o → IsTrue (is_some o) ↔ DeniesOne g moves e
 denies-place g moves e x None is none = (λ w. absurd cc, λ d. absurd (named-none g moves x d.0 none d.1 (illegal_text (g.move_text d.0) x (sym d.2 ∙ is))))
@@ -62,12 +57,10 @@ may-stand g moves e Retired is given active not = absurd (active is)
 may-stand g moves e (Illegal x) is given active not =
     (given.0, given.1, λ k d lt w. not (slice_index_or moves k d, Contains-get_or moves k d lt, is ∙ ap (λ y. error_text (Illegal y)) (sym w)))
 
--- an error of a record may stand beside the first move, where it denies no legal move and does not say that the role is retired
 pub first-judged : {S M : Type 0} (g : Rules S M) (moves : List M) (m : M) (e : List ℕ) → IsErrorText e → e ≢ retired_text → slice_get moves 0 ≡ Some m → ¬ (DeniesOne g moves e) → IsJudged g moves m e
 first-judged g moves m e (inl empty) active first not = (first-contains moves m first, inl empty)
 first-judged g moves m e (inr reason) active first not = (first-contains moves m first, inr (first, (reason.0, reason.1, may-stand g moves e reason.0 reason.1 reason.2 active not)))
 
--- the place of a move that was found
 pub found-place : {S M : Type 0} (g : Rules S M) (moves : List M) (x : List ℕ) (o : Option ℕ) (p : ℕ) → o ≡ Some p → IsPlaceOf g moves x o → (p < length moves) × HoldsAt (λ m. g.move_text m ≡ x) moves p
 found-place g moves x o p at place = let found = subst (λ q. IsPlaceOf g moves x q) at place in (found.0, found.1)
 
@@ -81,7 +74,7 @@ is-empty (x ∷ xs) none = let w = longer (length xs) in absurd cc
     longer : (n : ℕ) → (suc n == 0) ≡ false
     longer n = grind (arith, nat_tests)
 
--- the error says so of a role that is retired, and of no other
+-- the error says that the role is retired if and only if it is
 abbrev pub IsRightFor : Bool → List ℕ → Type 0
 IsRightFor true e = e ≡ retired_text
 IsRightFor false e = e ≢ retired_text
@@ -98,7 +91,7 @@ wrong-for true false e decides other = λ is. true≢false (sym (decides.1 is))
 wrong-for false true e decides other = decides.0 refl
 wrong-for false false e decides other = absurd cc
 
--- the first move, with an error that denies none
+-- the first move, with an error that gives no legal move as the answer
 abbrev pub MayFollow : {S M : Type 0} → Rules S M → List M → ℕ → List ℕ → Type 0
 MayFollow g moves p e = (e ≡ []) ⊎ ((p ≤ 0) × ¬ (DeniesOne g moves e))
 
@@ -107,7 +100,6 @@ first-at moves p m within taken first =
     let zeroth : p ≡ 0 = omega (arith, first) in
     slice_get_read moves (length moves) 0 m refl (omega (arith, within)) (taken ∙ ap (λ k. slice_index_or moves k m) zeroth)
 
--- a move that is taken as it is recorded
 pub right-move : {S M : Type 0} (g : Rules S M) (retired : Bool) (moves : List M) (m : M) (text e : List ℕ) (p : ℕ) → IsErrorText e → (p < length moves) × HoldsAt (λ n. g.move_text n ≡ text) moves p → m ≡ slice_index_or moves p m
     → IsRightFor retired e → MayFollow g moves p e → (g.move_text m ≡ text) × IsPart g retired moves m e
 right-move {S} {M} g retired moves m text e p error place taken fits may =
@@ -119,7 +111,6 @@ right-move {S} {M} g retired moves m text e p error place taken fits may =
     part false fits (inl empty) = ((p, place.0, sym taken), inl empty)
     part false fits (inr first) = first-judged g moves m e error fits (first-at moves p m place.0 taken first.0) first.1
 
--- a move that is right except for the role's retirement
 pub unfit-move : {S M : Type 0} (g : Rules S M) (retired : Bool) (moves : List M) (text e : List ℕ) (p : ℕ) → (p < length moves) × HoldsAt (λ n. g.move_text n ≡ text) moves p → IsWrongFor retired e → MayFollow g moves p e
     → IsWrongRetired g retired moves text e
 unfit-move {S} {M} g retired moves text e p place wrong may =
@@ -130,7 +121,6 @@ unfit-move {S} {M} g retired moves text e p place wrong may =
     stands m taken (inl empty) = inl empty
     stands m taken (inr first) = inr (first-at moves p m place.0 taken first.0, first.1)
 
--- a move that is not the first
 pub later-move : {S M : Type 0} (g : Rules S M) (moves : List M) (text e : List ℕ) (p : ℕ) → AllPairs (λ m n. m ≢ n) moves → p < length moves → HoldsAt (λ m. g.move_text m ≡ text) moves p → 0 < p → e ≢ [] → IsWrongError g moves text e
 later-move {S} {M} g moves text e p apart within named later some =
     let m = element-at moves p within in (
@@ -140,19 +130,18 @@ later-move {S} {M} g moves text e p apart within named later some =
       inl (some, λ first. apart 0 p m.0 later within (get_or_from_slice_get moves 0 m.0 m.0 first ∙ sym m.1)),
     )
 
--- a move whose error denies a legal one
 pub denied-move : {S M : Type 0} (g : Rules S M) (moves : List M) (text e : List ℕ) (p : ℕ) → p < length moves → HoldsAt (λ m. g.move_text m ≡ text) moves p → DeniesOne g moves e → IsWrongError g moves text e
 denied-move {S} {M} g moves text e p within named denies =
     let m = element-at moves p within in
     (m.0, (p, within, m.1), subst (λ (n : M). g.move_text n ≡ text) m.1 (named m.0), inr denies)
 
--- ---- a right move is no faulty one
+-- ---- A right move is not a wrong one
 
--- one begins with another byte than this, the other with it
+-- one text begins with this byte, the other does not
 first-apart : (b : ℕ) (xs ys : List ℕ) → xs ≡ ys → eqb (slice_index_or xs 0 0) b ≡ false → eqb (slice_index_or ys 0 0) b ≡ true → ⊥
 first-apart b xs ys same one other = let w : eqb (slice_index_or xs 0 0) b ≡ eqb (slice_index_or ys 0 0) b = ap (λ l. eqb (slice_index_or l 0 0) b) same in absurd cc
 
--- the first byte of an error that denies, and of one that says that the role is retired
+-- the first byte of an illegal answer's error, and of a retired role's
 abbrev letter-i : ℕ
 letter-i = 73
 
@@ -166,7 +155,6 @@ illegal-judged g laws moves n e Unreadable is among reason may denies = laws.no_
 illegal-judged g laws moves n e Retired is among reason may denies = may
 illegal-judged g laws moves n e (Illegal x) is among reason may denies = named-none g moves x n may.2 among (sym (illegal_text x (g.move_text n) (sym reason ∙ denies)))
 
--- what a role gives to a turn is one of its moves
 pub part-move : {S M : Type 0} (g : Rules S M) (retired : Bool) (moves : List M) (m : M) (e : List ℕ) → IsPart g retired moves m e → Contains moves m
 part-move g true moves m e part = first-contains moves m part.0
 part-move g false moves m e part = part.0
@@ -198,7 +186,7 @@ retired-judged g moves Unreadable may is = first-apart letter-r (error_text Unre
 retired-judged g moves Retired may is = may
 retired-judged g moves (Illegal x) may is = first-apart letter-i (error_text Retired) (error_text (Illegal x)) is refl refl
 
--- and says whether the role is retired
+-- its error says whether the role is retired
 pub part-not_unfit : {S M : Type 0} (g : Rules S M) (retired : Bool) (moves : List M) (m : M) (text e : List ℕ) → IsPart g retired moves m e → ¬ (IsWrongRetired g retired moves text e)
 part-not_unfit {S} {M} g retired moves m text e part wrong = by retired part wrong.4
   where
@@ -210,9 +198,8 @@ part-not_unfit {S} {M} g retired moves m text e part wrong = by retired part wro
     by true stands wrong = wrong stands.1
     by false stands wrong = judged wrong stands.1
 
--- ---- the joint move of a turn
+-- ---- The joint move of a turn
 
--- the moves that stand in a role's place
 pub moves-at : {S M : Type 0} (g : Rules S M) (s : S) (lists : List (List M)) (r : ℕ) (x : List M) → AreLegalMoves g s lists → r < g.roles → x ≡ slice_index_or lists r x → x ≡ g.legal s r
 moves-at g s lists r x are within at = at ∙ are.legal r x within
 
@@ -222,7 +209,7 @@ pub record SoFar {S M : Type 0} (g : Rules S M) (retired : ℕ → Bool) (s : S)
   pub parts : (q : ℕ) (d : M) → q < r → IsPart g (retired q) (g.legal s q) (slice_index_or joint q d) (text_at errors q)
   pub right : (q : ℕ) → q < r → IsRightMove g (retired q) (g.legal s q) (text_at moves q) (text_at errors q)
 
--- one role more
+-- one more role
 pub SoFar-more : {S M : Type 0} (g : Rules S M) (retired : ℕ → Bool) (s : S) (moves errors : List (List ℕ)) (r : ℕ) (joint : List M) (m : M) (text error : List ℕ) → SoFar g retired s moves errors r joint → r < length moves → text ≡ text_at moves r
     → error ≡ text_at errors r → g.move_text m ≡ text → IsPart g (retired r) (g.legal s r) m error → SoFar g retired s moves errors (r + 1) (joint ++ m ∷ [])
 SoFar-more {S} {M} g retired s moves errors r joint m text error far within text_is error_is named part =
@@ -246,7 +233,6 @@ SoFar-more {S} {M} g retired s moves errors r joint m text error far within text
           ];
     }
 
--- all roles
 pub SoFar-all : {S M : Type 0} (g : Rules S M) (retired : ℕ → Bool) (s : S) (moves errors : List (List ℕ)) (r : ℕ) (joint : List M) → SoFar g retired s moves errors r joint → GoesOn g retired s → r ≡ g.roles → length moves ≡ g.roles
     → IsRightJoint g retired s moves errors joint
 SoFar-all g retired s moves errors r joint far goes_on all wide =

@@ -1,4 +1,4 @@
--- The turns that lead to a state of a record: how they begin, one turn more, and that no others do.
+-- The turns that lead to a state of a record: the beginning, one more turn, and that they are determined.
 use Rattle.std.proofs.Common.{◌≡◌, ℕ, zero, suc, ◌+◌, ◌<◌, ◌≤◌, min, Bool, false, Some, List, [], ◌∷◌, ◌++◌, length, take, map, refl, sym, ap, ◌∙◌, subst, arith, inl, inr}
 use Rattle.std.proofs.Math.Nat.{eq-or-lt_of_le}
 use Rattle.std.specs.Prelude.{All, replicate, slice_index_or, slice_get, ◌==◌}
@@ -34,7 +34,6 @@ LeadsTo-start g p = record {
   states = λ k lt. absurd (omega arith);
 }
 
--- one turn more
 pub LeadsTo-more : {S M : Type 0} (g : Rules S M) → OneMoreTurn g → (p : RecordParts) (t : ℕ) (s next : S) (joint : List M) (leads : LeadsTo g p t s) → ShowsState g p t s → t < length p.moves → t < length p.errors → length (turn_at p.errors t) ≡ g.roles
     → IsRightJoint g (retired_by p.strikes leads.turns) s (turn_at p.moves t) (turn_at p.errors t) joint → next ≡ g.next s joint
     → (more : LeadsTo g p (t + 1) next) × (more.turns ≡ leads.turns ++ record { moves = joint; errors = turn_at p.errors t } ∷ [])
@@ -74,7 +73,6 @@ LeadsTo-more {S} {M} g one_more p t s next joint leads shown within_moves within
 turn-read : (lists : List (List (List ℕ))) (t : ℕ) (x : List (List ℕ)) → slice_get lists t ≡ Some x → x ≡ turn_at lists t
 turn-read lists t x at = sym (get_or_from_slice_get lists t x [] at)
 
--- the fault of a turn is the first of the record
 pub turn-fault : {S M : Type 0} (g : Rules S M) (p : RecordParts) (t : ℕ) (s : S) (f : VerifyFault) (comes : ComesTo g p t s) → IsTurnFault g (retired_in p comes) s (turn_at p.moves t) (turn_at p.errors t) t f → IsFirstFault g p f
 turn-fault g p t s NotJson comes fault = fault
 turn-fault g p t s (BadShape key) comes fault = fault
@@ -86,7 +84,7 @@ turn-fault g p t s WrongGoals comes fault = absurd fault
 turn-fault g p t s WrongEnd comes fault = inl (t, s, comes, fault)
 turn-fault g p t s Memory comes fault = tt
 
--- ---- which roles are retired, by their substitutions so far
+-- ---- Which roles are retired, by their substitutions so far
 
 every_role-same : (n : ℕ) (p q : ℕ → Bool) → ((k : ℕ) → k < n → q k ≡ p k) → every_role n q ≡ every_role n p
 every_role-same zero p q same = refl
@@ -114,7 +112,7 @@ module _ {S M : Type 0} (g : Rules S M) (p q : ℕ → Bool) (same : (r : ℕ) �
     right = λ k lt. subst (λ (b : Bool). IsRightMove g b (g.legal s k) (text_at moves k) (text_at errors k)) (same k (omega (arith, below.within))) (below.right k lt);
   }
 
--- and back
+-- the converse
 goes_on-back : {S M : Type 0} (g : Rules S M) (p q : ℕ → Bool) → ((r : ℕ) → r < g.roles → p r ≡ q r) → (s : S) → GoesOn g q s → GoesOn g p s
 goes_on-back g p q same = goes_on-by g q p (λ r lt. sym (same r lt))
 
@@ -133,7 +131,7 @@ turn_fault-by g p q same s moves errors t WrongGoals fault = fault
 turn_fault-by g p q same s moves errors t WrongEnd fault = λ goes_on. fault (goes_on-back g p q same s goes_on)
 turn_fault-by g p q same s moves errors t Memory fault = tt
 
--- the turns that lead to a state, and the roles' substitutions after them
+-- the turns that lead to a state, and the roles' strikes after them
 pub record HasCome {S M : Type 0} (g : Rules S M) (p : RecordParts) (t : ℕ) (s : S) (kept : List RoleStrikes) : Type 0 where
   pub leads : LeadsTo g p t s
   pub strikes : AreStrikes g.roles p.strikes leads.turns kept
@@ -145,7 +143,6 @@ come-start {S} {M} g laws begin p s kept is kept_is =
     subst (λ (x : S). HasCome g p 0 x kept) (sym is)
     (subst (λ (ks : List RoleStrikes). HasCome g p 0 g.initial ks) (sym kept_is) (record { leads = LeadsTo-start g p; strikes = begin g.roles p.strikes; is_state = laws.initial_is_state }))
 
--- if this is the number of roles that the substitutions retire, it is that of the roles that the turns retire
 pub come-retired : {S M : Type 0} (g : Rules S M) (p : RecordParts) (t : ℕ) (s : S) (kept : List RoleStrikes) (retired : ℕ) (come : HasCome g p t s kept) → every_role (length kept) (is_retired_in kept) ≡ (retired == length kept) → AreRetired g p come.leads.turns retired
 come-retired g p t s kept retired come all =
     every_role-same g.roles (is_retired_in kept) (retired_by p.strikes come.leads.turns) (λ r lt. sym (strikes-retired g.roles p.strikes come.leads.turns kept come.strikes r lt))
@@ -156,7 +153,7 @@ come-few g few_strikes p t s kept come lt few =
     let many = come.leads.many in
     few_strikes g.roles p.strikes come.leads.turns kept come.strikes (omega arith)
 
--- what comes after a state, by the texts that the record has there and the roles' substitutions so far
+-- the next turn, by the record's texts for it and the roles' strikes so far
 module _ {S M : Type 0} (g : Rules S M) (p : RecordParts) (t : ℕ) (s : S) (moves errors : List (List ℕ)) (kept : List RoleStrikes) (come : HasCome g p t s kept) (shown : ShowsState g p t s) (at_moves : slice_get p.moves t ≡ Some moves) (at_errors : slice_get p.errors t ≡ Some errors) where
   retired-is : (r : ℕ) → r < g.roles → is_retired_in kept r ≡ retired_by p.strikes come.leads.turns r
   retired-is r lt = strikes-retired g.roles p.strikes come.leads.turns kept come.strikes r lt
@@ -186,7 +183,7 @@ module _ {S M : Type 0} (g : Rules S M) (p : RecordParts) (t : ℕ) (s : S) (mov
       turn-fault g p t s f (record { leads = come.leads; shown = shown; follows = slice_get_within p.moves t moves at_moves })
       (subst (λ ms. IsTurnFault g retired s ms (turn_at p.errors t) t f) (turn-read p.moves t moves at_moves) (subst (λ es. IsTurnFault g retired s moves es t f) (turn-read p.errors t errors at_errors) known))
 
--- ---- the turns are determined
+-- ---- The turns are determined
 
 same-moves : {S M : Type 0} (g : Rules S M) → IsLawful g → (xs ys : List M) → All (λ m. g.IsMove m) xs → All (λ m. g.IsMove m) ys → map g.move_text xs ≡ map g.move_text ys → xs ≡ ys
 same-moves g laws [] [] here there same = refl
@@ -202,7 +199,6 @@ same-moves {S} {M} g laws (x ∷ xs) (y ∷ ys) here there same =
 same-turn : {M : Type 0} (t u : Turn M) → t.moves ≡ u.moves → t.errors ≡ u.errors → t ≡ u
 same-turn t u moves errors = λ i. record { moves = moves i; errors = errors i }
 
--- lawful turns with the same texts are the same
 same-turns : {S M : Type 0} (g : Rules S M) → IsLawful g → TurnsHaveMoves g → (strikes : ℕ) (xs ys : List (Turn M)) → AreLawful g strikes xs → AreLawful g strikes ys → length xs ≡ length ys
     → map (λ u. map g.move_text u.moves) xs ≡ map (λ u. map g.move_text u.moves) ys → map (λ u. u.errors) xs ≡ map (λ u. u.errors) ys → xs ≡ ys
 same-turns {S} {M} g laws of_game strikes xs ys here there many moves errors = same_lists xs ys many at
@@ -242,7 +238,6 @@ leads-within {S} {M} g p t s leads =
     let many : t ≡ min t (length p.moves) = sym leads.many ∙ sym (length-map leads.turns (λ (u : Turn M). map g.move_text u.moves)) ∙ ap length leads.moves ∙ length-take t p.moves in
     omega arith
 
--- the turns that lead to a state of a record are the first turns of each lawful list that it shows
 pub leads-front : {S M : Type 0} (g : Rules S M) → IsLawful g → TurnsHaveMoves g → (p : RecordParts) (t : ℕ) (s : S) (leads : LeadsTo g p t s) (turns : List (Turn M)) → AreLawful g p.strikes turns
     → map (λ u. map g.move_text u.moves) turns ≡ p.moves → map (λ u. u.errors) turns ≡ p.errors → leads.turns ≡ take t turns
 leads-front {S} {M} g laws of_game p t s leads turns lawful moves errors =

@@ -1,4 +1,4 @@
--- The replay of a record, turn by turn: the first place at which it is not the record of a lawful match.
+-- The replay of a record, turn by turn, up to the first point where it is not the record of a lawful match.
 use Rattle.std.specs.Prelude.{◌≡◌, ◌≢◌, ◌⊎◌, ℕ, ◌<◌, Bool, true, false, List, [], length, take, map, Option, Some, None, Contains, slice_get, slice_index_or}
 use Rattle.game_core.specs.Play.{Rules}
 use Rattle.match_book.specs.Roles.{every_role, lowest_role, is_there, blank}
@@ -17,54 +17,52 @@ use Rattle.record_reading.specs.declared.record_parts.RecordParts.{RecordParts}
 use Rattle.record_reading.specs.declared.verify_fault.VerifyFault.{VerifyFault}
 use Rattle.record_reading.specs.declared.verify_fault.VerifyFault.TheVariants.{NotJson, BadShape, Illegal, NotFirst, WrongRetired, WrongState, WrongGoals, WrongEnd, Memory}
 
--- the state is not terminal, no role is without a legal move, and not all roles are retired
+-- the state is not terminal, each role has a legal move, and some role is not retired
 abbrev pub GoesOn : {S M : Type 0} → Rules S M → (ℕ → Bool) → S → Type 0
 GoesOn g retired s = (g.terminal s ≡ false) × (lowest_role g.roles (has_no_move g s) ≡ None) × (every_role g.roles retired ≡ false)
 
--- the text is that of one of these moves, and the error may stand beside it, by whether the role is retired
+-- the text is that of one of these moves, and the move can have the error, given whether the role is retired
 abbrev pub IsRightMove : {S M : Type 0} → Rules S M → Bool → List M → List ℕ → List ℕ → Type 0
 IsRightMove {S} {M} g retired moves text error = (m : M) × (g.move_text m ≡ text) × IsPart g retired moves m error
 
--- the error says that the answer was the text of one of these moves
+-- the error gives the text of one of these moves as the answer
 abbrev pub DeniesOne : {S M : Type 0} → Rules S M → List M → List ℕ → Type 0
 DeniesOne {S} {M} g moves error = (m : M) × Contains moves m × (error ≡ error_text (NotLegal (g.move_text m)))
 
--- The text is that of one of these moves, and the error may not stand beside it: it is not empty and the move is not
--- the first, or it says that the answer was legal.
+-- The text is that of one of these moves, and the move cannot have the error: the error is not empty and the move is not the first, or
+-- the error gives a legal move as the answer.
 abbrev pub IsWrongError : {S M : Type 0} → Rules S M → List M → List ℕ → List ℕ → Type 0
 IsWrongError {S} {M} g moves text error =
     (m : M) × Contains moves m × (g.move_text m ≡ text) × (((error ≢ []) × (slice_get moves 0 ≢ Some m)) ⊎ DeniesOne g moves error)
 
--- the role is retired and the error does not say so, or it says so and the role is not
+-- the role is retired and the error does not say so, or the error says so and the role is not retired
 abbrev pub IsWrongFor : Bool → List ℕ → Type 0
 IsWrongFor true error = error ≢ retired_text
 IsWrongFor false error = error ≡ retired_text
 
--- The text is that of one of these moves, and the error may stand beside it, but not for a role that is retired, or not retired, as
--- this one is.
+-- The text is that of one of these moves, and the move can have the error, but not for this role: the role is retired and the error does
+-- not say so, or the error says so and the role is not retired.
 abbrev pub IsWrongRetired : {S M : Type 0} → Rules S M → Bool → List M → List ℕ → List ℕ → Type 0
 IsWrongRetired {S} {M} g retired moves text error =
     (m : M) × Contains moves m × (g.move_text m ≡ text) × ((error ≡ []) ⊎ ((slice_get moves 0 ≡ Some m) × ¬ (DeniesOne g moves error))) × IsWrongFor retired error
 
--- the texts of the turn t
 abbrev pub turn_at : List (List (List ℕ)) → ℕ → List (List ℕ)
 turn_at lists t = slice_index_or lists t []
 
--- the text for the role r in a turn
 abbrev pub text_at : List (List ℕ) → ℕ → List ℕ
 text_at texts r = slice_index_or texts r []
 
--- In the state s the game goes on. Of these moves and errors, those of the roles below r are right, given which roles are retired.
+-- In the state s play continues, and of these moves and errors those of the roles below r are right, given which roles are retired.
 pub record AreRightBelow {S M : Type 0} (g : Rules S M) (retired : ℕ → Bool) (s : S) (moves errors : List (List ℕ)) (r : ℕ) : Type 0 where
   pub goes_on : GoesOn g retired s
   pub within : r < g.roles
   pub right : (q : ℕ) → q < r → IsRightMove g (retired q) (g.legal s q) (text_at moves q) (text_at errors q)
 
--- the record shows this state after t turns
+-- the record has this state after t turns
 abbrev pub ShowsState : {S M : Type 0} → Rules S M → RecordParts → ℕ → S → Type 0
 ShowsState g p t s = slice_get p.states t ≡ Some (g.state_text s)
 
--- t lawful turns lead to the state s. The record shows their moves and errors, and the state before each of them.
+-- t lawful turns lead to the state s. The record has their moves and errors, and the state before each of them.
 pub record LeadsTo {S M : Type 0} (g : Rules S M) (p : RecordParts) (t : ℕ) (s : S) : Type 0 where
   pub turns : List (Turn M)
   pub many : length turns ≡ t
@@ -74,13 +72,13 @@ pub record LeadsTo {S M : Type 0} (g : Rules S M) (p : RecordParts) (t : ℕ) (s
   pub errors : map (λ u. u.errors) turns ≡ take t p.errors
   pub states : (k : ℕ) → k < t → ShowsState g p k (state_after g (take k turns))
 
--- the record shows the state after the t turns that lead to it, and one more turn
+-- the record has t turns that lead to the state s, this state, and one more turn
 pub record ComesTo {S M : Type 0} (g : Rules S M) (p : RecordParts) (t : ℕ) (s : S) : Type 0 where
   pub leads : LeadsTo g p t s
   pub shown : ShowsState g p t s
   pub follows : t < length p.moves
 
--- the roles that the record's turns retire, up to this state
+-- the roles that are retired by the record's turns before this state
 abbrev pub retired_in : {S M : Type 0} {g : Rules S M} {t : ℕ} {s : S} → (p : RecordParts) → ComesTo g p t s → ℕ → Bool
 retired_in p comes = retired_by p.strikes comes.leads.turns
 
@@ -88,7 +86,7 @@ retired_in p comes = retired_by p.strikes comes.leads.turns
 abbrev pub AreGoalsOf : {S M : Type 0} → Rules S M → S → List ℕ → Type 0
 AreGoalsOf g s goals = (length goals ≡ g.roles) × ((r : ℕ) → r < g.roles → g.goal s r ≡ slice_get goals r)
 
--- the goals of the last state, where the match stops: elsewhere there are none
+-- the goals of the last state, if the match has stopped, or else none
 abbrev pub AreGoalsIn : {S M : Type 0} → Rules S M → Phase → S → List ℕ → Type 0
 AreGoalsIn g Starting s goals = goals ≡ []
 AreGoalsIn g Playing s goals = goals ≡ []
@@ -105,7 +103,6 @@ is_asked (Some (NoGoal r)) = false
 is_asked (Some TooLong) = false
 is_asked (Some AllRetired) = false
 
--- the match that has this record, if these are its turns
 abbrev pub match_of : {S M : Type 0} → Rules S M → RecordParts → List (Turn M) → MatchValue M
 match_of g p turns = record {
   setup = record { id = p.id; start = p.start; play = p.play; strikes = p.strikes; players = p.players };
@@ -116,22 +113,22 @@ match_of g p turns = record {
   end_marks = p.end_marks;
 }
 
--- phase, cause and marks of the record are those of a match with these turns
+-- the phase, the cause and the marks of the record are those of a match with these turns
 pub record IsRightEnd {S M : Type 0} (g : Rules S M) (p : RecordParts) (turns : List (Turn M)) : Type 0 where
   pub phase_is : phase g (match_of g p turns) ≡ p.phase
   pub cause_is : cause g (match_of g p turns) ≡ p.cause
-  -- no turn before all START marks are there, and no end mark before the match stops or aborts
+  -- no turn until all START marks are present, and no end mark before the match stops or aborts
   pub turns_after_start : every_role g.roles (is_there p.start_marks) ≡ false → turns ≡ []
   pub ends_at_end : is_live (stage g (match_of g p turns)) ≡ true → p.end_marks ≡ blank g.roles
-  -- an abort was asked only of a match that was starting or playing
+  -- an abort was asked only while the match was starting or playing
   pub asked_when_live : is_asked p.cause ≡ true → is_live (stage g (record (match_of g p turns) { abort_asked = false })) ≡ true
 
--- the record shows all its turns and states as they were played
+-- the turns and states of the record are those of a match
 pub record IsReplayed {S M : Type 0} (g : Rules S M) (p : RecordParts) (s : S) : Type 0 where
   pub leads : LeadsTo g p (length p.moves) s
   pub shown : ShowsState g p (length p.moves) s
 
--- this fault is the first of the record: everything before it is right, and this is not
+-- this error is the first of the record: everything before it is right, and this is not
 abbrev pub IsFirstFault : {S M : Type 0} → Rules S M → RecordParts → VerifyFault → Type 0
 IsFirstFault g p NotJson = ⊥
 IsFirstFault g p (BadShape key) = ⊥

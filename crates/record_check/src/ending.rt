@@ -1,4 +1,4 @@
-//! The end of a record: goals, phase, cause and marks, by the last state.
+//! Checks the end of a record: goals, phase, cause and marks, given the last state.
 ghost use Rattle.std.specs.Prelude.{◌≡◌, ◌<◌, ◌↔◌, IfOk, IsTrue, length};
 ghost use Rattle.match_book.specs.Roles.{blank};
 ghost use Rattle.record_check.specs.Replaying.{AreGoalsIn, AreGoalsOf};
@@ -50,7 +50,6 @@ pub fn are_goals_in<G: Game>(
     }
 }
 
-/// Whether there is no mark.
 fn is_blank(marks: &[Option<Mark>]) -> bool
     ensures { IsTrue result ↔ (marks.now ≡ blank (length marks.now)) }
 {
@@ -62,8 +61,7 @@ fn is_blank(marks: &[Option<Mark>]) -> bool
     true
 }
 
-/// The stage of a match with this settlement of its last state. An abort on request comes first, then missing START
-/// marks.
+/// The stage of a match whose last state has this settlement. An abort that was asked comes first, then missing START marks.
 fn stage_by(asked: bool, started: bool, settled: Stage) -> Stage
     ensures { result ≡ stage_by asked started settled }
 {
@@ -83,7 +81,7 @@ fn is_live(stage: Stage) -> bool
     matches!(stage, Stage::Starting | Stage::Playing)
 }
 
-/// Whether phase, cause and marks are those of a match with this settlement of its last state.
+/// Whether the phase, the cause and the marks are those of a match whose last state has this settlement.
 fn agrees_with(parts: &RecordParts, settled: Stage, roles: usize) -> bool
     requires starts { length parts.now.start_marks ≡ roles }
     requires ends { length parts.now.end_marks ≡ roles }
@@ -105,7 +103,7 @@ fn agrees_with(parts: &RecordParts, settled: Stage, roles: usize) -> bool
     stage.phase(ended) == parts.phase && stage.cause() == parts.cause
 }
 
-/// Whether phase, cause and marks are those of a match with this last state and this number of retired roles.
+/// Whether the phase, the cause and the marks are those of a match with this last state and this number of retired roles.
 pub fn is_right_end<G: Game>(
     alloc: Global,
     game: &G,

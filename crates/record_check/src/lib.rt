@@ -1,10 +1,8 @@
-//! The check of a record: whether it can be the record of a match of the game.
+//! Checks whether a text can be the record of a match of a game.
 //!
-//! `verify` checks a text against a game. The text passes exactly if it is the record of some lawful match.
-//! Otherwise `verify` names the first test that fails. It replays the turns by the rules, and trusts no state of the
-//! record. `lawful_parts` returns what a lawful record says.
-//!
-//! Free functions take the allocator first.
+//! `verify` accepts a text if and only if it is the record of some lawful match of the game. Otherwise it names the first
+//! test that fails. It replays the turns by the rules, and does not rely on the states in the record. `lawful_parts` returns
+//! what a lawful record says.
 #![tactic(auto)]
 
 mod ending;

@@ -1,4 +1,4 @@
-//! One turn of a record, in the state before it.
+//! Checks one turn of a record in the state before it.
 ghost use Rattle.std.specs.Prelude.{◌≡◌, ◌≢◌, ◌<◌, ◌↔◌, All, AllPairs, IfOk, IsTrue, List, MatchOption, ℕ, length};
 ghost use Rattle.match_book.specs.LegalMoves.{AreLegalMoves};
 ghost use Rattle.match_book.specs.RoleStrikes.{is_retired_in};
@@ -17,28 +17,27 @@ use match_book::{
 use record_reading::VerifyFault;
 use std::alloc::{AllocError, Global};
 
-/// What a recorded move is.
 #[derive(Drop)]
 enum RecordedMove<M> {
-    /// A legal move with an error that may stand beside it.
+    /// A legal move with an error that it can have.
     Right(M),
     /// No legal move has the text.
     NoMove,
-    /// A legal move with an error that may not stand beside it.
+    /// A legal move with an error that it cannot have.
     WrongError,
-    /// A legal move with an error that may stand beside it, but not for this role: the error says that the role is
-    /// retired and it is not, or the other way round.
+    /// A legal move with an error that it can have, but not for this role: the error says that the role is retired and it is
+    /// not, or the other way round.
     WrongRetired,
 }
 
-/// The answer that the error calls illegal, if it names one.
+/// The answer that the error calls illegal, if it gives one.
 fn denied_answer(error: &[u8]) -> Option<&[u8]>
     ensures { MatchOption result ((x : List ℕ) → error.now ≢ error_text (Illegal x)) (λ x. error.now ≡ error_text (Illegal x.now)) }
 {
     error.strip_prefix(ILLEGAL_PREFIX)
 }
 
-/// Whether the error says that the answer was the text of one of these moves.
+/// Whether the error gives the text of one of these moves as the answer.
 fn denies_one<G: Game>(game: &G, moves: &[G::Move], error: &[u8]) -> bool
     requires { All (λ m. (G.rules game.now).IsMove m) moves.now }
     ensures { IsTrue result ↔ DeniesOne (G.rules game.now) moves.now error.now }
@@ -49,7 +48,7 @@ fn denies_one<G: Game>(game: &G, moves: &[G::Move], error: &[u8]) -> bool
     }
 }
 
-/// What a recorded move with this text and this error is, for a role with these legal moves that is retired or not.
+/// Checks a recorded move with this text and error, for a role with these legal moves that is retired or not.
 fn recorded_move<G: Game>(
     alloc: Global,
     game: &G,
@@ -80,14 +79,13 @@ fn recorded_move<G: Game>(
     Ok(RecordedMove::Right(game.copy_move(alloc, &moves[place])?))
 }
 
-/// Whether all these roles are retired.
 fn are_all_retired(strikes: &[RoleStrikes]) -> bool
     ensures { result ≡ every_role (length strikes.now) (is_retired_in strikes.now) }
 {
     count_retired(strikes) == strikes.len()
 }
 
-/// The legal moves of each role. `None` if the state is terminal, a role has no legal move, or all roles are retired.
+/// The legal moves of each role, or `None` if the state is terminal, a role has no legal move, or all roles are retired.
 fn next_moves<G: Game>(
     alloc: Global,
     game: &G,
@@ -111,8 +109,8 @@ fn next_moves<G: Game>(
     }
 }
 
-/// The joint move of these texts, or the fault of the lowest role at fault. `strikes` are the roles' substitutions in
-/// the turns before. Each role's moves are computed once, since a game may take long to find them.
+/// The joint move with these texts, or the error of the lowest role that is wrong. `strikes` has the roles' strikes after
+/// the earlier turns. Each role's moves are computed once, since that may take a game long.
 fn recorded_joint<G: Game>(
     alloc: Global,
     game: &G,
@@ -149,8 +147,8 @@ fn recorded_joint<G: Game>(
     Ok(Joint { moves: joint })
 }
 
-/// The state after a turn with these moves and errors, or the first fault of the turn. `strikes` are the roles'
-/// substitutions in the turns before.
+/// The state after a turn with these moves and errors, or the first error of the turn. `strikes` has the roles' strikes
+/// after the earlier turns.
 pub fn replay_turn<G: Game>(
     alloc: Global,
     game: &G,

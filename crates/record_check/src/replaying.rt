@@ -1,4 +1,4 @@
-//! The check of a record against the game. Its turns are replayed, and none of its states is trusted.
+//! Replays the turns of a record by the rules of the game.
 ghost use Rattle.std.specs.Prelude.{◌≡◌, ◌≢◌, ◌<◌, ◌↔◌, IfOk, IfErr, OnOk, IsTrue, length, map};
 ghost use Rattle.std.specs.Cow.{cow_slice_items};
 ghost use Rattle.record_reading.specs.RecordTree.{HasShape};
@@ -33,7 +33,7 @@ fn are_same(texts: &[CowSlice<'_, u8, Global>], others: &[Text]) -> bool
     true
 }
 
-/// Whether the record shows this state after this many turns.
+/// Whether the record has this state after this many turns.
 fn shows_state<G: Game>(
     alloc: Global,
     game: &G,
@@ -49,7 +49,7 @@ fn shows_state<G: Game>(
     Ok(are_same(played.as_slice(), parts.states.at(turns)))
 }
 
-/// The last state of the record and the number of roles that are retired then, or the first fault of its states and turns.
+/// The last state of the record and the number of retired roles in it, or the first error of its states and turns.
 fn replay_turns<G: Game>(
     alloc: Global,
     game: &G,
@@ -78,8 +78,8 @@ fn replay_turns<G: Game>(
     Ok((state, count_retired(strikes.as_slice())))
 }
 
-/// Checks that a lawful match of the game has this record, which has the right shape. The turns are tested in their
-/// order, then the goals, then the end, and the first fault is returned.
+/// Checks that a record of the right shape is that of some lawful match of the game. It tests the turns in order, then the
+/// goals, then the end, and returns the first error.
 pub fn replay_record<G: Game>(
     alloc: Global,
     game: &G,

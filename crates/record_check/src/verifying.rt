@@ -1,4 +1,4 @@
-//! The check of a record: whether it can be the record of a match of the game.
+//! Checks whether a text can be the record of a match of a game.
 ghost use Rattle.std.specs.Prelude.{◌≢◌, IfErr, IfOk, OnOk};
 ghost use Rattle.serde_json.specs.Data.{Data};
 ghost use Rattle.record_reading.specs.LawfulRecord.{IsJson, IsLawfulRecord};
@@ -11,7 +11,7 @@ use game_core::Game;
 use record_reading::{RecordParts, VerifyFault, read_record};
 use std::alloc::Global;
 
-/// What a record says, if it is a lawful record of the game, as `verify` checks it.
+/// What a record says, if `verify` would accept it.
 pub fn lawful_parts<G: Game>(
     alloc: Global,
     game: &G,
@@ -29,9 +29,9 @@ pub fn lawful_parts<G: Game>(
     }
 }
 
-/// Checks a record against the game. `Ok` means that some lawful match of this game has this record: each
-/// recorded move was legal, each state is the one that the moves lead to, and the goals are the game's.
-/// It does not mean that the recorded answers were ever sent. Further keys of the object are skipped.
+/// Checks a record against the game. `Ok` means that some lawful match of this game has this record: each recorded move was
+/// legal, each state is the one that the moves lead to, and the goals are the game's. It does not mean that a player ever
+/// sent the recorded answers. Further keys of the object are ignored.
 pub fn verify<G: Game>(alloc: Global, game: &G, text: &[u8]) -> Result<(), VerifyFault>
     ensures lawful { OnOk result (IsLawfulRecord (G.rules game.now) text.now) }
     ensures refused { IfErr result (λ fault. fault ≢ Memory → ¬ IsLawfulRecord (G.rules game.now) text.now) }

@@ -1,4 +1,4 @@
--- Which texts are errors, and which are folded texts, as the tests find them.
+-- The tests find exactly the texts that are errors, and exactly those that are folded texts.
 use Rattle.std.proofs.Common.{◌≡◌, ◌≢◌, ℕ, ◌≤◌, Bool, true, false, Option, Some, None, List, [], ◌++◌, length, IsTrue, ◌↔◌, inl, inr, sym, ap, ◌∙◌, subst, arith, Decides}
 use Rattle.std.specs.Prelude.{is_some}
 use Rattle.game_core.specs.Canonical.{canonical, IsFoldedText}
@@ -16,19 +16,7 @@ use Rattle.match_book.specs.declared.judgement.Substitution.TheVariants.{TimeOut
 use Rattle.record_reading.specs.RecordParts.{IsErrorText, MayBeGiven}
 use Rattle.record_reading.specs.Internal.Shown.{Shows, AnyShape}
 
-pub mark_is_error : (text : List ℕ) (o : Option Mark) → Shows mark_text AnyShape (Some text) o → is_some o ≡ true → IsErrorText text
-mark_is_error text None shown is = absurd cc
-mark_is_error text (Some Clear) shown is = let same : text ≡ [] = cc in inl same
-mark_is_error text (Some TimeOut) shown is = let same : text ≡ error_text ForTimeOut = cc in inr (ForTimeOut, same, tt)
-mark_is_error text (Some ConnectionError) shown is = let same : text ≡ error_text ForConnectionError = cc in inr (ForConnectionError, same, tt)
-
-pub question_is_error : (text : List ℕ) → text ≡ unreadable_text → IsErrorText text
-question_is_error text is = inr (Unreadable, is, tt)
-
-pub retired_is_error : (text : List ℕ) → text ≡ retired_text → IsErrorText text
-retired_is_error text is = inr (Retired, is, tt)
-
--- the text that an error names as the answer
+-- the text that an error gives as the answer
 pub record Names (text x : List ℕ) : Type 0 where
   pub named : text ≡ illegal_prefix ++ x
   pub is_folded : IsFoldedText x
@@ -48,17 +36,13 @@ named_why text o shown is other active Unreadable same may = absurd (other same)
 named_why text o shown is other active Retired same may = absurd (active same)
 named_why text o shown is other active (Illegal x) same may = (x, record { named = same; is_folded = may.0; short = may.1 })
 
--- an error that is no mark, and not that of an unreadable answer or a retired role, names the answer
 pub names_something : (text : List ℕ) (o : Option Mark) → Shows mark_text AnyShape (Some text) o → is_some o ≡ false → text ≢ unreadable_text → text ≢ retired_text → IsErrorText text → (x : List ℕ) × Names text x
 names_something text o shown is other active (inl empty) = absurd (no_mark text o Clear shown is empty)
 names_something text o shown is other active (inr (why, same, may)) = named_why text o shown is other active why same may
 
--- ---- folded texts
-
 fits : (n : ℕ) → n ≤ max_reading → n ≤ max_length
 fits n short = omega arith
 
--- a text that is read is a folded text exactly if it is printed back
 pub folded_where_printed : ReadingIsProper → FoldedTextReadsBack → (text : List ℕ) (x : Expression) (b : Bool) → length text ≤ max_reading → reading text ≡ Some x → Decides b (canonical (folded x) ≡ text) → IsTrue b ↔ (IsFoldedText text × (length text ≤ max_reading))
 folded_where_printed proper reads_back text x b short is decides = (to, from)
   where
@@ -71,7 +55,6 @@ folded_where_printed proper reads_back text x b short is decides = (to, from)
         let same : back.0 ≡ x = cc in
         decides.1 (ap (λ y. canonical (folded y)) (sym same) ∙ ap canonical back.3 ∙ sym back.4)
 
--- a text that is not read is none
 pub unread_is_not_folded : FoldedTextReadsBack → (text : List ℕ) → length text ≤ max_reading → reading text ≡ None → IsFoldedText text → ⊥
 unread_is_not_folded reads_back text short is folded_text =
     let back = reads_back text folded_text (fits (length text) short) in

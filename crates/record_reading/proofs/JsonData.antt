@@ -1,4 +1,4 @@
--- What is found in JSON, and what is written there.
+-- What JSON shows, and what is written in it.
 use Rattle.std.proofs.Common.{◌≡◌, ℕ, zero, suc, ◌+◌, ◌<◌, ◌≤◌, Option, Some, None, List, [], ◌∷◌, ◌++◌, length, get_or, take, map, refl, sym, ap, ◌∙◌, subst, append_assoc, append-nil, arith}
 use Rattle.std.specs.Borrow.{Bor}
 use Rattle.std.specs.Prelude.{option_and_then, option_copied, All}
@@ -11,16 +11,6 @@ use Rattle.record_reading.specs.RecordTree.{as_whole, text_lists_tree, list_tree
 use Rattle.record_reading.specs.Internal.JsonValues.{data_in, data_of}
 use Rattle.record_reading.specs.Internal.Shown.{AnyShape, Shows}
 
--- ---- one value
-
-str_is : (d : Data) (s : List ℕ) → as_str d ≡ Some s → d ≡ string s
-str_is null s is = absurd cc
-str_is (boolean b) s is = absurd cc
-str_is (number n) s is = absurd cc
-str_is (string t) s is = let same : t ≡ s = cc in ap string same
-str_is (array ds) s is = absurd cc
-str_is (object ms) s is = absurd cc
-
 array_is : (d : Data) (ds : Items) → as_array d ≡ Some ds → d ≡ array ds
 array_is null ds is = absurd cc
 array_is (boolean b) ds is = absurd cc
@@ -29,29 +19,9 @@ array_is (string s) ds is = absurd cc
 array_is (array es) ds is = let same : es ≡ ds = cc in ap array same
 array_is (object ms) ds is = absurd cc
 
-whole_is : (d : Data) (n : ℕ) → as_whole d ≡ Some n → d ≡ number (unsigned n)
-whole_is null n is = absurd cc
-whole_is (boolean b) n is = absurd cc
-whole_is (number (unsigned m)) n is = let same : m ≡ n = cc in ap (λ k. number (unsigned k)) same
-whole_is (number (negative z)) n is = absurd cc
-whole_is (number (float x)) n is = absurd cc
-whole_is (string s) n is = absurd cc
-whole_is (array ds) n is = absurd cc
-whole_is (object ms) n is = absurd cc
-
-pub found_str : (found : Option Data) (s : List ℕ) → Some s ≡ option_and_then as_str found → found ≡ Some (string s)
-found_str None s is = absurd cc
-found_str (Some d) s is = ap Some (str_is d s (sym is))
-
 pub found_array : (found : Option Data) (ds : Items) → Some ds ≡ option_and_then as_array found → found ≡ Some (array ds)
 found_array None ds is = absurd cc
 found_array (Some d) ds is = ap Some (array_is d ds (sym is))
-
-pub found_whole : (found : Option Data) (n : ℕ) → Some n ≡ option_and_then as_whole found → found ≡ Some (number (unsigned n))
-found_whole None n is = absurd cc
-found_whole (Some d) n is = ap Some (whole_is d n (sym is))
-
--- ---- lists
 
 items_same : (ds es : List Data) → items_of ds ≡ items_of es → ds ≡ es
 items_same [] [] is = refl
@@ -86,7 +56,6 @@ texts_injective = list_injective string string_injective
 pub text_lists_injective : (xs ys : List (List (List ℕ))) → text_lists_tree xs ≡ text_lists_tree ys → xs ≡ ys
 text_lists_injective = list_injective texts_tree texts_injective
 
--- all members are shown
 pub members_shown : {A : Type 0} (written : A → Data) (found : Option Data) (vs : List Value) (xs : List A) → found ≡ Some (array (items_view vs)) → map view vs ≡ map written xs → found ≡ Some (list_tree (map written xs))
 members_shown written found vs xs is same = is ∙ ap (λ ds. Some (list_tree ds)) same
 
@@ -100,14 +69,13 @@ none_at written P (x ∷ vs) (y ∷ ys) (suc i) v within is none same all =
     let tail : map view vs ≡ map written ys = cc in
     none_at written P vs ys i v (omega arith) is none tail (λ k d below. all (suc k) d (omega arith))
 
--- one member shows nothing, and so the list shows nothing
+-- if one member shows nothing, the list shows nothing
 pub member_not_shown : {A : Type 0} (written : A → Data) (P : A → Type 0) (found : Option Data) (vs : List Value) (i : ℕ) (v : Value) → i < length vs → v ≡ get_or vs i v → found ≡ Some (array (items_view vs))
     → Shows written P (Some (view v)) None → (ys : List A) → found ≡ Some (list_tree (map written ys)) → All P ys → ⊥
 member_not_shown written P found vs i v within at is none ys shown all =
     let trees : list_tree (map view vs) ≡ list_tree (map written ys) = cc in
     none_at written P vs ys i v within at none (list_tree_same (map view vs) (map written ys) trees) all
 
--- one member more is shown
 pub member_more : {A : Type 0} (written : A → Data) (vs : List Value) (i : ℕ) (v : Value) (xs zs : List A) (x : A) → i < length vs → v ≡ get_or vs i v → map view (take i vs) ≡ map written xs → Some (view v) ≡ Some (written x)
     → zs ≡ xs ++ x ∷ [] → map view (take (i + 1) vs) ≡ map written zs
 member_more written vs i v xs zs x within at done shown pushed =
@@ -118,7 +86,6 @@ member_more written vs i v xs zs x within at done shown pushed =
 pub members_all : {A : Type 0} (written : A → Data) (vs : List Value) (i : ℕ) (xs : List A) → length vs ≤ i → map view (take i vs) ≡ map written xs → map view vs ≡ map written xs
 members_all written vs i xs past done = ap (map view) (sym (take_all i vs past)) ∙ done
 
--- if the member after those that are shown shows nothing, the list shows nothing
 pub none_behind : {A : Type 0} (written : A → Data) (done : List A) (d : Data) (more : List Data) (ys : List A) → map written done ++ d ∷ more ≡ map written ys → Shows written AnyShape (Some d) None → ⊥
 none_behind written [] d more [] is none = absurd cc
 none_behind written [] d more (y ∷ ys) is none =
@@ -129,24 +96,23 @@ none_behind written (x ∷ done) d more (y ∷ ys) is none =
     let tail : map written done ++ d ∷ more ≡ map written ys = cc in
     none_behind written done d more ys tail none
 
--- and where it shows a value, that is the next
+-- if it shows a value, that is the next one
 pub next_shown : {A : Type 0} (written : A → Data) (done now : List A) (x : A) (d : Data) (more all : List Data) → now ≡ done ++ x ∷ [] → Some d ≡ Some (written x) → map written done ++ d ∷ more ≡ all → map written now ++ more ≡ all
 next_shown written done now x d more all pushed shown was =
     let one : d ≡ written x = cc in
     ap (λ xs. map written xs ++ more) pushed ∙ ap (λ ds. ds ++ more) (map-append written done (x ∷ [])) ∙ append_assoc (map written done) (written x ∷ []) more ∙ ap (λ e. map written done ++ e ∷ more) (sym one) ∙ was
 
--- the members of a list that is shown
 pub shown_members : {A : Type 0} (written : A → Data) (found : Option Data) (vs : List Value) (ys : List A) → found ≡ Some (array (items_view vs)) → found ≡ Some (list_tree (map written ys)) → map view vs ≡ map written ys
 shown_members written found vs ys is shown =
     let trees : list_tree (map view vs) ≡ list_tree (map written ys) = cc in
     list_tree_same (map view vs) (map written ys) trees
 
--- none is left
+-- no member is left
 pub all_shown : {A : Type 0} (written : A → Data) (done : List A) (more : List Value) (all : List Data) → 0 ≡ length more → map written done ++ map view more ≡ all → all ≡ map written done
 all_shown written done [] all none was = sym was ∙ append-nil (map written done)
 all_shown written done (v ∷ more) all none was = absurd (omega arith)
 
--- what is lent of a value that was taken out
+-- lending a value that was taken out does not change its data
 pub data_lent : (lent : Option (Bor Value)) (found : Option Value) → option_copied lent ≡ found → data_in lent ≡ data_of found
 data_lent None found is = ap data_of is
 data_lent (Some v) found is = ap data_of is
@@ -154,15 +120,12 @@ data_lent (Some v) found is = ap data_of is
 pub shown_lent : {A : Type 0} (written : A → Data) (P : A → Type 0) (lent : Option (Bor Value)) (found : Option Value) (read : Option A) → option_copied lent ≡ found → Shows written P (data_in lent) read → Shows written P (data_of found) read
 shown_lent written P lent found read is shown = subst (λ d. Shows written P d read) (data_lent lent found is) shown
 
--- there are as many values as members
 pub shown_length : {A : Type 0} (written : A → Data) (found : Option Data) (vs : List Value) (ys : List A) → found ≡ Some (array (items_view vs)) → found ≡ Some (list_tree (map written ys)) → length vs ≡ length ys
 shown_length written found vs ys is shown =
     let trees : list_tree (map view vs) ≡ list_tree (map written ys) = cc in
     sym (length-map vs view) ∙ ap length (list_tree_same (map view vs) (map written ys) trees) ∙ length-map ys written
 
--- ---- shapes
-
--- a value that is shown, and is not of the shape: none of the shape is shown
+-- a value that is shown but does not have the shape: no value of the shape is shown
 pub other_shape : {A : Type 0} (written : A → Data) → ((x y : A) → written x ≡ written y → x ≡ y) → (P : A → Type 0) (found : Option Data) (x : A) → found ≡ Some (written x) → ¬ P x → (y : A) → found ≡ Some (written y) → P y → ⊥
 other_shape {A} written one P found x is not y shown shaped =
     let same : written y ≡ written x = cc in

@@ -20,8 +20,6 @@ use Rattle.record_reading.specs.RecordTree.{key_text}
 use Rattle.record_reading.specs.declared.record_parts.Key.{Key as AnyKey}
 use Rattle.record_reading.proofs.JsonTurns.{converted_some}
 
--- ---- one member
-
 truth : view (Truth false) ≡ boolean false
 truth = search (rules, the_lemmas)
 
@@ -54,8 +52,6 @@ module _ (ms kept new : Members) (k : List ℕ) (d : Data) (were : AreKeptMember
   members_kept lists o known (inr zero_lists) is more key =
       let other : key_text key ≡ k → ⊥ = λ same. let two = known key same in omega arith in
       ap (get_member (key_text key)) (more ∙ ap (λ n. member_kept k n o kept) zero_lists) ∙ were key ∙ sym (ap (option_map kept_at) (get_member-put_other (key_text key) k d ms other))
-
--- ---- a value that is no object
 
 abbrev IsNoObject : json.Json → Type 0
 IsNoObject json.null = Unit {0}
@@ -109,7 +105,6 @@ nothing_at depth t rest r d other is k =
     let j = converted_some of_json (value depth (t ∷ rest)) d r is in
     no_member k j.0 d (no_object depth t rest r j.0 other j.1) j.2
 
--- no other token than the first of an object is read as that
 pub other_token : (t : Read) → (t ≡ BeginObject → ⊥) → token_of t ≡ Token.begin_object → ⊥
 other_token BeginObject other is = other refl
 other_token EndObject other is = cc

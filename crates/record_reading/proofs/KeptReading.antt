@@ -1,4 +1,4 @@
--- A value that is read and kept, by its first token, and lists that grow by an item.
+-- A value that is read and kept, by its first token, and lists that gain an item.
 use Rattle.std.proofs.Common.{◌≡◌, ℕ, zero, suc, ◌-◌, ◌<◌, Bool, true, false, ◌&&◌, Option, Some, None, List, [], ◌∷◌, ◌++◌, length, nat_lt, refl, sym, ap, ◌∙◌, arith, inl, inr, Result, lt-ltb}
 use Rattle.std.specs.Prelude.{IfErr, IsErrAnd, if◌then◌else◌, option_map}
 use Rattle.std.specs.Bool.{then_some}
@@ -14,16 +14,12 @@ use Rattle.record_reading.proofs.JsonTurns.{converted-array, converted-object}
 use Rattle.record_reading.specs.Internal.KeptTree.{are_kept, is_kept, kept_of, kept_list, with_one, IsRefused}
 use Rattle.record_reading.specs.declared.verify_fault.VerifyFault.{VerifyFault}
 
--- ---- refusals
-
 pub refused : {T A : Type 0} {fault : VerifyFault} (r : Result T VerifyFault) (read : Option A) → IsErrAnd r (λ f. f ≡ fault) → IsRefused read fault → IfErr r (IsRefused read)
 refused {fault = fault} r read is why = let same = err_from_is_err_and r is in rw (same.1, same.2) why
 
 pub refused_as : {A B : Type 0} {fault : VerifyFault} (read : Option A) (all : Option B) → (read ≡ None → all ≡ None) → IsRefused read fault → IsRefused all fault
 refused_as read all so (inl memory) = inl memory
 refused_as read all so (inr (is, none)) = inr (is, so none)
-
--- ---- by the first token
 
 pub string_read : (depth : ℕ) (s : List ℕ) (rest : List Token) → converted of_json (value depth (Token.string s ∷ rest)) ≡ Some (string s, rest)
 string_read depth s rest = ap (converted of_json) (value_is depth (Token.string s ∷ rest))
@@ -60,11 +56,6 @@ array_too_deep depth rest none = ap (λ k. converted of_json (value k (Token.beg
 pub object_too_deep : (depth : ℕ) (rest : List Token) → depth ≡ 0 → converted of_json (value depth (Token.begin_object ∷ rest)) ≡ None
 unfolding value
 object_too_deep depth rest none = ap (λ k. converted of_json (value k (Token.begin_object ∷ rest))) none
-
-pub none_read : (depth : ℕ) (t : Token) (rest : List Token) → value depth (t ∷ rest) ≡ None → converted of_json (value depth (t ∷ rest)) ≡ None
-none_read depth t rest is = ap (converted of_json) is
-
--- ---- what is kept of one value
 
 pub kept_string : (n : ℕ) (s : List ℕ) → kept_of n (string s) ≡ Some (string s)
 kept_string zero s = refl
@@ -108,8 +99,6 @@ array_not_kept (suc n) ds is = go (are_kept (is_kept n) (items_of ds)) is
     go : (b : Bool) → None ≡ (if b then Some ds else None) → None ≡ (if b then Some (array (items_of ds)) else None)
     go true same = absurd cc
     go false same = refl
-
--- ---- a list that grows at its end
 
 abbrev pub before : List Data → Items → Items
 before [] rest = rest

@@ -1,4 +1,4 @@
--- What is kept of a tree says the same at each key of a record.
+-- What is kept of a tree has the same values at all keys of a record.
 use Rattle.std.proofs.Common.{◌≡◌, ℕ, Bool, true, false, Option, Some, None, List, [], ◌∷◌, map, refl, sym, ap, ◌∙◌, true≢false, inl, inr}
 use Rattle.std.specs.Prelude.{option_map, if◌then◌else◌, ◌&&◌}
 use Rattle.serde_json.specs.Data.{Data, null, boolean, number, string, array, object}
@@ -17,8 +17,6 @@ use Rattle.record_reading.specs.declared.record_parts.Version.{Version}
 use Rattle.record_reading.specs.declared.record_parts.Version.TheVariants.{First, Second}
 use Rattle.record_reading.specs.declared.verify_fault.VerifyFault.{VerifyFault}
 use Rattle.record_reading.proofs.KeyTable.{EndsAt}
-
--- ---- what a record holds is kept
 
 each_kept : {A : Type 0} (written : A → Data) (is : Data → Bool) → ((x : A) → is (written x) ≡ true) → (xs : List A) → are_kept is (items_of (map written xs)) ≡ true
 each_kept written is kept [] = refl
@@ -52,8 +50,6 @@ written_kept States x = each_kept texts_tree (is_kept 1) texts_kept x
 written_kept Strikes x = refl
 written_kept AtVersion x = refl
 
--- ---- a value that is kept
-
 kept_is : (d e : Data) → is_kept 2 e ≡ true → d ≡ e → kept_at d ≡ e
 kept_is d e fits is = ap kept_at is ∙ ap (λ b. if b then e else boolean false) fits
 
@@ -72,8 +68,6 @@ kept_there : (o : Option Data) (e : Data) → is_kept 2 e ≡ true → o ≡ Som
 kept_there None e fits is = absurd cc
 kept_there (Some d) e fits is = let same : d ≡ e = cc in ap Some (kept_is d e fits same)
 
--- ---- the version
-
 said_of : (d : Data) → version_said (Some (kept_at d)) ≡ version_said (Some d)
 said_of null = refl
 said_of (boolean b) = refl
@@ -90,9 +84,7 @@ said_kept : (o : Option Data) → version_said (option_map kept_at o) ≡ versio
 said_kept None = refl
 said_kept (Some d) = said_of d
 
--- ---- what counts at a key
-
--- what counts there, of values that are kept, counts where all are kept
+-- the value that counts is the same in the kept members as in all members
 abbrev CountsAlike : (Option Version → Option Data → Option Data) → Type 0
 CountsAlike counts = (version : Option Version) (o : Option Data) (e : Data) → is_kept 2 e ≡ true → (counts version (option_map kept_at o) ≡ Some e → counts version o ≡ Some e) × (counts version o ≡ Some e → counts version (option_map kept_at o) ≡ Some e)
 
@@ -138,11 +130,9 @@ module _ (tree kept : Data) (same : IsKeptTree tree kept) where
   found_kept : (key : Key) (x : (row_of key).Value) → found_at tree key ≡ Some ((row_of key).written x) → found_at kept key ≡ Some ((row_of key).written x)
   found_kept key x is = found_alike key ∙ (counts_alike key (version_of tree) (get (key_text key) tree) ((row_of key).written x) (written_kept key x)).1 is
 
-  -- what is kept of the tree holds only what the tree holds
   pub holds_there : (p : RecordParts) → Holds kept p → Holds tree p
   holds_there p held key = found_there key ((row_of key).said p) (held key)
 
-  -- the first key that is not shaped in what is kept is so in the tree
   first_there : {S M : Type 0} (g : Rules S M) (key : Key) → IsFirstWithout (IsShaped g kept) keys key → IsFirstWithout (IsShaped g tree) keys key
   first_there g key (before, after, split, shaped, unshaped) = (
     before,
@@ -152,7 +142,6 @@ module _ (tree kept : Data) (same : IsKeptTree tree kept) where
     λ (x, found, fits). unshaped (x, found_kept key x found, fits),
   )
 
-  -- why the reading of what is kept ends is why that of the tree does
   pub ends_there : {S M : Type 0} (g : Rules S M) (fault : VerifyFault) → EndsAt g kept fault → EndsAt g tree fault
   ends_there g fault (inl memory) = inl memory
   ends_there g fault (inr (key, bad, first)) = inr (key, bad, first_there g key first)

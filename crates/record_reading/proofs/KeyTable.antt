@@ -20,8 +20,6 @@ use Rattle.record_reading.specs.declared.verify_fault.VerifyFault.{VerifyFault}
 use Rattle.record_reading.specs.declared.verify_fault.VerifyFault.TheVariants.{BadShape, Memory}
 use Rattle.record_reading.proofs.RecordShapes.{prefixes_get}
 
--- ---- each key of a list
-
 pub each_key : (P : Key → Type 0) → HoldsForEach P keys → (key : Key) → P key
 each_key P held AtCause = held.0
 each_key P held EndMarks = held.1.0
@@ -39,7 +37,6 @@ each_key P held States = held.1.1.1.1.1.1.1.1.1.1.1.1.0
 each_key P held Strikes = held.1.1.1.1.1.1.1.1.1.1.1.1.1.0
 each_key P held AtVersion = held.1.1.1.1.1.1.1.1.1.1.1.1.1.1.0
 
--- one thing at each key
 pub each_same : (A : Key → Type 0) (f : (key : Key) → A key) (ks : List Key) → HoldsForEach (λ key. f key ≡ f key) ks
 each_same A f [] = tt
 each_same A f (key ∷ more) = (refl, each_same A f more)
@@ -57,9 +54,6 @@ all_of P Q so [] held k d below = absurd (omega arith)
 all_of P Q so (key ∷ more) held zero d below = so key held.0
 all_of P Q so (key ∷ more) held (suc k) d below = all_of P Q so more held.1 k d (omega arith)
 
--- ---- the keys before a key
-
--- the keys before each key, and all keys
 fronts : map (λ key. keys_before key keys) keys ++ keys ∷ [] ≡ prefixes keys
 fronts = refl
 
@@ -68,17 +62,13 @@ before_at i d below =
     sym (get_or-map (λ key. keys_before key keys) keys i d [] below) ∙ sym (get_or_append_left (map (λ key. keys_before key keys) keys) (keys ∷ []) [] i below) ∙ ap (λ ls. get_or ls i []) fronts
     ∙ get_or_from_slice_get (prefixes keys) i (take i keys) [] (prefixes_get keys i (omega arith))
 
--- ---- reading
-
--- the same number of roles under another name
+-- the same number of roles, in another expression
 pub by_roles : {A : Type 0} (written : A → Data) (Fits : ℕ → A → Type 0) (found : Option Data) (read : Option A) {n m : ℕ} → n ≡ m → Shows written (Fits n) found read → Shows written (Fits m) found read
 by_roles written Fits found read same shows = subst (λ k. Shows written (Fits k) found read) same shows
 
--- what counts as found there is what counts so in the tree
 counted : {S M : Type 0} (g : Rules S M) (tree : Data) (version : Option Version) (found : Option Data) (key : Key) → version ≡ version_of tree → found ≡ get (key_text key) tree → (row_of key).counts version found ≡ found_at tree key
 counted g tree version found key of is = ap (λ v. (row_of key).counts v found) of ∙ ap ((row_of key).counts (version_of tree)) is
 
--- The key at the place i is read: nothing before it has changed.
 pub read_more : {S M : Type 0} (g : Rules S M) (tree : Data) (version : Option Version) (found : Option Data) (p q : RecordParts) (i : ℕ) (d : Key) (b : Bool) → i < length keys → version ≡ version_of tree → found ≡ get (key_text (get_or keys i d)) tree
     → IsReadInto g (get_or keys i d) version found q b
     → b ≡ true → SayTheSame (keys_before (get_or keys i d) keys) p q → HoldsForEach (IsReadAt g tree p) (take i keys) → HoldsForEach (IsReadAt g tree q) (take (i + 1) keys)
@@ -91,7 +81,6 @@ read_more g tree version found p q i d true below of is read right kept held =
     moved : (k : Key) → IsReadAt g tree p k → (row_of k).said p ≡ (row_of k).said q → IsReadAt g tree q k
     moved k there same = subst (λ (x : (row_of k).Value). (found_at tree k ≡ Some ((row_of k).written x)) × (row_of k).IsOfShape g x) same there
 
--- Nothing of its shape was found at the key at the place i, and all keys before it are of theirs.
 pub not_read : {S M : Type 0} (g : Rules S M) (tree : Data) (version : Option Version) (found : Option Data) (p q : RecordParts) (i : ℕ) (d : Key) (b : Bool) → i < length keys → version ≡ version_of tree → found ≡ get (key_text (get_or keys i d)) tree
     → IsReadInto g (get_or keys i d) version found q b
     → b ≡ false → HoldsForEach (IsReadAt g tree p) (take i keys) → IsFirstWithout (IsShaped g tree) keys (get_or keys i d)
@@ -108,7 +97,6 @@ not_read g tree version found p q i d false below of is none wrong held = (
 abbrev pub EndsAt : {S M : Type 0} → Rules S M → Data → VerifyFault → Type 0
 EndsAt g tree fault = (fault ≡ Memory) ⊎ ((key : Key) × (fault ≡ BadShape key) × IsFirstWithout (IsShaped g tree) keys key)
 
--- the text of such a tree is refused for its shape
 pub ends_read : {S M T : Type 0} {fault : VerifyFault} (g : Rules S M) (text : List ℕ) (tree : Data) (r : Result T VerifyFault) → IsErrAnd r (λ f. f ≡ fault) → IsJson text tree → EndsAt g tree fault → IfErr r (HasNoShape g text)
 ends_read {fault = fault} g text tree r is json why =
     let same = err_from_is_err_and r is in

@@ -1,4 +1,4 @@
--- The parts of a lawful match have the shape of a record, and stand in its record tree.
+-- The parts of a lawful match's record have the shape of a record, and are in its record tree.
 use Rattle.std.proofs.Common.{◌≡◌, ℕ, zero, suc, ◌<◌, ◌≤◌, Bool, true, false, Option, Some, None, List, [], ◌∷◌, ◌++◌, length, get_or, map, inl, inr, refl, sym, ap, ◌∙◌, subst, arith, length-append, if◌then◌else◌, nat_le, ◌==◌}
 use Rattle.std.proofs.lemmas.List.{length-map}
 use Rattle.std.specs.Prelude.{All, IfSome, slice_index_or, is_none, option_to_list}
@@ -31,8 +31,6 @@ use Rattle.record_reading.specs.declared.record_parts.Version.TheVariants.{Secon
 use Rattle.record_reading.proofs.KeyTable.{each_key, each_same}
 use Rattle.record_reading.proofs.RecordShapes.{length_prefixes}
 
--- ---- causes
-
 lowest_below : (n : ℕ) (p : ℕ → Bool) (r : ℕ) → lowest_role n p ≡ Some r → r < n
 lowest_below zero p r is = absurd cc
 lowest_below (suc n) p r is = go (lowest_role n p) (p n) refl is (lowest_below n p)
@@ -64,13 +62,11 @@ cause_names g m = go m.abort_asked (every_role g.roles (is_there m.start_marks))
     go false true at named = named
     go false false at named = tt
 
--- ---- goals
-
 no_goals : (n : ℕ) (goal : ℕ → Option ℕ) → ((r : ℕ) → goal r ≡ None) → goals_from n goal ≡ []
 no_goals zero goal none = refl
 no_goals (suc n) goal none = ap (λ gs. gs ++ option_to_list (goal n)) (no_goals n goal none) ∙ ap option_to_list (none n)
 
--- the role has a goal within the range
+-- the role has a goal in the range
 abbrev HasGoal : (ℕ → Option ℕ) → ℕ → Type 0
 HasGoal goal r = (v : ℕ) × (goal r ≡ Some v) × (v ≤ max_goal)
 
@@ -103,8 +99,6 @@ goals_shape g laws s is_state Stopping stops =
     inr
     (all_goals g.roles (goal_in Stopping g s)
     (λ r below. let found = given_goal (g.goal s r) (stops refl r below) in (found.0, found.1, laws.goal_in_range s r found.0 is_state below found.1)))
-
--- ---- turns
 
 some_member : {A : Type 0} (xs : List A) (k : ℕ) → k < length xs → A
 some_member [] k below = absurd (omega arith)
@@ -139,8 +133,6 @@ turns_errors g strikes turns lawful =
 
 turns_moves : {S M : Type 0} (g : Rules S M) (strikes : ℕ) (turns : List (Turn M)) → AreLawful g strikes turns → All (λ texts. length texts ≡ g.roles) (map (λ t. map g.move_text t.moves) turns)
 turns_moves g strikes turns lawful = All-map (λ texts. length texts ≡ g.roles) (λ t. map g.move_text t.moves) turns (λ k d below. length-map (slice_index_or turns k d).moves g.move_text ∙ (lawful k d below).joint.width)
-
--- ---- the whole
 
 shaped_at : {S M : Type 0} (g : Rules S M) → IsLawful g → TurnsLeadToStates g → StoppingMeans g → (m : MatchValue M) → IsLawfulMatch g m → IsLawfulSetup m.setup → (version : Version) (key : Key) → IsShapedAt g key (parts_in g version m)
 shaped_at g laws states stops m lawful setup version AtCause = cause_names g m

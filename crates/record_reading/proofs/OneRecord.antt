@@ -1,4 +1,4 @@
--- A tree holds the parts of one record only, and a text that is refused for its shape is no lawful record.
+-- A tree has the parts of only one record, and a text that is refused for its shape is not a lawful record.
 use Rattle.std.proofs.Common.{◌≡◌, ◌≢◌, ℕ, suc, ◌<◌, ◌≤◌, Option, Some, None, List, [], ◌∷◌, length, drop, inl, inr, refl, sym, ap, ◌∙◌, subst, arith, codes, if◌then◌else◌}
 use Rattle.std.specs.Prelude.{IfSome}
 use Rattle.std.specs.Fmt.{decimal}
@@ -25,8 +25,6 @@ use Rattle.record_reading.specs.declared.record_parts.Version.{Version}
 use Rattle.record_reading.specs.declared.record_parts.Version.TheVariants.{First, Second}
 use Rattle.record_reading.specs.declared.verify_fault.VerifyFault.TheVariants.{NotJson, BadShape, Illegal as IllegalMove, NotFirst, WrongRetired, WrongState, WrongGoals, WrongEnd, Memory}
 use Rattle.record_reading.proofs.JsonData.{list_injective, string_injective, texts_injective, text_lists_injective}
-
--- ---- words
 
 mark_of_text : List ℕ → Option Mark
 mark_of_text text = if bytes_eq text [] then Some Clear else (if bytes_eq text (codes "TO") then Some TimeOut else Some ConnectionError)
@@ -70,8 +68,6 @@ phase_again Aborted = refl
 phase_same : (p q : Phase) → phase_tree p ≡ phase_tree q → p ≡ q
 phase_same p q is = let same : Some p ≡ Some q = sym (phase_again p) ∙ ap phase_of_text (string_injective (phase_text p) (phase_text q) is) ∙ phase_again q in cc
 
--- ---- causes
-
 apart : (x y : ℕ) (xs ys : List ℕ) → x ≢ y → x ∷ xs ≡ y ∷ ys → ⊥
 apart x y xs ys differ is = differ cc
 
@@ -111,8 +107,6 @@ cause_same n few None (Some b) named other is = absurd cc
 cause_same n few (Some a) None named other is = absurd cc
 cause_same n few (Some a) (Some b) named other is = ap Some (cause_text_same n few a b named other (string_injective (cause_text a) (cause_text b) is))
 
--- ---- all keys
-
 number_same : (a b : ℕ) → whole_tree a ≡ whole_tree b → a ≡ b
 number_same a b is = cc
 
@@ -122,7 +116,6 @@ version_same First Second is = absurd (omega (arith, number_same 1 2 is))
 version_same Second First is = absurd (omega (arith, number_same 2 1 is))
 version_same Second Second is = refl
 
--- a key's values of its shape differ where they are written
 value_same : {S M : Type 0} (g : Rules S M) → g.roles ≤ max_roles → (key : Key) (x y : (row_of key).Value) → (row_of key).IsOfShape g x → (row_of key).IsOfShape g y → (row_of key).written x ≡ (row_of key).written y → x ≡ y
 value_same g few AtCause x y fits also is = cause_same g.roles few x y fits also is
 value_same g few EndMarks x y fits also is = marks_same x y is
@@ -159,15 +152,12 @@ same_parts p q same = λ i. record {
   version = same AtVersion i;
 }
 
--- both trees stand at the key
 same_tree : (tree : Data) (p q : RecordParts) → Holds tree p → Holds tree q → (key : Key) → key_tree key p ≡ key_tree key q
 same_tree tree p q held also key = let same : Some (key_tree key p) ≡ Some (key_tree key q) = sym (held key) ∙ also key in cc
 
 pub holds_one_parts_at_most : {S M : Type 0} (g : Rules S M) → IsLawful g → HoldsOnePartsAtMost g
 holds_one_parts_at_most g laws tree p q shaped also_shaped held also =
     same_parts p q (λ key. value_same g laws.few_roles key ((row_of key).said p) ((row_of key).said q) (shaped.keys key) (also_shaped.keys key) (same_tree tree p q held also key))
-
--- ---- refusals
 
 right_lengths : {S M : Type 0} (g : Rules S M) (tree : Data) (p q : RecordParts) (key : Key) → Holds tree p → Holds tree q → HasShape g q → HasWrongLength p key → ⊥
 right_lengths g tree p q key held also shape (inl errors) =

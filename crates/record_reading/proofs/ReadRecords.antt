@@ -1,4 +1,4 @@
--- What is read of a text, and whether the text is a lawful record.
+-- What a text reads as, and whether the text is a lawful record.
 use Rattle.std.proofs.Common.{◌≡◌, ◌≢◌, ap, List, sym, subst, Result, inr}
 use Rattle.std.specs.Prelude.{ℕ, IfErr}
 use Rattle.std.proofs.lemmas.Result.{IfErr-weaker}
@@ -17,7 +17,7 @@ use Rattle.record_reading.specs.declared.verify_fault.VerifyFault.{VerifyFault}
 use Rattle.record_reading.specs.declared.verify_fault.VerifyFault.TheVariants.{BadShape, Memory}
 use Rattle.record_reading.proofs.OneRecord.{same_read}
 
--- what a text of the right shape says
+-- the values of a text of the right shape
 abbrev pub Says : {S M : Type 0} → Rules S M → List ℕ → RecordParts → Type 0
 Says g text p = (tree : Data) × IsJson text tree × Holds tree p × HasShape g p
 
@@ -28,7 +28,6 @@ pub lawful_record : {S M : Type 0} (g : Rules S M) (text : List ℕ) (p : Record
 lawful_record g text p (tree, json, holds, shape) (m, lawful, same) =
     (tree, m, record { json = json; setup = lawful_setup g p.version m (subst (λ (q : RecordParts). HasShape g q) (sym same) shape); lawful = lawful; version = p.version; holds = subst (λ (q : RecordParts). Holds tree q) (sym same) holds })
 
--- what a lawful record says is what a lawful match says
 pub lawful_parts : {S M : Type 0} (g : Rules S M) → LawfulPartsHaveShape g → HoldsOnePartsAtMost g → (text : List ℕ) (p : RecordParts) → Says g text p → IsLawfulRecord g text → AreLawfulParts g p
 lawful_parts g shapes one text p (tree, json, holds, shape) (other, m, found) =
     let same = same_read text other tree found.json json in
@@ -39,7 +38,6 @@ lawful_parts g shapes one text p (tree, json, holds, shape) (other, m, found) =
 pub no_shape_refuses : {S M T : Type 0} (g : Rules S M) → RefusedIsUnlawful g → (text : List ℕ) (r : Result T VerifyFault) → IfErr r (HasNoShape g text) → IfErr r (λ fault. fault ≢ Memory → ¬ IsLawfulRecord g text)
 no_shape_refuses g refused text r none = IfErr-weaker r (HasNoShape g text) (λ fault. fault ≢ Memory → ¬ IsLawfulRecord g text) (λ fault misshapen other. refused text fault other misshapen) none
 
--- a text with keys of their shapes, but a list of a wrong length at this key
 pub wrong_length_refuses : {S M : Type 0} (g : Rules S M) → RefusedIsUnlawful g → (text : List ℕ) (tree : Data) (p : RecordParts) (key : Key) → IsJson text tree → Holds tree p × ((at : Key) → IsShapedAt g at p) → HasWrongLength p key → BadShape key ≢ Memory
     → ¬ IsLawfulRecord g text
 wrong_length_refuses g refused text tree p key json (holds, shaped) wrong other = refused text (BadShape key) other (tree, json, inr (p, holds, shaped, wrong))

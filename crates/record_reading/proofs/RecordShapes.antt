@@ -11,8 +11,6 @@ use Rattle.std.specs.Str.{bytes_eq}
 use Rattle.game_core.specs.Play.{max_goal}
 use Rattle.record_reading.specs.RecordParts.{AreGoals, each_role, prefixes}
 
--- ---- goals
-
 pub goals_small : (roles : ℕ) (goals : List ℕ) → AreGoals roles goals → All (λ goal. goal ≤ max_goal) goals
 goals_small roles goals (inl none) = λ k d below. absurd (omega (arith, ap length none))
 goals_small roles goals (inr each) = each.1
@@ -27,8 +25,6 @@ goals_counted roles n goals many counted small = go (n == 0) refl counted
     go : (b : Bool) → (n == 0) ≡ b → (b || n == roles) ≡ true → AreGoals roles goals
     go true is h = inl (nil_from_length goals (sym many ∙ (Decides-eqb n 0).0 is))
     go false is h = inr (sym many ∙ (Decides-eqb n roles).0 h, small)
-
--- ---- what each role has
 
 pub each_role-more : {A : Type 0} (n : ℕ) (f : ℕ → A) → each_role (n + 1) f ≡ each_role n f ++ f n ∷ []
 each_role-more n f = rw add-one refl
@@ -45,8 +41,6 @@ at_each_role {A} (suc n) f r d below = go (eq-or-lt_of_le {n = r} {m = n} (omega
     go (inr lower) earlier = get_or_append_left (each_role n f) (f n ∷ []) d r (omega (arith, length_each_role n f)) ∙ earlier lower
     go (inl last) earlier = get_or_push (each_role n f) (f n) d r (length_each_role n f ∙ sym last) ∙ ap f (sym last)
 
--- ---- prefixes
-
 pub length_prefixes : {A : Type 0} (xs : List A) → length (prefixes xs) ≡ suc (length xs)
 length_prefixes [] = refl
 length_prefixes (x ∷ xs) = ap suc (length-map (prefixes xs) (λ front. x ∷ front) ∙ length_prefixes xs)
@@ -56,8 +50,6 @@ prefixes_get [] zero le = refl
 prefixes_get [] (suc k) le = absurd (omega arith)
 prefixes_get (x ∷ xs) zero le = refl
 prefixes_get (x ∷ xs) (suc k) le = slice_get-map (λ front. x ∷ front) (prefixes xs) k ∙ ap (option_map (λ front. x ∷ front)) (prefixes_get xs k (omega arith))
-
--- ---- compared texts
 
 pub same_when_equal : (xs ys : List ℕ) → not (bytes_eq xs ys) ≡ false → xs ≡ ys
 same_when_equal xs ys is = (bytes_eq-Decides xs ys).0 (not-false (bytes_eq xs ys) is)

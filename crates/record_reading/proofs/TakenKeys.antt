@@ -16,11 +16,9 @@ use Rattle.record_reading.specs.RecordTree.{keys, key_text}
 use Rattle.record_reading.specs.declared.record_parts.Key.{Key}
 use Rattle.record_reading.proofs.KeyTable.{each_and}
 
--- the members hold at the key what the tree holds there
+-- at the key, the members have the value of the tree
 abbrev pub IsLeft : Data → BTreeMap (String Global) Value → Key → Type 0
 IsLeft tree members key = option_map view (get_by_text members (key_text key)) ≡ get (key_text key) tree
-
--- ---- the keys differ
 
 abbrev Differs : Key → Key → Type 0
 Differs key other = bytes_eq (key_text key) (key_text other) ≡ false
@@ -53,18 +51,14 @@ drop_differ ks zero differ = differ
 drop_differ [] (suc i) differ = tt
 drop_differ (k ∷ ks) (suc i) differ = drop_differ ks i differ.1
 
--- ---- taking
-
--- nothing is taken yet
 pub all_left : (tree : Data) (members : BTreeMap (String Global) Value) → ((key : List ℕ) → get_member key (members_view members.entries) ≡ get key tree) → (ks : List Key) → HoldsForEach (IsLeft tree members) ks
 all_left tree members same [] = tt
 all_left tree members same (k ∷ ks) = (view-lookup (key_text k) members.entries ∙ same (key_text k), all_left tree members same ks)
 
--- the key at the place i is left
 pub left_here : (tree : Data) (members : BTreeMap (String Global) Value) (i : ℕ) (d : Key) → i < length keys → HoldsForEach (IsLeft tree members) (drop i keys) → IsLeft tree members (get_or keys i d)
 left_here tree members i d below left = (subst (HoldsForEach (IsLeft tree members)) (drop-cons keys i d below) left).0
 
--- it is taken, and the later ones are left
+-- it is taken, and the later ones are still there
 pub left_more : (tree : Data) (members rest : BTreeMap (String Global) Value) (i : ℕ) (d : Key) → i < length keys → UpdatesBy string_cmp (λ k. slice_cmp nat_cmp (key_text (get_or keys i d)) (string_bytes k)) members rest None
     → HoldsForEach (IsLeft tree members) (drop i keys) → HoldsForEach (IsLeft tree rest) (drop (i + 1) keys)
 left_more tree members rest i d below taken left =

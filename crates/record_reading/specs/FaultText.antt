@@ -1,11 +1,11 @@
--- What is printed of a fault.
+-- The text of a `VerifyFault`.
 use Rattle.std.specs.Prelude.{ℕ, List, ◌++◌, codes}
 use Rattle.std.specs.Fmt.{decimal}
 use Rattle.record_reading.specs.RecordTree.{key_text}
 use Rattle.record_reading.specs.declared.verify_fault.VerifyFault.{VerifyFault}
 use Rattle.record_reading.specs.declared.verify_fault.VerifyFault.TheVariants.{NotJson, BadShape, Illegal, NotFirst, WrongRetired, WrongState, WrongGoals, WrongEnd, Memory}
 
--- a word, then the numbers of a turn and a role
+-- a word and the numbers of a turn and a role
 abbrev pub turn_and_role : List ℕ → ℕ → ℕ → List ℕ
 turn_and_role word turn role = word ++ decimal turn ++ codes " " ++ decimal role
 

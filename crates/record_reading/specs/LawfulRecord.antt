@@ -1,4 +1,4 @@
--- Which texts are lawful records of a game, and which have not even the shape of one.
+-- Which texts are lawful records of a game, and which do not have the shape of a record.
 use Rattle.std.specs.Prelude.{◌≡◌, ◌≢◌, ℕ, suc, List, ◌∷◌, ◌++◌, length, Some, IsUtf8, All, ◌⊎◌}
 use Rattle.serde_json.specs.Data.{Data}
 use Rattle.serde_json.specs.Read.{read}
@@ -15,12 +15,13 @@ use Rattle.record_reading.specs.declared.record_parts.Version.{Version}
 use Rattle.record_reading.specs.declared.verify_fault.VerifyFault.{VerifyFault}
 use Rattle.record_reading.specs.declared.verify_fault.VerifyFault.TheVariants.{NotJson, BadShape, Illegal, NotFirst, WrongRetired, WrongState, WrongGoals, WrongEnd, Memory}
 
--- the bytes are a JSON text of this tree
+-- the bytes are the JSON text of this tree
 pub record IsJson (text : List ℕ) (tree : Data) : Type 0 where
   pub utf8 : IsUtf8 text
   pub is_read : read text ≡ Some tree
 
--- The text is JSON, and its keys hold what the record of some lawful match says in one of the versions. In the first version the strikes are 0. There may be other keys.
+-- The text is JSON, and its values at the keys of a record are those of some lawful match's record, in one of the versions. In the
+-- first version the strikes are 0. Other keys are allowed.
 pub record IsRecordOf {S M : Type 0} (g : Rules S M) (text : List ℕ) (tree : Data) (m : MatchValue M) : Type 0 where
   pub json : IsJson text tree
   pub setup : IsLawfulSetup m.setup
@@ -31,11 +32,11 @@ pub record IsRecordOf {S M : Type 0} (g : Rules S M) (text : List ℕ) (tree : D
 abbrev pub IsLawfulRecord : {S M : Type 0} → Rules S M → List ℕ → Type 0
 IsLawfulRecord {S} {M} g text = (tree : Data) × (m : MatchValue M) × IsRecordOf g text tree m
 
--- these are the parts of the record of some lawful match, in their version
+-- these are the parts of some lawful match's record, in their version
 abbrev pub AreLawfulParts : {S M : Type 0} → Rules S M → RecordParts → Type 0
 AreLawfulParts {S} {M} g p = (m : MatchValue M) × IsLawfulMatch g m × (parts_in g p.version m ≡ p)
 
--- what counts as standing at the key is a value of the key's shape, as it is written
+-- the value at the key has the key's shape
 abbrev pub IsShaped : {S M : Type 0} → Rules S M → Data → Key → Type 0
 IsShaped g tree key = (x : (row_of key).Value) × (found_at tree key ≡ Some ((row_of key).written x)) × (row_of key).IsOfShape g x
 
@@ -43,11 +44,11 @@ IsShaped g tree key = (x : (row_of key).Value) × (found_at tree key ≡ Some ((
 abbrev pub IsFirstWithout : {A : Type 0} → (A → Type 0) → List A → A → Type 0
 IsFirstWithout {A} Passes xs x = (before after : List A) × (xs ≡ before ++ x ∷ after) × All Passes before × ¬ Passes x
 
--- the list at this key has another length than the moves ask for: errors are tested first, then states
+-- the list at this key has a length that does not fit the moves: errors are tested first, then states
 abbrev pub HasWrongLength : RecordParts → Key → Type 0
 HasWrongLength p key = ((key ≡ Errors) × (length p.errors ≢ length p.moves)) ⊎ ((key ≡ States) × (length p.errors ≡ length p.moves) × (length p.states ≢ suc (length p.moves)))
 
--- the first key that is not shaped; or each is shaped, and this one is of a wrong length
+-- the first key whose value does not have its shape; or, if all have it, a key whose list has the wrong length
 abbrev pub IsMisshapen : {S M : Type 0} → Rules S M → Data → Key → Type 0
 IsMisshapen g tree key = IsFirstWithout (IsShaped g tree) keys key ⊎ ((p : RecordParts) × Holds tree p × ((at : Key) → IsShapedAt g at p) × HasWrongLength p key)
 
@@ -63,22 +64,17 @@ HasNoShape g text WrongGoals = ⊥
 HasNoShape g text WrongEnd = ⊥
 HasNoShape g text Memory = Unit {0}
 
--- the record tree of a match holds what the match's parts say
 abbrev pub RecordTreeHoldsParts : {S M : Type 0} → Rules S M → Type 0
 RecordTreeHoldsParts {S} {M} g = (m : MatchValue M) → Holds (record_tree g m) (parts_of g m)
 
--- a text that is read as the record tree of a lawful match is a lawful record
 abbrev pub RecordsAreLawful : {S M : Type 0} → Rules S M → Type 0
 RecordsAreLawful {S} {M} g = (text : List ℕ) (m : MatchValue M) → IsLawfulMatch g m → IsLawfulSetup m.setup → IsJson text (record_tree g m) → IsLawfulRecord g text
 
--- a tree holds the parts of one record only, of those that have the shape
 abbrev pub HoldsOnePartsAtMost : {S M : Type 0} → Rules S M → Type 0
 HoldsOnePartsAtMost g = (tree : Data) (p q : RecordParts) → HasShape g p → HasShape g q → Holds tree p → Holds tree q → p ≡ q
 
--- what a record of a lawful match says, in either version, is of the shape
 abbrev pub LawfulPartsHaveShape : {S M : Type 0} → Rules S M → Type 0
 LawfulPartsHaveShape {S} {M} g = (m : MatchValue M) (version : Version) → IsLawfulMatch g m → IsLawfulSetup m.setup → HasShape g (parts_in g version m)
 
--- a text that is refused for its shape is no lawful record
 abbrev pub RefusedIsUnlawful : {S M : Type 0} → Rules S M → Type 0
 RefusedIsUnlawful g = (text : List ℕ) (fault : VerifyFault) → fault ≢ Memory → HasNoShape g text fault → ¬ IsLawfulRecord g text

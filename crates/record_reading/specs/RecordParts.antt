@@ -1,4 +1,4 @@
--- What the record of a match says, value by value, and which values are of a record's shape.
+-- The values of a match's record, and which values have the shape of a record.
 use Rattle.std.specs.Prelude.{◌≡◌, ℕ, zero, suc, ◌<◌, ◌≤◌, List, [], ◌∷◌, ◌++◌, length, map, Option, option_to_list, All, ◌⊎◌, true}
 use Rattle.std.specs.List.{list_all}
 use Rattle.game_core.specs.Canonical.{IsFoldedText}
@@ -16,22 +16,22 @@ use Rattle.record_reading.specs.declared.record_parts.RecordParts.{RecordParts}
 use Rattle.record_reading.specs.declared.record_parts.Version.{Version}
 use Rattle.record_reading.specs.declared.record_parts.Version.TheVariants.{Second}
 
--- what f gives for each role of n, in the order of the roles
+-- what f gives for each of n roles, in order
 abbrev pub each_role : {A : Type 0} → ℕ → (ℕ → A) → List A
 each_role zero f = []
 each_role (suc n) f = each_role n f ++ f n ∷ []
 
--- the first members of a list: none of them, one, and so on to all
+-- the first members of a list: none, one, and so on up to all
 abbrev pub prefixes : {A : Type 0} → List A → List (List A)
 prefixes [] = [] ∷ []
 prefixes (x ∷ xs) = [] ∷ map (λ front. x ∷ front) (prefixes xs)
 
--- the goal of each role that has one: all roles if the match stops, and otherwise none
+-- the goals of the roles: all roles have one if the match has stopped, and otherwise none has
 abbrev pub goals_from : ℕ → (ℕ → Option ℕ) → List ℕ
 goals_from zero goal = []
 goals_from (suc n) goal = goals_from n goal ++ option_to_list (goal n)
 
--- What the record of a match says, in the newest version. Its states are the one before the first turn and the one after each turn.
+-- The values of a match's record in the newest version. Its states are the one before the first turn and the one after each turn.
 abbrev pub parts_of : {S M : Type 0} → Rules S M → MatchValue M → RecordParts
 parts_of g m = record {
   cause = cause g m;
@@ -51,11 +51,10 @@ parts_of g m = record {
   version = Second;
 }
 
--- what a record of this version says of the match
 abbrev pub parts_in : {S M : Type 0} → Rules S M → Version → MatchValue M → RecordParts
 parts_in g version m = record (parts_of g m) { version = version }
 
--- a cause names a role of the game, or none
+-- the cause names no role, or a role of the game
 abbrev pub NamesRole : ℕ → Cause → Type 0
 NamesRole roles Asked = Unit {0}
 NamesRole roles (NoLegal r) = r < roles
@@ -63,7 +62,7 @@ NamesRole roles (NoGoal r) = r < roles
 NamesRole roles TooLong = Unit {0}
 NamesRole roles AllRetired = Unit {0}
 
--- a reason that a record may give for a substitution, with any legal moves and any retired roles
+-- a reason that a record may give for a substitution, with some legal moves and some retired roles
 abbrev pub MayBeGiven : Substitution → Type 0
 MayBeGiven TimeOut = Unit {0}
 MayBeGiven ConnectionError = Unit {0}
@@ -71,19 +70,19 @@ MayBeGiven Unreadable = Unit {0}
 MayBeGiven (Illegal x) = IsFoldedText x × (length x ≤ max_reading)
 MayBeGiven Retired = Unit {0}
 
--- a text that may stand beside some move
+-- a text that may be the error of some move
 abbrev pub IsErrorText : List ℕ → Type 0
 IsErrorText e = (e ≡ []) ⊎ ((why : Substitution) × (e ≡ error_text why) × MayBeGiven why)
 
--- one error for each role in each turn
+-- for each turn, one error for each role
 abbrev pub AreErrors : ℕ → List (List (List ℕ)) → Type 0
 AreErrors roles turns = All (λ texts. (length texts ≡ roles) × All IsErrorText texts) turns
 
--- no goal, or one for each role
+-- no goals, or one for each role
 abbrev pub AreGoals : ℕ → List ℕ → Type 0
 AreGoals roles goals = (goals ≡ []) ⊎ ((length goals ≡ roles) × All (λ goal. goal ≤ max_goal) goals)
 
--- one text for each role in each turn, and no more turns than a match may have
+-- for each turn, one text for each role, and at most as many turns as a match may have
 abbrev pub AreMoves : ℕ → List (List (List ℕ)) → Type 0
 AreMoves roles turns = All (λ texts. length texts ≡ roles) turns × (length turns ≤ max_turns)
 

@@ -1,4 +1,4 @@
--- The record of a match as a JSON tree, by the table of its keys, in both versions.
+-- The record of a match as a JSON tree: the table of its keys, for both versions.
 use Rattle.std.specs.Prelude.{◌≡◌, ◌==◌, ℕ, suc, List, [], ◌∷◌, ◌++◌, length, map, Option, Some, None, option_and_then, option_map, if◌then◌else◌, IfSome, true, codes, ⊤}
 use Rattle.std.specs.Option.{option_or}
 use Rattle.std.specs.Fmt.{decimal}
@@ -22,7 +22,7 @@ use Rattle.record_reading.specs.declared.record_parts.RecordParts.{RecordParts}
 use Rattle.record_reading.specs.declared.record_parts.Version.{Version}
 use Rattle.record_reading.specs.declared.record_parts.Version.TheVariants.{First, Second}
 
--- ---- how values are written
+-- ---- How values are written
 
 abbrev pub list_tree : List Data → Data
 list_tree values = array (items_of values)
@@ -59,11 +59,11 @@ cause_tree why = text_or_null (option_map cause_text why)
 abbrev pub mark_tree : Option Mark → Data
 mark_tree mark = text_or_null (option_map mark_text mark)
 
--- the role's mark, or null where there is none
+-- the role's mark, or null if there is none
 abbrev pub marks_tree : List (Option Mark) → Data
 marks_tree marks = list_tree (map mark_tree marks)
 
--- ---- versions
+-- ---- Versions
 
 abbrev pub version_number : Version → ℕ
 version_number First = 1
@@ -79,28 +79,29 @@ as_whole d = option_and_then as_u64 (as_number d)
 abbrev pub version_numbered : ℕ → Option Version
 version_numbered n = if n == 1 then Some First else (if n == 2 then Some Second else None)
 
--- the version of a record by the value at its key, if that is a version: the first if the key is missing
+-- the version of a record, from the value at its key; a record without the key has the first version
 abbrev pub version_said : Option Data → Option Version
 version_said None = Some First
 version_said (Some d) = option_and_then version_numbered (as_whole d)
 
--- What counts as the value at a key, by the record's version and the value that is there: in every version the value itself.
+-- Which value counts at a key, given the record's version and the value that is there: in every version the value itself.
 abbrev pub in_each_version : Option Version → Option Data → Option Data
 in_each_version version there = there
 
--- or, at a key since the second version: in other records always the same value, whatever is there
+-- or, for a key that was added in the second version: in other records always this value
 abbrev pub since_second : Data → Option Version → Option Data → Option Data
 since_second before None there = Some before
 since_second before (Some First) there = Some before
 since_second before (Some Second) there = there
 
--- or, at a key that may be missing: this value if it is
+-- or, for a key that may be missing: this value if it is missing
 abbrev pub unless_there : Data → Option Version → Option Data → Option Data
 unless_there absent version there = option_or there (Some absent)
 
--- ---- the table
+-- ---- The table
 
--- A key's text, in which versions it counts, what a record says there, how that is written, and which values are of the key's shape in a record of the game.
+-- A key's text, the versions in which it counts, the value of a record there, how it is written, and which values have the key's shape
+-- in a record of the game.
 pub record Row : Type 1 where
   pub Value : Type 0
   pub text : List ℕ
@@ -126,18 +127,17 @@ row_of States = record { Value = List (List (List ℕ)); text = codes "states"; 
 row_of Strikes = record { Value = ℕ; text = codes "strikes"; counts = since_second (whole_tree 0); said = λ p. p.strikes; written = whole_tree; IsOfShape = λ g strikes. is_strikes strikes ≡ true }
 row_of AtVersion = record { Value = Version; text = codes "version"; counts = unless_there (version_tree First); said = λ p. p.version; written = version_tree; IsOfShape = λ g version. ⊤ }
 
--- the keys, in byte order of their texts
+-- the keys, in the byte order of their texts
 abbrev pub keys : List Key
 keys = AtCause ∷ EndMarks ∷ Errors ∷ GoalValues ∷ MatchId ∷ Moves ∷ AtPhase ∷ PlayClock ∷ Players ∷ Roles ∷ StartClock ∷ StartMarks ∷ States ∷ Strikes ∷ AtVersion ∷ []
 
 abbrev pub key_text : Key → List ℕ
 key_text key = (row_of key).text
 
--- the value at a key of a record that says this
+-- the value at a key, written as JSON
 abbrev pub key_tree : Key → RecordParts → Data
 key_tree key p = (row_of key).written ((row_of key).said p)
 
--- what these parts say at the key is of its shape, in a record of the game
 abbrev pub IsShapedAt : {S M : Type 0} → Rules S M → Key → RecordParts → Type 0
 IsShapedAt g key p = (row_of key).IsOfShape g ((row_of key).said p)
 
@@ -145,28 +145,26 @@ IsShapedAt g key p = (row_of key).IsOfShape g ((row_of key).said p)
 abbrev pub version_of : Data → Option Version
 version_of tree = version_said (get (key_text AtVersion) tree)
 
--- what counts as standing at the key
+-- the value that counts at the key
 abbrev pub found_at : Data → Key → Option Data
 found_at tree key = (row_of key).counts (version_of tree) (get (key_text key) tree)
 
--- the tree holds, at each key of a record, what these parts say
+-- the tree has the values of these parts at all keys of a record
 abbrev pub Holds : Data → RecordParts → Type 0
 Holds tree p = (key : Key) → found_at tree key ≡ Some (key_tree key p)
 
--- these parts are of the shape of a record of the game, with an error beside each move and one state more than turns
+-- these parts have the shape of a record of the game, with an error for each move and one state more than turns
 pub record HasShape {S M : Type 0} (g : Rules S M) (p : RecordParts) : Type 0 where
   pub keys : (key : Key) → IsShapedAt g key p
   pub as_many_errors : length p.errors ≡ length p.moves
   pub one_state_more : length p.states ≡ suc (length p.moves)
 
--- ---- the record
+-- ---- The record
 
--- the members of a record that says this, at these keys and in their order
 abbrev pub members_at : List Key → RecordParts → Members
 members_at [] p = no_members
 members_at (key ∷ more) p = member (key_text key) (key_tree key p) (members_at more p)
 
--- what the match says, at each key
 unfoldable pub record_tree : {S M : Type 0} → Rules S M → MatchValue M → Data
 record_tree g m = object (members_at keys (parts_of g m))
 

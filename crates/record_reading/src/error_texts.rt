@@ -1,4 +1,4 @@
-//! The errors that may stand beside a move.
+//! The errors that a record may have for a move.
 ghost use Rattle.std.specs.Prelude.{◌≡◌, ◌≤◌, ◌↔◌, All, IfOk, IsTrue, length};
 ghost use Rattle.game_core.specs.Canonical.{IsFoldedText};
 ghost use Rattle.match_book.specs.AnswerReading.{max_reading};
@@ -11,8 +11,7 @@ use kif_text::{KifFault, fold, print, read_one};
 use match_book::{ILLEGAL_PREFIX, MAX_READING, RETIRED, UNREADABLE};
 use std::alloc::{AllocError, Global};
 
-/// Whether an answer can be read as this text. Such a text is canonical, without capitals, and of at most
-/// `MAX_READING` bytes.
+/// Whether this text can be the reading of an answer: a canonical text in lower case of at most `MAX_READING` bytes.
 fn is_folded_text(alloc: Global, text: &[u8]) -> Result<bool, AllocError>
     ensures { IfOk result (λ b. IsTrue b ↔ (IsFoldedText text.now × (length text.now ≤ max_reading))) }
 {
@@ -32,8 +31,8 @@ fn is_folded_text(alloc: Global, text: &[u8]) -> Result<bool, AllocError>
     }
 }
 
-/// Whether the text is an error: the empty text beside the role's own answer, or the reason of a substitution. The
-/// empty text, `TO` and `CE` are also the texts of marks.
+/// Whether the text is an error: empty if the role's own answer was taken, or else the reason of a substitution. The empty
+/// text, `TO` and `CE` are also texts of marks.
 fn is_error_text(alloc: Global, text: &[u8]) -> Result<bool, AllocError>
     ensures { IfOk result (λ b. IsTrue b ↔ IsErrorText text.now) }
 {

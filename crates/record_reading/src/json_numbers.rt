@@ -1,4 +1,4 @@
-//! The number that a token of JSON writes.
+//! The numbers that JSON tokens write.
 ghost use Rattle.std.specs.Prelude.{◌≡◌, ◌==◌, ◌<◌, IsTrue, false, length, option_map, slice_index, true};
 ghost use Rattle.serde_json.specs.Read.{number_from, number_of};
 ghost use Rattle.serde_json.specs.View.{number_view};
@@ -33,7 +33,7 @@ fn with_minus(numeral: &Numeral<'_>) -> Option<Number>
     Number::from_f64(numeral.to_float::<f64>(true))
 }
 
-/// The number, if it is in range: a whole number of 64 bits, or else a float that is finite.
+/// The number, if it is in range: a 64-bit whole number, or else a finite float.
 pub fn number_in(text: &str) -> Option<Number>
     ensures { option_map number_view result ≡ number_of text.now }
 {

@@ -1,4 +1,4 @@
-//! Texts, lists and numbers, taken from JSON. A missing value has no shape.
+//! Texts, lists and numbers taken from JSON. If a value is missing, these return `None`.
 ghost use Rattle.std.specs.Prelude.{◌≡◌, IfOk, List, is_some, map, option_and_then, option_copied, option_map, ℕ};
 ghost use Rattle.serde_json.specs.Data.{Data, string};
 ghost use Rattle.serde_json.specs.Find.{as_array, as_null, as_str, get, get_member};
@@ -12,7 +12,7 @@ use game_core::{Text, Texts};
 use serde_json::{Map, Value};
 use std::alloc::{AllocError, Global};
 
-/// Whether there is a value, and it is null.
+/// Whether there is a value and it is null.
 pub fn is_null(found: Option<&Value>) -> bool
     ensures { result ≡ is_some (option_and_then as_null (data_in found.entry)) }
 {
@@ -22,7 +22,7 @@ pub fn is_null(found: Option<&Value>) -> bool
     }
 }
 
-/// The bytes of a text.
+/// The bytes, if the value is a text.
 pub fn bytes_in(found: Option<&Value>) -> Option<&[u8]>
     ensures { option_copied result ≡ option_and_then as_str (data_in found.entry) }
 {
@@ -30,7 +30,7 @@ pub fn bytes_in(found: Option<&Value>) -> Option<&[u8]>
     Some(text.as_bytes())
 }
 
-/// The members of a list.
+/// The members, if the value is a list.
 pub fn members_in(found: Option<&Value>) -> Option<&[Value]>
     ensures { option_map (λ v. items_view v.now) result ≡ option_and_then as_array (data_in found.entry) }
 {
@@ -38,14 +38,14 @@ pub fn members_in(found: Option<&Value>) -> Option<&[Value]>
     Some(members.as_slice())
 }
 
-/// A number that is written as a whole number without a sign: not `50.0`, `5e1` or `-0`.
+/// The number, if it is written as a whole number without a sign: not `50.0`, `5e1` or `-0`.
 pub fn whole_in(found: Option<&Value>) -> Option<u64>
     ensures { result ≡ option_and_then as_whole (data_in found.entry) }
 {
     found?.as_u64()
 }
 
-/// The bytes of a text, taken over.
+/// Takes the text, if the value is a text.
 fn into_text(found: Option<Value>) -> Option<Text>
     ensures { result ≡ option_and_then as_str (data_of found) }
 {
@@ -55,7 +55,7 @@ fn into_text(found: Option<Value>) -> Option<Text>
     }
 }
 
-/// The members of a list, taken over.
+/// Takes the members, if the value is a list.
 fn into_members(found: Option<Value>) -> Option<Vec<Value>>
     ensures { option_map (λ v. items_view v.items) result ≡ option_and_then as_array (data_of found) }
 {
@@ -65,7 +65,7 @@ fn into_members(found: Option<Value>) -> Option<Vec<Value>>
     }
 }
 
-/// The members of an object, taken over. Another value has none.
+/// Takes the members, if the value is an object. Another value has none.
 pub fn into_object(alloc: Global, tree: Value) -> Map<String, Value>
     ensures { (key : List ℕ) → get_member key (members_view result.entries) ≡ get key (view tree) }
 {
@@ -75,16 +75,16 @@ pub fn into_object(alloc: Global, tree: Value) -> Map<String, Value>
     }
 }
 
-/// A type whose values are written in JSON in one way each.
+/// A type whose values have only one form in JSON.
 pub trait FromJson: Sized + Drop {
     ghost written: { Self → Data };
 
-    /// The value that is written there, if it is one of this type. Its texts are taken over.
+    /// Takes a value of this type, if this is the JSON of one.
     fn value_in(alloc: Global, found: Option<Value>) -> Result<Option<Self>, AllocError>
         ensures { IfOk result (λ o. Shows written AnyShape (data_of found) o) };
 }
 
-/// The values that are listed there.
+/// Takes a list of values of this type, if this is the JSON of one.
 pub fn list_in<T: FromJson>(
     alloc: Global,
     found: Option<Value>,

@@ -1,6 +1,7 @@
-//! The tree of a record's text, without the values that no key of a record can hold.
+//! The tree of a record's text, without the values that no record can have.
 //!
-//! A list or an object takes many times the memory of its text, so such a value is read to its end and not kept.
+//! A list or an object takes many times the memory of its text, so the reader passes over such values and does not store
+//! them.
 ghost use Rattle.std.specs.Prelude.{◌≡◌, ◌<◌, ◌≤◌, ◌∷◌, ◌⊎◌, IfErr, IfOk, List, OnOk, None, Some, length, map, option_map};
 ghost use Rattle.json.specs.Json.{items, members, read_key, value};
 ghost use Rattle.json.specs.Reads.{token_of};
@@ -23,10 +24,10 @@ use std::alloc::{AllocError, Global};
 /// How deep lists and objects may nest.
 const MAX_DEPTH: usize = 127;
 
-/// How deep the lists of a record nest in the value at a key.
+/// How deep lists nest in a value of a record.
 const MAX_LISTS: usize = 2;
 
-/// A key, or none at the end of an object.
+/// The next key, or `None` at the end of the object.
 fn next_key<'a>(reader: &mut Reader<'a>) -> Result<Option<&'a str>, VerifyFault>
     ensures ok { IfOk result (λ k. read_key reader.old ≡ Some (option_map (λ s. s.now) k, reader.new)) }
     ensures err { IfErr result (λ fault. (fault ≡ NotJson) × (read_key reader.old ≡ None)) }
@@ -37,7 +38,7 @@ fn next_key<'a>(reader: &mut Reader<'a>) -> Result<Option<&'a str>, VerifyFault>
     }
 }
 
-/// The items and one more, if all are kept.
+/// The items with one more at the end, if all are kept.
 fn with_item(
     items: Option<Vec<Value>>,
     item: Option<Value>,
@@ -53,8 +54,8 @@ fn with_item(
     }
 }
 
-/// Reads the value that begins with the token. It is kept if lists nest in it no deeper than `lists`, and hold only
-/// texts where they nest so deep, and it has no object and no truth value.
+/// Reads the value that begins with the token. It is kept if its lists nest at most `lists` deep, if the innermost of these
+/// have only texts, and if it has no object and no truth value.
 #[cycle(kept)]
 fn value_of(
     alloc: Global,
@@ -100,7 +101,7 @@ fn value_of(
     }
 }
 
-/// The items of a list, if each is kept.
+/// Reads the items of a list. They are kept if each of them is.
 #[cycle(kept)]
 fn items_of(
     alloc: Global,
@@ -122,7 +123,7 @@ fn items_of(
     Ok(kept)
 }
 
-/// Reads the members of an object, of which none is kept.
+/// Reads the members of an object, and keeps none.
 #[cycle(kept)]
 fn pass_members(alloc: Global, reader: &mut Reader<'_>, depth: usize) -> Result<(), VerifyFault>
     ensures ok { OnOk result ((ms : Members) × (converted (λ js. of_members js no_members) (members (value depth) (length reader.old) reader.old) ≡ Some (ms, reader.new))) }
@@ -136,7 +137,7 @@ fn pass_members(alloc: Global, reader: &mut Reader<'_>, depth: usize) -> Result<
     Ok(())
 }
 
-/// How deep lists may nest in the value at a key, if a record has it. At other keys nothing is kept.
+/// How deep lists may nest in the value at this key of a record. At keys that no record has, nothing is kept.
 fn lists_at(text: &str) -> usize
     ensures known { (key : AnyKey) → key_text key ≡ text.now → result ≡ 2 }
     ensures few { (result ≡ 2) ⊎ (result ≡ 0) }
@@ -149,7 +150,7 @@ fn lists_at(text: &str) -> usize
     0
 }
 
-/// Keeps a member at a key of a record, or a truth value in its place.
+/// Keeps a member at a key of a record. If the member is not kept, a truth value replaces it.
 fn keep_member(
     alloc: Global,
     name: &str,
@@ -166,7 +167,7 @@ fn keep_member(
     Ok(())
 }
 
-/// The members at the keys of a record.
+/// Reads the members at the keys of a record.
 fn record_members(alloc: Global, reader: &mut Reader<'_>) -> Result<Map<String, Value>, VerifyFault>
     ensures ok { IfOk result (λ m. (ms : Members) × (converted (λ js. of_members js no_members) (members (value 126) (length reader.old) reader.old) ≡ Some (ms, reader.new)) × AreKeptMembers ms (members_view m.entries)) }
     ensures err { IfErr result (IsRefused (converted (λ js. of_members js no_members) (members (value 126) (length reader.old) reader.old))) }
@@ -181,7 +182,7 @@ fn record_members(alloc: Global, reader: &mut Reader<'_>) -> Result<Map<String, 
     Ok(found)
 }
 
-/// The value that is read, as far as a record needs it.
+/// Reads a value, and keeps the parts that a record can have.
 fn record_value(alloc: Global, reader: &mut Reader<'_>) -> Result<Value, VerifyFault>
     ensures ok { IfOk result (λ v. (d : Data) × (converted of_json (value 127 reader.old) ≡ Some (d, reader.new)) × IsKeptTree d (view v)) }
     ensures err { IfErr result (IsRefused (converted of_json (value 127 reader.old))) }
@@ -196,7 +197,7 @@ fn record_value(alloc: Global, reader: &mut Reader<'_>) -> Result<Value, VerifyF
     }
 }
 
-/// The tree of a JSON text, as far as a record needs it.
+/// The tree of a JSON text, with the parts that a record can have.
 pub fn tree_of(alloc: Global, text: &[u8]) -> Result<Value, VerifyFault>
     ensures ok { IfOk result (λ v. (tree : Data) × IsJson text.now tree × IsKeptTree tree (view v)) }
     ensures err { IfErr result (λ fault. (fault ≡ Memory) ⊎ ((fault ≡ NotJson) × ((tree : Data) → ¬ IsJson text.now tree))) }

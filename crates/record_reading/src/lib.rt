@@ -1,10 +1,8 @@
-//! The record of a match: what it says, and the reading of one.
+//! What the record of a match says, and how to read one.
 //!
-//! A record is one JSON object of fifteen keys, which holds only the recorded turns of a match. `read_record`
-//! reads what a text says if it has the shape of a record of the game. Otherwise it names the first test of the
-//! shape that fails. `laws` says what holds of all records.
-//!
-//! Free functions take the allocator first.
+//! A record is one JSON object with fifteen keys, and has only the recorded turns of a match. `read_record` reads a text
+//! that has the shape of a record of the game. Otherwise it names the first test of the shape that fails. `laws` has the
+//! laws of all records.
 #![tactic(auto)]
 
 mod error_texts;

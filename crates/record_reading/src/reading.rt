@@ -1,4 +1,4 @@
-//! A record, read from its text.
+//! Reads a record from its text.
 ghost use Rattle.std.specs.Prelude.{◌≡◌, ◌≢◌, ◌≤◌, ◌<◌, ◌==◌, ◌||◌, ◌↔◌, ◌⊎◌, All, IfErr, IfOk, IsTrue, Ok, OnOk, Some, None, if◌then◌else◌, length, true};
 ghost use Rattle.serde_json.specs.Data.{Data, string};
 ghost use Rattle.serde_json.specs.View.{view};
@@ -27,7 +27,7 @@ use match_book::MAX_TURNS;
 use serde_json::Value;
 use std::alloc::{AllocError, Global};
 
-/// A mark, or null, for each role.
+/// A mark or null for each role.
 fn marks_in(alloc: Global, found: Option<&Value>, roles: usize) -> Result<Option<Marks>, AllocError>
     ensures { IfOk result (λ o. Shows marks_tree (λ marks. length marks ≡ roles) (data_in found.entry) o) }
 {
@@ -58,14 +58,14 @@ fn goal_in(found: Option<&Value>) -> Option<u8>
     }
 }
 
-/// Whether there may be this many goals: none, or one for each role.
+/// Whether a record may have this many goals: none, or one for each role.
 fn is_goal_count(goals: usize, roles: usize) -> bool
     ensures { result ≡ (goals == 0 || goals == roles) }
 {
     goals == 0 || goals == roles
 }
 
-/// No goal, or one for each role.
+/// No goals, or one for each role.
 fn goals_in(alloc: Global, found: Option<&Value>, roles: usize) -> Result<Option<Goals>, AllocError>
     ensures { IfOk result (λ o. Shows goal_values_tree (AreGoals roles) (data_in found.entry) o) }
 {
@@ -85,7 +85,6 @@ fn goals_in(alloc: Global, found: Option<&Value>, roles: usize) -> Result<Option
     Ok(Some(Goals { items }))
 }
 
-/// A lawful id.
 fn id_in(alloc: Global, found: Option<&Value>) -> Result<Option<Text>, AllocError>
     ensures { IfOk result (λ o. Shows string (λ id. is_name id ≡ true) (data_in found.entry) o) }
 {
@@ -95,7 +94,6 @@ fn id_in(alloc: Global, found: Option<&Value>) -> Result<Option<Text>, AllocErro
     }
 }
 
-/// A lawful clock.
 fn clock_in(found: Option<&Value>) -> Option<u32>
     ensures { Shows whole_tree (λ seconds. is_clock seconds ≡ true) (data_in found.entry) result }
 {
@@ -111,7 +109,7 @@ fn clock_in(found: Option<&Value>) -> Option<u32>
     }
 }
 
-/// The version of a record, by the value at its key. It is the first if the key is missing.
+/// The version of a record. A record without the key has the first version.
 fn version_in(found: Option<&Value>) -> Option<Version>
     ensures said { result ≡ version_said (data_in found.entry) }
     ensures shown { Shows version_tree AnyShape (unless_there (version_tree First) result (data_in found.entry)) result }
@@ -126,7 +124,7 @@ fn version_in(found: Option<&Value>) -> Option<Version>
     }
 }
 
-/// A lawful number of strikes. It is 0 in a record of another version than the second, whose value is not read.
+/// A lawful number of strikes. Only a record of the second version has the value; in others it is 0.
 fn strikes_in(version: Option<Version>, found: Option<&Value>) -> Option<u8>
     ensures { Shows whole_tree (λ strikes. is_strikes strikes ≡ true) (since_second (whole_tree 0) version (data_in found.entry)) result }
 {
@@ -141,7 +139,7 @@ fn strikes_in(version: Option<Version>, found: Option<&Value>) -> Option<u8>
     }
 }
 
-/// One error for each role in each turn.
+/// For each turn, one error for each role.
 fn errors_in(
     alloc: Global,
     found: Option<Value>,
@@ -159,7 +157,6 @@ fn errors_in(
     }
 }
 
-/// Whether each turn has one text for each role.
 fn are_wide(turns: &[Texts], roles: usize) -> bool
     ensures { IsTrue result ↔ All (λ texts. length texts ≡ roles) turns.now }
 {
@@ -178,7 +175,7 @@ fn are_moves(turns: &[Texts], roles: usize) -> bool
     turns.len() <= MAX_TURNS && are_wide(turns, roles)
 }
 
-/// One text for each role in each turn, and no more turns than a match may have.
+/// For each turn, one text for each role. There are at most as many turns as a match may have.
 fn moves_in(
     alloc: Global,
     found: Option<Value>,
@@ -220,7 +217,6 @@ fn players_in(
     }
 }
 
-/// Whether these are the names of the game's roles, in their order.
 fn are_role_names<G: Game>(game: &G, texts: &[Text]) -> bool
     ensures { IsTrue result ↔ (texts.now ≡ each_role (G.rules game.now).roles (G.rules game.now).role_name) }
 {
@@ -235,7 +231,6 @@ fn are_role_names<G: Game>(game: &G, texts: &[Text]) -> bool
     true
 }
 
-/// The names of the game's roles.
 fn roles_in<G: Game>(
     alloc: Global,
     game: &G,
@@ -253,7 +248,7 @@ fn roles_in<G: Game>(
     }
 }
 
-/// Stores the value that was read, if there is one, and returns whether there is.
+/// Stores the value, if it was read. Returns whether it was.
 fn keep<T: Drop>(part: &mut T, read: Option<T>) -> bool
     ensures { read ≡ (if result then Some part.new else None) }
 {
@@ -266,7 +261,7 @@ fn keep<T: Drop>(part: &mut T, read: Option<T>) -> bool
     }
 }
 
-/// Stores the value that was read, unless reading ran out of memory.
+/// Stores the value, if it was read. Returns whether it was, or that memory ran out.
 fn keep_read<T: Drop>(part: &mut T, read: Result<Option<T>, AllocError>) -> Result<bool, AllocError>
     ensures { IfOk result (λ kept. read ≡ Ok (if kept then Some part.new else None)) }
 {
@@ -310,7 +305,7 @@ fn read_into<G: Game>(
     }
 }
 
-/// The values at the keys of a tree, if each has its shape.
+/// Reads the values of all keys, if each has its shape.
 fn parts_in<G: Game>(alloc: Global, game: &G, tree: Value) -> Result<RecordParts, VerifyFault>
     ensures ok { IfOk result (λ p. Holds (view tree) p × ((key : Key) → IsShapedAt (G.rules game.now) key p)) }
     ensures err { IfErr result (λ fault. (fault ≡ Memory) ⊎ ((key : Key) × (fault ≡ BadShape key) × IsFirstWithout (IsShaped (G.rules game.now) (view tree)) keys key)) }
@@ -327,8 +322,8 @@ fn parts_in<G: Game>(alloc: Global, game: &G, tree: Value) -> Result<RecordParts
     Ok(parts)
 }
 
-/// What a text says, if it has the shape of a record of the game. The text is a lawful record exactly if the record of some lawful
-/// match says the same.
+/// Reads a text that has the shape of a record of the game. The text is a lawful record if and only if the record of some
+/// lawful match has the same values.
 pub fn read_record<G: Game>(
     alloc: Global,
     game: &G,

@@ -1,4 +1,4 @@
-//! The keys of a record, and what it says at each.
+//! The keys of a record, and its value at each.
 ghost use Rattle.std.specs.Prelude.{◌≡◌, ◌<◌, Some, length, slice_get};
 
 use desk_calls::Phase;
@@ -7,7 +7,7 @@ use match_book::{Cause, Mark};
 use std::alloc::Global;
 use std::marker::Model;
 
-/// The keys of a record, in their order.
+/// The keys of a record, in order.
 #[derive(Clone, Copy, PartialEq, Eq)]
 pub enum Key {
     Cause,
@@ -49,7 +49,7 @@ impl Key {
         Key::Version,
     ];
 
-    /// The key as it stands in the text.
+    /// The key as text.
     pub fn text(self) -> &'static str
         ensures { result.now ≡ key_text self }
     {
@@ -93,7 +93,7 @@ impl Version {
     }
 }
 
-/// One list of texts for each turn, or for each state.
+/// A list of texts for each turn, or for each state.
 #[derive(Drop)]
 pub struct TextLists {
     pub items: Vec<Texts>,
@@ -115,7 +115,7 @@ impl TextLists {
         self.items.len()
     }
 
-    /// The texts at this place, numbered from 0.
+    /// The list with this index, counted from 0.
     pub fn at(&self, place: usize) -> &[Text]
         requires { place < length self.now }
         ensures { slice_get self.now place ≡ Some result.now }
@@ -124,7 +124,7 @@ impl TextLists {
     }
 }
 
-/// One mark, or none, for each role.
+/// For each role, a mark or none.
 #[derive(Drop)]
 pub struct Marks {
     pub items: Vec<Option<Mark>>,
@@ -147,7 +147,7 @@ impl Marks {
     }
 }
 
-/// One goal for each role, or none at all.
+/// One goal for each role, or no goals.
 #[derive(Drop)]
 pub struct Goals {
     pub items: Vec<u8>,
@@ -169,7 +169,7 @@ impl Goals {
     }
 }
 
-/// What a record says: one field for each of its keys.
+/// The values of a record, one field for each key.
 #[derive(Drop)]
 pub struct RecordParts {
     pub cause: Option<Cause>,
@@ -190,7 +190,7 @@ pub struct RecordParts {
 }
 
 impl RecordParts {
-    /// Parts that say nothing yet, to read a record into.
+    /// Creates parts with empty values, to read a record into.
     pub fn new(alloc: Global) -> RecordParts {
         RecordParts {
             cause: None,

@@ -15,14 +15,14 @@ use game_core::numeral::plain_number;
 use match_book::{Cause, Mark};
 use serde_json::Value;
 
-/// The rest of the text after this word, if the text begins with it.
+/// The rest of the text after this word, if the text begins with the word.
 pub fn after<'a>(text: &'a [u8], word: &[u8]) -> Option<&'a [u8]>
     ensures { MatchOption result ((rest : List ℕ) → text.now ≢ word.now ++ rest) (λ rest. text.now ≡ word.now ++ rest.now) }
 {
     text.strip_prefix(word)
 }
 
-/// The mark that has this text.
+/// The mark with this text.
 pub fn mark_of(text: &[u8]) -> Option<Mark>
     ensures { Shows mark_text AnyShape (Some text.now) result }
 {
@@ -37,7 +37,7 @@ pub fn mark_of(text: &[u8]) -> Option<Mark>
     }
 }
 
-/// A mark, or none where the value is null.
+/// A mark, or no mark if the value is null.
 pub fn mark_in(found: Option<&Value>) -> Option<Option<Mark>>
     ensures { Shows mark_tree AnyShape (data_in found.entry) result }
 {
@@ -68,14 +68,14 @@ fn phase_of(text: &[u8]) -> Option<Phase>
     }
 }
 
-/// The phase that a text names.
+/// The phase with this text.
 pub fn phase_in(found: Option<&Value>) -> Option<Phase>
     ensures { Shows phase_tree AnyShape (data_in found.entry) result }
 {
     phase_of(bytes_in(found)?)
 }
 
-/// The number of a role, in decimal digits without leading zeros.
+/// The number of a role, if the digits write one without leading zeros.
 fn role_of(digits: &[u8], roles: usize) -> Option<usize>
     requires { roles < 2 ^ 32 }
     ensures { Shows decimal (λ role. role < roles) (Some digits.now) result }
@@ -109,7 +109,7 @@ fn cause_of(text: &[u8], roles: usize) -> Option<Cause>
     None
 }
 
-/// A cause that names a role of the game or none, or no cause where the value is null.
+/// A cause, or no cause if the value is null. A cause with a role must name a role of the game.
 pub fn cause_in(found: Option<&Value>, roles: usize) -> Option<Option<Cause>>
     requires { roles < 2 ^ 32 }
     ensures { Shows cause_tree (λ why. IfSome why (NamesRole roles)) (data_in found.entry) result }

@@ -1,4 +1,4 @@
-//! Why a text is no lawful record.
+//! Why a text is not a lawful record.
 ghost use Rattle.std.specs.Prelude.{◌≡◌};
 ghost use Rattle.record_reading.specs.declared.verify_fault.VerifyFault.TheVariants.{Memory};
 
@@ -7,34 +7,35 @@ use std::alloc::{AllocError, AllocFailed};
 use std::error::Error;
 use std::fmt;
 
-/// Why a text is no lawful record of the game: the first test that fails. The shape of the whole text is tested
-/// first, then the turns in order, then the goals and the end. Turns and roles are numbered from 0.
+/// Why a text is not a lawful record of the game: the first test that fails. The shape of the whole text is tested first,
+/// then the turns in order, then the goals and the end. Turns and roles are numbered from 0.
 #[derive(Clone, Copy, PartialEq, Eq)]
 pub enum VerifyFault {
     /// The text is not JSON.
     NotJson,
-    /// The first key, in the order of `Key`, that is missing or has a value of another shape. Or `Errors`, if it has
-    /// not as many turns as `Moves`, or `States`, if it has not one state more than `Moves` has turns.
+    /// The first key, in the order of `Key`, that is missing or whose value has the wrong shape. If all have their shape:
+    /// `Errors` if it does not have as many turns as `Moves`, or else `States` if it does not have one state more than
+    /// `Moves` has turns.
     BadShape(Key),
     /// The role's move in this turn is not legal.
     Illegal(usize, usize),
     /// The role's move in this turn has an error, but it is not the first legal move, or the error names a legal move.
     NotFirst(usize, usize),
-    /// The error beside the role's move in this turn says that the role is retired, but the turns before do not retire
-    /// it. Or they do, and the error does not say so.
+    /// The error of the role's move in this turn says that the role is retired, but the earlier turns do not retire it. Or
+    /// they do, and the error does not say so.
     WrongRetired(usize, usize),
-    /// The state after this many turns is another.
+    /// The state after this many turns is not the state of the game.
     WrongState(usize),
     /// The goals are not those of the last state.
     WrongGoals,
-    /// A turn follows although the game can't go on or all roles are retired. Or phase, cause, marks and last state don't
-    /// agree.
+    /// A turn follows although the game has ended or all roles are retired. Or the phase, the cause, the marks and the last
+    /// state do not agree.
     WrongEnd,
     /// Out of memory.
     Memory,
 }
 
-/// The profile's words, as `shape KEY` or `state T`.
+/// The text that messages use, for example `shape KEY` or `state T`.
 impl fmt::Display for VerifyFault {
     ghost use Rattle.std.specs.Prelude.{Some};
     ghost use Rattle.record_reading.specs.FaultText.{fault_text};
@@ -56,7 +57,7 @@ impl fmt::Display for VerifyFault {
     }
 }
 
-/// The same words.
+/// The same text.
 impl fmt::Debug for VerifyFault {
     fn fmt<W: fmt::Write>(&self, f: &mut fmt::Formatter<W>) -> fmt::Result {
         fmt::Display::fmt(self, f)

@@ -15,18 +15,16 @@ use Rattle.role_workers.specs.AttendFaults.{attend_fault, next_fault}
 use Rattle.role_workers.specs.Attending.{CallStops, not_made, without_reply, at_reply, StopsAmid, at_the_last, at_a_call, for_memory}
 use Rattle.role_workers.proofs.Tellings.{told_with-nil, keeps-nil, told_after}
 
--- the events that happened when a worker stopped amid these events, with some reply as the last one
+-- the events up to the point at which a worker stopped, with some reply as the last one
 pub record StopsIn (whole : Reply → List Event) (fault_at : Reply → Option AttendFault) (fault : AttendFault) (before after : Telling) : Type 0 where
   pub reply : Reply
   pub events : List Event
   pub stops : StopsAmid (whole reply) (fault_at reply) fault events
   pub told : Tells before after events
 
--- the events of a call that comes after these
 abbrev pub then_calls : List Event → Call → Reply → List Event
 then_calls front call reply = front ++ makes call ∷ takes reply ∷ []
 
--- what is shown after a call that went out without a reply, and after one with its reply
 told_call : (call : Call) (cs cs' : Option (List Call)) (rs rs' : Option (List Reply)) (ms : Option (List Handed))
     → cs' ≡ told_with cs (call ∷ []) → rs' ≡ rs → Tells (telling cs rs ms) (telling cs' rs' ms) (makes call ∷ [])
 told_call call cs cs' rs rs' ms c r = record { calls = c; replies = r ∙ told_with-nil rs; messages = keeps-nil ms }
@@ -35,7 +33,7 @@ pub told_reply : (call : Call) (reply : Reply) (cs cs' : Option (List Call)) (rs
     → cs' ≡ told_with cs (call ∷ []) → rs' ≡ told_with rs (reply ∷ []) → Tells (telling cs rs ms) (telling cs' rs' ms) (makes call ∷ takes reply ∷ [])
 told_reply call reply cs cs' rs rs' ms c r = record { calls = c; replies = r; messages = keeps-nil ms }
 
--- what is shown if no call went out
+-- what is shown if no call was made
 told_no_call : (cs cs' : Option (List Call)) (rs rs' : Option (List Reply)) (ms : Option (List Handed)) (before : Telling) (events : List Event)
     → Tells before (telling cs rs ms) events → cs' ≡ cs → rs' ≡ rs → Tells before (telling cs' rs' ms) events
 told_no_call cs cs' rs rs' ms before events so_far c r = record { calls = c ∙ so_far.calls; replies = r ∙ so_far.replies; messages = so_far.messages }
@@ -68,7 +66,6 @@ stops_in_call call fault_at fault cs cs' rs rs' ms front before so_far (at_reply
   told = told_after before (telling cs rs ms) (telling cs' rs' ms) front (makes call ∷ takes reply ∷ []) so_far (told_reply call reply cs cs' rs rs' ms c r);
 }
 
--- a reply to `Next` that neither says what is due nor refuses
 pub stray_reply : (reply : Reply) → ((due : Due) → reply ≡ IsDue due → ⊥) → ((reason : Refusal) → reply ≡ Refused reason → ⊥) → next_fault reply ≡ Some Stalled
 stray_reply Opened not_due not_refused = refl
 stray_reply (IsDue due) not_due not_refused = absurd (not_due due refl)
@@ -77,7 +74,6 @@ stray_reply (Status status) not_due not_refused = refl
 stray_reply Aborting not_due not_refused = refl
 stray_reply (Refused reason) not_due not_refused = absurd (not_refused reason refl)
 
--- A call went out in place of an equal one: no reply came, or this reply, which brings the fault.
 pub stops_without_reply : (call call' : Call) (fault_at : Reply → Option AttendFault) (fault : AttendFault) (cause : AskFault) (cs cs' : Option (List Call)) (rs rs' : Option (List Reply))
     → call' ≡ call → fault ≡ attend_fault cause → (cs' ≡ cs) ⊎ (cs' ≡ told_with cs (call' ∷ [])) → rs' ≡ rs → CallStops call fault_at fault cs cs' rs rs'
 stops_without_reply call call' fault_at fault cause cs cs' rs rs' same is (inl none) r = without_reply cause is (inl none) r

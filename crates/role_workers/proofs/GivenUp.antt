@@ -24,7 +24,6 @@ module _ {W : Type 0} (w : Wire.Ghosts W Call Reply) where
   pub none_given_up : (wire : W) → AreGivenUp w [] wire wire
   none_given_up wire = record { given = []; in_order = refl; told = tells-nil (shown wire) }
 
-  -- some roles, and then others
   pub more_given_up : (roles others : List Unattended) (first then last : W) → AreGivenUp w roles first then → AreGivenUp w others then last → AreGivenUp w (roles ++ others) first last
   more_given_up roles others first then last one other = record {
     given = one.given ++ other.given;
@@ -33,7 +32,6 @@ module _ {W : Type 0} (w : Wire.Ghosts W Call Reply) where
         (told_after (shown first) (shown then) (shown last) (flat_map giving_up one.given) (flat_map giving_up other.given) one.told other.told);
   }
 
-  -- a call with its reply, in place of an equal call
   pub shown_call : (call call' : Call) (reply : Reply) (wire wire' : W) → call' ≡ call → w.calls wire' ≡ told_with (w.calls wire) (call' ∷ []) → w.replies wire' ≡ told_with (w.replies wire) (reply ∷ [])
       → Tells (shown wire) (shown wire') (makes call ∷ takes reply ∷ [])
   shown_call call call' reply wire wire' same calls replies =
@@ -52,7 +50,7 @@ module _ {W : Type 0} (w : Wire.Ghosts W Call Reply) where
   shown_aborting it first then last aborted asked =
       told_after (shown first) (shown then) (shown last) (makes (Abort it.of.brief.now.id) ∷ takes it.aborted ∷ []) (asking it.of.brief.now it.of.role it.due) aborted asked
 
-  -- a role to which no message was due
+  -- a role without a message due
   pub gave_up : (of : Unattended) (aborted due : Reply) (first then last : W) → Tells (shown first) (shown then) (makes (Abort of.brief.now.id) ∷ takes aborted ∷ [])
       → Tells (shown then) (shown last) (asking of.brief.now of.role due) → due_round due ≡ None → AreGivenUp w (of ∷ []) first last
   gave_up of aborted due first then last abort next none =
@@ -60,7 +58,7 @@ module _ {W : Type 0} (w : Wire.Ghosts W Call Reply) where
       one_given_up it first last [] (sym (ap (λ o. answering of.brief.now of.role o due) none))
       (subst (Tells (shown first) (shown last)) (sym (append-nil (aborting it))) (shown_aborting it first then last abort next))
 
-  -- a role to which one was due
+  -- a role with a message due
   pub gave_up_due : (of : Unattended) (aborted due answered : Reply) (round : ℕ) (first then asked last : W) → Tells (shown first) (shown then) (makes (Abort of.brief.now.id) ∷ takes aborted ∷ [])
       → Tells (shown then) (shown asked) (asking of.brief.now of.role due) → due_round due ≡ Some round
       → Tells (shown asked) (shown last) (makes (answer_call of.brief.now.id of.role round Broken) ∷ takes answered ∷ []) → AreGivenUp w (of ∷ []) first last

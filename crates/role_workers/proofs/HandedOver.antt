@@ -1,4 +1,4 @@
--- A message that is handed over, with the call that brings its answer to the desk.
+-- A message that is sent, with the call that gives the desk its answer.
 use Rattle.std.proofs.Common.{◌≡◌, ℕ, List, [], ◌∷◌, Option, None, Result, Ok, Err, OnOk, IfErr, refl, sym, subst}
 use Rattle.call_history.specs.Told.{told_with}
 use Rattle.desk_calls.specs.declared.answer.Answer.{Answer}
@@ -22,7 +22,7 @@ use Rattle.role_workers.proofs.CallStops.{stops_in_call, told_reply}
 abbrev handed : ℕ → List ℕ → Answer → Handed
 handed seconds body answer = record { seconds = seconds; body = body; answer = answer }
 
--- the message that is owed, with the seconds of its kind
+-- the owed message, with the seconds of its kind
 abbrev pub message_of : BriefValue → ℕ → Owed → Answer → Handed
 message_of brief role owed answer = handed (seconds_for brief owed) (message_text brief role owed) answer
 
@@ -36,13 +36,12 @@ told_message : (message : Handed) (cs : Option (List Call)) (rs : Option (List R
     → MayKeep ms ms' (message ∷ []) → Tells (telling cs rs ms) (telling cs rs ms') (hands message ∷ [])
 told_message message cs rs ms ms' m = record { calls = told_with-nil cs; replies = told_with-nil rs; messages = m }
 
--- no memory for the message, or for it in one piece
+-- there was no memory for the message, or for it in one piece
 pub nothing_handed : (brief : BriefValue) (role round : ℕ) (owed : Owed) (fault : AttendFault) (before after : Telling) → fault ≡ Memory → after ≡ before
     → (answer : Answer) × (reply : Reply) × (events : List Event) × StopsAmid (handing_over brief role round owed answer reply) (answer_fault reply) fault events × Tells before after events
 nothing_handed brief role round owed fault before after is same =
     (Silent, Taken, [], for_memory (hands (message_of brief role owed Silent)) (makes (answer_call brief.id role round Silent) ∷ takes Taken ∷ []) is refl, subst (λ t. Tells before t []) (sym same) (tells-nil before))
 
--- the answer went back
 pub handed_over : {U : Type 0} (given : Result U AttendFault) (brief : BriefValue) (role round : ℕ) (owed : Owed) (answer : Answer) (cs cs' : Option (List Call)) (rs rs' : Option (List Reply)) (ms ms' : Option (List Handed))
     → MayKeep ms ms' (message_of brief role owed answer ∷ [])
     → OnOk given (cs' ≡ told_with cs (answer_call brief.id role round answer ∷ []))
@@ -57,7 +56,7 @@ handed_over (Ok done) brief role round owed answer cs cs' rs rs' ms ms' m call r
 )
 handed_over (Err fault) brief role round owed answer cs cs' rs rs' ms ms' m call reply = tt
 
--- the worker stopped as the answer went back
+-- the worker stopped while it gave the answer
 pub handed_in_part : {U : Type 0} (given : Result U AttendFault) (brief : BriefValue) (role round : ℕ) (owed : Owed) (answer : Answer) (cs cs' : Option (List Call)) (rs rs' : Option (List Reply)) (ms ms' : Option (List Handed))
     → MayKeep ms ms' (message_of brief role owed answer ∷ [])
     → IfErr given (λ fault. CallStops (answer_call brief.id role round answer) answer_fault fault cs cs' rs rs')

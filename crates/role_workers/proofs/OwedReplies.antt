@@ -20,7 +20,6 @@ use Rattle.role_workers.proofs.HandedOver.{message_of}
 use Rattle.role_workers.proofs.RoleCalls.{told_replies}
 use Rattle.role_workers.proofs.Workers.{events_of_all-push}
 
--- a reply to an answer after which the worker goes on owes nothing
 owes_none : (reply : Reply) → is_none (answer_fault reply) ≡ true → owed_of reply ≡ None
 owes_none Opened goes = refl
 owes_none (Due due) goes = absurd cc
@@ -58,7 +57,6 @@ module _ {X : Type 0} (brief : BriefValue) (role : ℕ) (of_message : Handed →
       ∙ sym (map-append of_owed (owed_in first) (owed_in later))
       ∙ sym (ap (map of_owed) (owed_in-append first later))
 
--- the messages that a worker handed over until it found the end
 pub owed_handed_over : OwedAreHandedOver
 owed_handed_over brief role tries count calls calls' replies handed handed' ended =
     let events = events_of_all brief role ended.steps in

@@ -1,4 +1,4 @@
--- Lists, place by place.
+-- Lists, index by index.
 use Rattle.std.proofs.Common.{◌≡◌, ℕ, zero, suc, ◌+◌, ◌<◌, List, [], ◌∷◌, ◌++◌, Some, length, map, drop, refl, subst, sym, ap, ◌∙◌, arith}
 use Rattle.std.specs.Prelude.{slice_get}
 use Rattle.role_workers.specs.Places.{EachAt}
@@ -9,11 +9,10 @@ push_at Q [] x each here (suc k) a is = absurd cc
 push_at Q (y ∷ ys) x each here zero a is = each 0 a is
 push_at Q (y ∷ ys) x each here (suc k) a is = push_at (λ n. Q (suc n)) ys x (λ n b e. each (suc n) b e) here k a is
 
--- one more at the end
 pub EachAt-push : {A : Type 0} (Q : ℕ → A → Type 0) (xs xs' : List A) (x : A) → xs' ≡ xs ++ x ∷ [] → EachAt Q xs → Q (length xs) x → EachAt Q xs'
 EachAt-push Q xs xs' x more each here = subst (EachAt Q) (sym more) (push_at Q xs x each here)
 
--- the first element after n places stands at place n
+-- the first element after n others has index n
 pub record FirstOf {A : Type 0} (n : ℕ) (all : List A) (x : A) (rest : List A) : Type 0 where
   pub at : slice_get all n ≡ Some x
   pub left : rest ≡ drop (n + 1) all
@@ -31,7 +30,6 @@ first_of n all x rest e =
     let next : suc n ≡ n + 1 = omega arith in
     record { at = found.0; left = found.1 ∙ ap (λ m. drop m all) next; within = found.2 }
 
--- the value at a place of a mapped list
 pub map_at : {A B : Type 0} (f : A → B) (xs : List A) (k : ℕ) (b : B) → slice_get (map f xs) k ≡ Some b → (a : A) × (slice_get xs k ≡ Some a) × (f a ≡ b)
 map_at f [] k b is = absurd cc
 map_at f (x ∷ xs) zero b is = (x, refl, cc)

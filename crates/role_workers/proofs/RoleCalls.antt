@@ -50,7 +50,6 @@ module _ (brief : BriefValue) (role : ℕ) where
   front_calls : (xs ys : List Event) → AreRoleEvents (xs ++ ys) → AreRoleEvents xs
   front_calls xs ys all = all_front (IsRoleCall brief.id role) (filter_map call_in xs) (filter_map call_in ys) (subst (All (IsRoleCall brief.id role)) (filter_map-append call_in xs ys) all)
 
-  -- the events of a step that happened are a front of it
   amid_front : (whole : List Event) (last_fault : Option AttendFault) (fault : AttendFault) (events : List Event) → StopsAmid whole last_fault fault events → (others : List Event) × (events ++ others ≡ whole)
   amid_front whole last_fault fault events (at_the_last is all) = ([], append-nil events ∙ all)
   amid_front whole last_fault fault events (at_a_call cause front call reply others is part upto) =
@@ -77,7 +76,6 @@ module _ (brief : BriefValue) (role : ℕ) where
       → Tells (telling cs (Some []) ms) (telling cs' (Some rs) ms') events → rs ≡ filter_map reply_in events
   told_replies cs cs' rs ms ms' events told = ap (λ o. unwrap_or o []) told.replies
 
-  -- a worker makes only calls of its role
   pub role_calls : (tries : ℕ) (cs : List Call) (rs rs' : Option (List Reply)) (ms ms' : Option (List Handed)) (end : Result ℕ AttendFault)
       → HasEnded brief role tries (telling (Some []) rs ms) (telling (Some cs) rs' ms') end → All (IsRoleCall brief.id role) cs
   role_calls tries cs rs rs' ms ms' (Ok messages) ended =
@@ -86,7 +84,6 @@ module _ (brief : BriefValue) (role : ℕ) where
       subst (All (IsRoleCall brief.id role)) (sym (told_calls cs rs rs' ms ms' (events_of_all brief role ended.steps ++ ended.events) ended.told))
       (both_calls (events_of_all brief role ended.steps) ended.events (steps_calls ended.steps) (after_calls tries ended.steps fault ended.events ended.why))
 
-  -- in a whole step each call gets its reply
   step_replies : (step : Step) → length (filter_map reply_in (events_of brief role step)) ≡ length (filter_map call_in (events_of brief role step))
   step_replies (rests round) = refl
   step_replies (hands_over round owed answer reply) = refl
@@ -108,7 +105,6 @@ module _ (brief : BriefValue) (role : ℕ) where
         length-append (filter_map call_in first) (filter_map call_in later),
       )
 
-  -- a worker that found the end took a reply to each of its calls
   pub all_replies : (tries : ℕ) (cs : List Call) (rs : List Reply) (ms ms' : Option (List Handed)) (end : Result ℕ AttendFault) → IsOk end
       → HasEnded brief role tries (telling (Some []) (Some []) ms) (telling (Some cs) (Some rs) ms') end → length rs ≡ length cs
   all_replies tries cs rs ms ms' (Ok messages) ok ended =

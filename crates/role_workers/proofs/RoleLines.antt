@@ -22,7 +22,6 @@ use Rattle.role_workers.proofs.Places.{map_at}
 use Rattle.role_workers.proofs.SeatEnds.{same_ended}
 use Rattle.role_workers.proofs.Tellings.{same_telling}
 
--- the value at a place
 pub place_of : {X : Type 0} (xs : List X) (k : ℕ) → k < length xs → (x : X) × (slice_get xs k ≡ Some x)
 place_of [] k within = absurd (omega arith)
 place_of (x ∷ xs) k within = (get_or (x ∷ xs) k x, slice_get-get_or (x ∷ xs) k x within)
@@ -69,7 +68,7 @@ module _ {P W : Type 0} (w : Wire.Ghosts W Call Reply) (p : Player.Ghosts P) (wi
         of_line = subst (λ l. IsFinishedOf l end) line found.2;
       }
 
-  -- as many lines as workers
+  -- there are as many lines as workers
   line_count : length lines ≡ length attended
   line_count = finished.one_each ∙ length-map attended (λ (a : Attended P W). line_in a.wire)
 
@@ -79,7 +78,6 @@ module _ {P W : Type 0} (w : Wire.Ghosts W Call Reply) (p : Player.Ghosts P) (wi
   same_line_trans : (a b c : LineValue Call Reply) → SameLine a b → SameLine b c → SameLine a c
   same_line_trans a b c one other = search rules
 
-  -- each line is one of the desk
   pub desk_line : LinesStay Call Reply → NewLinesAreLines Call Reply → (ports' : List (Port Call Reply)) → SamePorts ports ports' → length ports ≡ length others + 1 → (k : ℕ) (end : LineValue Call Reply) → slice_get lines k ≡ Some end → IsLineOf ports' end
   desk_line stay are_lines ports' same count k end at =
       let worker = worker_at k end at in
@@ -92,7 +90,6 @@ module _ {P W : Type 0} (w : Wire.Ghosts W Call Reply) (p : Player.Ghosts P) (wi
   pub desk_ends : LinesStay Call Reply → NewLinesAreLines Call Reply → (ports' : List (Port Call Reply)) → SamePorts ports ports' → length ports ≡ length others + 1 → AreEndsOf ports' lines
   desk_ends stay are_lines ports' same count k end within = desk_line stay are_lines ports' same count k (get_or lines k end) (slice_get-get_or lines k end within)
 
-  -- each end of a worker is shown with its line
   left_line : (players_left : List P) → players_left ≡ map (λ (a : Attended P W). a.player) attended → (all : List (LineValue Call Reply)) → ((end : LineValue Call Reply) → Contains lines end → Contains all end) → (role : ℕ) (end : Result ℕ AttendFault)
       → slice_get (map (λ (a : Attended P W). a.end) attended) role ≡ Some end
       → (line : LineValue Call Reply) × Contains all line × IsLeftLine p.handed brief tries players players_left role line end
@@ -123,7 +120,6 @@ module _ {P W : Type 0} (w : Wire.Ghosts W Call Reply) (p : Player.Ghosts P) (wi
         },
       )
 
-  -- a worker's line has the number of a role that was attended
   line_within : (k : ℕ) (end : LineValue Call Reply) → slice_get lines k ≡ Some end → end.number ≤ length attended
   line_within k end at =
       let worker = worker_at k end at in

@@ -1,4 +1,4 @@
--- Seats and their results, place by place.
+-- Seats and their results, index by index.
 use Rattle.std.proofs.Common.{◌≡◌, ℕ, List, Result}
 use Rattle.call_history.specs.declared.wire.Wire as Wire
 use Rattle.desk_calls.specs.declared.call.Call.{Call}
@@ -14,7 +14,6 @@ use Rattle.role_workers.specs.declared.seat.Attended.{Attended}
 use Rattle.role_workers.specs.declared.seats.LeftBy.{LeftBy}
 use Rattle.role_workers.specs.Internal.Promises.{IsPromisedFor}
 
--- a result that keeps the promise is that of attending the seat
 pub left_at : {P W : Type 0} (w : Wire.Ghosts W Call Reply) (p : Player.Ghosts P) (tries : ℕ) (seats : List (Seat P W)) (k : ℕ) (promise : LeftBy P W) (left : Attended P W) → IsPromisedFor tries seats k promise
     → IsLeftOf w p promise.tries promise.seat.value left → IsLeftAt w p tries seats k left
 left_at w p tries seats k promise left it by = record {

@@ -1,4 +1,4 @@
--- What is shown grows event by event.
+-- What is shown grows with each event.
 use Rattle.std.proofs.Common.{◌≡◌, List, [], ◌++◌, Option, None, Some, inl, inr, refl, ap, sym, subst, ◌∙◌, append_assoc, append-nil}
 use Rattle.std.specs.List.{filter_map}
 use Rattle.std.proofs.lemmas.List.Elements.{filter_map-append}
@@ -21,7 +21,6 @@ pub same_telling : (calls calls' : Option (List Call)) (replies replies' : Optio
 same_telling calls calls' replies replies' messages messages' c r m =
     ap (λ x. telling x replies messages) c ∙ ap (λ x. telling calls' x messages) r ∙ ap (λ x. telling calls' replies' x) m
 
--- no messages
 pub keeps-nil : (told : Option (List Handed)) → MayKeep told told []
 keeps-nil told = inl (told_with-nil told)
 
@@ -35,7 +34,6 @@ pub kept_all : (before after : Option (List Handed)) (old new messages : List Ha
 kept_all before after old new messages is_old is_new (inl kept) = let more : told_with before messages ≡ Some (old ++ messages) = ap (λ t. told_with t messages) is_old in cc
 kept_all before after old new messages is_old is_new (inr lost) = absurd cc
 
--- no events
 pub tells-nil : (t : Telling) → Tells t t []
 tells-nil t = record { calls = told_with-nil t.calls; replies = told_with-nil t.replies; messages = keeps-nil t.messages }
 
@@ -44,7 +42,6 @@ told_parts : {A : Type 0} (part : Event → Option A) (a b c : Option (List A)) 
 told_parts part a b c xs ys one more =
     more ∙ ap (λ t. told_with t (filter_map part ys)) one ∙ told_with-append a (filter_map part xs) (filter_map part ys) ∙ sym (ap (told_with a) (filter_map-append part xs ys))
 
--- some events, and then others
 pub told_after : (before now after : Telling) (xs ys : List Event) → Tells before now xs → Tells now after ys → Tells before after (xs ++ ys)
 told_after before now after xs ys first then = record {
   calls = told_parts call_in before.calls now.calls after.calls xs ys first.calls then.calls;

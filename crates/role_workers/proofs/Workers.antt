@@ -24,7 +24,7 @@ use Rattle.role_workers.specs.Attending.{events_of_all, Attends, StopsAmid, at_t
 use Rattle.role_workers.proofs.Tellings.{tells-nil, told_after, kept_all}
 use Rattle.role_workers.proofs.CallStops.{stops_in_call, told_reply}
 
--- the worker still goes on after this many tries, and has handed this many messages over
+-- the worker has not stopped after this many tries, and has sent this many messages
 pub record Goes (brief : BriefValue) (role : ℕ) (tried : ℕ) (before now : Telling) (messages : ℕ) : Type 0 where
   pub steps : List Step
   pub go_on : All (λ step. goes_on step ≡ true) steps
@@ -39,7 +39,6 @@ pub events_of_all-push : (brief : BriefValue) (role : ℕ) (steps : List Step) (
 events_of_all-push brief role steps last =
     flat_map-append (events_of brief role) steps (last ∷ []) ∙ ap (λ events. events_of_all brief role steps ++ events) (append-nil (events_of brief role last))
 
--- one more step is shown
 told_step : (brief : BriefValue) (role : ℕ) (before now next : Telling) (steps : List Step) (last : Step) → Tells before now (events_of_all brief role steps) → Tells now next (events_of brief role last)
     → Tells before next (events_of_all brief role (steps ++ last ∷ []))
 told_step brief role before now next steps last told more =
@@ -60,12 +59,12 @@ goes-more brief role tried before now next messages more last goes on told count
       ∙ sym (ap (λ events. length (filter_map message_in events)) (events_of_all-push brief role goes.steps last));
 }
 
--- what is shown once the worker has asked what is due
+-- what is shown after the worker has asked what is due
 told_due : (brief : BriefValue) (role : ℕ) (due due' : Due) (cs cs' : Option (List Call)) (rs rs' : Option (List Reply)) (ms : Option (List Handed))
     → due ≡ due' → cs' ≡ told_with cs (Next brief.id role ∷ []) → rs' ≡ told_with rs (IsDue due ∷ []) → Tells (telling cs rs ms) (telling cs' rs' ms) (asking brief role (IsDue due'))
 told_due brief role due due' cs cs' rs rs' ms is c r = told_reply (Next brief.id role) (IsDue due') cs cs' rs rs' ms c (r ∙ ap (λ x. told_with rs (IsDue x ∷ [])) is)
 
--- the player rested
+-- the player waited
 pub goes-rests : (brief : BriefValue) (role tried round : ℕ) (due : Due) (before : Telling) (cs cs' : Option (List Call)) (rs rs' : Option (List Reply)) (ms ms' : Option (List Handed)) (messages : ℕ)
     → Goes brief role tried before (telling cs rs ms) messages → due ≡ Hold round → cs' ≡ told_with cs (Next brief.id role ∷ []) → rs' ≡ told_with rs (IsDue due ∷ []) → ms' ≡ ms
     → Goes brief role (tried + 1) before (telling cs' rs' ms') messages
@@ -73,7 +72,6 @@ goes-rests brief role tried round due before cs cs' rs rs' ms ms' messages goes 
     goes-more brief role tried before (telling cs rs ms) (telling cs' rs' ms') messages messages (rests round) goes refl
     (subst (λ x. Tells (telling cs rs ms) (telling cs' rs' x) (asking brief role (IsDue (Hold round)))) (sym m) (told_due brief role due (Hold round) cs cs' rs rs' ms is c r)) (omega arith)
 
--- a message was handed over
 pub goes-hands_over : (brief : BriefValue) (role tried round : ℕ) (owed : Owed) (due : Due) (before : Telling) (cs cs' : Option (List Call)) (rs rs' : Option (List Reply)) (ms : Option (List Handed)) (next : Telling) (messages : ℕ)
     → Goes brief role tried before (telling cs rs ms) messages → due ≡ Owe round owed → cs' ≡ told_with cs (Next brief.id role ∷ []) → rs' ≡ told_with rs (IsDue due ∷ [])
     → ((answer : Answer) × (reply : Reply) × (answer_fault reply ≡ None) × Tells (telling cs' rs' ms) next (handing_over brief role round owed answer reply))
@@ -84,7 +82,6 @@ goes-hands_over brief role tried round owed due before cs cs' rs rs' ms next mes
     (told_due brief role due (Owe round owed) cs cs' rs rs' ms is c r) told)
     refl
 
--- the match is over
 pub attends-over : (brief : BriefValue) (role tried tries : ℕ) (due : Due) (before : Telling) (cs cs' : Option (List Call)) (rs rs' : Option (List Reply)) (ms : Option (List Handed)) (messages : ℕ)
     → Goes brief role tried before (telling cs rs ms) messages → tried < tries → due ≡ Over → cs' ≡ told_with cs (Next brief.id role ∷ []) → rs' ≡ told_with rs (IsDue due ∷ [])
     → Attends brief role tries before (telling cs' rs' ms) messages
@@ -96,7 +93,6 @@ attends-over brief role tried tries due before cs cs' rs rs' ms messages goes wi
   count = goes.count;
 }
 
--- the worker stops in a step
 pub stops-in : (brief : BriefValue) (role tried tries : ℕ) (before now next : Telling) (messages : ℕ) (step : Step) (fault : AttendFault) (events : List Event) → Goes brief role tried before now messages → tried < tries
     → StopsAmid (events_of brief role step) (fault_after step) fault events → Tells now next events → StopsEarly brief role tries before next fault
 stops-in brief role tried tries before now next messages step fault events goes within stops told = record {
@@ -117,7 +113,6 @@ stops-out_of_tries brief role tried tries before now messages goes used = record
   why = out_of_tries (goes.tries ∙ used) refl refl;
 }
 
--- a part of a list, behind a front
 stops_behind : (front whole : List Event) (last_fault : Option AttendFault) (fault : AttendFault) (events : List Event) → StopsAmid whole last_fault fault events → StopsAmid (front ++ whole) last_fault fault (front ++ events)
 stops_behind front whole last_fault fault events (at_the_last is all) = at_the_last is (ap (λ xs. front ++ xs) all)
 stops_behind front whole last_fault fault events (at_a_call cause before call reply others is part upto) =
@@ -126,14 +121,13 @@ stops_behind front whole last_fault fault events (at_a_call cause before call re
 stops_behind front whole last_fault fault events (for_memory next others is part) =
     for_memory next others is (append_assoc front events (next ∷ others) ∙ ap (λ xs. front ++ xs) part)
 
--- the worker stops as it asks what is due
+-- the worker stops while it asks what is due
 pub stops-asking : (brief : BriefValue) (role tried tries : ℕ) (before : Telling) (cs cs' : Option (List Call)) (rs rs' : Option (List Reply)) (ms : Option (List Handed)) (messages : ℕ) (fault : AttendFault)
     → Goes brief role tried before (telling cs rs ms) messages → tried < tries → CallStops (Next brief.id role) next_fault fault cs cs' rs rs' → StopsEarly brief role tries before (telling cs' rs' ms) fault
 stops-asking brief role tried tries before cs cs' rs rs' ms messages fault goes within stops =
     let s = stops_in_call (Next brief.id role) next_fault fault cs cs' rs rs' ms [] (telling cs rs ms) (tells-nil (telling cs rs ms)) stops in
     stops-in brief role tried tries before (telling cs rs ms) (telling cs' rs' ms) messages (finds_no_due s.reply) fault s.events goes within s.stops s.told
 
--- the worker stops as it hands a message over
 pub stops-handing : (brief : BriefValue) (role tried tries round : ℕ) (owed : Owed) (due : Due) (before : Telling) (cs cs' : Option (List Call)) (rs rs' : Option (List Reply)) (ms : Option (List Handed)) (next : Telling) (messages : ℕ) (fault : AttendFault)
     → Goes brief role tried before (telling cs rs ms) messages → tried < tries → due ≡ Owe round owed → cs' ≡ told_with cs (Next brief.id role ∷ []) → rs' ≡ told_with rs (IsDue due ∷ [])
     → ((answer : Answer) × (reply : Reply) × (events : List Event) × StopsAmid (handing_over brief role round owed answer reply) (answer_fault reply) fault events
@@ -145,7 +139,7 @@ stops-handing brief role tried tries round owed due before cs cs' rs rs' ms next
     (stops_behind asked (handing_over brief role round owed answer reply) (answer_fault reply) fault events stops)
     (told_after (telling cs rs ms) (telling cs' rs' ms) next asked events (told_due brief role due (Owe round owed) cs cs' rs rs' ms is c r) told)
 
--- a player that still shows its messages has as many more as were counted
+-- a player that still shows its messages shows as many more as were counted
 pub messages_told : MessagesAreCounted
 messages_told brief role tries before after messages old new attends shown_before shown =
     let events = events_of_all brief role attends.steps in

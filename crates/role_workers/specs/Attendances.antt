@@ -9,13 +9,13 @@ use Rattle.match_messages.specs.declared.player.Player as Player
 use Rattle.role_workers.specs.Events.{Telling, telling}
 use Rattle.role_workers.specs.Attending.{Attends, StopsEarly}
 
--- with the end of the match, after this many messages, or with a fault
+-- at the end of the match after this many messages, or with an error
 abbrev pub HasEnded : BriefValue → ℕ → ℕ → Telling → Telling → Result ℕ AttendFault → Type 0
 HasEnded brief role tries before after (Ok messages) = Attends brief role tries before after messages
 HasEnded brief role tries before after (Err fault) = StopsEarly brief role tries before after fault
 
--- The role was attended with this player over this wire, and this was its end: the wire stands for the same line as before, and wire
--- and player show the events of attending.
+-- A worker attended the role with this player over this wire, and this was the result. The wire still belongs to the same line, and
+-- the wire and the player show the events of attending.
 pub record IsAttended {P W : Type 0} (w : Wire.Ghosts W Call Reply) (p : Player.Ghosts P) (brief : BriefValue) (role tries : ℕ) (player player' : P) (wire wire' : W) (end : Result ℕ AttendFault) : Type 0 where
   pub line : w.same_line wire wire'
   pub ended : HasEnded brief role tries

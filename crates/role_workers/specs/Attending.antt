@@ -1,4 +1,4 @@
--- How a role of a match is attended.
+-- How a worker attends a role.
 use Rattle.std.specs.Prelude.{◌≡◌, ℕ, ◌+◌, ◌<◌, true, List, [], ◌∷◌, ◌++◌, length, All, Option, Some, ◌⊎◌}
 use Rattle.std.specs.List.{flat_map, filter_map}
 use Rattle.call_history.specs.Told.{told_with}
@@ -13,12 +13,11 @@ use Rattle.role_workers.specs.Events.{Event, makes, takes, message_in, Telling, 
 use Rattle.role_workers.specs.AttendFaults.{attend_fault}
 use Rattle.role_workers.specs.Steps.{Step, finds_the_end, events_of, goes_on, fault_after}
 
--- the events of these steps, one after another
 abbrev pub events_of_all : BriefValue → ℕ → List Step → List Event
 events_of_all brief role steps = flat_map (events_of brief role) steps
 
--- The worker attended the role to the end of the match, in at most this many tries: some steps after which it goes on, and the step
--- that finds the end. It handed over this many messages.
+-- The worker attended the role to the end of the match, in at most this many tries: some steps after which it continues, and the step
+-- that finds the end. It sent this many messages.
 pub record Attends (brief : BriefValue) (role tries : ℕ) (before after : Telling) (messages : ℕ) : Type 0 where
   pub steps : List Step
   pub go_on : All (λ step. goes_on step ≡ true) steps
@@ -26,31 +25,31 @@ pub record Attends (brief : BriefValue) (role tries : ℕ) (before after : Telli
   pub told : Tells before after (events_of_all brief role (steps ++ finds_the_end ∷ []))
   pub count : messages ≡ length (filter_map message_in (events_of_all brief role steps))
 
--- what a player that shows its messages shows: as many more as were counted
+-- a player that shows its messages shows as many more as were counted
 abbrev pub MessagesAreCounted : Type 0
 MessagesAreCounted = (brief : BriefValue) (role tries : ℕ) (before after : Telling) (messages : ℕ) (old new : List Handed)
     → Attends brief role tries before after messages → before.messages ≡ Some old → after.messages ≡ Some new → length new ≡ length old + messages
 
--- The events that happened, among these, when the worker stopped at a fault.
+-- Which of these events had happened when the worker stopped with an error.
 pub data StopsAmid (whole : List Event) (last_fault : Option AttendFault) (fault : AttendFault) (events : List Event) : Type 0 where
-  -- all of them: the last reply brings the fault
+  -- all of them: the last reply causes the error
   at_the_last : last_fault ≡ Some fault → events ≡ whole → StopsAmid whole last_fault fault events
-  -- the events before a call that gets no reply; the call went out or did not
+  -- the events before a call that gets no reply; the call may or may not have been made
   at_a_call : (cause : AskFault) (front : List Event) (call : Call) (reply : Reply) (others : List Event)
       → fault ≡ attend_fault cause → front ++ makes call ∷ takes reply ∷ others ≡ whole
       → (events ≡ front) ⊎ (events ≡ front ++ makes call ∷ []) → StopsAmid whole last_fault fault events
-  -- the events before one for which memory ran out
+  -- the events before one that needs more memory than there is
   for_memory : (next : Event) (others : List Event) → fault ≡ Memory → events ++ next ∷ others ≡ whole → StopsAmid whole last_fault fault events
 
--- Why the worker stopped after these steps, with these events of a further one.
+-- The worker stopped after these steps, and after these events of one more step.
 pub data StopsAfter (brief : BriefValue) (role tries : ℕ) (steps : List Step) (fault : AttendFault) (events : List Event) : Type 0 where
-  -- its tries are used up
+  -- the tries are used up
   out_of_tries : length steps ≡ tries → fault ≡ Stalled → events ≡ [] → StopsAfter brief role tries steps fault events
-  -- a step, whose end may be missing
+  -- a step that may be incomplete
   in_a_step : length steps < tries → (step : Step) → StopsAmid (events_of brief role step) (fault_after step) fault events
       → StopsAfter brief role tries steps fault events
 
--- The worker stopped early: some whole steps after which it goes on, and a part of one more step, or none.
+-- The worker stopped early: after some complete steps, and possibly a part of one more step.
 pub record StopsEarly (brief : BriefValue) (role tries : ℕ) (before after : Telling) (fault : AttendFault) : Type 0 where
   pub steps : List Step
   pub go_on : All (λ step. goes_on step ≡ true) steps
@@ -58,8 +57,8 @@ pub record StopsEarly (brief : BriefValue) (role tries : ℕ) (before after : Te
   pub told : Tells before after (events_of_all brief role steps ++ events)
   pub why : StopsAfter brief role tries steps fault events
 
--- A call stopped the worker with this fault. Either there is no memory for the call; or no reply came, and the call went out or did
--- not; or the reply brings the fault.
+-- A call stopped the worker with this error: there is no memory for the call, or no reply came, whether or not the call was made, or
+-- the reply causes the error.
 pub data CallStops (call : Call) (fault_at : Reply → Option AttendFault) (fault : AttendFault) (calls calls' : Option (List Call)) (replies replies' : Option (List Reply)) : Type 0 where
   not_made : fault ≡ Memory → calls' ≡ calls → replies' ≡ replies → CallStops call fault_at fault calls calls' replies replies'
   without_reply : (cause : AskFault) → fault ≡ attend_fault cause → (calls' ≡ calls) ⊎ (calls' ≡ told_with calls (call ∷ [])) → replies' ≡ replies

@@ -1,4 +1,4 @@
--- The events between a worker, its wire and its player, and what a wire and a player show of them.
+-- The events between a worker, its wire and its player, and what the wire and the player show of them.
 use Rattle.std.specs.Prelude.{◌≡◌, List, Option, Some, None}
 use Rattle.std.specs.List.{filter_map}
 use Rattle.call_history.specs.Told.{told_with}
@@ -6,7 +6,7 @@ use Rattle.desk_calls.specs.declared.call.Call.{Call}
 use Rattle.desk_calls.specs.declared.call.Reply.{Reply}
 use Rattle.match_messages.specs.Handing.{Handed, MayKeep}
 
--- the worker makes a call over the wire, takes a reply, or hands a message to the player, who answers it
+-- the worker makes a call over the wire, takes a reply, or sends a message to the player, which answers it
 pub data Event : Type 0 where
   makes : (call : Call) → Event
   takes : (reply : Reply) → Event
@@ -27,8 +27,8 @@ message_in (makes call) = None
 message_in (takes reply) = None
 message_in (hands message) = Some message
 
--- What a wire and a player show: the calls that went out, the replies that came and the messages that were handed over, each in
--- their order. Any of these may be hidden.
+-- What a wire and a player show: the calls that were made, the replies that came, and the messages that were sent, each in order. Any
+-- of these may be hidden.
 pub record Telling : Type 0 where
   pub calls : Option (List Call)
   pub replies : Option (List Reply)
@@ -37,8 +37,8 @@ pub record Telling : Type 0 where
 abbrev pub telling : Option (List Call) → Option (List Reply) → Option (List Handed) → Telling
 telling calls replies messages = record { calls = calls; replies = replies; messages = messages }
 
--- From `before` to `after` these events were shown: the calls that went out, the replies that came, and the messages that were handed
--- over, unless the player shows none any more.
+-- From `before` to `after` these events were shown: the calls that were made, the replies that came, and the messages that were sent,
+-- unless the player shows none any more.
 pub record Tells (before after : Telling) (events : List Event) : Type 0 where
   pub calls : after.calls ≡ told_with before.calls (filter_map call_in events)
   pub replies : after.replies ≡ told_with before.replies (filter_map reply_in events)

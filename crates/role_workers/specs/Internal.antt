@@ -1,4 +1,4 @@
--- What only private functions cite: nothing in it needs to be believed.
+-- Definitions that only private functions use. The guarantees do not depend on them.
 pub mod Promises
 pub mod GivenUp
 pub mod ShortRounds

@@ -13,30 +13,28 @@ use Rattle.role_workers.specs.Events.{telling}
 use Rattle.role_workers.specs.Attendances.{HasEnded}
 use Rattle.role_workers.specs.RoleCalls.{IsRoleCall, owed_of}
 
--- a worker makes only calls of its role
 abbrev pub CallsAreOfTheRole : Type 0
 CallsAreOfTheRole = (brief : BriefValue) (role tries : ℕ) (calls : List Call) (replies replies' : Option (List Reply)) (handed handed' : Option (List Handed)) (end : Result ℕ AttendFault)
     → HasEnded brief role tries (telling (Some []) replies handed) (telling (Some calls) replies' handed') end → All (IsRoleCall brief.id role) calls
 
--- one that found the end of its match took a reply to each of its calls
 abbrev pub CallsHaveReplies : Type 0
 CallsHaveReplies = (brief : BriefValue) (role tries : ℕ) (calls : List Call) (replies : List Reply) (handed handed' : Option (List Handed)) (end : Result ℕ AttendFault) → IsOk end
     → HasEnded brief role tries (telling (Some []) (Some []) handed) (telling (Some calls) (Some replies) handed') end → length replies ≡ length calls
 
--- The messages that a worker handed over until it found the end, when these replies came.
+-- The messages that a worker sent until it found the end, if these replies came.
 pub record AreHandedOver (brief : BriefValue) (role count : ℕ) (replies : List Reply) (handed handed' : Option (List Handed)) : Type 0 where
-  -- the last reply is that the match is over
+  -- the last reply says that the match is over
   pub front : List Reply
   pub last : replies ≡ front ++ Due Over ∷ []
-  -- the messages that the other replies owe, and no more
+  -- exactly the messages that the other replies owe
   pub messages : List Handed
   pub count_is : length messages ≡ count
   pub seconds_are : map (λ m. m.seconds) messages ≡ map (seconds_for brief) (filter_map owed_of front)
   pub bodies_are : map (λ m. m.body) messages ≡ map (message_text brief role) (filter_map owed_of front)
-  -- its player shows them, unless it shows none any more
+  -- the player shows them, unless it shows none any more
   pub kept : MayKeep handed handed' messages
 
--- a worker that found the end handed over each message that a reply owed, once and in their order
+-- a worker that found the end sent each message that a reply owed, once and in order
 abbrev pub OwedAreHandedOver : Type 0
 OwedAreHandedOver = (brief : BriefValue) (role tries count : ℕ) (calls calls' : Option (List Call)) (replies : List Reply) (handed handed' : Option (List Handed))
     → HasEnded brief role tries (telling calls (Some []) handed) (telling calls' (Some replies) handed') (Ok count)

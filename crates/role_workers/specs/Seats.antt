@@ -10,14 +10,13 @@ use Rattle.role_workers.specs.Places.{EachAt}
 use Rattle.role_workers.specs.declared.seat.Seat.{Seat}
 use Rattle.role_workers.specs.declared.seat.Attended.{Attended}
 
--- the seat of a role, with the player and the wire at its place
 pub record IsSeatOf {P W : Type 0} (brief : BriefValue) (players : List P) (wires : List W) (role : ℕ) (seat : Seat P W) : Type 0 where
   pub brief_is : seat.brief.now ≡ brief
   pub role_is : seat.role ≡ role
   pub player_is : slice_get players role ≡ Some seat.player
   pub wire_is : slice_get wires role ≡ Some seat.wire
 
--- seats of a match, in the order of the roles
+-- the seats of a match in the order of the roles
 abbrev pub AreSeatsOf : {P W : Type 0} → BriefValue → List P → List W → List (Seat P W) → Type 0
 AreSeatsOf brief players wires seats = EachAt (IsSeatOf brief players wires) seats
 
@@ -26,12 +25,12 @@ module _ {P W : Type 0} (w : Wire.Ghosts W Call Reply) (p : Player.Ghosts P) whe
   abbrev pub IsLeftOf : ℕ → Seat P W → Attended P W → Type 0
   IsLeftOf tries seat left = IsAttended w p seat.brief.now seat.role tries seat.player left.player seat.wire left.wire left.end
 
-  -- it is the result of attending the seat at this place
+  -- the result of attending the seat with this index
   pub record IsLeftAt (tries : ℕ) (seats : List (Seat P W)) (k : ℕ) (left : Attended P W) : Type 0 where
     pub seat : Seat P W
     pub is_seat : slice_get seats k ≡ Some seat
     pub left_by : IsLeftOf tries seat left
 
-  -- each is the result of attending the seat at its place
+  -- the results of attending the seats, in order
   abbrev pub AreLeftBy : ℕ → List (Seat P W) → List (Attended P W) → Type 0
   AreLeftBy tries seats left = EachAt (IsLeftAt tries seats) left

@@ -15,31 +15,30 @@ use Rattle.match_messages.specs.Handing.{seconds_for}
 use Rattle.role_workers.specs.Events.{Event, makes, takes, hands}
 use Rattle.role_workers.specs.AttendFaults.{next_fault, answer_fault}
 
--- the call that brings a player's answer to the desk for a round
+-- the call that gives the desk a player's answer for a round
 abbrev pub answer_call : List ℕ → ℕ → ℕ → Answer → Call
 answer_call id role round (Text text) = Submit id role round text
 answer_call id role round Silent = Miss id role round false
 answer_call id role round Broken = Miss id role round true
 
--- the worker asks what is due to the role, and this reply comes
+-- the worker asks what the match owes to the role, and this reply comes
 abbrev pub asking : BriefValue → ℕ → Reply → List Event
 asking brief role reply = makes (Next brief.id role) ∷ takes reply ∷ []
 
--- the owed message is handed over once, and one call brings the answer to the desk for that round and gets this reply
+-- the worker sends the owed message once, and one call gives the desk the answer for its round and gets this reply
 abbrev pub handing_over : BriefValue → ℕ → ℕ → Owed → Answer → Reply → List Event
 handing_over brief role round owed answer reply =
     hands (record { seconds = seconds_for brief owed; body = message_text brief role owed; answer = answer })
     ∷ makes (answer_call brief.id role round answer) ∷ takes reply ∷ []
 
--- A step: the worker asks what is due to the role, and does what the reply says.
+-- A step: the worker asks what the match owes to the role, and does what the reply says.
 pub data Step : Type 0 where
-  -- nothing yet: the player rests
+  -- the player waits
   rests : (round : ℕ) → Step
-  -- a message
   hands_over : (round : ℕ) (owed : Owed) (answer : Answer) (reply : Reply) → Step
-  -- nothing any more: the match is over
+  -- the match is over
   finds_the_end : Step
-  -- the reply does not say
+  -- the reply does not say what is due
   finds_no_due : (reply : Reply) → Step
 
 abbrev pub events_of : BriefValue → ℕ → Step → List Event
@@ -48,14 +47,14 @@ events_of brief role (hands_over round owed answer reply) = asking brief role (D
 events_of brief role finds_the_end = asking brief role (Due Over)
 events_of brief role (finds_no_due reply) = asking brief role reply
 
--- the fault at which the worker stops after this step
+-- the error at which the worker stops after this step
 abbrev pub fault_after : Step → Option AttendFault
 fault_after (rests round) = None
 fault_after (hands_over round owed answer reply) = answer_fault reply
 fault_after finds_the_end = None
 fault_after (finds_no_due reply) = next_fault reply
 
--- the worker goes on after this step
+-- the worker continues after this step
 abbrev pub goes_on : Step → Bool
 goes_on (rests round) = true
 goes_on (hands_over round owed answer reply) = is_none (answer_fault reply)

@@ -1,4 +1,4 @@
-//! Why a role is no longer attended.
+//! Why a worker stops attending its role.
 ghost use Rattle.std.specs.Prelude.{◌≡◌};
 ghost use Rattle.role_workers.specs.declared.attend_fault.AttendFault.TheVariants.{Memory};
 ghost use Rattle.role_workers.specs.AttendFaults.{attend_fault};
@@ -8,14 +8,14 @@ use desk_calls::Refusal;
 use std::alloc::AllocError;
 use thiserror::Error;
 
-/// Why a role is no longer attended, before its match is over.
+/// Why a worker stops attending its role before the match is over.
 #[derive(Clone, Copy, Debug, PartialEq, Eq, Error)]
 pub enum AttendFault {
-    /// The desk refused a call, for this reason. A worker skips the refusal of an answer that is
-    /// late, repeated or after the end.
+    /// The desk refused a call, for this reason. A worker ignores the refusal of an answer that is late, repeated or after
+    /// the end.
     #[error("refused: {0}")]
     Refused(Refusal),
-    /// The tries are used up, the wire gave up, or the reply is one that its call never gets.
+    /// The tries are used up, the wire gave up, or the reply does not fit its call.
     #[error("no reply came")]
     Stalled,
     /// The desk's history is full.

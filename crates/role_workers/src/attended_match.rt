@@ -1,4 +1,4 @@
-//! A match whose roles are attended, each over a line of the match's desk.
+//! Attends the roles of a match, each over one line of the match's desk.
 ghost use Rattle.std.specs.Prelude.{◌≡◌, ◌+◌, Some, map, min, IfOk, length};
 ghost use Rattle.call_history.specs.RingLines.{SamePorts, AreEndsOf, IsLineOf};
 ghost use Rattle.role_workers.specs.RoleLines.{AreSeatLines, HasFinished, AreLeftLines};
@@ -17,7 +17,8 @@ use std::alloc::{AllocError, Global};
 use std::sync::Wait;
 use std::thread::Threads;
 
-/// How the roles of a match are attended: what START says, the players in the order of the roles, and each role's limit of questions.
+/// How the roles of a match are attended: the data of START, the players in the order of the roles, and the largest number
+/// of questions for each role.
 #[derive(Drop)]
 pub struct AttendancePlan<'r, P> {
     pub brief: SharedBrief<'r>,
@@ -25,7 +26,7 @@ pub struct AttendancePlan<'r, P> {
     pub tries: u64,
 }
 
-/// A match that is over: its desk, all lines, which post no more, how attending each role ended, and the players.
+/// A match that is over: its desk, the ends of all lines, how attending each role ended, and the players.
 #[derive(Drop)]
 pub struct AttendedMatch<O: Object, P> {
     pub desk: RingDesk<O>,
@@ -34,7 +35,6 @@ pub struct AttendedMatch<O: Object, P> {
     pub players: Vec<P>,
 }
 
-/// A wire over each line of a desk.
 fn wires_over<'a, O, N>(
     alloc: Global,
     lines: Vec<RingLine<O>>,
@@ -52,7 +52,8 @@ where
     Ok(wires)
 }
 
-/// Attends each role of a match over its line of the desk, which lies under a lock meanwhile. After that, no line posts any more.
+/// Attends each role of a match over its line of the desk. The desk is under a lock meanwhile. Afterwards no line posts any
+/// more.
 pub fn attend_match<N, O, P, R>(
     rt: &R,
     alloc: Global,
@@ -84,7 +85,7 @@ where
         players,
         tries,
     } = plan;
-    // The lists that are filled at the end get their room before the first thread starts.
+    // The memory for the results is allocated before the first thread starts.
     let count = others.len();
     let mut lines = Vec::with_capacity(alloc, count + 1)?;
     let mut ends = Vec::with_capacity(alloc, count)?;

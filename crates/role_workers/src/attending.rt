@@ -1,4 +1,4 @@
-//! Attending one role of a match.
+//! Attends one role of a match.
 ghost use Rattle.std.specs.Prelude.{◌≡◌, ◌<◌, [], ◌∷◌, length, List, None, IfOk, IfErr, OnOk};
 ghost use Rattle.call_history.specs.Told.{told_with};
 ghost use Rattle.desk_calls.specs.declared.answer.Answer.{Answer};
@@ -19,7 +19,7 @@ use desk_calls::{Answer, Call, Due, Owed, Refusal, Reply};
 use match_messages::{Brief, Player, SharedBrief, shared_message};
 use std::alloc::{AllocError, Global};
 
-/// Asks what is due to the role.
+/// Asks the desk what it owes to the role.
 fn next_due<W: Wire<Call = Call, Reply = Reply>>(
     alloc: Global,
     wire: &mut W,
@@ -40,7 +40,7 @@ fn next_due<W: Wire<Call = Call, Reply = Reply>>(
     }
 }
 
-/// The call that brings a player's answer to the desk for a round.
+/// The call that gives the desk a player's answer for a round.
 pub(crate) fn answer_call(
     alloc: Global,
     brief: &SharedBrief<'_>,
@@ -73,8 +73,8 @@ pub(crate) fn answer_call(
     })
 }
 
-/// The fault of a worker at this reply to its player's answer. The refusal of an answer that is late,
-/// repeated or after the end has no effect, and is skipped.
+/// The error of a worker if its player's answer gets this reply. A worker ignores the refusal of an answer that is late,
+/// repeated or after the end.
 fn answer_fault(reply: &Reply) -> Option<AttendFault>
     ensures { result ≡ answer_fault reply.now }
 {
@@ -85,7 +85,7 @@ fn answer_fault(reply: &Reply) -> Option<AttendFault>
     }
 }
 
-/// Brings a player's answer to the desk.
+/// Gives the desk a player's answer.
 fn give_back<W: Wire<Call = Call, Reply = Reply>>(
     alloc: Global,
     wire: &mut W,
@@ -119,7 +119,7 @@ fn seconds_for(brief: &SharedBrief<'_>, owed: &Owed) -> u32
     }
 }
 
-/// Hands the owed message to the player, and brings the answer to the desk.
+/// Sends the player the owed message, and gives the desk the answer.
 fn hand_over<W: Wire<Call = Call, Reply = Reply>, P: Player>(
     alloc: Global,
     wire: &mut W,
@@ -145,7 +145,7 @@ fn hand_over<W: Wire<Call = Call, Reply = Reply>, P: Player>(
     give_back(alloc, wire, brief, role, round, answer)
 }
 
-/// Attends one role of a match to its end, as `attend` does, with data that is lent.
+/// Attends one role of a match to its end, as `attend` does, with borrowed data.
 pub fn attend_shared<W: Wire<Call = Call, Reply = Reply>, P: Player>(
     alloc: Global,
     wire: &mut W,
@@ -171,13 +171,11 @@ pub fn attend_shared<W: Wire<Call = Call, Reply = Reply>, P: Player>(
     Err(AttendFault::Stalled)
 }
 
-/// Attends one role of a match to its end. It asks what is due to the role, hands each owed message to
-/// the player once, and brings the answer to the desk for its round. Returns how many messages it handed
-/// over.
+/// Attends one role of a match to its end: asks the desk what it owes to the role, sends each owed message to the player
+/// once, and gives the desk the answer for its round. Returns how many messages it sent.
 ///
-/// Each question is a try, also if the player has to rest. After the last try it stops with `Stalled`.
-/// What happened before a fault stays: the messages that were handed over, the calls that were made and
-/// the player's rests.
+/// Each question is one try, also if the player then has to wait. After the last try this stops with `Stalled`. An error
+/// undoes nothing: the messages were sent, the calls were made, and the player has waited.
 pub fn attend<W: Wire<Call = Call, Reply = Reply>, P: Player>(
     alloc: Global,
     wire: &mut W,

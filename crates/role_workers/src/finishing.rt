@@ -1,4 +1,4 @@
-//! The lines of the attended roles are finished.
+//! Finishes the lines of the attended roles.
 ghost use Rattle.std.specs.Prelude.{◌≡◌, [], OnOk, map};
 ghost use Rattle.role_workers.specs.RoleLines.{IsFinishedOf, AreFinishedOf};
 
@@ -10,10 +10,10 @@ use call_history::{LineEnd, Object, RingLine};
 use desk_calls::{Call, Reply};
 use std::alloc::AllocError;
 
-/// The limit of calls, and of replies, that wait on a line.
+/// How many calls, and how many replies, can wait on a line.
 pub const ROOM: u64 = 2;
 
-/// Ends the posting of a line, and takes the replies that still wait.
+/// Closes a line for further calls, and takes the replies that still wait.
 pub fn finish_line<O: Object>(line: RingLine<O>) -> LineEnd<O>
     ensures { IsFinishedOf line result }
 {
@@ -24,8 +24,8 @@ pub fn finish_line<O: Object>(line: RingLine<O>) -> LineEnd<O>
     end
 }
 
-/// Finishes the lines of the attended roles. The lines, how attending each role ended, and the players go into lists that are empty and
-/// have room for them, in the order of the roles.
+/// Finishes the lines of the attended roles. The lines, the ends of attending, and the players are added to lists in the
+/// order of the roles. The lists are empty and have enough memory.
 pub fn finish_all<O, N, P>(
     attended: Vec<Attended<P, ServedWire<'_, O, N>>>,
     lines: &mut Vec<LineEnd<O>>,

@@ -12,7 +12,7 @@ pub struct DeskHolder<O: Object> {
     pub line: RingLine<O>,
 }
 
-/// Makes a call over the holder's own line. If the desk can't make the call, it keeps it.
+/// Makes a call over the holder's line. If the desk cannot make the call, it keeps it.
 pub fn ask_own<O: Object>(holder: &mut DeskHolder<O>, call: O::Call) -> Result<O::Reply, AskFault>
     ensures line { SameLine holder.old.line holder.new.line }
     ensures ports { SamePorts holder.old.desk.ports holder.new.desk.ports }
@@ -32,7 +32,7 @@ pub fn ask_own<O: Object>(holder: &mut DeskHolder<O>, call: O::Call) -> Result<O
     }
 }
 
-/// Why a round brought no reply.
+/// The error of a round that brought no reply.
 fn fault_of(served: Result<u64, DeskFault>) -> AskFault
     ensures { MatchResult served (λ _. result ≡ AskFault.Stalled) (λ fault. result ≡ ask_fault fault.cause) }
 {

@@ -2,7 +2,7 @@
 ghost use Rattle.role_workers.specs.Attending.{MessagesAreCounted};
 ghost use Rattle.role_workers.specs.Laws.{CallsAreOfTheRole, CallsHaveReplies, OwedAreHandedOver};
 
-/// If attending a role found the end of the match, a player that shows its messages shows as many more as were counted.
+/// If a worker found the end of the match, and the player shows its messages, it shows as many more as were counted.
 pub fn messages_are_counted()
     ensures { MessagesAreCounted }
 {}
@@ -17,8 +17,8 @@ pub fn calls_have_replies()
     ensures { CallsHaveReplies }
 {}
 
-/// A worker that found the end handed over each message that a reply owed, once and in their order, and last took the reply that the
-/// match is over.
+/// A worker that found the end sent each message that a reply owed, once and in order. The last reply said that the match is
+/// over.
 pub fn owed_are_handed_over()
     ensures { OwedAreHandedOver }
 {}

@@ -1,8 +1,8 @@
-//! A worker for each role of a match: each role has a player, and a thread of its own attends it.
+//! A worker for each role of a match. It attends the role in a separate thread.
 //!
-//! `attend` asks over a wire what is due to a role, hands it to the role's player and returns the answer to
-//! the desk. `attend_match` has a thread for each role do so, while all of them serve one desk over rings. What the desk does with
-//! a call is not said here: the calls and their replies are those of `desk_calls`.
+//! `attend` asks the desk over a wire what it owes to the role, sends that to the role's player, and gives the desk the
+//! answer. `attend_match` runs one thread for each role; together these serve one desk over rings. The calls and replies are
+//! those of `desk_calls`, whatever the desk does with them.
 #![tactic(auto)]
 
 mod attend_fault;

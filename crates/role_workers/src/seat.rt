@@ -1,4 +1,4 @@
-//! A seat: a role of a match that will be attended.
+//! A role that will be attended.
 ghost use Rattle.std.specs.Prelude.{◌<◌, length};
 
 use crate::attend_fault::AttendFault;
@@ -14,7 +14,7 @@ pub struct Seat<'a, P, W> {
     ghost is_role: { role < length brief.now.roles },
 }
 
-/// The result of attending a role: its wire and its player come back.
+/// The result of attending a role, with its wire and its player.
 #[derive(Drop)]
 pub struct Attended<P, W> {
     pub wire: W,

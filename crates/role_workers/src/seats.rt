@@ -1,4 +1,4 @@
-//! Roles of matches, each attended over a wire of its own in a thread of its own.
+//! Attends roles of matches, each over its wire in a separate thread.
 ghost use Rattle.std.specs.Prelude.{◌≡◌, ◌<◌, ◌≤◌, ℕ, [], ◌∷◌, Some, length, map, min, slice_get, IfOk, OnOk};
 ghost use Rattle.role_workers.specs.Attendances.{IsAttended};
 ghost use Rattle.role_workers.specs.Seats.{AreSeatsOf, IsLeftOf, AreLeftBy};
@@ -20,7 +20,7 @@ use std::sync::Wait;
 use std::thread;
 use std::thread::{Promise, PromisedHandle, Scope, Threads};
 
-/// The promise that a seat's thread gives of its result.
+/// What a seat's thread guarantees about its result.
 #[derive(Drop)]
 struct LeftBy<'a, P, W> {
     seat: Snapshot<Seat<'a, P, W>>,
@@ -34,14 +34,14 @@ impl<'a, P: Player, W: Wire<Call = Call, Reply = Reply>> Promise<Attended<P, W>>
     ghost kept_by = { λ p left. IsLeftOf W.Wire P.Player p.tries p.seat.value left };
 }
 
-/// A role of a match without a thread that attends it.
+/// A role of a match without a thread.
 #[derive(Clone, Copy)]
 struct Unattended<'a> {
     brief: &'a SharedBrief<'a>,
     role: usize,
 }
 
-/// A seat for each role of the match. The roles, the wires and the players are taken in their order.
+/// Makes a seat for each role of the match. The roles, the wires and the players are taken in order.
 pub fn seat_players<'a, P: Drop, W: Drop>(
     alloc: Global,
     brief: &'a SharedBrief<'a>,
@@ -71,8 +71,8 @@ pub fn seat_players<'a, P: Drop, W: Drop>(
     Ok(seats)
 }
 
-/// Attends the role of a seat over its wire, and then signals its end. If it runs out of memory the desk stops: the match can't end without the role,
-/// and the other workers would ask in vain until the history is full.
+/// Attends the role of a seat over its wire, and then signals the end. If it runs out of memory, it stops the desk: the
+/// match cannot end without this role, and the other workers would ask until the history is full.
 fn attend_seat<P: Player + Drop, W: Wire<Call = Call, Reply = Reply>>(
     alloc: Global,
     seat: Seat<'_, P, W>,
@@ -96,7 +96,6 @@ fn attend_seat<P: Player + Drop, W: Wire<Call = Call, Reply = Reply>>(
     Attended { wire, end, player }
 }
 
-/// The roles of these seats.
 fn roles_of<'a, P, W>(
     alloc: Global,
     seats: &[Seat<'a, P, W>],
@@ -114,7 +113,6 @@ fn roles_of<'a, P, W>(
     Ok(roles)
 }
 
-/// The round of the message that is due, if one is.
 fn due_round(reply: &Reply) -> Option<u64>
     ensures { result ≡ due_round reply.now }
 {
@@ -124,7 +122,7 @@ fn due_round(reply: &Reply) -> Option<u64>
     }
 }
 
-/// Gives a role up: aborts its match, and if a message is due to the role, reports its answer as broken.
+/// Gives a role up: aborts its match and, if the desk owes the role a message, reports a broken connection as its answer.
 fn give_up<W: Wire<Call = Call, Reply = Reply>>(
     alloc: Global,
     own: &mut W,
@@ -145,7 +143,7 @@ fn give_up<W: Wire<Call = Call, Reply = Reply>>(
     Ok(())
 }
 
-/// Gives these roles up. So their matches end, and with them the work of the threads that attend the other roles.
+/// Gives these roles up, so that their matches end, and with them the threads that attend the other roles.
 fn give_up_all<W: Wire<Call = Call, Reply = Reply>>(
     alloc: Global,
     own: &mut W,
@@ -159,7 +157,7 @@ fn give_up_all<W: Wire<Call = Call, Reply = Reply>>(
     Ok(())
 }
 
-/// Joins the threads of seats. Their results go into `attended`, which is empty and has room for them.
+/// Joins the threads of the seats, and adds their results to `attended`, which is empty and has enough memory.
 fn join_seats<'a, P: Player + Drop, W: Wire<Call = Call, Reply = Reply> + Drop, R: Threads>(
     rt: &R,
     handles: Vec<PromisedHandle<Attended<P, W>, LeftBy<'a, P, W>>>,
@@ -176,8 +174,8 @@ fn join_seats<'a, P: Player + Drop, W: Wire<Call = Call, Reply = Reply> + Drop, 
     Ok(attended)
 }
 
-/// Starts a thread for each seat, in their order, which attends it in at most `tries` tries. If a thread can't be made, no further one
-/// starts.
+/// Starts a thread for each seat, in order, which attends it in at most `tries` tries. If a thread cannot be created, it
+/// starts no more.
 fn start_seats<'s, 'a: 's, E, P, W>(
     alloc: Global,
     scope: &'s Scope<'s, E>,
@@ -223,8 +221,8 @@ where
     Ok(handles)
 }
 
-/// Ends the work of these threads when the other roles have no thread. Gives the other roles up over the calling thread's own wire,
-/// and joins the threads; their results are dropped.
+/// Ends these threads when the other roles have none: gives the other roles up over the calling thread's wire, and joins the
+/// threads. Their results are dropped.
 fn end_seats<O, N, W, P, R>(
     rt: &R,
     alloc: Global,
@@ -243,7 +241,7 @@ where
 {
     let given_up = give_up_all(alloc, own, others);
     if let Err(fault) = given_up {
-        // Roles that are not given up hold the match up for good, so the other workers are stopped.
+        // If giving up fails, the match never ends, so this stops the other workers.
         desk.stop(fault);
     }
     desk.serve_until(rt, handles.len() as u64);
@@ -253,11 +251,11 @@ where
     given_up
 }
 
-/// Attends each seat in a thread of its own, in at most `tries` tries, while the calling thread serves the desk, too, until all have
-/// ended. The own wire comes back, with the results in the order of the seats.
+/// Attends each seat in a separate thread, in at most `tries` tries. The calling thread also serves the desk until all have
+/// ended. Its wire comes back with the results, which are in the order of the seats.
 ///
-/// If a thread can't be made, no further one starts. A match waits for all its roles, so the matches of the remaining seats are
-/// aborted over the calling thread's own wire. Once the running threads have ended, the result is out of memory.
+/// If a thread cannot be created, no more are started. A match waits for all its roles, so this aborts the matches of the
+/// remaining seats over the calling thread's wire. When the running threads have ended, it returns out of memory.
 pub fn attend_all<O, N, W, P, R>(
     rt: &R,
     alloc: Global,

@@ -1,4 +1,4 @@
-//! A wire whose own thread serves the desk while it waits for a reply.
+//! A wire whose thread serves the desk while it waits for a reply.
 ghost use Rattle.std.specs.Prelude.{◌≡◌, ◌⊎◌, ◌∷◌, ◌++◌, [], Some, IfOk, IfErr, IfSome, IfNone, OnOk, OnErr, IsErr, IsTrue, IsFalse};
 ghost use Rattle.call_history.specs.Told.{told_with};
 ghost use Rattle.call_history.specs.RingLines.{posted_calls, taken_replies, SameLine};
@@ -7,10 +7,11 @@ use crate::shared_desk::{DeskBrand, SharedDesk};
 use call_history::{AskFault, Object, RingLine, Wire, back_off};
 use desk_calls::{Call, Reply};
 
-/// A wire gives up after this many looks for a reply.
+/// After this many checks for a reply, a wire gives up.
 const TURNS: u64 = 1_000_000_000;
 
-/// A line of a desk that any thread can serve. It has at most one call under way, so that its ring has room for the next.
+/// A line of a desk that any thread can serve. It has at most one unfinished call, so its ring always has a slot for the
+/// next one.
 #[derive(Drop)]
 pub struct ServedWire<'a, O: Object<Call = Call, Reply = Reply>, N: DeskBrand<O>> {
     line: RingLine<O>,
@@ -19,7 +20,7 @@ pub struct ServedWire<'a, O: Object<Call = Call, Reply = Reply>, N: DeskBrand<O>
 }
 
 impl<'a, O: Object<Call = Call, Reply = Reply>, N: DeskBrand<O>> ServedWire<'a, O, N> {
-    /// A wire that makes the line's calls on its desk.
+    /// Creates a wire that makes the line's calls on its desk.
     pub fn new(line: RingLine<O>, desk: &'a SharedDesk<O, N>) -> ServedWire<'a, O, N>
         ensures line { result.line ≡ line }
         ensures going { IsFalse result.has_stalled }
@@ -31,7 +32,7 @@ impl<'a, O: Object<Call = Call, Reply = Reply>, N: DeskBrand<O>> ServedWire<'a, 
         }
     }
 
-    /// Returns the line.
+    /// Gives the line back.
     pub fn end(self) -> RingLine<O>
         ensures { result ≡ self.entry.line }
     {
@@ -52,9 +53,10 @@ impl<'a, O: Object<Call = Call, Reply = Reply>, N: DeskBrand<O>> Wire for Served
 
     ghost same_line = { λ v w. SameLine v.line w.line };
 
-    /// Posts the call and takes one reply. This is the reply to the call if the line had taken as many replies as it posted calls.
-    /// The wire stalls if no reply comes within `TURNS` looks, or if the desk has stopped. A stalled wire does nothing more,
-    /// but a call that was posted stays posted. The fault is out of memory if the desk has stopped for that.
+    /// Posts the call and takes one reply. This is the reply to the call if the line had taken as many replies as it had
+    /// posted calls. The wire stalls after `TURNS` checks without a reply, or if the desk has stopped. A stalled wire does
+    /// nothing more, but a call that it has posted stays posted. If the desk has stopped because it ran out of memory, that
+    /// is the error.
     fn ask(&mut self, call: Call) -> Result<Reply, AskFault>
         ensures line { SameLine self.old.line self.new.line }
         ensures call { OnOk result (Some (posted_calls self.new.line) ≡ told_with (Some (posted_calls self.old.line)) (call ∷ [])) }
@@ -70,7 +72,7 @@ impl<'a, O: Object<Call = Call, Reply = Reply>, N: DeskBrand<O>> Wire for Served
         if self.has_stalled {
             return Err(AskFault::Stalled);
         }
-        // The wire counts as stalled until the reply is there.
+        // The wire counts as stalled until the reply has come.
         self.has_stalled = true;
         if self.line.post(call).is_err() {
             return Err(AskFault::Stalled);
@@ -91,8 +93,8 @@ impl<'a, O: Object<Call = Call, Reply = Reply>, N: DeskBrand<O>> Wire for Served
     ghost same_line_trans = { λ a b c ab bc. Prim.search rules };
 }
 
-/// Takes the reply that the line waits for. While it is not there, the thread serves rounds, or lets moments pass in which another
-/// thread does. It gives up after `TURNS` looks, or once the desk has stopped.
+/// Takes the reply that the line waits for. Until it comes, the thread serves rounds, or waits while another thread serves
+/// one. It gives up after `TURNS` checks, or when the desk has stopped.
 fn take_served<O: Object<Call = Call, Reply = Reply>, N: DeskBrand<O>>(
     line: &mut RingLine<O>,
     desk: &SharedDesk<O, N>,
@@ -103,7 +105,7 @@ fn take_served<O: Object<Call = Call, Reply = Reply>, N: DeskBrand<O>>(
     ensures none { IfNone result (taken_replies line.new ≡ taken_replies line.old) }
 {
     for tried in 0..TURNS {
-        // A reply is sent before the history is found full, so the last look comes after that.
+        // The desk sends its replies before it stops, so the last check comes after the stop.
         let is_last = desk.has_stopped();
         if let Some(reply) = line.take() {
             return Some(reply);

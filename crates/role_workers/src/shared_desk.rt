@@ -1,4 +1,4 @@
-//! A desk over rings under a lock. A thread that waits for a reply serves the lines, so no call is handed from thread to thread.
+//! A desk over rings under a lock. A thread that waits for a reply serves the lines itself, so no call changes threads.
 ghost use Rattle.std.specs.Prelude.{◌≡◌, Option, Some, MatchResult, length};
 ghost use Rattle.std.specs.Option.{ForSome};
 ghost use Rattle.call_history.specs.Rounds.{RingDeskValue, Visits};
@@ -16,13 +16,14 @@ use std::sync::atomic::{AtomicBool, Ordering};
 use std::sync::{Mutex, Wait};
 use std::time::Duration;
 
-/// The longest sleep of the thread that opened the desk, in milliseconds. Then a call that could not be made is tried again.
+/// The longest sleep, in milliseconds, of the thread that opened the desk. After it, a call that could not be made is tried
+/// again.
 const LONGEST_SLEEP: u64 = 1_000;
 
-/// The limit of rounds in a row without memory for a call.
+/// How many rounds in a row may lack memory for a call.
 const MAX_SHORT_ROUNDS: u64 = 10_000;
 
-/// The desk that is put under a lock. Each match picks it, since a contract can't name what lies under a lock.
+/// Which desk is under the lock. A contract cannot name what is under a lock, so each match has a type for it.
 pub trait DeskBrand<O> {
     ghost desk: { Option (RingDeskValue O Call Reply) };
 }
@@ -33,18 +34,18 @@ impl<O> DeskBrand<O> for Brand {
     ghost desk = { None };
 }
 
-/// The picked desk, after some rounds.
+/// This desk after some rounds.
 #[derive(Drop)]
 struct NamedDesk<O: Object<Call = Call, Reply = Reply>, N: DeskBrand<O>> {
     desk: RingDesk<O>,
-    /// How many more rounds in a row may have no memory for a call.
+    /// How many more rounds in a row may lack memory for a call.
     rounds_left: u64,
     of: PhantomData<N>,
     ghost same: { ForSome N.desk (λ first. IsDeskAfter O.opening first desk) },
 }
 
 impl<O: Object<Call = Call, Reply = Reply>, N: DeskBrand<O>> NamedDesk<O, N> {
-    /// Serves a round, and counts it. No line before the one at which it stops is left out.
+    /// Serves and counts a round. It skips no line before the one at which it stops.
     fn round(&mut self) -> Result<u64, DeskFault>
         ensures visits { MatchResult result
             (λ _. Visits self.old.desk.journal.history self.new.desk.journal.history self.old.desk.ports self.new.desk.ports (length self.old.desk.ports))
@@ -57,7 +58,7 @@ impl<O: Object<Call = Call, Reply = Reply>, N: DeskBrand<O>> NamedDesk<O, N> {
         served
     }
 
-    /// Whether the desk stops after a round with this fault.
+    /// Whether the desk stops after a round with this error.
     fn stops_for(&self, cause: CallFault) -> bool
         ensures { result ≡ stops_for self.now.rounds_left cause }
     {
@@ -68,7 +69,7 @@ impl<O: Object<Call = Call, Reply = Reply>, N: DeskBrand<O>> NamedDesk<O, N> {
     }
 }
 
-/// How many more rounds in a row may have no memory for a call, after a round with this result.
+/// How many more rounds in a row may lack memory for a call, after a round with this result.
 fn rounds_left(before: u64, served: &Result<u64, DeskFault>) -> u64
     ensures { result ≡ rounds_left before served.now }
 {
@@ -86,12 +87,11 @@ fn rounds_left(before: u64, served: &Result<u64, DeskFault>) -> u64
 pub struct SharedDesk<O: Object<Call = Call, Reply = Reply>, N: DeskBrand<O>> {
     locked: Mutex<NamedDesk<O, N>>,
     bell: Bell,
-    /// Whether the desk was stopped because memory ran out.
     is_short: AtomicBool,
 }
 
 impl<O: Object<Call = Call, Reply = Reply>, N: DeskBrand<O>> SharedDesk<O, N> {
-    /// Puts the picked desk under a lock.
+    /// Puts the desk under a lock.
     pub fn new(desk: RingDesk<O>) -> SharedDesk<O, N>
         requires { N.desk ≡ Some desk }
     {
@@ -108,9 +108,10 @@ impl<O: Object<Call = Call, Reply = Reply>, N: DeskBrand<O>> SharedDesk<O, N> {
         }
     }
 
-    /// Serves a round, unless another thread serves one now. Returns whether it served a whole round. A call that can't be made
-    /// is tried again in the next one, until the history is full or `MAX_SHORT_ROUNDS` in a row had no memory for it. Then the desk stops:
-    /// otherwise threads that wait for its reply would try it for minutes, and do nothing else.
+    /// Serves a round, unless another thread is serving one. Returns whether it served a complete round. The next round
+    /// tries a call again that could not be made, until the history is full or `MAX_SHORT_ROUNDS` rounds in a row had no
+    /// memory for it. Then the desk stops, since the threads that wait for its reply would otherwise do nothing else for
+    /// minutes.
     pub fn serve(&self) -> bool {
         let Some(mut named) = self.locked.try_lock() else {
             return false;
@@ -124,7 +125,8 @@ impl<O: Object<Call = Call, Reply = Reply>, N: DeskBrand<O>> SharedDesk<O, N> {
         served.is_ok()
     }
 
-    /// Ends the work of all threads over this desk because of this fault: a wire that waits for a reply, or makes a further call, stalls.
+    /// Ends all threads over this desk because of this error: each wire that waits for a reply, or makes another call,
+    /// stalls.
     pub fn stop(&self, fault: AttendFault) {
         if fault == AttendFault::Memory {
             self.is_short.store(true, Ordering::SeqCst);
@@ -137,7 +139,7 @@ impl<O: Object<Call = Call, Reply = Reply>, N: DeskBrand<O>> SharedDesk<O, N> {
         self.is_short.load(Ordering::SeqCst)
     }
 
-    /// Whether all threads over this desk are to end: a round found the history full, too many found no memory, or the desk was stopped.
+    /// Whether the desk has stopped: a round found the history full, too many had no memory, or `stop` was called.
     pub fn has_stopped(&self) -> bool {
         self.bell.has_stopped()
     }
@@ -147,8 +149,8 @@ impl<O: Object<Call = Call, Reply = Reply>, N: DeskBrand<O>> SharedDesk<O, N> {
         &self.bell
     }
 
-    /// Serves rounds until `workers` workers have ended. Workers serve their own calls, so it sleeps in between, and only the end of
-    /// a worker wakes it.
+    /// Serves rounds until `workers` workers have ended. Workers serve their own calls, so this thread sleeps most of the
+    /// time, and the end of a worker wakes it.
     pub fn serve_until<R: Wait>(&self, rt: &R, workers: u64) {
         let mut pause = Pause::new(&self.bell, Duration::from_millis(LONGEST_SLEEP));
         for _ in rt.forever() {
@@ -160,7 +162,7 @@ impl<O: Object<Call = Call, Reply = Reply>, N: DeskBrand<O>> SharedDesk<O, N> {
         }
     }
 
-    /// The desk, once no thread serves it any more.
+    /// Takes the desk out of the lock, when no thread serves it any more.
     pub fn into_desk(self) -> RingDesk<O>
         ensures { ForSome N.desk (λ first. IsDeskAfter O.opening first result) }
     {

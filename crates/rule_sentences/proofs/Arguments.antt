@@ -1,4 +1,4 @@
--- The arguments of a relation, by the number of a list's members.
+-- The arguments of a relation, by the number of members of the list.
 use Rattle.std.proofs.Common.{◌≡◌, ◌≢◌, ◌<◌, List, [], ◌∷◌, length, get_or, None, Some, Option, refl, arith}
 use Rattle.game_core.specs.Expression.{Expression}
 use Rattle.kif_text.specs.View.{view, views}

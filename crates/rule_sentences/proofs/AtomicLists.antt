@@ -1,4 +1,4 @@
--- Atomic sentences, one literal and one rule after another.
+-- The loops over atomic sentences, literals and rules.
 use Rattle.std.proofs.Common.{◌≡◌, ℕ, ◌+◌, ◌-◌, ◌<◌, ◌≤◌, Bool, true, false, nat_le, if◌then◌else◌, List, [], ◌∷◌, ◌++◌, drop, length, length-append, get_or, drop-cons, add-one, refl, sym, ap, ◌∙◌, arith}
 use Rattle.std.proofs.lemmas.Bool.Decides.{nat_tests}
 use Rattle.std.proofs.lemmas.List.{at_drop_more}
@@ -39,8 +39,6 @@ rule-added seen next whole rs i r lt at is e =
     let own = IsDerived r.head ∷ all_atomics_in (views r.body.items) in
     ap (λ ks. with_all_new same_atomic ks rest) is ∙ sym (with_all_new-append same_atomic seen own rest) ∙ ap (with_all_new same_atomic seen) (sym (atomics-at rs i r lt at)) ∙ e
 
--- the room that is left beside those that were passed, one literal or one rule more
-
 pub room-literal : (left next whole : ℕ) (ls : List CodeLiteral) (i : ℕ) (l : CodeLiteral) → i < length ls → l ≡ get_or ls i l → next ≡ left - length (atomics_in (view l))
     → left - length (all_atomics_in (views (drop i ls))) ≡ whole → next - length (all_atomics_in (views (drop (i + 1) ls))) ≡ whole
 room-literal left next whole ls i l lt at is e =
@@ -55,7 +53,7 @@ room-rule left headed next whole rs i r lt at first second e =
     let size = ap length (atomics-at rs i r lt at) ∙ length-append (IsDerived r.head ∷ all_atomics_in (views r.body.items)) rest in
     omega (arith, first, second, e, size)
 
--- those that differ are no more than all
+-- there are at most as many distinct members as members
 
 new-or-not : {A : Type 0} (b : Bool) (seen : List A) (x : A) → length (if b then seen else seen ++ x ∷ []) ≤ length seen + 1
 new-or-not true seen x = omega arith

@@ -1,4 +1,4 @@
--- Literals that were read, one after another.
+-- The loop that reads literals.
 use Rattle.std.proofs.Common.{◌≡◌, ◌≢◌, ℕ, zero, suc, ◌+◌, ◌-◌, ◌<◌, ◌≤◌, List, [], ◌∷◌, ◌++◌, map, drop, length, get_or, drop-cons, add-one, None, Some, Option, Vec, Global, refl, sym, ap, ◌∙◌, rules, arith}
 use Rattle.std.proofs.lemmas.List.{drop_all, map-append}
 use Rattle.game_core.specs.Expression.{Expressions, none, more}
@@ -26,7 +26,7 @@ view-Or v = search (rules, the_lemmas)
 pub disjunction-is : (v : Vec CodeLiteral Global) → 0 < length v.items → Some (view (CodeOr v)) ≡ disjunction (Some (views v.items))
 disjunction-is v some = ap Some (view-Or v) ∙ disjunction-some v.items some
 
--- what is read, after these literals
+-- these literals, followed by those that are read
 abbrev pub prefixed : List TextLiteral → Option TextLiterals → Option TextLiterals
 prefixed [] o = o
 prefixed (l ∷ ls) o = both More (Some l) (prefixed ls o)
@@ -43,7 +43,7 @@ prefixed-push : (ls : List TextLiteral) (l : TextLiteral) (o : Option TextLitera
 prefixed-push [] l o = refl
 prefixed-push (m ∷ ls) l o = ap (both More (Some m)) (prefixed-push ls l o)
 
--- what is left to read at this place
+-- what is left to read from this place
 abbrev pub left : ℕ → ℕ → List Expr → Expressions
 left start place xs = without_first (start - place) (expressions (drop place xs))
 
@@ -69,14 +69,14 @@ left-none start place xs le = rw (drop_all place xs le) (without-none (start - p
     without-none zero = refl
     without-none (suc n) = refl
 
--- a member that is no literal
+-- a member that is not a literal ends the loop
 pub stops : (ls : List TextLiteral) (start place : ℕ) (xs : List Expr) (d : Expr) (whole : Option TextLiterals) → place < length xs → start ≤ place → read_literal (expression (get_or xs place d)) ≡ None
     → prefixed ls (read_literals (left start place xs)) ≡ whole → None ≡ whole
 stops ls start place xs d whole lt le is e =
     let f : read_literals (left start place xs) ≡ None = ap read_literals (left-read start place xs d lt le) ∙ ap (λ o. both More o (read_literals (left start (place + 1) xs))) is in
     sym (prefixed-none ls) ∙ ap (prefixed ls) (sym f) ∙ e
 
--- a member that is a literal
+-- a member that is a literal continues the loop
 goes-on-view : (ls : List TextLiteral) (l : TextLiteral) (start place : ℕ) (xs : List Expr) (d : Expr) (whole : Option TextLiterals) → place < length xs → start ≤ place → Some l ≡ read_literal (expression (get_or xs place d))
     → prefixed ls (read_literals (left start place xs)) ≡ whole → prefixed (ls ++ l ∷ []) (read_literals (left start (place + 1) xs)) ≡ whole
 goes-on-view ls l start place xs d whole lt le is e =

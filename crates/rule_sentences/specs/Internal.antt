@@ -1,2 +1,2 @@
--- Cited only by private functions and proofs.
+-- Definitions that only private functions and proofs use.
 pub mod Members

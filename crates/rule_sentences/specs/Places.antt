@@ -1,4 +1,4 @@
--- Where atomic sentences may stand.
+-- Where atomic sentences may be.
 use Rattle.std.specs.Prelude.{Bool, true, false, ◌&&◌, Option, Some, None, if◌then◌else◌}
 use Rattle.rule_sentences.specs.declared.sentence.Derived.{Derived}
 use Rattle.rule_sentences.specs.declared.sentence.Derived.TheVariants.{Role, Init, Next, Legal, Goal, Terminal, Other}
@@ -7,7 +7,7 @@ use Rattle.rule_sentences.specs.declared.sentence.Atomic.TheVariants.{Derived as
 use Rattle.numbered_rules.specs.Literals.{Holds, InState, Does, Distinct, Not, Or, End, More}
 use Rattle.rule_sentences.specs.Sentences.{TextLiteral, TextLiterals, Sentence, TextRule}
 
--- init and next sentences stand only as heads
+-- init and next sentences may only be heads
 abbrev pub stands_in_bodies : Derived → Bool
 stands_in_bodies (Role r) = true
 stands_in_bodies (Init t) = false
@@ -30,7 +30,7 @@ abbrev mutual
   are_placed End = true
   are_placed (More l ls) = is_placed l && are_placed ls
 
--- a role sentence is the head of a fact only
+-- a role sentence may only be the head of a fact
 abbrev pub is_head_of : Derived → TextLiterals → Bool
 is_head_of (Role r) End = true
 is_head_of (Role r) (More l ls) = false
@@ -41,12 +41,12 @@ is_head_of (Goal r n) body = true
 is_head_of Terminal body = true
 is_head_of (Other t) body = true
 
--- true and does sentences stand only in bodies
+-- true and does sentences may only be in bodies
 abbrev pub place_head : Atomic → TextLiterals → Option TextRule
 place_head (IsDerived a) body = if is_head_of a body && are_placed body then Some (record { head = a; body = body }) else None
 place_head (IsInState t) body = None
 place_head (IsDoes r m) body = None
 
--- the rule that a sentence is, none if an atomic sentence in it stands where it may not
+-- the rule for a sentence, or None if an atomic sentence is in a position that GDL does not allow
 abbrev pub place : Sentence → Option TextRule
 place s = place_head s.head s.body

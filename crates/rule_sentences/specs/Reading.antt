@@ -1,4 +1,4 @@
--- The reading of an expression as a sentence, none if it does not have the form of one.
+-- Reads an expression as a sentence. The result is None if it does not have the form of a sentence.
 use Rattle.std.specs.Prelude.{ℕ, nat_le, List, Option, Some, None, option_map, if◌then◌else◌}
 use Rattle.game_core.specs.Expression.{Expression, atom, list, Expressions, none, more, depth, max_depth}
 use Rattle.game_core.specs.Numerals.{plain_number}
@@ -13,31 +13,30 @@ use Rattle.rule_sentences.specs.Sentences.{TextLiteral, TextLiterals, literal_of
 use Rattle.rule_sentences.specs.Terms.{term_text}
 use Rattle.rule_sentences.specs.Words.{word_of}
 
--- both values, if there are both
 abbrev pub both : {A B C : Type 0} → (A → B → C) → Option A → Option B → Option C
 both f (Some x) (Some y) = Some (f x y)
 both f (Some x) None = None
 both f None o = None
 
--- the goal that an expression is: a number from 0 to 100 without leading zeros
+-- the goal value: a number from 0 to 100 without leading zeros
 unfoldable pub goal_value : Expression → Option ℕ
 goal_value (atom w) = plain_number w max_goal
 goal_value (list xs) = None
 
--- what the first member's word stands for, if it is an atom
+-- the kind of word of the first member, if that is an atom
 abbrev pub head_word : Expressions → Option Word
 head_word none = None
 head_word (more (atom w) xs) = Some (word_of w)
 head_word (more (list ys) xs) = None
 
--- the one member after the first, if it is a term
+-- the second member, if the list has two members and this one is a term
 abbrev pub one_argument : Expressions → Option (List ℕ)
 one_argument none = None
 one_argument (more f none) = None
 one_argument (more f (more x none)) = term_text x
 one_argument (more f (more x (more y xs))) = None
 
--- the two members after the first, the first of them if it is a term, with what the second is read as
+-- the second and third members, if the list has three: the second if it is a term, the third as the function reads it
 abbrev pub two_arguments : {A : Type 0} → (Expression → Option A) → Expressions → Option (List ℕ × A)
 two_arguments read none = None
 two_arguments read (more f none) = None
@@ -45,7 +44,7 @@ two_arguments read (more f (more x none)) = None
 two_arguments read (more f (more x (more y none))) = both (λ t u. (t, u)) (term_text x) (read y)
 two_arguments read (more f (more x (more y (more z xs)))) = None
 
--- a list with this word at its head, as an atomic sentence
+-- reads a list with this word at its head as an atomic sentence
 abbrev pub read_relation : Option Word → Expressions → Option Atomic
 read_relation (Some RoleWord) xs = option_map (λ t. IsDerived (Role t)) (one_argument xs)
 read_relation (Some InitWord) xs = option_map (λ t. IsDerived (Init t)) (one_argument xs)
@@ -63,7 +62,6 @@ read_relation (Some DistinctWord) xs = None
 read_relation (Some AndWord) xs = None
 read_relation None xs = None
 
--- a word alone, as an atomic sentence
 abbrev pub read_alone : Word → List ℕ → Option Atomic
 read_alone TerminalWord w = Some (IsDerived Terminal)
 read_alone PlainWord w = option_map (λ t. IsDerived (Other t)) (term_text (atom w))
@@ -84,7 +82,7 @@ disjunction (Some (More l ls)) = Some (Or (More l ls))
 disjunction (Some End) = None
 disjunction None = None
 
--- a list as a literal, by the word at its head; what follows the head is read as literals already
+-- reads a list as a literal, by the word at its head; the rest has been read as literals already
 abbrev pub read_compound : Option Word → Expressions → Option TextLiterals → Option TextLiteral
 read_compound (Some NotWord) xs read = negation read
 read_compound (Some OrWord) xs read = disjunction read
@@ -122,6 +120,6 @@ abbrev pub read_form : Expression → Option Sentence
 read_form (atom w) = option_map fact (read_alone (word_of w) w)
 read_form (list xs) = read_list (head_word xs) xs
 
--- a sentence that a text can spell
+-- a sentence that some text spells
 abbrev pub read_sentence : Expression → Option Sentence
 read_sentence x = if nat_le (depth x) max_depth then read_form x else None

@@ -1,4 +1,4 @@
--- Which expressions are the sentences of a description, and the first that is none.
+-- Which expressions are the sentences of a description, and which is the first that is not a sentence.
 use Rattle.std.specs.Prelude.{ℕ, ◌≡◌, Bool, List, Option, Some, None, is_none, option_and_then, not, ◌&&◌}
 use Rattle.std.specs.List.{filter_map, position_from}
 use Rattle.game_core.specs.Expression.{Expression}
@@ -10,31 +10,30 @@ use Rattle.rule_sentences.specs.Reading.{read_sentence}
 use Rattle.rule_sentences.specs.Places.{place}
 use Rattle.rule_sentences.specs.Descriptions.{Description}
 
--- the first place at which the test is true
+-- the first index at which the test is true
 abbrev pub first_place : {A : Type 0} → (A → Bool) → List A → Option ℕ
 first_place test xs = position_from test 0 xs
 
 abbrev pub is_malformed : Expression → Bool
 is_malformed x = is_none (read_sentence x)
 
--- the rule that the expression is, if it is a sentence whose atomic sentences stand where they may
+-- the rule for an expression, if it is a sentence whose atomic sentences are in allowed positions
 abbrev pub rule_in : Expression → Option TextRule
 rule_in x = option_and_then place (read_sentence x)
 
 abbrev pub is_misplaced : Expression → Bool
 is_misplaced x = not (is_malformed x) && is_none (rule_in x)
 
--- the description that the expressions are
 abbrev pub description_of : List Expression → Description
 description_of xs = filter_map rule_in xs
 
--- each expression is a sentence without variables whose atomic sentences stand where they may
+-- each expression is a sentence without variables whose atomic sentences are in allowed positions
 pub record AreSentences (xs : List Expression) : Type 0 where
   pub without_variables : first_place has_variable xs ≡ None
   pub formed : first_place is_malformed xs ≡ None
   pub placed : first_place is_misplaced xs ≡ None
 
--- why they are not
+-- the error of expressions that are not such sentences
 abbrev pub IsSentenceFault : List Expression → LoadFault → Type 0
 IsSentenceFault xs (Variable i) = first_place has_variable xs ≡ Some i
 IsSentenceFault xs (BadForm i) = (first_place has_variable xs ≡ None) × (first_place is_malformed xs ≡ Some i)

@@ -1,4 +1,4 @@
--- The literals, sentences and rules that those in memory are.
+-- The literals, sentences and rules that the values in memory represent.
 use Rattle.std.specs.Prelude.{List, map, box_value}
 use Rattle.numbered_rules.specs.Literals.{literals, Distinct, Not, Or}
 use Rattle.rule_sentences.specs.declared.sentence.Literal.{Literal as CodeLiteral, fold-Literal}
@@ -7,7 +7,7 @@ use Rattle.rule_sentences.specs.declared.sentence.Sentence.{Sentence as CodeSent
 use Rattle.rule_sentences.specs.declared.sentence.Rule.{Rule as CodeRule}
 use Rattle.rule_sentences.specs.Sentences.{TextLiteral, TextLiterals, TextRule, literal_of, Sentence}
 
--- one level, with each literal inside already seen
+-- one level of a literal whose inner literals have been converted
 abbrev pub view_step : Literal-F TextLiteral → TextLiteral
 view_step (Literal-F.Atomic a) = literal_of a
 view_step (Literal-F.Not l) = Not (box_value l)

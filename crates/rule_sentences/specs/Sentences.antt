@@ -5,7 +5,6 @@ use Rattle.rule_sentences.specs.declared.sentence.Derived.{Derived}
 use Rattle.rule_sentences.specs.declared.sentence.Atomic.{Atomic}
 use Rattle.rule_sentences.specs.declared.sentence.Atomic.TheVariants.{Derived as IsDerived, InState as IsInState, Does as IsDoes}
 
--- a literal over texts
 abbrev pub TextLiteral : Type 0
 TextLiteral = Literal Derived (List ℕ)
 
@@ -15,13 +14,11 @@ TextLiterals = Literals Derived (List ℕ)
 abbrev pub TextRule : Type 0
 TextRule = Rule Derived (List ℕ)
 
--- the literal that an atomic sentence is
 abbrev pub literal_of : Atomic → TextLiteral
 literal_of (IsDerived a) = Holds a
 literal_of (IsInState t) = InState t
 literal_of (IsDoes r m) = Does r m
 
--- a sentence: its head, and its literals
 pub record Sentence : Type 0 where
   pub head : Atomic
   pub body : TextLiterals

@@ -1,4 +1,4 @@
--- How large a description may be.
+-- Size limits of descriptions.
 use Rattle.std.specs.Prelude.{ℕ, Bool, true, false, ◌&&◌, nat_le, bytes_eq, List, [], ◌∷◌, ◌++◌, length}
 use Rattle.game_core.specs.Limits.{max_sentences, max_atomic_sentences}
 use Rattle.game_core.specs.declared.limits.Limits.{Limits}
@@ -9,7 +9,7 @@ use Rattle.numbered_rules.specs.Literals.{Holds, InState, Does, Distinct, Not, O
 use Rattle.rule_sentences.specs.Sentences.{TextLiteral, TextLiterals}
 use Rattle.rule_sentences.specs.Descriptions.{Description, same_derived, each_once, heads, moves_in, role_names}
 
--- the limit of distinct moves in `legal` heads of one role
+-- the largest number of distinct moves in the `legal` heads of one role
 abbrev pub max_moves : ℕ
 max_moves = 4096
 
@@ -19,7 +19,7 @@ same_atomic (IsInState t) (IsInState u) = bytes_eq t u
 same_atomic (IsDoes r m) (IsDoes q n) = bytes_eq r q && bytes_eq m n
 same_atomic a b = false
 
--- the atomic sentences in a literal; `distinct` is none
+-- the atomic sentences of a literal; a `distinct` literal has none
 abbrev mutual
   pub atomics_in : TextLiteral → List Atomic
   atomics_in (Holds a) = IsDerived a ∷ []
@@ -33,7 +33,7 @@ abbrev mutual
   all_atomics_in End = []
   all_atomics_in (More l ls) = atomics_in l ++ all_atomics_in ls
 
--- heads and those in literals
+-- the atomic sentences of all heads and literals
 abbrev pub atomics : Description → List Atomic
 atomics [] = []
 atomics (r ∷ rs) = (IsDerived r.head ∷ all_atomics_in r.body) ++ atomics rs
@@ -42,7 +42,7 @@ abbrev pub have_few_moves : List (List ℕ) → Description → Bool
 have_few_moves [] d = true
 have_few_moves (n ∷ ns) d = nat_le (length (moves_in n (heads d))) max_moves && have_few_moves ns d
 
--- the size is within these limits, for a description with this number of sentences
+-- a description with this number of sentences is within these limits
 abbrev pub is_small : Limits → ℕ → Description → Bool
 is_small limits sentences d =
     nat_le sentences (max_sentences limits)

@@ -4,7 +4,7 @@ use Rattle.game_core.specs.Bytes.{is_atom_byte, lower}
 use Rattle.game_core.specs.Expression.{Expression, atom, list, Expressions, none, more, depth, max_depth}
 use Rattle.game_core.specs.Canonical.{canonical}
 
--- the byte with which a variable begins
+-- the first byte of a variable
 abbrev pub question_mark : ℕ
 question_mark = 63
 
@@ -12,7 +12,7 @@ abbrev pub are_small_atom_bytes : List ℕ → Bool
 are_small_atom_bytes [] = true
 are_small_atom_bytes (b ∷ bs) = is_atom_byte b && (lower b == b) && are_small_atom_bytes bs
 
--- a run of atom bytes without capitals that is no variable
+-- a run of atom bytes without capitals that is not a variable
 abbrev pub is_word : List ℕ → Bool
 is_word [] = false
 is_word (b ∷ bs) = not (b == question_mark) && are_small_atom_bytes (b ∷ bs)
@@ -33,7 +33,7 @@ abbrev mutual
   are_terms none = true
   are_terms (more x xs) = is_term x && are_terms xs
 
--- a term that a text can spell
+-- a term that some text spells
 abbrev pub is_ground_term : Expression → Bool
 is_ground_term x = is_term x && nat_le (depth x) max_depth
 

@@ -1,4 +1,4 @@
--- The words of GDL.
+-- The reserved words of GDL.
 use Rattle.std.specs.Prelude.{ℕ, if◌then◌else◌, List, codes, bytes_eq}
 use Rattle.rule_sentences.specs.declared.words.Word.{Word}
 use Rattle.rule_sentences.specs.declared.words.Word.TheVariants.{Role, Init, True, Next, Does, Legal, Goal, Terminal, If, Not, Or, Distinct, And, Plain}

@@ -5,18 +5,18 @@ ghost use Rattle.rule_sentences.specs.declared.fault.LoadFault.TheVariants.{Memo
 use std::alloc::{AllocError, AllocFailed};
 use thiserror::Error;
 
-/// Why a list of expressions is no ground description. Each fault is tested over all sentences before
-/// the next in this list. The first three name the lowest faulty sentence, counted from 0.
+/// Why a list of expressions is not a ground description. The loader tests all sentences for one of these errors before it
+/// tests for the next. The first three errors name the lowest sentence that is wrong, counted from 0.
 #[derive(Clone, Copy, Debug, PartialEq, Eq, Error)]
 pub enum LoadFault {
     /// An atom in the sentence begins with `?`.
     #[error("sentence {0} has a variable")]
     Variable(usize),
-    /// The sentence is not proper, or does not have the form of a fact or a rule.
+    /// The sentence is not proper, or is neither a fact nor a rule.
     #[error("sentence {0} has not the form of a fact or a rule")]
     BadForm(usize),
-    /// An atomic sentence of this sentence stands where it may not: `init` and `next` only as heads,
-    /// `true` and `does` only in bodies, `role` only in bodies and as a fact.
+    /// An atomic sentence is in a position that GDL does not allow: `init` and `next` may only be heads, `true` and `does`
+    /// may only be in bodies, and `role` may only be in bodies or be a fact.
     #[error("an atomic sentence of sentence {0} stands where it may not")]
     Misplaced(usize),
     /// There is no `role` fact.
@@ -25,15 +25,15 @@ pub enum LoadFault {
     /// Two `role` facts name the same role.
     #[error("two role facts have the same name")]
     RoleTwice,
-    /// More sentences or distinct atomic sentences than the limits allow, more than 16 roles, or more
-    /// than 4,096 distinct moves in `legal` heads of one role.
+    /// The description has more sentences or distinct atomic sentences than the limits allow, more than 16 roles, or more
+    /// than 4,096 distinct moves in the `legal` heads of one role.
     #[error("the description is too large")]
     TooLarge,
     /// A derived atom depends on itself.
     #[error("a derived atom depends on itself")]
     Cyclic,
-    /// A `legal`, `goal` or `terminal` head depends on a `does` sentence, or an `init` head on a
-    /// `true` or `does` sentence.
+    /// A `legal`, `goal` or `terminal` head depends on a `does` sentence, or an `init` head depends on a `true` or `does`
+    /// sentence.
     #[error("a head depends on what it may not depend on")]
     Depends,
     /// Out of memory.

@@ -1,8 +1,7 @@
 //! The sentences of ground GDL descriptions.
 //!
-//! `read_rules` reads expressions as facts and rules: a head and its literals, with the canonical
-//! texts of their terms. Otherwise it names the first expression that is neither. It recurses into
-//! nested lists, so an expression should nest no more lists than the doc of `kif_text::Expr` says.
+//! `read_rules` reads expressions as facts and rules, or names the first expression that is neither. It recurses into nested
+//! lists, so keep to the nesting that `kif_text::Expr` recommends.
 #![tactic(auto)]
 
 mod fault;

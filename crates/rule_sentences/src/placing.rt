@@ -1,4 +1,4 @@
-//! Where atomic sentences may stand.
+//! Where atomic sentences may be.
 ghost use Rattle.std.specs.Prelude.{◌≡◌, option_map};
 ghost use Rattle.rule_sentences.specs.SentenceViews.{view, views, sentence_of, rule_of};
 ghost use Rattle.rule_sentences.specs.Places.{stands_in_bodies, is_placed, are_placed, is_head_of, place};
@@ -51,7 +51,7 @@ fn is_head_of(head: &Derived, body: &Vec<Literal>) -> bool
     }
 }
 
-/// The sentence as a rule. `None` if an atomic sentence in it stands where it may not.
+/// Converts a sentence to a rule. Returns `None` if an atomic sentence is in a position that GDL does not allow.
 pub fn place(sentence: Sentence) -> Option<Rule>
     ensures { option_map rule_of result ≡ place (sentence_of sentence) }
 {

@@ -1,4 +1,4 @@
-//! The reading of expressions as sentences.
+//! Reads expressions as sentences.
 ghost use Rattle.std.specs.Prelude.{◌≡◌, IfOk, option_map};
 ghost use Rattle.game_core.specs.Expression.{atom, list};
 ghost use Rattle.kif_text.specs.View.{view as expression, views as expressions};
@@ -27,7 +27,7 @@ fn goal_value(expr: &Expr) -> Option<u8>
     }
 }
 
-/// What the word at the head of a list stands for.
+/// The kind of word at the head of a list.
 fn head_word(members: &[Expr]) -> Option<Word>
     ensures { result ≡ head_word (expressions members.now) }
 {
@@ -37,7 +37,7 @@ fn head_word(members: &[Expr]) -> Option<Word>
     }
 }
 
-/// The one member after the first, if it is a term.
+/// The second member, if the list has two members and this one is a term.
 fn one_argument(alloc: Global, members: &[Expr]) -> Result<Option<Text>, AllocError>
     ensures { IfOk result (λ o. o ≡ one_argument (expressions members.now)) }
 {
@@ -47,7 +47,7 @@ fn one_argument(alloc: Global, members: &[Expr]) -> Result<Option<Text>, AllocEr
     term_text(alloc, &members[1])
 }
 
-/// The two members after the first, if they are terms.
+/// The second and third members, if the list has three members and these are terms.
 fn two_terms(alloc: Global, members: &[Expr]) -> Result<Option<(Text, Text)>, AllocError>
     ensures { IfOk result (λ o. o ≡ two_arguments term_text (expressions members.now)) }
 {
@@ -63,7 +63,7 @@ fn two_terms(alloc: Global, members: &[Expr]) -> Result<Option<(Text, Text)>, Al
     Ok(Some((first, second)))
 }
 
-/// The two members after the first, if they are a term and a goal value.
+/// The second and third members, if the list has three members and these are a term and a goal value.
 fn goal_arguments(alloc: Global, members: &[Expr]) -> Result<Option<(Text, u8)>, AllocError>
     ensures { IfOk result (λ o. o ≡ two_arguments goal_value (expressions members.now)) }
 {
@@ -74,7 +74,7 @@ fn goal_arguments(alloc: Global, members: &[Expr]) -> Result<Option<(Text, u8)>,
     Ok(role.zip(goal_value(&members[2])))
 }
 
-/// An atomic sentence that is a list with this word at its head.
+/// Reads a list with this word at its head as an atomic sentence.
 fn read_relation(
     alloc: Global,
     word: Option<Word>,
@@ -112,7 +112,7 @@ fn read_relation(
     Ok(read)
 }
 
-/// An atomic sentence that is a word alone.
+/// Reads a single word as an atomic sentence.
 fn read_alone(alloc: Global, expr: &Expr, text: &Text) -> Result<Option<Atomic>, AllocError>
     requires { expression expr.now ≡ atom text.now }
     ensures { IfOk result (λ o. o ≡ read_alone (word_of text.now) text.now) }
@@ -136,7 +136,7 @@ fn read_atomic(alloc: Global, expr: &Expr) -> Result<Option<Atomic>, AllocError>
     }
 }
 
-/// `not` of the one literal that was read.
+/// The negation of the literal, if exactly one was read.
 fn negation(alloc: Global, read: Option<Vec<Literal>>) -> Result<Option<Literal>, AllocError>
     ensures { IfOk result (λ o. option_map view o ≡ negation (option_map (λ v. views v.items) read)) }
 {
@@ -152,7 +152,6 @@ fn negation(alloc: Global, read: Option<Vec<Literal>>) -> Result<Option<Literal>
     }
 }
 
-/// `or` of the literals that were read.
 fn disjunction(read: Option<Vec<Literal>>) -> Option<Literal>
     ensures { option_map view result ≡ disjunction (option_map (λ v. views v.items) read) }
 {
@@ -188,7 +187,6 @@ fn read_literal(alloc: Global, expr: &Expr) -> Result<Option<Literal>, AllocErro
     }
 }
 
-/// Reads the members from this place on as literals.
 #[cycle(read_literal)]
 fn read_literals(
     alloc: Global,
@@ -218,7 +216,7 @@ fn fact(alloc: Global, head: Option<Atomic>) -> Option<Sentence>
     })
 }
 
-/// A list with `<=` at its head: a head, and literals.
+/// Reads a list with `<=` at its head: a head and literals.
 fn read_rule(alloc: Global, members: &Vec<Expr>) -> Result<Option<Sentence>, AllocError>
     ensures { IfOk result (λ o. option_map sentence_of o ≡ read_rule (expressions members.now.items)) }
 {
@@ -252,7 +250,7 @@ fn read_form(alloc: Global, expr: &Expr) -> Result<Option<Sentence>, AllocError>
     }
 }
 
-/// The expression as a sentence. `None` if it does not have the form of one.
+/// Reads the expression as a sentence. Returns `None` if it does not have the form of a sentence.
 pub fn read_sentence(alloc: Global, expr: &Expr) -> Result<Option<Sentence>, AllocError>
     ensures { IfOk result (λ o. option_map sentence_of o ≡ read_sentence (expression expr.now)) }
 {

@@ -1,4 +1,4 @@
-//! Lists of expressions as rules.
+//! Reads lists of expressions as rules.
 ghost use Rattle.std.specs.Prelude.{◌≡◌, ◌≢◌, None, Some, IfOk, IfErr, map};
 ghost use Rattle.game_core.specs.Expression.{folded};
 ghost use Rattle.kif_text.specs.View.{view as expression};
@@ -14,7 +14,7 @@ use crate::terms::has_variable;
 use kif_text::{Expr, fold};
 use std::alloc::{AllocError, Global};
 
-/// Takes the capitals from the sentences, where they lie.
+/// Turns the capitals of the sentences to lower case, in place.
 pub fn fold_each(sentences: &mut [Expr])
     ensures { map expression sentences.new ≡ map folded (map expression sentences.old) }
 {
@@ -34,8 +34,8 @@ fn first_variable(sentences: &[Expr]) -> Option<usize>
     None
 }
 
-/// The sentences as rules, with the number of the first that has a misplaced atomic sentence. The fault
-/// names the first that does not have the form of a sentence.
+/// The sentences as rules, and the number of the first sentence in which an atomic sentence is misplaced. The error names
+/// the first sentence that does not have the form of one.
 fn read_each(alloc: Global, sentences: &[Expr]) -> Result<(Vec<Rule>, Option<usize>), LoadFault>
     ensures formed { IfOk result (λ _. first_place is_malformed (map expression sentences.now) ≡ None) }
     ensures misplaced { IfOk result (λ p. p.1 ≡ first_place is_misplaced (map expression sentences.now)) }
@@ -56,7 +56,7 @@ fn read_each(alloc: Global, sentences: &[Expr]) -> Result<(Vec<Rule>, Option<usi
     Ok((rules, misplaced))
 }
 
-/// The sentences as rules, or the first of the first three faults.
+/// Reads the sentences as rules. The error is `Variable`, `BadForm`, `Misplaced` or `Memory`.
 pub fn read_rules(alloc: Global, sentences: &[Expr]) -> Result<Vec<Rule>, LoadFault>
     ensures sentences { IfOk result (λ _. AreSentences (map expression sentences.now)) }
     ensures rules { IfOk result (λ v. rules_of v.items ≡ description_of (map expression sentences.now)) }

@@ -1,7 +1,7 @@
 //! Sentences of a ground description, with the canonical texts of their terms.
 use game_core::Text;
 
-/// A derived atom: an atomic sentence that the rules make true or not. Names and terms are canonical texts.
+/// A derived atom: an atomic sentence whose truth follows from the rules. Names and terms are canonical texts.
 #[derive(Clone, PartialEq, Eq, Hash, Drop)]
 pub enum Derived {
     Role(Text),
@@ -10,7 +10,7 @@ pub enum Derived {
     Legal(Text, Text),
     Goal(Text, u8),
     Terminal,
-    /// An atomic sentence with any other relation, by its canonical text.
+    /// An atomic sentence with any other relation, as its canonical text.
     Other(Text),
 }
 
@@ -31,14 +31,14 @@ pub enum Literal {
     Distinct(Text, Text),
 }
 
-/// A sentence as it is read: a head and its literals. A fact has none.
+/// A sentence: a head and its literals. A fact has no literals.
 #[derive(Drop)]
 pub struct Sentence {
     pub head: Atomic,
     pub body: Vec<Literal>,
 }
 
-/// A sentence with each atomic sentence in a place where it may stand.
+/// A sentence in which all atomic sentences are in allowed positions.
 #[derive(Drop)]
 pub struct Rule {
     pub head: Derived,

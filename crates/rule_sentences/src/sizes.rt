@@ -1,4 +1,4 @@
-//! How large a description may be.
+//! Size limits of descriptions.
 ghost use Rattle.std.specs.Prelude.{◌≡◌, ◌-◌, ◌∷◌, IfOk, OnOk, length, nat_le};
 ghost use Rattle.game_core.specs.Limits.{max_atomic_sentences};
 ghost use Rattle.rule_sentences.specs.SentenceViews.{view, views, rules_of};
@@ -10,7 +10,7 @@ use game_core::Limits;
 use indexmap::IndexSet;
 use std::alloc::{AllocError, Global};
 
-/// The limit of distinct moves in the `legal` heads of one role.
+/// The largest number of distinct moves in the `legal` heads of one role.
 pub const MAX_MOVES: usize = 4096;
 
 fn add_atomic(set: &mut IndexSet<Atomic>, atomic: &Atomic) -> Result<(), AllocError>
@@ -50,7 +50,6 @@ fn atomic_head(head: &Derived) -> Result<Atomic, AllocError>
     Ok(Atomic::Derived(head.clone()?))
 }
 
-/// Adds the head of the rule, and the atomic sentences in its literals.
 fn add_rule(set: &mut IndexSet<Atomic>, rule: &Rule) -> Result<(), AllocError>
     ensures { OnOk result (set.new.keys ≡ with_all_new same_atomic set.old.keys (Atomic.Derived rule.now.head ∷ all_atomics_in (views rule.now.body.items))) }
 {
@@ -59,7 +58,7 @@ fn add_rule(set: &mut IndexSet<Atomic>, rule: &Rule) -> Result<(), AllocError>
     add_all_literals(set, &rule.body)
 }
 
-/// How many distinct atomic sentences the rules have: their heads and those in their literals.
+/// The number of distinct atomic sentences in the heads and literals of the rules.
 pub fn count_atomic_sentences(alloc: Global, rules: &[Rule]) -> Result<usize, AllocError>
     ensures { IfOk result (λ n. n ≡ length (each_once same_atomic (atomics (rules_of rules.now)))) }
 {
@@ -70,7 +69,7 @@ pub fn count_atomic_sentences(alloc: Global, rules: &[Rule]) -> Result<usize, Al
     Ok(set.len())
 }
 
-/// The room that is left after the atomic sentences of the literal, each counted as often as it stands there.
+/// What is left of `room` if each atomic sentence of the literal takes one, repeated ones too.
 #[cycle(room_beside)]
 fn room_beside(literal: &Literal, room: usize) -> usize
     ensures { result ≡ room - length (atomics_in (view literal.now)) }
@@ -94,7 +93,7 @@ fn room_beside_all(literals: &Vec<Literal>, room: usize) -> usize
     left
 }
 
-/// Whether the rules name at most as many atomic sentences as the limits allow, each counted as often as it stands there.
+/// Whether the rules are within the limit of atomic sentences even if repeated ones count again.
 fn name_few_atomic_sentences(rules: &[Rule], limits: Limits) -> bool
     ensures { result ≡ nat_le (length (atomics (rules_of rules.now))) (max_atomic_sentences limits) }
 {
@@ -105,8 +104,8 @@ fn name_few_atomic_sentences(rules: &[Rule], limits: Limits) -> bool
     left > 0
 }
 
-/// Whether the rules have at most as many distinct atomic sentences as the limits allow. If they name no more at all, this takes no
-/// set; otherwise the distinct ones are counted.
+/// Whether the rules are within the limit of distinct atomic sentences. If they are within it even with the repeated ones,
+/// this allocates no set. Otherwise it counts the distinct ones.
 pub fn have_few_atomic_sentences(
     alloc: Global,
     rules: &[Rule],

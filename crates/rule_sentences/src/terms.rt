@@ -41,7 +41,8 @@ fn have_variable(members: &Vec<Expr>) -> bool
     false
 }
 
-/// Whether the byte may stand in an atom and is no capital. Its ranges cost less than a test for each byte that may not.
+/// Whether an atom may contain the byte, and the byte is not a capital. Four tests of ranges are faster than one test for each
+/// refused byte.
 #[tactic(auto, using(std::proofs::lemmas::Bool::Decides::nat_tests))]
 fn is_small_atom_byte(byte: u8) -> bool
     ensures { result ≡ is_atom_byte byte && (lower byte == byte) }
@@ -60,7 +61,7 @@ fn are_small_atom_bytes(bytes: &[u8]) -> bool
     true
 }
 
-/// Whether the bytes are an atom without capitals, and no variable.
+/// Whether the bytes are an atom in lower case, and not a variable.
 fn is_word(bytes: &[u8]) -> bool
     ensures { result ≡ is_word bytes.now }
 {
@@ -121,7 +122,7 @@ fn all_nest_at_most(members: &Vec<Expr>, lists: usize) -> bool
     true
 }
 
-/// The canonical text of a ground term. `None` if the expression is no ground term.
+/// The canonical text of a ground term. Returns `None` if the expression is not a ground term.
 pub fn term_text(alloc: Global, expr: &Expr) -> Result<Option<Text>, AllocError>
     ensures { IfOk result (λ o. o ≡ term_text (view expr.now)) }
 {

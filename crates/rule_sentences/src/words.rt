@@ -1,7 +1,7 @@
-//! The words of GDL.
+//! The reserved words of GDL.
 ghost use Rattle.std.specs.Prelude.{◌≡◌};
 
-/// What a word at the head of a list, or a word alone, stands for.
+/// What a word at the head of a list, or a single word, means.
 #[derive(Clone, Copy)]
 pub enum Word {
     Role,
@@ -24,7 +24,7 @@ pub enum Word {
 impl Word {
     ghost use Rattle.rule_sentences.specs.Words.{word_of};
 
-    /// What the word with these bytes stands for.
+    /// What the word with these bytes means.
     pub fn of(bytes: &[u8]) -> Word
         ensures { result ≡ word_of bytes.now }
     {

@@ -1,4 +1,4 @@
-//! Texts of which a part is shared with other texts.
+//! Texts that share one part with other texts.
 #![tactic(auto)]
 
 mod parts;

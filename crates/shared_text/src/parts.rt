@@ -1,7 +1,7 @@
-//! A text that lies in parts, from some place on.
+//! The rest of a text in several parts.
 ghost use Rattle.std.specs.Prelude.{◌≡◌, ◌<◌, ◌≤◌, ◌++◌, ℕ, List, length, drop};
 
-/// The text from the place on in one of two parts that follow each other: the rest of the first part, or else that of the second.
+/// The rest of the first part from `place`, or else the rest of the second part. `place` counts the bytes of both.
 pub(crate) fn rest_of<'a>(first: &'a [u8], second: &'a [u8], place: usize) -> &'a [u8]
     requires { place ≤ length (first.now ++ second.now) }
     ensures front { (more : List ℕ) × (result.now ++ more ≡ drop place (first.now ++ second.now)) }
@@ -14,7 +14,7 @@ pub(crate) fn rest_of<'a>(first: &'a [u8], second: &'a [u8], place: usize) -> &'
     }
 }
 
-/// The same of three parts.
+/// The same for three parts.
 pub(crate) fn rest_of_three<'a>(
     first: &'a [u8],
     second: &'a [u8],

@@ -1,19 +1,19 @@
-//! A text of which a part is shared with other texts.
+//! A text that shares one part with other texts.
 ghost use Rattle.std.specs.Prelude.{◌≡◌, ◌<◌, ◌≤◌, ◌++◌, ℕ, List, length, drop, IfOk};
 
 use crate::parts::rest_of_three;
 use std::alloc::{AllocError, Global};
 use std::marker::Model;
 
-/// The longest shared part that is copied, so that it stands in one piece with what is around it, in bytes.
+/// A shared part of at most this many bytes is copied, so that it is contiguous with the bytes around it.
 const LONGEST_COPIED: usize = 65_536;
 
-/// A text of which one part may be shared with other texts: that part is lent, and is copied into none of them. Contracts see the whole
+/// A text that may share one part with other texts. The shared part is borrowed and not copied. Contracts see the whole
 /// text.
 #[derive(Drop)]
 pub struct SharedText<'a> {
     own: Vec<u8>,
-    /// How many of its own bytes stand before the shared part.
+    /// How many of the text's own bytes come before the shared part.
     place: usize,
     shared: &'a [u8],
 }
@@ -51,7 +51,7 @@ impl<'a> SharedText<'a> {
         }
     }
 
-    /// The shared text between these two, of which the first is taken over and the second is copied.
+    /// The shared text between two others. The first is taken, the second is copied.
     pub fn around(
         before: Vec<u8>,
         shared: &'a [u8],
@@ -65,7 +65,7 @@ impl<'a> SharedText<'a> {
         Ok(SharedText { own, place, shared })
     }
 
-    /// The parts of the text, in their order: its own, the shared one, its own again.
+    /// The parts of the text in order: own bytes, the shared part, own bytes.
     pub fn parts(&self) -> (&[u8], &[u8], &[u8])
         ensures { result.0.now ++ (result.1.now ++ result.2.now) ≡ self.now }
     {
@@ -73,14 +73,14 @@ impl<'a> SharedText<'a> {
         (before, self.shared, after)
     }
 
-    /// How many bytes the text has.
+    /// The number of bytes.
     pub fn len(&self) -> usize
         ensures { result ≡ length self.now }
     {
         self.own.len() + self.shared.len()
     }
 
-    /// The text from the place on, at most up to the end of a part.
+    /// The text from `place` to the end of the part that has this place.
     pub fn rest(&self, place: usize) -> &[u8]
         requires { place ≤ length self.now }
         ensures front { (more : List ℕ) × (result.now ++ more ≡ drop place self.now) }
@@ -90,7 +90,7 @@ impl<'a> SharedText<'a> {
         rest_of_three(before, shared, after, place)
     }
 
-    /// A text with these bytes before this one. A short shared part is copied into it, so that both stand in one piece.
+    /// The text with these bytes in front. A short shared part is copied, so that the result is contiguous.
     pub fn behind(&self, front: Vec<u8>) -> Result<SharedText<'a>, AllocError>
         ensures { IfOk result (λ text. text ≡ front.items ++ self.now) }
     {
@@ -105,7 +105,7 @@ impl<'a> SharedText<'a> {
         Ok(SharedText::of(own))
     }
 
-    /// The text in one piece, as a copy.
+    /// Copies the text into one piece.
     pub fn joined(&self, alloc: Global) -> Result<Vec<u8>, AllocError>
         ensures { IfOk result (λ text. text.items ≡ self.now) }
     {
@@ -117,7 +117,7 @@ impl<'a> SharedText<'a> {
         Ok(text)
     }
 
-    /// The text in one piece. Where it shares nothing no byte is copied.
+    /// The text in one piece. If nothing is shared, this copies nothing.
     pub fn into_vec(self, alloc: Global) -> Result<Vec<u8>, AllocError>
         ensures { IfOk result (λ text. text.items ≡ self.entry) }
     {

@@ -1,4 +1,3 @@
--- The lines of an input that begins with a line, or is one line.
 use Rattle.std.proofs.Common.{◌≡◌, ◌≢◌, ℕ, suc, ◌<◌, Bool, false, cond, eqb, List, [], ◌∷◌, ◌++◌, length, refl, sym, ap, ◌∙◌, arith}
 use Rattle.std.specs.List.{slice_split, onto_first}
 use Rattle.std.specs.Str.Lines.{lines, lines_of_parts, strip_carriage_return}
@@ -44,11 +43,9 @@ lines_cut whole left h =
     let some : 0 < length (slice_split is_feed left) = omega (arith, length-slice_split is_feed left) in
     ap lines_of_parts (parts_cut whole left h) ∙ parts_more whole (slice_split is_feed left) some
 
--- bytes that begin with a line have it as their first line, whatever follows
 pub lines_begin : (bytes line left more : List ℕ) → BeginsWithLine bytes line left → lines (bytes ++ more) ≡ line ∷ lines (left ++ more)
 lines_begin bytes line left more (whole, cut, feedless, is) =
     ap (λ l. lines (l ++ more)) cut ∙ ap lines (append_assoc whole (line_feed ∷ left) more) ∙ lines_cut whole (left ++ more) feedless ∙ ap (λ l. l ∷ lines (left ++ more)) (sym is)
 
--- bytes without a line feed are one line
 pub lines_last : (bytes : List ℕ) → 0 < length bytes → HasNoLineFeed bytes → lines bytes ≡ bytes ∷ []
 lines_last bytes some feedless = ap lines_of_parts (parts_whole bytes feedless) ∙ one_part bytes some

@@ -1,4 +1,4 @@
--- The lines that are taken of a text, one after another.
+-- Taking the lines of a text one after another.
 use Rattle.std.proofs.Common.{◌≡◌, List, [], ◌∷◌, ◌++◌, sym, ap, ◌∙◌}
 use Rattle.std.proofs.lemmas.List.{append_assoc}
 use Rattle.std.specs.Str.Lines.{lines}

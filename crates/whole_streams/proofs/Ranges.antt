@@ -1,4 +1,3 @@
--- A range of a list, cut in two.
 use Rattle.std.proofs.Common.{◌≡◌, ℕ, ◌+◌, ◌-◌, ◌<◌, ◌≤◌, List, ◌∷◌, ◌++◌, length, take, drop, get_or, slice_range, sym, ap, ◌∙◌, arith}
 use Rattle.std.proofs.lemmas.List.{take-take, take-append-drop, drop-take, drop-drop, drop_more}
 
@@ -21,7 +20,7 @@ range_cut xs start count end h =
     let range = slice_range xs start end in
     sym (take-append-drop count range) ∙ ap (λ l. take count range ++ l) (range_back xs start count end h)
 
--- the range's element at that place stands between the two parts
+-- the element at that index is between the two parts
 pub range_cut_at : (xs : List ℕ) (start count end : ℕ) (x d : ℕ) → start + count < end → count < length (slice_range xs start end) → get_or (slice_range xs start end) count d ≡ x
     → slice_range xs start end ≡ take count (slice_range xs start end) ++ x ∷ slice_range xs (start + count + 1) end
 range_cut_at xs start count end x d h inside here =

@@ -1,4 +1,4 @@
--- Reading an input line by line. The bytes at hand were read, but belong to no line yet.
+-- Reading an input line by line. The bytes "at hand" were read, but are not yet part of a line.
 use Rattle.std.specs.Prelude.{◌≡◌, ◌≢◌, ℕ, ◌<◌, ◌≤◌, Bool, true, false, List, [], ◌∷◌, ◌++◌, length, All, Option}
 use Rattle.std.specs.Io.KnownBytes.{IsAtEnd}
 use Rattle.std.specs.Str.Lines.{lines, strip_carriage_return}
@@ -11,16 +11,17 @@ use Rattle.whole_streams.specs.declared.whole.InputFault.TheVariants.{ReadFault,
 abbrev pub HasNoLineFeed : List ℕ → Type 0
 HasNoLineFeed bytes = All (λ b. b ≢ line_feed) bytes
 
--- these bytes begin with this line, without its line feed and one carriage return before that; `left` is the rest after it
+-- these bytes begin with this line; `left` is what follows its line feed. The line has neither the line feed nor one carriage return
+-- before it.
 abbrev pub BeginsWithLine : List ℕ → List ℕ → List ℕ → Type 0
 BeginsWithLine bytes line left = (whole : List ℕ) × (bytes ≡ whole ++ line_feed ∷ left) × HasNoLineFeed whole × (line ≡ strip_carriage_return whole)
 
--- For each continuation of the text, its lines are these and then those of the bytes that are left.
+-- whatever follows, the lines of the text are these lines and then those of the bytes that are left
 abbrev pub BeginsWithLines : List ℕ → List (List ℕ) → List ℕ → Type 0
 BeginsWithLines text first left = (more : List ℕ) → lines (text ++ more) ≡ first ++ lines (left ++ more)
 
--- The next part of an input with these bytes at hand, and the bytes at hand after it. Only a last line may have no line feed, and
--- it is kept as it is.
+-- The next part of an input with these bytes at hand, and the bytes at hand after it. Only a last line may have no line feed; it stays
+-- unchanged.
 abbrev pub IsNextLine : Option (List ℕ) → List ℕ → NextLine → List ℕ → Type 0
 IsNextLine remaining bytes (Ended line) left = BeginsWithLine bytes line.items left
 IsNextLine remaining bytes (Last line) left = (0 < length bytes) × (line.items ≡ bytes) × HasNoLineFeed bytes × (left ≡ []) × IsAtEnd remaining
@@ -31,19 +32,19 @@ line_bytes (Ended line) = line.items
 line_bytes (Last line) = line.items
 line_bytes Nothing = []
 
--- these bytes are a last line, or nothing
+-- the bytes that are left at the end of the input are a last line, or none are left
 abbrev pub IsEnd : List ℕ → NextLine → Type 0
 IsEnd bytes (Ended line) = ⊥
 IsEnd bytes (Last line) = (line.items ≡ bytes) × (0 < length bytes)
 IsEnd bytes Nothing = bytes ≡ []
 
--- This piece of the bytes at hand belongs to the line that is read, and `left` is the rest. If the line ends, its line feed is
--- skipped; otherwise all bytes belong to the line.
+-- This piece of the bytes at hand belongs to the line, and `left` is the rest. If the line ends, its line feed is skipped; otherwise
+-- the piece is all bytes at hand.
 abbrev pub IsPiece : List ℕ → Bool → List ℕ → List ℕ → Type 0
 IsPiece bytes true piece left = bytes ≡ piece ++ line_feed ∷ left
 IsPiece bytes false piece left = (bytes ≡ piece) × (left ≡ [])
 
--- why a line does not go on to this length
+-- why a line does not reach this length
 abbrev pub StopsLine : ℕ → InputFault → ℕ → Type 0
 StopsLine limit ReadFault count = ⊥
 StopsLine limit TooLong count = limit < count

@@ -1,4 +1,4 @@
--- The effect on the streams of reading a whole input and writing a whole output.
+-- How reading a whole input and writing a whole output changes the streams.
 use Rattle.std.specs.Prelude.{◌≡◌, ℕ, ◌<◌, ◌≤◌, ◌⊎◌, List, Option, length, take}
 use Rattle.std.specs.Io.KnownBytes.{Appends}
 use Rattle.game_core.specs.Counting.{Counting, CallsMade, max_stream_calls, one_more}
@@ -9,12 +9,12 @@ use Rattle.whole_streams.specs.declared.whole.InputFault.TheVariants.{ReadFault,
 abbrev pub StopsReading : {R : Type 0} → ℕ → Counting R → Counting R → Type 0
 StopsReading given old new = (new.faults ≡ one_more old.faults) ⊎ (CallsMade max_stream_calls old.calls new.calls × (max_stream_calls ≤ given) × (new.faults ≡ old.faults))
 
--- The meaning of a fault, for the bytes given before it, the limit of bytes, and the reader before and after.
+-- What a fault means, given the bytes read before it, the limit of bytes, and the reader before and after.
 abbrev pub InputFails : {R : Type 0} → ℕ → InputFault → List ℕ → Counting R → Counting R → Type 0
 InputFails limit ReadFault given old new = (length given ≤ limit) × StopsReading (length given) old new
 InputFails limit TooLong given old new = (limit < length given) × (new.faults ≡ old.faults)
 InputFails limit Memory given old new = (length given ≤ limit) × (new.faults ≡ old.faults)
 
--- Known bytes grow by a prefix of the text.
+-- if the contents are known, a prefix of the text was appended
 abbrev pub AppendsPart : Option (List ℕ) → Option (List ℕ) → List ℕ → Type 0
 AppendsPart old new text = (taken : ℕ) × (taken ≤ length text) × Appends old new (take taken text)

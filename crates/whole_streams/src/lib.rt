@@ -1,5 +1,5 @@
-//! Whole inputs and whole outputs over streams that count their calls and faults: `read_to_end`, `write_all`, input line by
-//! line, and text that is formatted to a stream piece by piece.
+//! Reads whole inputs, writes whole outputs, reads an input line by line, and formats text to a stream, over streams that
+//! count their calls and failures.
 #![tactic(auto)]
 
 pub mod laws;

@@ -1,4 +1,4 @@
-//! Reading an input line by line, with one line in memory at a time.
+//! Reads an input line by line, and has only one line in memory at a time.
 ghost use Rattle.std.specs.Prelude.{◌≡◌, ◌<◌, ◌≤◌, ◌+◌, ◌++◌, [], ℕ, List, length, take, slice_index, IfOk, OnOk, IfErr, MatchOption, MatchBool};
 ghost use Rattle.std.specs.Io.KnownBytes.{Consumes, IsAtEnd};
 ghost use Rattle.std.specs.Str.Lines.{strip_carriage_return};
@@ -17,16 +17,16 @@ use std::marker::Model;
 /// The next part of an input that is read line by line.
 #[derive(Drop)]
 pub enum NextLine {
-    /// A line that ended with a line feed. Neither the line feed nor one carriage return before it is kept.
+    /// A line that ended with a line feed. The line feed, and one carriage return before it, are removed.
     Ended(Vec<u8>),
-    /// The last line, which has no line feed. It is kept as it is, and nothing is left of the input.
+    /// The last line, if it has no line feed, unchanged. Nothing follows it in the input.
     Last(Vec<u8>),
-    /// Nothing is left of the input.
+    /// The input is at its end.
     Nothing,
 }
 
-/// The bytes of an input that were read but belong to no line yet. Contracts see these bytes: together with the bytes left in the
-/// stream they are the rest of the input.
+/// The bytes of an input that were read but are not yet part of a line. In contracts this value is these bytes: they and the
+/// bytes left in the stream are the rest of the input.
 #[derive(Drop)]
 pub struct LineBuffer {
     chunk: [u8; READ_SIZE],
@@ -44,7 +44,6 @@ impl Model for LineBuffer {
     ghost invariant = { λ b. (b.start ≤ b.end) × (b.end ≤ length b.chunk) };
 }
 
-/// The place of the first line feed.
 fn line_end(bytes: &[u8]) -> Option<usize>
     ensures { MatchOption result (HasNoLineFeed bytes.now)
         (λ end. (end < length bytes.now) × HasNoLineFeed (take end bytes.now) × (slice_index bytes.now end ≡ line_feed)) }
@@ -52,7 +51,6 @@ fn line_end(bytes: &[u8]) -> Option<usize>
     bytes.iter().position(|b| *b == b'\n')
 }
 
-/// A line without one carriage return at its end.
 fn without_return(mut line: Vec<u8>) -> Vec<u8>
     ensures { result.items ≡ strip_carriage_return line.items }
 {
@@ -62,7 +60,7 @@ fn without_return(mut line: Vec<u8>) -> Vec<u8>
     line
 }
 
-/// The bytes after the last line feed, at the end of the input.
+/// What follows the last line feed: a last line, or nothing.
 fn at_end(line: Vec<u8>) -> NextLine
     ensures { IsEnd line.items result }
 {
@@ -73,7 +71,6 @@ fn at_end(line: Vec<u8>) -> NextLine
     }
 }
 
-/// Adds a piece to a line, if the line then has at most `limit` bytes.
 fn push_within(line: &mut Vec<u8>, piece: &[u8], limit: usize) -> Result<(), InputFault>
     requires { length line.old.items ≤ limit }
     ensures grown { OnOk result (line.new.items ≡ line.old.items ++ piece.now) }
@@ -90,7 +87,7 @@ fn push_within(line: &mut Vec<u8>, piece: &[u8], limit: usize) -> Result<(), Inp
 }
 
 impl LineBuffer {
-    /// The buffer before anything of the input was read.
+    /// A buffer for an input of which nothing was read yet.
     pub fn new() -> LineBuffer
         ensures { result ≡ [] }
     {
@@ -101,7 +98,7 @@ impl LineBuffer {
         }
     }
 
-    /// Reads once, in place of the bytes at hand. Returns whether there was more of the input.
+    /// Replaces the buffered bytes with those of one read. Returns false at the end of the input.
     fn refill<R: Read>(&mut self, reader: &mut Counted<R>) -> Result<bool, InputFault>
         ensures given { OnOk result (Consumes (R.remaining reader.old.stream) (R.remaining reader.new.stream) self.new) }
         ensures no_fault { OnOk result (reader.new.faults ≡ reader.old.faults) }
@@ -121,8 +118,8 @@ impl LineBuffer {
         }
     }
 
-    /// Moves the bytes at hand to the line's end, up to a line feed. Returns whether the line ends there. At a fault the piece is
-    /// lost.
+    /// Moves the buffered bytes up to a line feed to the end of the line. Returns whether the line ends there. On an error these
+    /// bytes are lost.
     fn take_piece(&mut self, line: &mut Vec<u8>, limit: usize) -> Result<bool, InputFault>
         requires { length line.old.items ≤ limit }
         ensures piece { IfOk result (λ ended. (piece : List ℕ) × (line.new.items ≡ line.old.items ++ piece)
@@ -153,8 +150,8 @@ impl LineBuffer {
         }
     }
 
-    /// The next line of the input. It has at most `limit` bytes before its line feed, and comes within 200,000 reads. At a fault,
-    /// the part of it that was read is lost.
+    /// The next line of the input. It may have at most `limit` bytes before its line feed, and take at most 200,000 reads. On an
+    /// error, the part of it that was read is lost.
     pub fn next_line<R: Read>(
         &mut self,
         alloc: Global,

@@ -1,11 +1,11 @@
-//! Text that is formatted to a stream.
+//! Formats text to a stream.
 ghost use Rattle.std.specs.Io.KnownBytes.{Appends};
 
 use std::fmt;
 use std::io::Write;
 
-/// A stream to which text is formatted, each piece in as many writes as it takes. A write that fails, is interrupted
-/// or takes nothing ends it. std's `write_all` would go on for as long as a stream is interrupted.
+/// A stream to which text is formatted. It writes each piece with as many writes as needed, and stops at a write that fails,
+/// is interrupted or takes no bytes. The `write_all` of std would repeat interrupted writes without a limit.
 #[derive(Drop)]
 pub struct Pieces<'a, E> {
     pub stream: &'a mut E,

@@ -1,4 +1,4 @@
-//! Reading a whole input, and writing a whole output.
+//! Reads a whole input, and writes a whole output.
 ghost use Rattle.std.specs.Prelude.{◌≡◌, ◌≤◌, ◌<◌, ℕ, List, length, IfOk, OnOk, OnErr, IfErr};
 ghost use Rattle.std.specs.Io.KnownBytes.{Consumes, Appends, IsAtEnd};
 ghost use Rattle.game_core.specs.Counting.{one_more};
@@ -8,25 +8,25 @@ use game_core::{Counted, MAX_STREAM_CALLS};
 use std::alloc::Global;
 use std::io::{Read, Write};
 
-/// Why an input was not read: the first of these that happened.
+/// Why an input was not read. The first failure counts.
 #[derive(Clone, Copy, PartialEq, Eq)]
 pub enum InputFault {
-    /// A read failed, interruptions included, or 200,000 reads did not reach the end.
+    /// A read failed or was interrupted, or 200,000 reads did not reach the end of the input.
     ReadFault,
-    /// The input has more bytes than the limit.
+    /// The input is longer than the limit.
     TooLong,
     /// Out of memory.
     Memory,
 }
 
-/// A write failed, or took none of some bytes.
+/// A write failed, or took no bytes.
 #[derive(Clone, Copy, PartialEq, Eq)]
 pub struct WriteFault;
 
-/// The room for one read, in bytes.
+/// The size of a read, in bytes.
 pub(crate) const READ_SIZE: usize = 16_384;
 
-/// Reads all bytes up to the end of the stream, at most `limit` of them.
+/// Reads the stream up to its end, with at most `limit` bytes.
 pub fn read_to_end<R: Read>(
     alloc: Global,
     reader: &mut Counted<R>,
@@ -60,7 +60,7 @@ pub fn read_to_end<R: Read>(
     Err(InputFault::ReadFault)
 }
 
-/// Writes all bytes. At a fault a prefix of them has been written.
+/// Writes all bytes. On an error, a prefix of them has been written.
 pub fn write_all<W: Write>(writer: &mut Counted<W>, output: &[u8]) -> Result<(), WriteFault>
     ensures whole { OnOk result (Appends (W.contents writer.old.stream) (W.contents writer.new.stream) output.now) }
     ensures no_fault { OnOk result (writer.new.faults ≡ writer.old.faults) }

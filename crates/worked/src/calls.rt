@@ -1,4 +1,4 @@
-//! The ten calls of each of four lines, on a desk of Countdown, and what the desk keeps of them.
+//! Ten calls on each of four lines of a desk of Countdown, and checks of the desk's history.
 ghost use Rattle.std.specs.Prelude.{◌≡◌, []};
 
 use call_history::{Entry, Wire};
@@ -7,10 +7,10 @@ use match_desk::{Call, Manager, Reply};
 use std::alloc::{AllocError, Global};
 use std::process::Abort;
 
-/// The number of calls that each line makes.
+/// The number of calls of each line.
 pub const CALLS: u32 = 10;
 
-/// A manager of Countdown with a heap of three, without a match.
+/// Makes a manager of Countdown with a heap of three, without matches.
 pub fn manager<R: Abort>(rt: &R, alloc: Global) -> Manager<Countdown>
     ensures { result.matches ≡ [] }
 {
@@ -31,7 +31,7 @@ pub fn text(alloc: Global, text: &str) -> Result<Text, AllocError> {
     Text::from_slice(alloc, text.as_bytes())
 }
 
-/// The texts in their order.
+/// Makes texts of these words, in order.
 pub fn texts(alloc: Global, words: &[&str]) -> Result<Texts, AllocError> {
     let mut items = Vec::new(alloc);
     for word in words {
@@ -57,7 +57,7 @@ fn query(alloc: Global, id: &str) -> Result<Call, AllocError> {
     Ok(Call::Query { id })
 }
 
-/// Whether a line opens a match at a turn, and the match's id. A line that opens none queries the match.
+/// Whether the line opens a match at this turn, and the match's id. A line that does not open one queries it.
 fn step_of(line: u32, turn: u32) -> (bool, &'static str) {
     match (line, turn) {
         (0, 0) => (true, "m1"),
@@ -78,7 +78,7 @@ fn call_of(alloc: Global, line: u32, turn: u32) -> Result<Call, AllocError> {
     }
 }
 
-/// The replies to the ten calls of the line with this number.
+/// Makes the ten calls of the line with this number, and returns the replies.
 pub fn ten_replies<W: Wire<Call = Call, Reply = Reply>>(
     alloc: Global,
     wire: &mut W,
@@ -102,7 +102,6 @@ fn are_ann_and_bob(players: &Texts) -> bool {
     }
 }
 
-/// Whether this is the call of the line at this turn.
 fn is_call_of(call: &Call, line: u32, turn: u32) -> bool {
     let (opens, wanted) = step_of(line, turn);
     match call {
@@ -124,7 +123,7 @@ fn is_call_of(call: &Call, line: u32, turn: u32) -> bool {
     }
 }
 
-/// Whether two replies to openings and queries are the same.
+/// Whether two replies to `Open` or `Query` are equal.
 fn is_same_reply(some: &Reply, other: &Reply) -> bool {
     match (some, other) {
         (Reply::Opened, Reply::Opened) => true,

@@ -1,4 +1,4 @@
-//! Checks of records, each with one change to the record.
+//! Checks of records with one change each.
 use crate::holding::holds;
 use crate::scripts::FINISHED_RECORD;
 use crate::strikes::RETIRED_RECORD;
@@ -8,10 +8,10 @@ use record_check::verify;
 use std::alloc::Global;
 use std::test::Fail;
 
-/// A text in a record, the text that replaces it, and what the check then returns.
+/// A text in a record, the text that replaces it, and the result of the check.
 type Change = (&'static str, &'static str, Result<(), VerifyFault>);
 
-/// The record with the first such text replaced.
+/// Replaces the first such text in the record.
 fn changed(alloc: Global, record: &str, change: Change) -> Result<String, Fail> {
     let (before, behind) = record.split_once(change.0).ok_or("no such text")?;
     let mut text = before.to_string(alloc)?;
@@ -20,14 +20,13 @@ fn changed(alloc: Global, record: &str, change: Change) -> Result<String, Fail> 
     Ok(text)
 }
 
-/// Whether the check of the record with this change returns what the change says.
 fn is_checked(alloc: Global, heap: u8, record: &str, change: Change) -> Result<bool, Fail> {
     let game = Countdown::new(heap).ok_or("no such game")?;
     let text = changed(alloc, record, change)?;
     Ok(verify(alloc, &game, text.as_bytes()) == change.2)
 }
 
-/// Changes to the record of a whole match, in both versions.
+/// Changes to the record of a complete match, in both versions.
 const CHANGES: [Change; 7] = [
     ("", "", Ok(())),
     (

@@ -1,4 +1,4 @@
-//! Described games that are played by scripts.
+//! Described games, played by scripts.
 use crate::holding::holds;
 use crate::script::{is_played, packed};
 use crate::scripts::{FINISHED, FINISHED_RECORD};
@@ -31,7 +31,7 @@ const COUNTDOWN_RULES: &[u8] = b"(role red) (role blue)
 (<= (goal blue 100) (true (heap 0)) (true (turn red)))
 (<= (goal blue 0) (true (heap 0)) (true (turn blue)))";
 
-/// Whether a script on the game of these rules ends in these records, by the game as it is loaded and by its packed form.
+/// Whether a script on the game of these rules ends in these records, both for the loaded game and for its packed form.
 fn is_played_by_both(
     alloc: Global,
     rules: &[u8],
@@ -51,7 +51,7 @@ fn described_countdown_is_countdown(rt: HostRuntime) -> Result<(), Fail> {
     Ok(())
 }
 
-/// Rules, a script, and the records that it ends in.
+/// Rules, a script, and the records at its end.
 type Example = (&'static str, &'static str, &'static str);
 
 const ENDED_AT_ONCE: Example = (
@@ -101,10 +101,10 @@ fn games_end_or_are_aborted(rt: HostRuntime) -> Result<(), Fail> {
     Ok(())
 }
 
-/// The limit of a match's turns.
+/// The largest number of turns of a match.
 const MOST_TURNS: u32 = 10_000;
 
-/// A match in which the only role plays `MOST_TURNS` turns, and then asks what is due to it.
+/// A match whose only role plays `MOST_TURNS` turns and then asks what is due.
 fn long_script(alloc: Global) -> Result<String, AllocError> {
     let mut script = "open m 0 1 1 ann -> opened\nsubmit m 0 0 x -> taken\n".to_string(alloc)?;
     for round in 1..=MOST_TURNS {
@@ -115,7 +115,7 @@ fn long_script(alloc: Global) -> Result<String, AllocError> {
     Ok(script)
 }
 
-/// The record of that match: the same turn and the same state, again and again.
+/// The record of that match, with the same turn and the same state again and again.
 fn long_record(alloc: Global) -> Result<String, AllocError> {
     let mut record = r#"{"cause":"toolong","endMarks":[null],"errors":["#.to_string(alloc)?;
     push_repeated(&mut record, "[\"\"]", MOST_TURNS)?;
@@ -129,7 +129,7 @@ fn long_record(alloc: Global) -> Result<String, AllocError> {
     Ok(record)
 }
 
-/// Writes a text `count` times, with commas between.
+/// Appends a text `count` times, separated by commas.
 fn push_repeated(record: &mut String, text: &str, count: u32) -> Result<(), AllocError> {
     for place in 0..count {
         if place > 0 {

@@ -1,11 +1,10 @@
-//! Descriptions that are refused, each with its first fault.
+//! Descriptions that are refused, each with its first error.
 use crate::holding::holds;
 use ground_rules::{LoadFault, load};
 use kif_text::read_all;
 use std::alloc::Global;
 use std::test::Fail;
 
-/// Whether the description is refused with this fault.
 fn is_refused(alloc: Global, text: &[u8], fault: LoadFault) -> Result<bool, Fail> {
     let sentences = read_all(alloc, text)?;
     Ok(load(alloc, sentences.as_slice()).err() == Some(fault))

@@ -31,7 +31,6 @@ fn several_expressions_are_read(rt: HostRuntime) -> Result<(), Fail> {
     Ok(())
 }
 
-/// Whether the text is refused with this fault.
 fn is_refused(alloc: Global, text: &[u8], fault: KifFault) -> bool {
     read_one(alloc, text).err() == Some(fault)
 }
@@ -53,7 +52,7 @@ fn first_fault_is_named(rt: HostRuntime) {
     }
 }
 
-/// Empty lists inside each other, `depth` of them.
+/// Nested empty lists, `depth` of them.
 fn nested(alloc: Global, depth: usize) -> Result<Vec<u8>, AllocError> {
     let mut text = vec![in alloc; b'('; depth]?;
     for _ in 0..depth {

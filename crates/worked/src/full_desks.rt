@@ -1,4 +1,4 @@
-//! Desks that hold as much as they may.
+//! Desks that are full.
 ghost use Rattle.std.specs.Prelude.{◌≡◌};
 
 use crate::calls::{manager, open};
@@ -13,10 +13,10 @@ use std::process::Abort;
 use std::sync::Wait;
 use std::sync::ledger::{Blank, Ledger};
 
-/// The limit of a desk's matches.
+/// The largest number of matches of a desk.
 const MATCHES: u32 = 1_024;
 
-/// Makes a call that opens a match with this id. Returns the reply.
+/// Opens a match with this id. Returns the reply.
 fn reply_to_open(
     alloc: Global,
     manager: &mut Manager<Countdown>,
@@ -28,7 +28,7 @@ fn reply_to_open(
     Ok(reply)
 }
 
-/// Whether a match with this number as its id is opened.
+/// Whether a match is opened whose id is this number.
 fn is_opened(alloc: Global, manager: &mut Manager<Countdown>, number: u32) -> bool {
     match format!(in alloc; "{number}") {
         Ok(id) => matches!(

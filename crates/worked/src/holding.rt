@@ -1,7 +1,7 @@
-//! The assertion of the tests. One helper over `==` costs the prover an eighth of an `assert_eq!`.
+//! The assertion of the tests. Proving one helper with `==` costs an eighth of proving an `assert_eq!`.
 use std::process::Abort;
 
-/// Fails the test if `is_so` is false. `of` names the example.
+/// Fails the test of the example `of` if `is_so` is false.
 #[track_caller]
 pub fn holds<R: Abort>(rt: &R, is_so: bool, of: &str) {
     assert!(rt; is_so, "{of}");

@@ -1,4 +1,4 @@
-//! The worked examples of the specification: texts, matches and desks, each with the values that it must give.
+//! The worked examples of the specification: texts, matches and desks, with the values that they must give.
 #![tactic(auto)]
 
 #[cfg(test)]

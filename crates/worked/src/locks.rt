@@ -1,4 +1,4 @@
-//! Four lines of a desk behind a lock, each in a thread of its own.
+//! Four lines of a desk behind a lock, each in a separate thread.
 ghost use Rattle.std.specs.Prelude.{◌≡◌};
 
 use crate::calls::{are_calls_of, manager, ten_replies};
@@ -16,14 +16,13 @@ use std::sync::ledger::{Blank, Ledger};
 use std::thread;
 use std::thread::Threads;
 
-/// A line that has made its calls, and the replies that it got.
+/// A line that has made its calls, and the replies.
 #[derive(Drop)]
 struct Made<L: Ledger> {
     line: LockLine<L>,
     replies: Option<Vec<Reply>>,
 }
 
-/// Makes the ten calls of a line.
 fn make_calls<L: Ledger, R: Wait>(
     rt: &R,
     alloc: Global,
@@ -37,7 +36,7 @@ fn make_calls<L: Ledger, R: Wait>(
     Made { line, replies }
 }
 
-/// Makes the calls of each line in a thread of its own.
+/// Makes the calls of each line in a separate thread.
 fn ask_in_threads<L: Ledger + Send + Sync, R: Threads + Wait + Sync>(
     rt: &R,
     alloc: Global,
@@ -47,7 +46,7 @@ fn ask_in_threads<L: Ledger + Send + Sync, R: Threads + Wait + Sync>(
     thread::map_vec(rt, lines, &|line| make_calls(rt, alloc, desk, line))
 }
 
-/// Closes the desk: it stays open without the last line, and is closed with all.
+/// Tries to close the desk without the last line, which leaves it open, and then closes it with all lines.
 fn close_without_the_last<L: Ledger, R: Abort>(
     rt: &R,
     desk: LockDesk<Manager<Countdown>, L>,
@@ -83,7 +82,7 @@ fn close_with_the_last<L: Ledger, R: Abort>(
     closed
 }
 
-/// What four lines of ten calls each leave.
+/// Checks the desk after four lines have made ten calls each.
 fn check_closed<R: Abort>(rt: &R, closed: &Closed<Manager<Countdown>>) {
     let made_by_line = closed.made_by_line.as_slice();
     holds(rt, closed.history.len() == 40, "the entries");

@@ -26,7 +26,7 @@ fn brief(alloc: Global, id: &[u8], role: &str, rules: &[u8]) -> Result<Brief, Fa
     })
 }
 
-/// Whether the message that is owed to the only role of a match has this text. `told` is the id, the role and the rules of the match.
+/// Whether the message that the match owes to its only role has this text. `told` has the id, the role and the rules of the match.
 fn is_written(
     alloc: Global,
     told: (&[u8], &str, &[u8]),
@@ -40,7 +40,6 @@ fn is_written(
     Ok(message(alloc, &brief, 0, &owed)?.as_slice() == wanted)
 }
 
-/// PLAY after a turn.
 fn play_of_turn(alloc: Global) -> Result<Owed, AllocError> {
     Ok(Owed::Play(Some(texts(alloc, &["(take 1)", "noop"])?)))
 }
@@ -61,7 +60,7 @@ fn messages_have_their_texts(rt: HostRuntime) -> Result<(), Fail> {
     Ok(())
 }
 
-/// Whether the expressions print as these texts, one after the other.
+/// Whether the expressions print as these texts, in order.
 fn are_printed(alloc: Global, exprs: &[Expr], wanted: &[&str]) -> Result<bool, AllocError> {
     let mut is_so = exprs.len() == wanted.len();
     for (expr, text) in exprs.iter().zip(wanted) {
@@ -97,7 +96,7 @@ fn is_start(alloc: Global, found: &Message) -> Result<bool, AllocError> {
     )
 }
 
-/// Whether this is PLAY of these moves in the match `m1`.
+/// Whether this is PLAY with these moves in the match `m1`.
 fn is_play(alloc: Global, found: &Message, wanted: &[&str]) -> Result<bool, AllocError> {
     match found {
         Message::Play {

@@ -1,4 +1,4 @@
-//! Lists of turns that are played on Countdown, and its heaps.
+//! Turns that are played in Countdown, and its heaps.
 use crate::holding::holds;
 use game_core::{Countdown, Joint, PlayFault, Position, Side, Take, play_list};
 use std::alloc::{AllocError, Global};
@@ -13,7 +13,7 @@ fn joints(alloc: Global, turns: &[&[Take]]) -> Result<Vec<Joint<Take>>, AllocErr
     Ok(all)
 }
 
-/// Whether the turns lead from a heap of three to this position, or to this fault.
+/// Whether the turns lead from a heap of three to this position, or to this error.
 fn leads_to(
     alloc: Global,
     game: &Countdown,

@@ -1,4 +1,4 @@
-//! Whole matches of Countdown between players in memory.
+//! Complete matches of Countdown between players in memory.
 use crate::calls::{text, texts};
 use crate::holding::holds;
 use game_core::{Countdown, Take};
@@ -12,13 +12,13 @@ use std::thread;
 use std::thread::Threads;
 use std::time::{Clock, Duration};
 
-/// The number of times that a player looks for another one.
+/// How often a player checks for the other one.
 const LOOKS: u32 = 2_000;
 
-/// The limit of an attended role's asks for what is due to it.
+/// The largest number of questions for what is due to a role.
 const TRIES: u64 = 100_000;
 
-/// The act of a player that is asked for an answer.
+/// What a player does when it must answer.
 #[derive(Clone, Copy)]
 enum Act {
     Say(&'static str),
@@ -26,8 +26,8 @@ enum Act {
     Wait,
 }
 
-/// A player that answers PLAY with `play`, and START and STOP as it should. It counts its messages where others can see the count, and is
-/// silent at START if it never sees that another player got a message.
+/// A player that answers PLAY with `play`, and START and STOP as it should. It counts its messages where others can see the count. If it
+/// never sees that another player got a message, it does not answer START.
 #[derive(Drop)]
 struct ReadyPlayer<'a, C> {
     clock: &'a C,
@@ -83,7 +83,7 @@ fn answer(alloc: Global, act: Act) -> Answer {
     }
 }
 
-/// The players of red and blue. Red waits for blue. Blue waits for nobody, since it waits for its own first message.
+/// The players of red and blue. Red waits for blue. Blue does not wait for red: it waits for its own first message.
 fn red_and_blue<'a, C>(
     clock: &'a C,
     alloc: Global,
@@ -114,7 +114,7 @@ fn setup(alloc: Global) -> Result<Setup, AllocError> {
     })
 }
 
-/// A match of Countdown with a heap of one, in which red and blue answer PLAY with these acts.
+/// Plays a match of Countdown with a heap of one, in which red and blue answer PLAY like this.
 fn refereed<R: Threads + Wait + Clock + Abort + Sync>(
     rt: &R,
     alloc: Global,
@@ -138,7 +138,7 @@ fn refereed<R: Threads + Wait + Clock + Abort + Sync>(
     refereed
 }
 
-/// Whether red has won a match of one turn, in which the moves have these errors.
+/// Checks that red has won a match of one turn, in which the moves have these errors.
 fn check_match<R: Abort>(rt: &R, held: &Match<Countdown>, errors: [&str; 2]) {
     let status = held.status();
     holds(rt, status.phase == Phase::Finished, "the phase");

@@ -1,8 +1,8 @@
-//! An object that is small enough to count its calls by hand.
+//! An object whose calls can be counted by hand.
 use call_history::Object;
 use std::alloc::{AllocError, Global};
 
-/// A number that each call replaces. The reply is the number that stood there before.
+/// A number that each call replaces. The reply is the number before the call.
 #[derive(Clone, Copy)]
 pub struct Register {
     pub value: u64,

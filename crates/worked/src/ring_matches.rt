@@ -1,4 +1,4 @@
-//! A desk over rings, of matches of Countdown.
+//! A desk over rings, with matches of Countdown.
 ghost use Rattle.std.specs.Prelude.{◌≤◌};
 ghost use Rattle.call_history.specs.Limits.{max_lines};
 
@@ -18,13 +18,12 @@ type Desk = RingDesk<Manager<Countdown>>;
 
 type Line = RingLine<Manager<Countdown>>;
 
-/// The number of calls of a line that may wait, and of replies.
+/// How many calls, and how many replies, can wait on a line.
 const ROOM: u64 = 2;
 
-/// The limit of a line's tries to post a call, or to take its reply.
+/// How often a line tries to post a call or to take its reply.
 const TRIES: u64 = 1_000_000_000;
 
-/// A desk of Countdown with a heap of three, and its lines.
 fn open_desk<R: Abort>(rt: &R, alloc: Global, lines: u32) -> (Desk, Vec<Line>)
     requires { (1 ≤ lines) × (lines ≤ max_lines) }
 {
@@ -44,7 +43,6 @@ fn submit(alloc: Global, role: usize, round: u64, answer: &str) -> Result<Call, 
     })
 }
 
-/// Whether the call is posted over the line.
 fn is_posted(line: &mut Line, call: Result<Call, AllocError>) -> bool {
     match call {
         Ok(call) => line.post(call).is_ok(),
@@ -52,7 +50,7 @@ fn is_posted(line: &mut Line, call: Result<Call, AllocError>) -> bool {
     }
 }
 
-/// Whether the call is made over the line, while no other line has posted any.
+/// Whether the line can make the call while no other line has posted any.
 fn is_made(desk: &mut Desk, line: &mut Line, call: Result<Call, AllocError>) -> bool {
     is_posted(line, call) && desk.round() == Ok(1) && line.take().is_some()
 }
@@ -111,13 +109,12 @@ fn serve(desk: Desk, is_over: &AtomicU64) -> Desk {
     desk
 }
 
-/// Makes the ten calls of a line.
 fn make_calls(alloc: Global, line: Line) -> Option<Vec<Reply>> {
     let number = line.number();
     ten_replies(alloc, &mut RingWire::new(line, TRIES), number)
 }
 
-/// Four lines make ten calls each, in threads of their own.
+/// Four lines make ten calls each, in separate threads.
 fn run_four_lines<R: Threads + Wait + Abort + Sync>(rt: &R, alloc: Global) {
     let (desk, lines) = open_desk(rt, alloc, 4);
     let is_over = AtomicU64::new(0);

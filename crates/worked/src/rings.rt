@@ -1,4 +1,4 @@
-//! A desk over rings, of a register.
+//! A desk over rings, with a register.
 ghost use Rattle.std.specs.Prelude.{◌≤◌, IfOk};
 ghost use Rattle.call_history.specs.Limits.{max_entries};
 ghost use Rattle.call_history.specs.RingLines.{IsLineOf, AreEndsOf};
@@ -20,7 +20,6 @@ type Line = RingLine<Register>;
 
 type End = LineEnd<Register>;
 
-/// A desk and its two lines, each with room for two calls and two replies.
 fn open_two(alloc: Global, most: u64) -> Result<(Desk, Line, Line), AllocError>
     requires { (1 ≤ most) × (most ≤ max_entries) }
     ensures first { IfOk result (λ opened. IsLineOf opened.0.ports opened.1) }
@@ -36,7 +35,7 @@ fn open_two(alloc: Global, most: u64) -> Result<(Desk, Line, Line), AllocError>
     }
 }
 
-/// The ends of lines, with the end of one more.
+/// Adds an end to the ends of lines.
 fn beside<R: Abort>(rt: &R, desk: &Desk, ends: Vec<End>, end: End) -> Vec<End>
     requires ends { AreEndsOf desk.now.ports ends.items }
     requires end { IsLineOf desk.now.ports end }

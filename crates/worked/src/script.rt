@@ -20,7 +20,6 @@ fn push_line(text: &mut Vec<u8>, line: &str) -> Result<(), AllocError> {
     Ok(())
 }
 
-/// Reads a script with an arrow in each line.
 fn read_script(alloc: Global, text: &str) -> Result<Script, AllocError> {
     let mut calls = Vec::new(alloc);
     let mut replies = Vec::new(alloc);
@@ -33,7 +32,7 @@ fn read_script(alloc: Global, text: &str) -> Result<Script, AllocError> {
     Ok(Script { calls, replies })
 }
 
-/// Whether a desk of this game gives each call its reply, and then these records.
+/// Whether a desk of this game gives the reply of each call, and then these records.
 pub fn is_played<G: Game + Drop>(
     alloc: Global,
     game: G,
@@ -48,7 +47,7 @@ pub fn is_played<G: Game + Drop>(
     Ok(answers.text.as_slice() == replies.as_slice())
 }
 
-/// Whether a desk of Countdown with a heap of this size does so.
+/// The same for Countdown with a heap of this size.
 pub fn is_counted_down(alloc: Global, heap: u8, text: &str, records: &str) -> Result<bool, Fail> {
     let game = Countdown::new(heap).ok_or("no such game")?;
     Ok(is_played(alloc, game, text, records)?)

@@ -5,7 +5,7 @@ use game_commands::answer_script;
 use game_core::Countdown;
 use std::test::Fail;
 
-/// A whole match, in Countdown with a heap of three.
+/// A complete match of Countdown with a heap of three.
 pub const FINISHED: &str = "open m1 0 10 5 ann bob -> opened
 next m1 0 -> owe 0 start
 submit m1 0 0 READY -> taken
@@ -63,7 +63,7 @@ const SPELLED_RECORD: &str =
     r#"{"cause":null,"endMarks":[null,null],"errors":[["",""],["","IL ?"]],"goalValues":[],"matchId":"m","moves":[["(take 2)","noop"],["noop","(take 1)"]],"phase":"playing","playClock":1,"players":["ann","bob"],"roles":["red","blue"],"startClock":1,"startMarks":["",""],"states":[["(heap 10)","(turn red)"],["(heap 8)","(turn blue)"],["(heap 7)","(turn red)"]],"strikes":0,"version":2}
 "#;
 
-/// Answers that come twice, late, for no role and for no match, with a heap of three.
+/// Answers that are repeated, late, for an unknown role or for an unknown match, with a heap of three.
 const REFUSED: &str = "open m 0 1 1 ann bob -> opened
 submit m 0 0 READY -> taken
 submit m 1 0 READY -> taken
@@ -79,7 +79,7 @@ const REFUSED_RECORD: &str =
     r#"{"cause":null,"endMarks":[null,null],"errors":[["","TO"]],"goalValues":[],"matchId":"m","moves":[["(take 1)","noop"]],"phase":"playing","playClock":1,"players":["ann","bob"],"roles":["red","blue"],"startClock":1,"startMarks":["",""],"states":[["(heap 3)","(turn red)"],["(heap 2)","(turn blue)"]],"strikes":0,"version":2}
 "#;
 
-/// An abort that is asked for in a turn, with a heap of three.
+/// An abort during a turn, with a heap of three.
 const ABORTED: &str = "open m 0 1 1 ann bob -> opened
 submit m 0 0 READY -> taken
 submit m 1 0 READY -> taken
@@ -99,7 +99,7 @@ const ABORTED_RECORD: &str =
     r#"{"cause":"asked","endMarks":["","TO"],"errors":[],"goalValues":[],"matchId":"m","moves":[],"phase":"aborted","playClock":1,"players":["ann","bob"],"roles":["red","blue"],"startClock":1,"startMarks":["",""],"states":[["(heap 3)","(turn red)"]],"strikes":0,"version":2}
 "#;
 
-/// An abort that is asked for before the players are ready, with a heap of three.
+/// An abort before the players are ready, with a heap of three.
 const NOT_STARTED: &str = "open m 0 1 1 ann bob -> opened
 abort m -> aborting
 next m 0 -> owe 1 abort
@@ -110,7 +110,7 @@ const NOT_STARTED_RECORD: &str =
     r#"{"cause":"asked","endMarks":[null,null],"errors":[],"goalValues":[],"matchId":"m","moves":[],"phase":"aborting","playClock":1,"players":["ann","bob"],"roles":["red","blue"],"startClock":1,"startMarks":[null,null],"states":[["(heap 3)","(turn red)"]],"strikes":0,"version":2}
 "#;
 
-/// Openings that are refused, each for its first reason, with a heap of three.
+/// Matches that cannot be opened, each for its first reason, with a heap of three.
 const NOT_OPENED: &str = "open m 0 1 1 ann bob -> opened
 open m 0 1 1 ann -> refused idused
 open m! 9 0 0 -> refused badid

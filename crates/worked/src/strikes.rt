@@ -3,7 +3,7 @@ use crate::holding::holds;
 use crate::script::is_counted_down;
 use std::test::Fail;
 
-/// Red is retired after two turns, and then blue, with a heap of ten.
+/// Red is retired after two turns, and later blue is, with a heap of ten.
 const RETIRED: &str = "strict m 0 1 1 2 ann bob -> opened
 submit m 0 0 READY -> taken
 submit m 1 0 READY -> taken
@@ -39,7 +39,7 @@ const RETIRED_AT_THE_END_RECORD: &str =
     r#"{"cause":null,"endMarks":[null,null],"errors":[["TO","TO"]],"goalValues":[100,0],"matchId":"m","moves":[["(take 1)","noop"]],"phase":"stopping","playClock":1,"players":["ann","bob"],"roles":["red","blue"],"startClock":1,"startMarks":["",""],"states":[["(heap 1)","(turn red)"],["(heap 0)","(turn blue)"]],"strikes":1,"version":2}
 "#;
 
-/// Two substitutions that are not in a row retire nobody, with a heap of ten.
+/// Two substitutions that are not in a row retire no role, with a heap of ten.
 const NOT_IN_A_ROW: &str = "strict m 0 1 1 2 ann bob -> opened
 submit m 0 0 READY -> taken
 submit m 1 0 READY -> taken
@@ -56,7 +56,7 @@ const NOT_IN_A_ROW_RECORD: &str =
     r#"{"cause":null,"endMarks":[null,null],"errors":[["TO",""],["",""],["TO",""]],"goalValues":[],"matchId":"m","moves":[["(take 1)","noop"],["noop","(take 1)"],["(take 1)","noop"]],"phase":"playing","playClock":1,"players":["ann","bob"],"roles":["red","blue"],"startClock":1,"startMarks":["",""],"states":[["(heap 10)","(turn red)"],["(heap 9)","(turn blue)"],["(heap 8)","(turn red)"],["(heap 7)","(turn blue)"]],"strikes":2,"version":2}
 "#;
 
-/// Too many strikes are refused only after a bad clock, with a heap of three.
+/// Too many strikes are refused only if the clocks are good, with a heap of three.
 const TOO_MANY: &str = "strict m 0 0 1 256 ann bob -> refused badclock
 strict m 0 1 1 256 ann bob -> refused badstrikes
 strict m 0 1 1 255 ann bob -> opened

@@ -1,4 +1,4 @@
-"""The processes that play and check matches. They end with this one, however it ends."""
+"""The processes that play and check matches, and send ABORT. They end with this process, however it ends."""
 
 import asyncio
 import contextlib
@@ -12,16 +12,19 @@ from collections.abc import AsyncIterator
 from dataclasses import dataclass
 
 from ggp_tools.printable import message_lines
+from ggp_tools.referee import Referee
 
-# Before a command and the number of this process: runs the command, which is killed when this process ends. If it has ended before, the
-# command does not begin.
+# Followed by the number of this process and a command, this runs the command, and kills it when this process ends. If it has ended before, the
+# command is not run.
 WITH_PARENT = ("setpriv", "--pdeathsig", "KILL", "--", "sh", "-c", 'test "$PPID" = "$0" && exec "$@"')
-UNSAID = "it ended with status {} and no message"
+WITHOUT_MESSAGE = "it ended with status {} and no message"
 MOST_AT_ONCE = 1 << 16
+# At most this many players are sent ABORT at the same time.
+MOST_ABORTS = 1_024
 
 
 class Watched(asyncio.subprocess.SubprocessStreamProtocol):
-    """Says when its process has ended, also if another one holds its pipes."""
+    """Sets an event when its process has ended, even if another process has its pipes open."""
 
     def __init__(self) -> None:
         super().__init__(MOST_AT_ONCE, asyncio.get_running_loop())
@@ -32,20 +35,20 @@ class Watched(asyncio.subprocess.SubprocessStreamProtocol):
         super().process_exited()
 
     def pipe_connection_lost(self, fd: int, why: Exception | None) -> None:
-        """A process that reads its input no more is no error, which Python would report later if nobody asks for it."""
+        """Ignores that a process has closed its input. Python would report this as an error."""
         super().pipe_connection_lost(fd, why if fd else None)
 
 
 @contextlib.asynccontextmanager
 async def started(words: list[str], ends_itself: bool = False) -> AsyncIterator[tuple[asyncio.subprocess.Process, asyncio.Event]]:
-    """Gives a process, and what is set once it has ended. In the end it is killed, with what it has started. It also ends with this process,
-    unless it sees to that itself. Ctrl-C at the terminal does not reach it."""
+    """Yields a process, and an event that is set when it has ended. On exit the process and its group are killed. They are also killed when this
+    process ends, unless the process does that itself. Ctrl-C at the terminal does not reach it."""
     loop, before = asyncio.get_running_loop(), () if ends_itself else (*WITH_PARENT, str(os.getpid()))
     if not shutil.which(words[0]):
         raise FileNotFoundError(errno.ENOENT, os.strerror(errno.ENOENT), words[0])
     starting = asyncio.create_task(loop.subprocess_exec(Watched, *before, *words, start_new_session=True))
     try:
-        # If this is cancelled meanwhile, asyncio itself would kill the process alone, and wait for what it has started.
+        # If this is cancelled, asyncio would kill only the process, and wait for the processes that it has started.
         transport, watched = await asyncio.shield(starting)
         yield asyncio.subprocess.Process(transport, watched, loop), watched.ended
     finally:
@@ -59,27 +62,53 @@ async def started(words: list[str], ends_itself: bool = False) -> AsyncIterator[
 
 @dataclass
 class Done:
-    """What came of a process. Its status is None if it did not end in its time."""
+    """A process that has ended, with its standard output and error. Its status is None if its time was over."""
 
     status: int | None
-    printed: bytes
-    said: bytes
+    output: bytes
+    errors: bytes
     seconds: float
 
     def verdict(self) -> dict:
         """Returns the JSON object that the process printed. It is empty if there is none."""
-        return json.loads(self.printed or b"{}")
+        return json.loads(self.output or b"{}")
 
-    def last_words(self) -> str:
-        """Returns the last line that the process said on standard error. If there is none: how it ended."""
-        return (message_lines(self.said) or [UNSAID.format(self.status)])[-1]
+    def message(self) -> str:
+        """Returns the last line of standard error, or how the process ended if there is none."""
+        return (message_lines(self.errors) or [WITHOUT_MESSAGE.format(self.status)])[-1]
 
 
 async def run(words: list[str], given: bytes = b"", seconds: float | None = None) -> Done:
-    """Runs a process to its end. It is killed once its time is over, or if this is cancelled."""
+    """Runs a process to its end. It is killed when its time is over, or if this is cancelled."""
     began, streams = time.monotonic(), (b"", b"")
     async with started(words) as (process, _):
         with contextlib.suppress(TimeoutError):
             async with asyncio.timeout(seconds):
                 streams = await process.communicate(given)
         return Done(process.returncode, *streams, time.monotonic() - began)
+
+
+async def is_answered(referee: Referee, match: str, place: str, slots: asyncio.Semaphore) -> bool:
+    """Sends a player ABORT. Returns whether it answered; it counts as silent if this computer is out of a resource."""
+    async with slots:
+        try:
+            return (await run(referee.abort_words(match, place))).status == 0
+        except OSError:
+            return False
+
+
+async def send_aborts(referee: Referee, places: dict[str, list[str]], seconds: float | None = None) -> dict[str, list[str]]:
+    """Sends ABORT for matches that no referee plays any more, to many players at the same time. The addresses of the players are given by the ids of
+    the matches. Returns in the same form the players that did not answer within 10 seconds, or within the given ones."""
+    slots = asyncio.Semaphore(MOST_ABORTS)
+    sent = {(match, place): asyncio.create_task(is_answered(referee, match, place, slots)) for match in places for place in places[match]}
+    if sent:
+        _, late = await asyncio.wait(sent.values(), timeout=seconds)
+        for task in late:
+            task.cancel()
+        await asyncio.gather(*late, return_exceptions=True)
+    silent: dict[str, list[str]] = {}
+    for match, place in sorted(sent):
+        if sent[match, place].cancelled() or not sent[match, place].result():
+            silent.setdefault(match, []).append(place)
+    return silent

@@ -1,90 +1,85 @@
 """The command line of `ggp_competition`."""
 
 import argparse
-import collections
+import contextlib
 import os
 import pathlib
 import sys
+from collections import Counter
 from collections.abc import Callable, Iterable, Iterator
 
 from ggp_tools import VERSION
-from ggp_tools.competition.again import order_again
-from ggp_tools.competition.archive import check_archive, matches_text, own_files, publish
-from ggp_tools.competition.files import Refused, held, write_whole
+from ggp_tools.competition.archive import check_archive, matches_text, publish
+from ggp_tools.competition.files import Refused, file_bytes, held, write_whole
 from ggp_tools.competition.game import add_game, run_game
-from ggp_tools.competition.kept import look_at_records
 from ggp_tools.competition.init_file import add_init, write_first_file
-from ggp_tools.competition.joined import joined
 from ggp_tools.competition.known import Known
-from ggp_tools.competition.log_faults import faults_of_logs
+from ggp_tools.competition.call_logs import faults_of_logs
+from ggp_tools.competition.match_files import check_records
 from ggp_tools.competition.packing import TooLarge
 from ggp_tools.competition.pages import Pages
-from ggp_tools.competition.plan import WRITES, Plan, faults_of_descriptions, make_plan, next_plan, read_plan, round_words, rounds_left
+from ggp_tools.competition.plan import WRITES, Plan, faults_of_descriptions, make_plan, next_plan, order_again, read_plan, round_words, rounds_left
 from ggp_tools.competition.playing import Playing, play
 from ggp_tools.competition.results import Result
 from ggp_tools.competition.schedule import Match
 from ggp_tools.referee import NoReferee, Referee, Unchecked, find_program
-from ggp_tools.competition.seats import Seats
 from ggp_tools.competition.serving import add_serve, run_serve
 from ggp_tools.competition.table import tables_of
-from ggp_tools.competition.table_text import in_order, table_files, table_text, without_record
+from ggp_tools.competition.table_text import in_order, joined, table_files, table_text, without_record
 from ggp_tools.competition.trying import try_player
-from ggp_tools.competition.why import said_of_match
+from ggp_tools.competition.why import explanation
 from ggp_tools.printable import printable
 from ggp_tools.reporting import Journal, Reporter
-from ggp_tools.streams import ready_streams, say, whole
+from ggp_tools.streams import PACKED, ready_streams, say, whole
 
 MOST_AT_ONCE = 1_024
-# Up to so many matches that are missing for one reason have a line each. Of more only the number is reported.
+DIRECTORY = "the directory of the competition, with competition.toml (the current one)"
+# At most this many matches that are missing for the same reason have their own lines.
 MOST_LINES = 10
-HELP = "A competition in one folder, of which competition.toml says what is played."
-STATUS = """status 0: all is well; of `play`, each match has a lawful record. 1: it is not. 2: the command or competition.toml is wrong. 3: the
-referee could not check what is there, as where memory is short; no file of a match was touched.
+HELP = "Runs a competition of game players from one directory, whose file competition.toml describes it."
+STATUS = """exit status 0: success; with `play`, each match has a lawful record. 1: failure. 2: the command or competition.toml is wrong. 3: the referee
+could not check the files, for example because memory is short; no file of a match was changed.
 """
 
 
 def add_program(parser: argparse.ArgumentParser, **more: object) -> None:
-    text = "the referee, ggp_manager (the one beside this program, in bin of the repository, or on the path of the shell)"
+    text = "the referee, ggp_manager (the one next to this program, in bin of the repository, or on the path of the shell)"
     parser.add_argument("--program", metavar="FILE", help=text, **more)
 
 
 def add_options(command: argparse.ArgumentParser, name: str) -> None:
-    """Adds what a command takes."""
+    """Adds the arguments of a command."""
+    add = command.add_argument
     if name == "check":
-        command.add_argument("archive", metavar="ARCHIVE", help="the file of the archive")
-        return
-    if name == "init":
+        add("archive", metavar="ARCHIVE", help="the file of the archive")
+    elif name == "init":
         add_init(command)
-        return
-    if name == "try":
-        command.add_argument("folder", metavar="FOLDER", help="the folder of the competition, or its competition.toml")
-        command.add_argument("player", metavar="PLAYER", help="the name of the player")
-        command.add_argument("--game", metavar="NAME", help="the game (the first one)")
-        return
-    if name == "why":
-        command.add_argument("folder", metavar="FOLDER", help="the folder of the competition, or of an archive that was unpacked")
-        command.add_argument("match", metavar="MATCH", help="the id of the match")
-        command.add_argument("player", nargs="?", metavar="PLAYER", help="the name of a player (all of the match)")
-        return
-    text = "the folder of the competition, with competition.toml (the present one)"
-    if name == "table":
-        command.add_argument("folder", nargs="*", default=["."], metavar="FOLDER", help=f"{text}; of several one table is printed")
-        command.add_argument("--to", metavar="FOLDER", help="where the files of a table of several are written")
-        return
-    command.add_argument("folder", nargs="?", default=".", metavar="FOLDER", help=text)
+    elif name == "try":
+        add("folder", metavar="DIRECTORY", help="the directory of the competition, or its competition.toml")
+        add("player", metavar="PLAYER", help="the name of the player")
+        add("--game", metavar="NAME", help="the game (the first one)")
+    elif name == "why":
+        add("folder", metavar="DIRECTORY", help="the directory of the competition, or of an archive that was unpacked")
+        add("match", metavar="MATCH", help="the id of the match")
+        add("player", nargs="?", metavar="PLAYER", help="the name of a player (all of the match)")
+    elif name == "table":
+        add("folder", nargs="*", default=["."], metavar="DIRECTORY", help=f"{DIRECTORY}; prints one table of several")
+        add("--to", metavar="DIRECTORY", help="where to write the files of a table of several competitions")
+    else:
+        add("folder", nargs="?", default=".", metavar="DIRECTORY", help=DIRECTORY)
     if name == "again":
-        command.add_argument("match", metavar="MATCH", help="the match, which has a lawful record")
-        command.add_argument("--reason", required=True, metavar="TEXT", help="why: it stands in the table, the pages and the archive")
+        add("match", metavar="MATCH", help="the match, which has a lawful record")
+        add("--reason", required=True, metavar="TEXT", help="the reason, for the table, the pages and the archive")
     if name == "plan":
-        command.add_argument("--preview", action="store_true", help="print the matches that it would add, or those of the next round, and write nothing")
+        add("--preview", action="store_true", help="print the matches that it would add, or those of the next round, and write nothing")
     if name == "play":
-        command.add_argument("--at-once", type=whole(1, MOST_AT_ONCE), default=4, metavar="N", help="at most N matches at once (4)")
-        command.add_argument("--watch", action="store_true", help="write the pages anew as matches end")
+        add("--at-once", type=whole(1, MOST_AT_ONCE), default=4, metavar="N", help="at most N matches at once (4)")
+        add("--watch", action="store_true", help="write the pages again as matches end")
     if name == "serve":
         add_serve(command)
     if name == "publish":
-        command.add_argument("--to", metavar="FILE", help="the archive (NAME.tar.gz in the folder)")
-        command.add_argument("--gaps", action="store_true", help="also if matches have no record; the archive names them")
+        add("--to", metavar="FILE", help="the archive (NAME.tar.gz in the directory)")
+        add("--gaps", action="store_true", help="publish even if matches have no record; the archive lists them")
 
 
 def arguments(words: list[str]) -> argparse.Namespace:
@@ -103,45 +98,45 @@ def arguments(words: list[str]) -> argparse.Namespace:
     return parser.parse_args(words)
 
 
-def write_matches(plan: Plan, results: list[Result], known: Known | None = None) -> None:
-    """Writes matches.jsonl. Says which matches have no log, and so no times."""
+def write_matches(plan: Plan, results: list[Result]) -> None:
+    """Writes matches.jsonl. Reports which matches have no log, and therefore no times."""
     lacking = [result.match.id for result in results if not plan.folder.has_log(result.match.id)]
     if lacking[1:]:
         print(f"ggp_competition: {len(lacking):,} matches count without their times, {lacking[0]} to {lacking[-1]}: their logs are missing", file=sys.stderr)
     elif lacking:
         print(f"ggp_competition: {lacking[0]} counts without its times: its log is missing", file=sys.stderr)
-    write_whole(plan.folder.matches, matches_text(plan, results, known))
+    write_whole(plan.folder.matches, matches_text(plan, results))
 
 
 def known_results(plan: Plan, referee: Referee, known: Known | None) -> tuple[list[Result], bool]:
-    """Returns the results that count, in the schedule's order; says of each record that does not."""
-    results, faults, misfits = look_at_records(plan, referee, known)
+    """Returns the results that count, in the order of the schedule, and whether records do not count. Reports why they do not."""
+    results, faults, misfits = check_records(plan, referee, known)
     for match, why in {**faults, **misfits}.items():
         print(f"ggp_competition: {match} does not count: {why}", file=sys.stderr)
     return in_order(plan, results), bool(faults or misfits)
 
 
 def spread(counts: Iterable[int]) -> str:
-    """Returns the least and the greatest of numbers, as text."""
+    """Returns the smallest and the largest number as text."""
     return " to ".join(str(number) for number in sorted({min(counts), max(counts)})) if counts else "0"
 
 
-def said_of_game(plan: Plan, matches: list[Match]) -> str:
+def counts_of_game(plan: Plan, matches: list[Match]) -> str:
     """Returns how many matches of a game there are, how often a player has each role, and how often two players meet."""
     if not matches:
         return "no match"
     names = [player.name for player in plan.competition.players]
-    seats = collections.Counter((seat, player) for match in matches for seat, player in enumerate(match.players))
-    met = collections.Counter((player, other) for match in matches for player in match.players for other in match.players if player < other)
+    played = Counter((role, player) for match in matches for role, player in enumerate(match.players))
+    met = Counter((player, other) for match in matches for player in match.players for other in match.players if player < other)
     roles = plan.roles(matches[0].game)
-    times = spread([seats[seat, name] for seat in range(len(roles)) for name in names])
-    said = f"{len(matches)} matches, roles {' '.join(roles)}; each player in each role: {times}"
-    pairs = [met[player, other] for player in names for other in names if player < other]
-    return f"{said}; each two players: {spread(pairs)}" if len(roles) > 1 else said
+    in_roles = spread([played[role, name] for role in range(len(roles)) for name in names])
+    pairs = spread([met[player, other] for player in names for other in names if player < other])
+    counts = f"{len(matches)} matches, roles {' '.join(roles)}; each player in each role: {in_roles}"
+    return f"{counts}; each two players: {pairs}" if len(roles) > 1 else counts
 
 
 def preview(path: str, referee: Referee) -> int:
-    """Prints the matches that `plan` would add, or those of the round that follows from the records. Nothing is written."""
+    """Prints the matches that `plan` would add, or those of the next round, and writes nothing."""
     plan = make_plan(path, referee, is_preview=True)
     missing = 0
     if plan.rounds and plan.known is not None:
@@ -159,25 +154,27 @@ def run_plan(asked: argparse.Namespace, referee: Referee) -> int:
         return preview(asked.folder, referee)
     plan = make_plan(asked.folder, referee)
     for game in plan.competition.games:
-        say(f"{game.name}: {said_of_game(plan, [match for match in plan.matches if match.game == game.name and match.counts()])}")
+        say(f"{game.name}: {counts_of_game(plan, [match for match in plan.matches if match.game == game.name and match.counts()])}")
         for note in plan.rules[game.name].notes:
             say(f"{game.name}: {note}")
     if plan.competition.forfeit and not plan.competition.strikes:
         say("forfeit: without `strikes` no player is retired, so none loses a match by it")
+    if same_user := [player.name for player in plan.competition.players if player.command and not player.command.launcher]:
+        say(f"players that run as you, and can read and change all that you can: {', '.join(same_user)}")
     if plan.rounds:
         say(round_words(plan))
-    say(f"{plan.folder.schedule}: {len(plan.matches)} matches of {len(plan.competition.players)} players{said_of_growth(plan)}{not_played(plan)}")
+    say(f"{plan.folder.schedule}: {len(plan.matches)} matches of {len(plan.competition.players)} players{growth(plan)}{not_played(plan)}")
     return 0
 
 
 def not_played(plan: Plan) -> str:
-    """Returns how many matches are not played since a player has withdrawn."""
+    """Returns how many matches are not played because a player has withdrawn."""
     count = sum(bool(match.withdrawn) and not plan.folder.record(match.id).exists() for match in plan.matches)
     return f"; {count} are not played, since a player has withdrawn" if count else ""
 
 
-def said_of_growth(plan: Plan) -> str:
-    """Returns what a plan has added to that of a competition of which matches were played."""
+def growth(plan: Plan) -> str:
+    """Returns which matches a plan has added after matches were played."""
     if plan.known is None:
         return ""
     new = plan.new_matches()
@@ -195,27 +192,17 @@ def run_again(asked: argparse.Namespace, referee: Referee) -> int:
     return 0
 
 
-def alone(run: Callable[[argparse.Namespace, Referee], int]) -> Callable[[argparse.Namespace, Referee], int]:
-    """Has no other run change the plan, from before it is read until what follows from it is written."""
-
-    def run_alone(asked: argparse.Namespace, referee: Referee) -> int:
-        with held(asked.folder):
-            return run(asked, referee)
-
-    return run_alone
-
-
-def error_of_pages(write: Callable[[], None]) -> str | None:
-    """Writes pages. Returns why they can't be written, if so; the matches go on."""
+def error_of_pages(write: Callable[..., object], *arguments: object) -> str | None:
+    """Writes pages. Returns the error if that fails, because the matches go on."""
     try:
-        write()
+        write(*arguments)
         return None
     except OSError as why:
         return f"pages are not written: {why.filename or 'a file'}: {why.strerror}"
 
 
-def said_of_missing(missing: dict[str, str]) -> Iterator[str]:
-    """Gives lines that say which matches are missing, and why: only their number if many are missing for one reason."""
+def missing_lines(missing: dict[str, str]) -> Iterator[str]:
+    """Yields lines about the missing matches, with the reasons. Many with the same reason share a line."""
     by_reason: dict[str, list[str]] = {}
     for match, why in missing.items():
         by_reason.setdefault(why, []).append(match)
@@ -226,20 +213,19 @@ def said_of_missing(missing: dict[str, str]) -> Iterator[str]:
             yield from (f"missing {match}: {why}" for match in matches)
 
 
-@alone
 def run_play(asked: argparse.Namespace, referee: Referee) -> int:
     plan = read_plan(asked.folder, referee)
     reporter = Reporter(Journal(plan.folder.journal))
-    playing = Playing(plan, referee, Seats(plan.competition), reporter, asked.at_once)
+    playing = Playing(plan, referee, reporter, asked.at_once)
     if asked.watch:
         pages = Pages(plan)
-        playing.watch = lambda results: error_of_pages(lambda: pages.write_now_and_then(lambda: in_order(plan, results)))
+        playing.watch = lambda results: error_of_pages(pages.write_now_and_then, lambda: in_order(plan, results))
     missing = play(playing)
     write_matches(plan, in_order(plan, playing.results))
-    lacks_pages = error_of_pages(lambda: pages.write(in_order(plan, playing.results))) if asked.watch else None
+    lacks_pages = error_of_pages(pages.write, in_order(plan, playing.results)) if asked.watch else None
     if lacks_pages:
         reporter.line(lacks_pages)
-    for line in said_of_missing(missing):
+    for line in missing_lines(missing):
         reporter.sum_up(line)
     left = rounds_left(plan)
     if plan.competition.pause and (following := next_plan(plan, playing.results)):
@@ -253,36 +239,25 @@ def run_play(asked: argparse.Namespace, referee: Referee) -> int:
     return bool(missing or lacks_pages or left)
 
 
-def run_several(asked: argparse.Namespace, referee: Referee) -> int:
-    """Prints one table of several competitions."""
-    plans = [read_plan(folder, referee) for folder in asked.folder]
-    whole, known = joined(plans), [Known(plan.folder.path) for plan in plans]
-    found = [known_results(plan, referee, own) for plan, own in zip(plans, known)]
-    tables = tables_of(whole.competition, [result for results, _ in found for result in results])
-    say(table_text(whole, tables), end="")
-    for name, data in table_files(whole, tables).items() if asked.to else ():
-        write_whole(pathlib.Path(asked.to) / name, data)
-    for own in known:
-        own.write()
-    return any(is_faulty for _, is_faulty in found)
-
-
 def run_table(asked: argparse.Namespace, referee: Referee) -> int:
-    if len(asked.folder) > 1:
-        return run_several(asked, referee)
-    if asked.to:
+    """Prints and writes the table of a competition, or one table of several."""
+    if asked.to and len(asked.folder) == 1:
         raise Refused("--to: only the table of several folders is written elsewhere")
-    plan = read_plan(asked.folder[0], referee)
-    known = Known(plan.folder.path)
-    results, is_faulty = known_results(plan, referee, known)
+    plans = [read_plan(folder, referee) for folder in asked.folder]
+    plan, known = joined(plans), [Known(plan.folder.path) for plan in plans]
+    checked = [known_results(plan, referee, facts) for plan, facts in zip(plans, known)]
+    results = [result for results, _ in checked for result in results]
     tables = tables_of(plan.competition, results, plan.rounds)
-    # It is there to be read also where it can't be written.
+    # It is printed even if it can't be written.
     say(table_text(plan, tables), end="")
-    write_matches(plan, results, known)
-    for name, data in table_files(plan, tables).items():
-        write_whole(plan.folder.path / name, data)
-    known.write()
-    return is_faulty
+    if len(plans) == 1:
+        write_matches(plan, results)
+    directory = plan.folder.path if len(plans) == 1 else asked.to and pathlib.Path(asked.to)
+    for name, data in table_files(plan, tables).items() if directory else ():
+        write_whole(directory / name, data)
+    for facts in known:
+        facts.write()
+    return any(is_faulty for _, is_faulty in checked)
 
 
 def run_pages(asked: argparse.Namespace, referee: Referee) -> int:
@@ -297,8 +272,7 @@ def run_pages(asked: argparse.Namespace, referee: Referee) -> int:
 
 
 def archive_path(plan: Plan, to: str | None) -> pathlib.Path:
-    """Returns where the archive is to stand. Refuses what it can't replace, a folder that is not there, and the places of the
-    competition's own files."""
+    """Returns the path of the archive. Refuses a missing directory, a file that is not an archive, and the directories of the competition."""
     path = pathlib.Path(to or plan.folder.path / f"{plan.competition.name}.tar.gz")
     if path.exists() and not path.is_file():
         raise Refused(f"{path} is no plain file: `--to` names the file of the archive")
@@ -308,12 +282,11 @@ def archive_path(plan: Plan, to: str | None) -> pathlib.Path:
     if parent.startswith(os.path.join(top, "")):
         place = f"directly in {plan.folder.path}, or outside of it"
         raise Refused(f"{path} stands among the files of the competition: `--to` names a file {place}")
-    if os.path.realpath(path) in map(os.path.realpath, own_files(plan)):
-        raise Refused(f"{path} is a file of the competition: `--to` names the file of the archive")
+    if path.exists() and file_bytes(path, len(PACKED)) != PACKED:
+        raise Refused(f"{path} exists and is not an archive: `--to` names the file of the archive")
     return path
 
 
-@alone
 def run_publish(asked: argparse.Namespace, referee: Referee) -> int:
     plan = read_plan(asked.folder, referee)
     path, known = archive_path(plan, asked.to), Known(plan.folder.path)
@@ -321,16 +294,16 @@ def run_publish(asked: argparse.Namespace, referee: Referee) -> int:
     missing, left = len(without_record(plan, results)), rounds_left(plan)
     faults = []
     if missing and (is_faulty or not asked.gaps):
-        # What is wrong is not a gap: it is played again, or put right.
+        # A record that is wrong is not a gap: the match is played again, or the record corrected.
         faults = [f"{missing} matches have no lawful record{'' if is_faulty else '; with `--gaps` the others are'}"]
     elif left and not asked.gaps:
         faults = [f"{left} of {left + len(plan.rounds)} rounds are not planned yet; with `--gaps` the others are"]
     faults = faults or list(faults_of_descriptions(plan, plan.folder.description, f", and {WRITES}"))
     faults = faults or [f"{fault}: without the log the match counts too" for fault in faults_of_logs(plan, results, is_published=False)]
     if not faults:
-        write_matches(plan, results, known)
+        write_matches(plan, results)
         try:
-            say(f"{publish(plan, referee, results, path, known)}  {path}")
+            say(f"{publish(plan, referee, results, path, known)}  {path.name}")
             known.write()
         except TooLarge as why:
             faults = [str(why)]
@@ -340,8 +313,8 @@ def run_publish(asked: argparse.Namespace, referee: Referee) -> int:
 
 
 def run_why(asked: argparse.Namespace, referee: Referee) -> int:
-    for line in said_of_match(read_plan(asked.folder, referee), asked.match, asked.player):
-        # The folder may come from an archive, whose journal and logs have any bytes.
+    for line in explanation(read_plan(asked.folder, referee), asked.match, asked.player):
+        # The directory may come from an archive, whose journal and logs may have any bytes.
         say(printable(line))
     return 0
 
@@ -362,27 +335,31 @@ def run_check(asked: argparse.Namespace, referee: Referee) -> int:
 
 
 COMMANDS = {
-    "init": ("writes a first competition.toml with comments, by options or by questions", run_init),
+    "init": ("writes a first competition.toml with comments, from options or answers", run_init),
     "plan": ("writes the rules and schedule.tsv, as competition.toml says", run_plan),
-    "again": ("orders a match to be played again: the one in its place counts, and both are kept", run_again),
+    "again": ("has a match played again: the new one counts, and both are kept", run_again),
     "play": ("plays the matches that have no lawful record yet", run_play),
     "table": ("prints the table, and writes it as table.txt, table.csv, crosstable.csv and table.json", run_table),
-    "pages": ("writes the folder `pages`, to be opened in a browser", run_pages),
-    "publish": ("writes one archive of the whole competition, with sums", run_publish),
+    "pages": ("writes the directory `pages` for a browser", run_pages),
+    "publish": ("writes an archive of the whole competition, with checksums", run_publish),
     "serve": ("serves live pages of the matches, the standings and the players to browsers, read only", run_serve),
-    "why": ("tells what happened to the players of a match, turn by turn, with the times", run_why),
+    "why": ("explains what happened to the players of a match, turn by turn, with the times", run_why),
     "try": ("starts one player that has a command, and plays a match with it in each role", run_try),
-    "check": ("checks an archive that `publish` has written, by what is in it alone", run_check),
+    "check": ("checks an archive that `publish` has written, and reads nothing else", run_check),
 }
+# These hold the lock of the directory, so that no other run changes the plan from before they read it until they have written their files.
+LOCKING = run_play, run_publish
 
 
 def main() -> int:
     ready_streams()
     asked = arguments(sys.argv[1:])
-    # An archive that can't be read, or is not looked at to its end, is none that fails the check.
-    broken_off = 3 if asked.run is run_check else 1
+    # If an archive can't be read, or the check is interrupted, the archive has not failed the check.
+    interrupted = 3 if asked.run is run_check else 1
     try:
-        return int(asked.run(asked, Referee(find_program(asked.program))))
+        referee = Referee(find_program(asked.program))
+        with held(asked.folder) if asked.run in LOCKING else contextlib.nullcontext():
+            return int(asked.run(asked, referee))
     except (Refused, NoReferee) as why:
         print(f"ggp_competition: {why}" if "\n" not in str(why) else why, file=sys.stderr)
         return 2
@@ -391,10 +368,10 @@ def main() -> int:
         return 3
     except KeyboardInterrupt:
         print("ggp_competition: interrupted", file=sys.stderr)
-        return broken_off
+        return interrupted
     except OSError as why:
         print(f"ggp_competition: {why.filename or 'a file'}: {why.strerror}", file=sys.stderr)
-        return broken_off
+        return interrupted
     except UnicodeEncodeError as why:
         print(f"ggp_competition: {why.object!r} can't be the name of a file in this locale, whose encoding is {why.encoding}", file=sys.stderr)
         return 2

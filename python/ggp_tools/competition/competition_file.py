@@ -1,21 +1,22 @@
-"""Reads competition.toml: what is played, by whom, and in which form. Each mistake is reported with its line and key."""
+"""Reads competition.toml: the games, the players and the form. Reports each mistake with its line and key."""
 
 import re
-from collections.abc import Callable, Iterable, Mapping
+from collections.abc import Callable, Iterable, Mapping, Sequence
 from dataclasses import dataclass, field, fields
 from typing import Any
 
 from ggp_tools.competition.toml_lines import Path, TomlFault, read_toml
+from ggp_tools.printable import shown
 from ggp_tools.records.lengths import MOST_TURNS
 
 NAME = re.compile(r"[A-Za-z0-9][A-Za-z0-9_.-]{0,39}")
-FIRST = ", a letter or a digit first"
+FIRST = ", beginning with a letter or a digit"
 PLAYER_NAME = re.compile(r"[A-Za-z0-9_.-]{1,64}")
 ADDRESS = re.compile(r"(\[[0-9A-Fa-f:.]+(?:%[A-Za-z0-9_.-]+)?\]|[A-Za-z0-9_.-]+):([0-9]{1,5})")
 MARK = b"\xef\xbb\xbf"
 CONTROL = re.compile(r"[\x00-\x1f\x7f-\x9f]")
-# Numbers from here on are not shown.
-MOST_SHOWN = 10**20
+# A message has so many characters of a key or a value, and so many mistakes of a file are reported.
+MOST_SHOWN, MOST_MISTAKES = 200, 100
 # Of matches at a time: of a player, of a launcher, and of all.
 MOST_AT_A_TIME = 1_024
 MOST_SECONDS, MOST_STRIKES, MOST_PLAYERS, MOST_ROUNDS, MOST_PORT = 86_400, 255, 1_000, 1_000, 65_535
@@ -65,9 +66,11 @@ class Mistaken(Exception):
         self.mistakes = mistakes
 
 
-def mistake_lines(path: object, mistakes: Iterable[Mistake]) -> str:
-    """Returns the mistakes of a file, a line for each."""
-    return "\n".join(f"{path}:{mistake.line}: {mistake.key + ': ' if mistake.key else ''}{mistake.words}" for mistake in mistakes)
+def mistake_lines(path: object, mistakes: Sequence[Mistake]) -> str:
+    """Returns the first mistakes of a file, a line for each, and how many more there are."""
+    lines = [f"{path}:{mistake.line}: {mistake.key + ': ' if mistake.key else ''}{mistake.words}" for mistake in mistakes[:MOST_MISTAKES]]
+    more = [f"{path}: {len(mistakes) - MOST_MISTAKES:,} more mistakes"] if len(mistakes) > MOST_MISTAKES else []
+    return "\n".join([*lines, *more])
 
 
 @dataclass(frozen=True)
@@ -78,8 +81,21 @@ class Text:
     line: int
 
 
+def spelled(value: object) -> str:
+    """Returns a value of the file as messages have it."""
+    if isinstance(value, dict | list):
+        return "a table" if isinstance(value, dict) else "an array"
+    if isinstance(value, bool):
+        return str(value).lower()
+    try:
+        return shown(repr(value), MOST_SHOWN)
+    except ValueError:
+        # Python converts no number of more than 4,300 digits.
+        return "a number of many digits"
+
+
 class Section:
-    """A table that is read key by key; what is wrong is kept with its line and key."""
+    """A table that is read key by key. Its mistakes are kept with their lines and keys."""
 
     def __init__(self, table: dict, path: Path, lines: dict[Path, int], mistakes: list[Mistake]) -> None:
         self.table, self.path, self.lines, self.mistakes = table, path, lines, mistakes
@@ -87,19 +103,22 @@ class Section:
         self.first = lines.get(path, 1)
 
     def line(self, key: str, *members: int) -> int:
-        """Returns the line of the key, or of a member of its array; that of the table where it is missing."""
+        """Returns the line of the key, or of a member of its array; that of the table if it is missing."""
         own = self.lines.get((*self.path, key), self.first)
         return self.lines.get((*self.path, key, *members), own)
 
     def mistake(self, key: str, words: str, line: int | None = None) -> None:
-        self.mistakes.append(Mistake(line or self.line(key), f"{self.prefix}{key}", words))
+        self.mistakes.append(Mistake(line or self.line(key), shown(f"{self.prefix}{key}", MOST_SHOWN), words))
+
+    def expected(self, key: str, what: str, found: object, line: int | None = None) -> None:
+        self.mistake(key, f"expected {what}, found {spelled(found)}", line)
 
     def read(self, kind: type, **given: object) -> Any:
         """Returns an object of this class: a field is given, or read from its key."""
         return kind(**{of.name: of.metadata["read"](self, of.name) for of in fields(kind) if of.name not in given and "read" in of.metadata}, **given)
 
     def part(self, key: str, kind: type, default: object = None) -> Any:
-        """Returns what a table within this one says, as an object of this class, or the default where it is not there."""
+        """Returns a table within this one as an object of this class, or the default if it is missing."""
         if key not in self.table:
             return default
         section = self.section(key)
@@ -111,14 +130,14 @@ class Section:
             if key not in keys:
                 self.mistake(key, f"this key is now {RENAMED[key]}" if RENAMED.get(key) in keys else f"no such key; there are {', '.join(keys)}")
 
-    def value(self, key: str, kind: type, words: str, default: Any) -> Any:
-        """Returns the value of the key, or the default where it is missing or of another kind."""
+    def value(self, key: str, kind: type, what: str, default: Any) -> Any:
+        """Returns the value of the key, or the default if it is missing or of another kind. Without a default the key must be there."""
         if key not in self.table:
             if default is None:
                 self.mistake(key, "the key is missing")
             return default
         if type(self.table[key]) is not kind:
-            self.mistake(key, f"{words} is wanted")
+            self.expected(key, what, self.table[key])
             return default
         return self.table[key]
 
@@ -126,10 +145,9 @@ class Section:
         return self.value(key, str, "a text in quotes", default)
 
     def path_of_file(self, key: str, default: str | None = None) -> str | None:
-        """Returns a text that can name a file."""
         found = self.text(key, default)
         if found is self.table.get(key) and found is not None and (not found or CONTROL.search(found)):
-            self.mistake(key, f"{found!r} is no path of a file")
+            self.expected(key, "the path of a file", found)
         return found
 
     def flag(self, key: str) -> bool:
@@ -138,22 +156,21 @@ class Section:
     def number(self, key: str, least: int, most: int, default: int | None = None) -> int | None:
         found = self.value(key, int, "a whole number", default)
         if found is not None and not least <= found <= most:
-            shown = found if abs(found) < MOST_SHOWN else "the number"
-            self.mistake(key, f"{shown} is not from {least:,} to {most:,}")
+            self.expected(key, f"a whole number from {least:,} to {most:,}", found)
             return default
         return found
 
     def word(self, key: str, words: tuple[str, ...], default: str) -> str:
         found = self.text(key, default)
         if found not in words:
-            self.mistake(key, f"{found!r} is none of {', '.join(words)}")
+            self.expected(key, f"one of {', '.join(words)}", found)
             return default
         return found
 
     def name(self, key: str, form: re.Pattern, longest: int, more: str = "") -> str | None:
         found = self.text(key)
         if found is not None and not form.fullmatch(found):
-            self.mistake(key, f"{found!r} is no name: 1 to {longest} letters, digits, `-`, `_` and `.` are wanted{more}")
+            self.expected(key, f"a name of 1 to {longest} letters, digits, `-`, `_` and `.`{more}", found)
         return found
 
     def reason(self, key: str) -> str | None:
@@ -162,7 +179,7 @@ class Section:
         if type(found) is bool:
             return "" if found else None
         if type(found) is not str or not REASON.fullmatch(found):
-            self.mistake(key, "true or a reason is expected: 1 to 200 printable characters of ASCII, without a space at either end")
+            self.expected(key, "true or a reason of 1 to 200 printable ASCII characters, without a space at either end", found)
         return str(found)
 
     def texts(self, key: str) -> list[Text]:
@@ -173,40 +190,38 @@ class Section:
             if type(member) is str:
                 found.append(Text(member, line))
             else:
-                self.mistake(key, "a text in quotes is wanted", line)
+                self.expected(key, "a text in quotes", member, line)
         return found
 
     def words(self, key: str, what: str, is_needed: bool = True) -> tuple[str, ...]:
-        """Returns the words of a command, none if it can't be one, or is not there and not needed."""
+        """Returns the words of a command, none if it is not one, or if it is missing and not needed."""
         if key not in self.table and not is_needed:
             return ()
         words = tuple(word.text for word in self.texts(key))
         if words and words[0] and not any("\0" in word for word in words):
             return words
-        self.mistake(key, f"at least one text is expected: {what}")
+        self.mistake(key, f"expected at least one text: {what}")
         return ()
 
     def address(self, key: str) -> str | None:
         address = self.text(key)
         found = ADDRESS.fullmatch(address or "")
-        if address is not None and not found:
-            self.mistake(key, f"{address!r} is no HOST:PORT")
-        elif found and not 1 <= int(found[2]) <= MOST_PORT:
-            self.mistake(key, f"the port {found[2]} is not from 1 to 65,535")
+        if address is not None and not (found and 1 <= int(found[2]) <= MOST_PORT):
+            self.expected(key, f"HOST:PORT, with a port from 1 to {MOST_PORT:,}", address)
         return address
 
     def memory(self, key: str) -> int:
         """Returns the bytes of memory that a player may use."""
         found = MEMORY.fullmatch(text := self.text(key, "") or "")
         if text and not found:
-            self.mistake(key, f'{text!r} is not a size: a number with K, M, G or T is expected, as in "512M"')
+            self.expected(key, 'a number with K, M, G or T, such as "512M"', text)
         return int(found[1]) << (10 * (1 + "KMGT".index(found[2]))) if found else 0
 
     def environment(self, key: str) -> tuple[tuple[str, str], ...]:
         found = self.value(key, dict, "a table of texts", {})
         for name, value in found.items():
             if not name or "=" in name or "\0" in name or type(value) is not str or "\0" in value:
-                self.mistake(key, f"{name!r} is not a variable with a text in quotes")
+                self.mistake(key, f"expected a variable with a text in quotes, found {spelled(name)}")
                 return ()
         return tuple(found.items())
 
@@ -216,9 +231,9 @@ class Section:
         for name, rating in found.items():
             line = self.lines.get((*self.path, key, name))
             if type(rating) is not int or abs(rating) > MOST_RATING:
-                self.mistake(key, f"{name}: a whole number from -{MOST_RATING:,} to {MOST_RATING:,} is expected", line)
+                self.expected(key, f"for {shown(name, MOST_SHOWN)} a whole number from -{MOST_RATING:,} to {MOST_RATING:,}", rating, line)
             elif name not in players:
-                self.mistake(key, f"there is no player {name!r}", line)
+                self.mistake(key, f"there is no player {spelled(name)}", line)
         return found
 
     def names(self, key: str) -> set[str]:
@@ -227,17 +242,17 @@ class Section:
         return {str(table.get("name")) for table in tables if isinstance(table, dict)} if isinstance(tables, list) else set()
 
     def sections(self, key: str) -> list["Section"]:
-        """Returns a section for each table of an array of tables, of which there has to be one."""
+        """Returns a section for each table of an array of tables, which must have one."""
         tables = self.table.get(key)
         if not isinstance(tables, list) or not tables or not all(isinstance(table, dict) for table in tables):
-            self.mistake(key, f"at least one [[{key}]] is wanted, and nothing else by that name")
+            self.mistake(key, f"expected one or more tables [[{key}]]")
             return []
         return [Section(table, (*self.path, key, number), self.lines, self.mistakes) for number, table in enumerate(tables)]
 
     def section(self, key: str) -> "Section":
         table = self.table.get(key)
         if not isinstance(table, dict):
-            self.mistake(key, f"one [{key}] is wanted")
+            self.mistake(key, f"expected one table [{key}]")
             return Section({}, (*self.path, key), {(*self.path, key): self.line(key)}, [])
         return Section(table, (*self.path, key), self.lines, self.mistakes)
 
@@ -259,9 +274,8 @@ def keys_of(kind: type) -> list[str]:
 
 @dataclass(frozen=True)
 class Game:
-    """A game that is played: its name, the file of its description, its clocks in seconds, and which rules its players get, with the line
-    that says so; the file of the description with variables, where it stands beside ground rules (else empty); the seconds in which it is
-    instantiated; whether it is planned though its random matches are aborted; whether its rules may be large; and how its boards are drawn."""
+    """A game: its description, and that with variables if the first one is ground; the clocks, and the time for making it ground, in seconds; the
+    rules that its players get; whether its random matches may be aborted; whether it may be large; and how its boards are drawn."""
 
     name: str = read_by(Section.name, NAME, 40, FIRST)
     file: str = read_by(Section.path_of_file)
@@ -283,8 +297,8 @@ class Game:
 
 @dataclass(frozen=True)
 class Command:
-    """How the competition starts a player: `{port}` stands for its port in the command and in the environment. It is started on this computer
-    if it has no launcher. Of memory and processors 0 is no limit."""
+    """How the competition starts a player: `{port}` stands for its port in the command and in the environment. Without a launcher it runs on this
+    computer. With 0, memory and processors have no limit."""
 
     words: tuple[str, ...] = read_by(Section.words, "the program, then its arguments", key="command")
     launcher: tuple[str, ...] = read_by(Section.words, RUNS_ELSEWHERE, False)
@@ -298,8 +312,8 @@ class Command:
 
 @dataclass(frozen=True)
 class Player:
-    """A player, and in how many matches it may play at a time. It has an address, or a command that starts it. If it has withdrawn there is
-    a reason, which may be empty."""
+    """A player, and how many matches it may play at a time. It has an address, or a command that starts it. If it has withdrawn, it has a reason,
+    which may be empty."""
 
     name: str = read_by(Section.name, PLAYER_NAME, 64)
     address: str = read_by(Section.address)
@@ -322,15 +336,15 @@ class Launcher:
 
 @dataclass(frozen=True)
 class Faults:
-    """With so many replaced moves in turns in which it had a choice a player has lost a match; with 0 no number does it."""
+    """A player with so many replaced moves, in turns in which it had a choice, has lost a match. With 0 none has."""
 
     replaced: int = read_by(Section.number, 1, MOST_TURNS)
 
 
 @dataclass(frozen=True)
 class Form:
-    """The pairing: round robin, gauntlet of one against all, the lines of a schedule, each of a game and its players, or by rounds. After the
-    rounds of a Swiss competition the best players may have a knockout, so many of them."""
+    """The pairing: a round robin, a gauntlet of one against all, the lines of a schedule, each with a game and its players, or rounds. After the
+    rounds of a Swiss competition, so many of the best players may play a knockout."""
 
     kind: str
     rounds: int
@@ -365,6 +379,11 @@ class Competition:
     form: Form
     games: tuple[Game, ...]
     players: tuple[Player, ...]
+    lines: Mapping[Path, int] = field(default_factory=dict, compare=False, repr=False, metadata={"is_line": True})
+
+    def line_of(self, *key: str) -> int:
+        """Returns the line of a key, or of the table that lacks it; 0 if there is none."""
+        return next((self.lines[key[:end]] for end in range(len(key), 0, -1) if key[:end] in self.lines), 0)
 
     def player(self, name: str) -> Player:
         return next(player for player in self.players if player.name == name)
@@ -374,23 +393,20 @@ class Competition:
         return {player.name: player.withdrawn for player in self.players if player.withdrawn is not None}
 
     def is_void(self, players: Iterable[str], withdrawn: Mapping[str, str]) -> bool:
-        """Returns whether a match of these players does not count although it was played, since one of these has withdrawn."""
+        """Returns whether a match of these players does not count because one of these has withdrawn."""
         return self.withdrawn_results == VOID and any(player in withdrawn for player in players)
 
 
 def refuse_twice(sections: list[Section], key: str) -> None:
-    """Refuses a value of the key that a section before has."""
+    """Refuses a value of the key that an earlier section has."""
     known = {}
     for section in sections:
-        value = section.table.get(key)
-        if type(value) is str:
-            if value in known:
-                section.mistake(key, f"{value!r} stands in line {known[value]} already")
-            known.setdefault(value, section.line(key))
+        if type(value := section.table.get(key)) is str and known.setdefault(value, section) is not section:
+            section.mistake(key, f"line {known[value].line(key)} has {spelled(value)} already")
 
 
 def games_of(root: Section, clocks: dict[str, int | None]) -> tuple[Game, ...]:
-    """Returns the games, whose clocks are these where they have none."""
+    """Returns the games. These are their clocks if they have none."""
     found, sections = [], root.sections("games")
     for section in sections:
         section.refuse_others(keys_of(Game))
@@ -416,7 +432,7 @@ def command_of(section: Section) -> Command | None:
         return None
     command = section.read(Command)
     if command.words and not any(PORT in text for text in (*command.words, *(value for _, value in command.environment))):
-        section.mistake("command", f"the player must get its port: {PORT} is expected in the command or in the environment")
+        section.mistake("command", f"the player must get its port: expected {PORT} in the command or in the environment")
     return command
 
 
@@ -424,7 +440,7 @@ def player_of(section: Section) -> Player:
     section.refuse_others(list(dict.fromkeys((*keys_of(Player), *keys_of(Command)))))
     command = command_of(section)
     if command and "address" in section.table:
-        section.mistake("address", "a player with a `command` is started here, and gets its address then")
+        section.mistake("address", "a player with a `command` gets its address when it is started")
     player = section.read(Player, command=command, **({"address": ""} if command else {}))
     if command and command.restart == EACH_MATCH and player.concurrent > 1:
         section.mistake("restart", f"{EACH_MATCH!r} would end the other matches of the player: it needs `concurrent = 1`")
@@ -437,10 +453,10 @@ def players_of(root: Section) -> tuple[Player, ...]:
     refuse_twice(sections, "name")
     refuse_twice(sections, "address")
     if len(found) > MOST_PLAYERS:
-        root.mistake("players", f"there are {len(found):,} players, and at most {MOST_PLAYERS:,} are taken")
+        root.mistake("players", f"expected at most {MOST_PLAYERS:,} players, found {len(found):,}")
     for player in found:
         if player.command and not player.command.launcher and "launcher" in root.table:
-            words = "a player that is started here can't be reached by the matches of a launcher: give it a `launcher` too"
+            words = "the matches of a launcher can't reach a player that is started here: give it a `launcher` too"
             root.mistake("players.command", words, player.line)
     return found
 
@@ -455,7 +471,7 @@ def form_of(root: Section) -> Form:
         section.mistake("final", f"there are {len(root.names('players'))} players")
     one = section.text("one") if kind == "gauntlet" else ""
     if one and one not in root.names("players"):
-        section.mistake("one", f"there is no player {one!r}")
+        section.mistake("one", f"there is no player {spelled(one)}")
     lines = lines_of_schedule(section, root.names("games"), root.names("players")) if kind == "schedule" else []
     for key in section.table.keys() & set(keys_of(Form)) - {"kind", *KINDS[kind]}:
         section.mistake(key, f"the kind {kind} has no such key")
@@ -465,52 +481,52 @@ def form_of(root: Section) -> Form:
 def lines_of_schedule(section: Section, games: set[str], players: set[str]) -> list[Text]:
     lines = section.texts("lines")
     if not lines:
-        section.mistake("lines", "at least one line is wanted: a game, and its players in the order of the roles")
+        section.mistake("lines", "expected at least one line: a game, and its players in the order of the roles")
     for line in lines:
         refuse_line(section, line, games, players)
     return lines
 
 
 def refuse_line(section: Section, line: Text, games: set[str], players: set[str]) -> None:
-    """Refuses a line of a schedule that names no game, or what is no player, or a player twice."""
+    """Refuses a line of a schedule with an unknown game, with an unknown player, or with a player twice."""
     game, *names = line.text.split() or [""]
     if game not in games:
-        section.mistake("lines", f"there is no game {game!r}", line.line)
+        section.mistake("lines", f"there is no game {spelled(game)}", line.line)
     for number, name in enumerate(names):
         if name not in players:
-            section.mistake("lines", f"there is no player {name!r}", line.line)
+            section.mistake("lines", f"there is no player {spelled(name)}", line.line)
         if name in names[:number]:
-            section.mistake("lines", f"the player {name!r} stands there twice", line.line)
+            section.mistake("lines", f"the line has the player {spelled(name)} twice", line.line)
 
 
 def root_of(data: bytes, mistakes: list[Mistake]) -> Section:
-    """Returns what the bytes of a file say, or raises why they say nothing."""
+    """Returns the table of a whole file, or raises why it is not TOML."""
     if data.startswith(MARK):
-        raise Mistaken([Mistake(1, "", "the file begins with a byte order mark, the bytes EF BB BF: leave them out")])
+        raise Mistaken([Mistake(1, "", "the file begins with a byte order mark, the bytes EF BB BF: remove them")])
     try:
         table, lines = read_toml(data.decode("utf-8"))
         return Section(table, (), lines, mistakes)
     except UnicodeDecodeError as why:
-        raise Mistaken([Mistake(data.count(b"\n", 0, why.start) + 1, "", "the file is no UTF-8")]) from None
+        raise Mistaken([Mistake(data.count(b"\n", 0, why.start) + 1, "", "the file is not UTF-8")]) from None
     except TomlFault as why:
-        raise Mistaken([Mistake(why.line, why.key, why.words)]) from None
+        raise Mistaken([Mistake(why.line, shown(why.key, MOST_SHOWN), shown(why.words, MOST_SHOWN))]) from None
 
 
 def read_competition(data: bytes) -> Competition:
-    """Returns the competition that the bytes of a file say, or raises all of their mistakes."""
+    """Returns the competition of a file, or raises all of its mistakes."""
     mistakes: list[Mistake] = []
     root = root_of(data, mistakes)
     root.refuse_others(keys_of(Competition))
     clocks = {key: root.number(key, 1, MOST_SECONDS, 10) for key in ("start", "play")}
-    found = root.read(Competition, **clocks, form=form_of(root), games=games_of(root, clocks), players=players_of(root))
+    found = root.read(Competition, **clocks, form=form_of(root), games=games_of(root, clocks), players=players_of(root), lines=root.lines)
     kind = found.form.kind
     if "order" in root.table and kind in ROUND_KINDS:
-        root.mistake("order", f"the kind {kind} has an order of its own")
+        root.mistake("order", f"the kind {kind} has its own order")
     for key in ROUND_KEYS if kind not in ROUND_KINDS else ():
         if key in root.table:
             root.mistake(key, f"only the kinds {' and '.join(ROUND_KINDS)} have this key")
     if kind == KNOCKOUT and found.withdrawn_results == VOID:
-        root.mistake("withdrawn_results", "what was played in a knockout counts, since others have left by it")
+        root.mistake("withdrawn_results", "the matches of a knockout count, since other players have lost them")
     if mistakes:
         raise Mistaken(sorted(mistakes, key=lambda mistake: mistake.line))
     return found

@@ -1,31 +1,26 @@
-"""Matches are held against the descriptions of their games as they were published: no trust in how their rules were instantiated."""
+"""Compares matches with the published descriptions of their games, by `ggp-hold-against`: so nobody needs to trust how the rules were grounded."""
 
-import io
 import pathlib
-import subprocess
-import sys
-import tarfile
 from collections.abc import Sequence
 
 from ggp_tools.competition.competition_file import Game
 from ggp_tools.competition.files import Refused
+from ggp_tools.competition.packing import pack
 from ggp_tools.competition.plan import Plan, sums_of
 from ggp_tools.competition.schedule import Match
-from ggp_tools.descriptions.loading import FOLDER, has_variables, sum_of
+from ggp_tools.descriptions.loading import has_variables, run_module, sum_of
 from ggp_tools.referee import Unchecked
 
-# So many seconds are given to each match.
+# The time limit for each match.
 SECONDS = 60
-HOLD = [sys.executable, "-B", str(FOLDER / "ggp-hold-against"), f"--seconds={SECONDS}", "--"]
 SAME, DIFFERENT, NOT_FOLLOWED = 0, 1, 3
-# How a line begins that says of a record what came of it.
+# How the line about a record begins.
 IS_SAME, DIFFERS, IS_NOT_FOLLOWED = "the same: ", "differs: ", "not followed: "
 REPORT = "report-{}.tar.gz"
 
 
 def description_of(plan: Plan, game: Game) -> tuple[bytes | None, str | None]:
-    """Returns the bytes of a game's description as `plan` has read it, and why there are none. Both are none where it has no variables,
-    and so is what is played."""
+    """Returns the description of a game, if it has variables and is the one that `plan` has read; and why it cannot be used, or None."""
     file = plan.folder.description(game)
     try:
         sums, text = sums_of(plan.folder.description_sums()), file.read_bytes()
@@ -38,27 +33,19 @@ def description_of(plan: Plan, game: Game) -> tuple[bytes | None, str | None]:
     return (text, None) if has_variables(text) else (None, None)
 
 
-def words_of(path: pathlib.Path) -> list[str]:
-    """Returns the command that holds the records of its standard input against a description."""
-    return [*HOLD, str(path)]
-
-
-def held_records(path: pathlib.Path, records: Sequence[bytes]) -> list[str]:
-    """Returns for each record, a line of bytes, what there is to say of it."""
-    done = subprocess.run(words_of(path), input=b"".join(records), capture_output=True)
-    found = done.stdout.decode("ascii", "replace").splitlines()
-    if done.returncode not in (SAME, DIFFERENT, NOT_FOLLOWED) or len(found) != len(records):
-        last = (done.stderr.decode("ascii", "replace").strip().splitlines() or [f"it ended with status {done.returncode}"])[-1]
+def comparisons(path: pathlib.Path, records: Sequence[bytes]) -> list[str]:
+    """Returns what the comparison of each record, a line of bytes, with a description says."""
+    run = run_module("holding", f"--seconds={SECONDS}", "--", str(path), data=b"".join(records))
+    lines = run.stdout.decode("ascii", "replace").splitlines()
+    if run.returncode not in (SAME, DIFFERENT, NOT_FOLLOWED) or len(lines) != len(records):
+        last = (run.stderr.decode("ascii", "replace").strip().splitlines() or [f"it ended with status {run.returncode}"])[-1]
         raise Unchecked(f"records can't be held against {path}: {last}")
-    return found
+    return lines
 
 
 def write_report(plan: Plan, match: Match, files: dict[str, bytes]) -> pathlib.Path:
-    """Writes all that shows how a match differs from the description of its game, and returns the file."""
+    """Writes an archive that shows how a match differs from the description of its game, and returns its path."""
     path = plan.folder.path / REPORT.format(match.id)
-    with tarfile.open(path, "w:gz") as archive:
-        for name, data in {**files, "rules.kif": plan.rules[match.game].text}.items():
-            member = tarfile.TarInfo(f"{match.id}/{name}")
-            member.size, member.mode = len(data), 0o644
-            archive.addfile(member, io.BytesIO(data))
+    with open(path, "wb") as file:
+        pack(file, ((f"{match.id}/{name}", data) for name, data in {**files, "rules.kif": plan.rules[match.game].text}.items()))
     return path

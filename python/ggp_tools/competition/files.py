@@ -1,4 +1,4 @@
-"""The files of a competition's folder: where each stands, and how each is written whole."""
+"""The files of a competition: their paths, and how they are read and written."""
 
 import contextlib
 import errno
@@ -17,16 +17,18 @@ if TYPE_CHECKING:
     from ggp_tools.competition.competition_file import Game
 
 UNFINISHED = ".unfinished-"
-# The file of an open match's room that names the players who are sent ABORT where no referee plays the match any more.
+# In the directory of an open match, the file that names the players that must be sent ABORT if no referee plays the match any more.
 PLAYERS = "players"
-# What happens to an open match: an empty file of this name in its room says it to others.
+# The stages of an open match. An empty file in its directory has the name of the stage.
 STAGES = ASKING, PLAYING, CHECKING = "asking", "playing", "checking"
-# So many open files are enough for as many matches at once, or connections, as there may be.
+# Enough open files for the greatest numbers of matches at the same time, and of connections.
 DESCRIPTORS = 16_384
+# The mode of files that only their owner may read: those of open matches, players and `play`, and the key of the ids.
+PRIVATE = 0o600
 
 
 class Refused(Exception):
-    """Why there is nothing to go on with, in lines, and what helps in the folder of a competition, though not where it is unpacked."""
+    """Why a command ends, in lines, and advice that helps in the directory of a competition, but not in an archive."""
 
     def __init__(self, words: str, advice: str | None = None) -> None:
         super().__init__(f"{words}: {advice}" if advice else words)
@@ -34,7 +36,7 @@ class Refused(Exception):
 
 
 def allow_files() -> int:
-    """Lets this process open as many files as the system allows it, up to those that are enough. Returns how many."""
+    """Lets this process open enough files, or as many as the system allows. Returns the number."""
     soft, hard = resource.getrlimit(resource.RLIMIT_NOFILE)
     most = max(soft, min(hard, DESCRIPTORS))
     resource.setrlimit(resource.RLIMIT_NOFILE, (most, hard))
@@ -43,58 +45,63 @@ def allow_files() -> int:
 
 @contextlib.contextmanager
 def held(path: pathlib.Path) -> Iterator[None]:
-    """Holds a competition's folder for this run alone. Where the run is killed the system lets it go."""
+    """Locks the directory of a competition. If the process is killed, the system releases the lock."""
     path = pathlib.Path(path)
     try:
-        found = os.open(path, os.O_RDONLY)
+        descriptor = os.open(path, os.O_RDONLY)
     except OSError as why:
         raise Refused(f"{path} can't be read: {why.strerror}") from None
     try:
         try:
-            fcntl.flock(found, fcntl.LOCK_EX | fcntl.LOCK_NB)
+            fcntl.flock(descriptor, fcntl.LOCK_EX | fcntl.LOCK_NB)
         except BlockingIOError:
             raise Refused(f"{path}: another run plans, plays or publishes this competition") from None
         except OSError as why:
-            # As on some network file systems, where another run would not be seen.
+            # Some network file systems have no locks, so another run would not be noticed.
             raise Refused(f"{path} can't be held for one run alone: {why.strerror}") from None
         yield
     finally:
-        os.close(found)
+        os.close(descriptor)
 
 
 def lock_place(folder: str | pathlib.Path) -> str:
-    """Returns how /proc/locks names a folder: by its device and its number. The device is that of its mount, since some file systems tell
-    another one of their files."""
-    opened = os.open(folder, os.O_PATH | os.O_CLOEXEC)
+    """Returns how /proc/locks names a directory: by its device and its number. The device is that of its mount, because some file systems report
+    another one for their files."""
+    descriptor = os.open(folder, os.O_PATH | os.O_CLOEXEC)
     try:
-        mount = pathlib.Path(f"/proc/self/fdinfo/{opened}").read_text("ascii").partition("mnt_id:")[2].split()[0]
-        found = os.fstat(opened)
+        mount = pathlib.Path(f"/proc/self/fdinfo/{descriptor}").read_text("ascii").partition("mnt_id:")[2].split()[0]
+        status = os.fstat(descriptor)
     finally:
-        os.close(opened)
+        os.close(descriptor)
     mounts = (line.split() for line in pathlib.Path("/proc/self/mountinfo").read_bytes().decode("ascii", "replace").splitlines())
-    device = next((line[2] for line in mounts if line[0] == mount), f"{os.major(found.st_dev)}:{os.minor(found.st_dev)}")
+    device = next((line[2] for line in mounts if line[0] == mount), f"{os.major(status.st_dev)}:{os.minor(status.st_dev)}")
     major, minor = map(int, device.split(":"))
-    return f"{major:02x}:{minor:02x}:{found.st_ino}"
+    return f"{major:02x}:{minor:02x}:{status.st_ino}"
 
 
 def sync(folder: pathlib.Path) -> None:
-    """Has the names in a folder on the disk."""
-    found = os.open(folder, os.O_RDONLY)
+    """Waits until the names in a directory are on the disk."""
+    descriptor = os.open(folder, os.O_RDONLY)
     try:
-        os.fsync(found)
+        os.fsync(descriptor)
     finally:
-        os.close(found)
+        os.close(descriptor)
+
+
+def private(name: str, flags: int) -> int:
+    """Opens a file that is private if it is new."""
+    return os.open(name, flags, PRIVATE)
 
 
 @contextlib.contextmanager
-def written_whole(path: pathlib.Path, is_lasting: bool = True) -> Iterator[BinaryIO]:
-    """Gives a file to be written, so that at each moment it is there whole or not at all: under another name first, then renamed. Where
-    it is to be lasting it is on the disk before this ends; else it may be lost, where the machine is. A fault leaves nothing behind."""
+def written_whole(path: pathlib.Path, is_lasting: bool = True, is_private: bool = False) -> Iterator[BinaryIO]:
+    """Yields a file to write to. It has another name until it is complete, so that a file is never partly written. If it must last, it is on the disk
+    at the end; otherwise it may be lost if the computer crashes. After an error nothing is left."""
     path = pathlib.Path(path)
-    # Two runs may write the same file, each under a name of its own.
+    # Two runs may write the same file, each under another name.
     other = path.with_name(f"{UNFINISHED}{os.getpid()}-{path.name}")
     try:
-        with open(other, "wb") as file:
+        with open(other, "wb", opener=private if is_private else None) as file:
             yield file
             file.flush()
             if is_lasting:
@@ -104,97 +111,97 @@ def written_whole(path: pathlib.Path, is_lasting: bool = True) -> Iterator[Binar
         with contextlib.suppress(OSError):
             other.unlink()
         if isinstance(why, OSError) and why.filename in (None, str(other)):
-            # Writes do not tell which file it was, and the other name tells nobody anything.
+            # Errors of writes do not name the file, and nobody knows the temporary name.
             raise OSError(why.errno, why.strerror, str(path)) from None
         raise
     if is_lasting:
         sync(path.parent)
 
 
-def write_whole(path: pathlib.Path, data: bytes, is_lasting: bool = True) -> None:
-    """Writes a file whole or not at all."""
-    with written_whole(path, is_lasting) as file:
+def write_whole(path: pathlib.Path, data: bytes, is_lasting: bool = True, is_private: bool = False) -> None:
+    """Writes a file completely or not at all."""
+    with written_whole(path, is_lasting, is_private) as file:
         file.write(data)
 
 
 def is_being_written(path: pathlib.Path) -> bool:
-    """Returns whether another process that is alive may be at work on an unfinished file, by the number in its name."""
+    """Returns whether another process may be writing an unfinished file, by the process number in its name."""
     number = path.name.removeprefix(UNFINISHED).partition("-")[0]
     return number.isdecimal() and number != str(os.getpid()) and os.path.exists(f"/proc/{number}")
 
 
 def drop_unfinished(folder: pathlib.Path) -> None:
-    """Takes away what writes that were broken off have left in a folder. Nothing is being written there by this process."""
+    """Deletes unfinished files of ended processes in a directory. This process must not be writing there."""
     for file in folder.glob(f"{UNFINISHED}*"):
         if not is_being_written(file):
             file.unlink(missing_ok=True)
 
 
 def new_file(path: str | pathlib.Path) -> BinaryIO:
-    """Opens a file of an open match to be written. Others on this computer, who may play it, can't read it: it has what players answer."""
-    return open(path, "wb", buffering=0, opener=lambda name, flags: os.open(name, flags, 0o600))
+    """Opens a new private file, for example the log of an open match."""
+    return open(path, "wb", buffering=0, opener=private)
 
 
 def opened_file(path: str | pathlib.Path) -> BinaryIO:
-    """Opens a regular file to be read, and nothing else: a pipe would hold up the reader until somebody writes into it."""
-    found = os.open(path, os.O_RDONLY | os.O_NONBLOCK | os.O_CLOEXEC)
-    kind = os.fstat(found).st_mode
+    """Opens a regular file for reading, and refuses anything else: a pipe would block the reader until somebody writes to it."""
+    descriptor = os.open(path, os.O_RDONLY | os.O_NONBLOCK | os.O_CLOEXEC)
+    kind = os.fstat(descriptor).st_mode
     if not stat.S_ISREG(kind):
-        os.close(found)
+        os.close(descriptor)
         code = errno.EISDIR if stat.S_ISDIR(kind) else errno.EINVAL
         raise OSError(code, os.strerror(code) if stat.S_ISDIR(kind) else "it is not a regular file", str(path))
-    return open(found, "rb")
+    return open(descriptor, "rb")
 
 
 def file_bytes(path: str | pathlib.Path, most: int = -1) -> bytes:
-    """Returns the bytes of a regular file, or so many of them."""
+    """Returns the bytes of a regular file, or at most so many of them."""
     with opened_file(path) as file:
         return file.read(most)
 
 
 class Folder:
-    """The folder of a competition."""
+    """The directory of a competition."""
 
     def __init__(self, path: pathlib.Path | str) -> None:
         self.path = pathlib.Path(path)
         self.competition = self.path / "competition.toml"
         self.schedule = self.path / "schedule.tsv"
-        # competition.toml as it was when `plan` read it last, the files that were planned by before, and the matches ordered again.
+        # The competition.toml that `plan` read last, the earlier ones, and the matches that are played again.
         self.planned, self.earlier, self.again = self.path / "planned.toml", self.path / "earlier", self.path / "again.tsv"
-        # What the ids of the matches follow from, if they are not to be guessed.
+        # The key from which random ids of matches are computed.
         self.key = self.path / "ids.key"
-        # The table of another competition that the seeds are from.
+        # The table of another competition from which the seeds come.
         self.seeds = self.path / "seeds.csv"
         self.rules, self.open = self.path / "rules", self.path / "open"
         self.records, self.accounts, self.logs = (self.path / name for name in ("records", "accounts", "logs"))
         self.matches, self.pages = self.path / "matches.jsonl", self.path / "pages"
-        # What `play` has done and seen, with the times; and the logs of the players that it starts.
+        # What `play` has done, with the times; and the logs of the players that it starts.
         self.journal, self.players = self.path / "play.log", self.path / "players"
 
     def rules_of(self, game: str) -> pathlib.Path:
         return self.rules / f"{game}.kif"
 
     def player_rules_of(self, game: str) -> pathlib.Path:
-        """The file of what players are told of the rules. All rules end in .kif, so those of no game have this name."""
+        """Returns the file of the rules that players get."""
         return self.rules / f"{game}.players"
 
     def rule_files(self, game: "Game") -> list[pathlib.Path]:
-        """The files that `plan` writes of a game of competition.toml: its rules, and what players are told in their place."""
+        """Returns the files that `plan` writes for a game: its rules, and the rules that players get instead."""
         return [self.rules_of(game.name), *([self.player_rules_of(game.name)] if game.tells_variables() else [])]
 
     def rule_sums(self) -> pathlib.Path:
         return self.rules / "SHA256SUMS"
 
     def description(self, game: "Game") -> pathlib.Path:
-        """The file of a game's description, as competition.toml names it: that with variables, where it stands beside ground rules."""
+        """Returns the file of a game's description. If competition.toml names ground rules too, this is the description with variables."""
         return self.path / (game.described or game.file)
 
     def given(self, game: "Game") -> pathlib.Path:
-        """The file that a game's rules are made from, as competition.toml names it."""
+        """Returns the file from which a game's rules are made."""
         return self.path / game.file
 
     def description_sums(self) -> pathlib.Path:
-        """The file of the sums of the descriptions that `plan` made the rules from. All rules end in .kif or .players."""
+        """Returns the file of the checksums of the descriptions from which `plan` made the rules."""
         return self.rules / "DESCRIPTIONS.sha256"
 
     def record(self, match: str) -> pathlib.Path:
@@ -207,14 +214,14 @@ class Folder:
         return self.logs / f"{match}.jsonl"
 
     def room_log(self, match: str) -> pathlib.Path:
-        """The log of an open match."""
+        """Returns the log of an open match."""
         return self.open / match / "log.jsonl"
 
     def has_log(self, match: str) -> bool:
         return self.log(match).is_file()
 
     def whole_log(self, match: str) -> bytes:
-        """Returns the log of a match. If it is missing it is empty: the match counts all the same, and its times are unknown."""
+        """Returns the log of a match. It is empty if the file is missing: the match counts, but its times are unknown."""
         return file_bytes(self.log(match)) if self.has_log(match) else b""
 
     def read_log(self, match: str) -> bytes:
@@ -222,11 +229,11 @@ class Folder:
         return published(self.whole_log(match), match)
 
     def run_of(self, match: str) -> list[Event]:
-        """Returns the events of a match since it began last."""
+        """Returns the events of the last run of a match."""
         return last_run(io.BytesIO(self.whole_log(match)), match)
 
     def part_of_log(self, match: str, most: int) -> tuple[bytes, bool]:
-        """Returns at most so many bytes of a match's log, as whole lines, and whether there is more. The end is always there."""
+        """Returns whole lines of a match's log with at most so many bytes, besides its last line, and whether there are more."""
         data = self.whole_log(match)
         if len(data) > most:
             data = published(data, match)
@@ -240,25 +247,22 @@ class Folder:
             raise Refused(f"{old} is a log of ggp_manager 0.2.0", "use that version for this competition")
 
     def must_be_text(self) -> None:
-        """Refuses a folder whose path the referee would not take as a word."""
+        """Refuses a directory whose path the referee would not accept as an argument."""
         try:
             os.fsencode(self.path.absolute()).decode("utf-8")
         except UnicodeDecodeError:
             raise Refused(f"{self.path.absolute()}: the path of a competition has to be UTF-8, since the referee takes no other") from None
 
     def make(self, *folders: pathlib.Path) -> None:
-        """Makes folders that are not there, so that they last as long as what is written into them. Only their owner reads that of open
-        matches."""
-        for place in (self.path, *folders):
-            if not place.is_dir():
-                place.mkdir(parents=True, exist_ok=True)
-                sync(place.parent)
-            if place == self.open:
-                place.chmod(0o700)
+        """Creates missing directories, so that they last like the files in them. Only the owner can read the directory of open matches."""
+        for folder in (self.path, *folders):
+            if not folder.is_dir():
+                folder.mkdir(parents=True, exist_ok=True)
+                sync(folder.parent)
+            if folder == self.open:
+                folder.chmod(0o700)
 
     def drop_unfinished(self) -> None:
-        """Takes away what a write that was broken off has left. Below the folder nobody writes but who holds it."""
-        drop_unfinished(self.path)
-        for folder in (self.rules, self.earlier, self.records, self.accounts, self.logs):
-            for file in folder.glob(f"{UNFINISHED}*"):
-                file.unlink()
+        """Deletes unfinished files of ended processes."""
+        for folder in (self.path, self.rules, self.earlier, self.records, self.accounts, self.logs):
+            drop_unfinished(folder)

@@ -1,9 +1,10 @@
-"""Looks at the description of a game: whether the referee accepts it, what is suspicious in it, and how random matches of it end."""
+"""Checks the description of a game: whether the referee accepts it, what is suspicious in it, and how random matches of it end."""
 
 import argparse
 import pathlib
 import re
 import shutil
+import statistics
 import sys
 from collections import Counter
 from collections.abc import Sequence
@@ -13,8 +14,9 @@ from ggp_tools.competition.competition_file import INSTANTIATING
 from ggp_tools.descriptions.goals import goals_said
 from ggp_tools.descriptions.loading import MOST_BYTES, NoDescription, Rules, Stopped, has_variables, load_description, sentence_starts
 from ggp_tools.competition.files import Refused
-from ggp_tools.descriptions.random_matches import RandomMatches
-from ggp_tools.printable import counted
+from ggp_tools.descriptions.random_matches import RandomMatches, TimeIsOver
+from ggp_tools.kif import quoted
+from ggp_tools.printable import counted, shown
 from ggp_tools.referee import Referee, Unchecked
 from ggp_tools.descriptions.refused import why_refused
 from ggp_tools.descriptions.suspicious import NOT_ALL, Suspicions, suspicions
@@ -22,15 +24,17 @@ from ggp_tools.reporting import Reporter
 from ggp_tools.streams import MOST_SECONDS, whole
 
 HELP = "says whether the description of a game is accepted, what is suspicious in it, and how random matches of it end"
-STATUS = """status 0: nothing is wrong, though something may be suspicious. 1: the description is not accepted, a match is aborted, none
-ends within the seconds, or a record is another one than it has to be. 2: the command is wrong, or the file can't be read. 3: there is no
-verdict, as where the referee or the grounder is missing something or was ended, or no temporary file can be written.
+STATUS = """exit status 0: nothing is wrong, though something may be suspicious. 1: the referee refuses the description, a match is aborted, none
+ends in time, or a record differs from the expected one. 2: the command is wrong, or the file can't be read. 3: there is no verdict, for
+example because the referee or the grounder was killed or is out of memory, or no temporary file can be written.
 """
 MOST_MATCHES, MOST_SEED = 10_000, 10**18
-# So many seeds are listed, and so many bytes of a state.
+# The greatest number of listed seeds, and of bytes of a state.
 LISTED, MOST_STATE = 10, 500
+# `plan` tries at most so many matches, until one ends, and begins no turn after so many seconds.
+TRIAL_MATCHES, TRIAL_SECONDS = 5, 10
 INTERPRETER = "the interpreter of ggp_competition"
-# How `ggp-instantiate` ends where it says nothing of the description.
+# The last line of `ggp-instantiate` if its error says nothing about the description.
 NO_VERDICT = re.compile(
     r"ggp-instantiate ended with status .*|ggp-instantiate: (error: |gringo is not installed|gringo took ).*|.*: can't open file .*"
     r"|([a-z_]+\.)*[A-Z]\w*(Error|Exception|Interrupt)\b.*"
@@ -41,11 +45,11 @@ def add_game(commands: Any) -> argparse.ArgumentParser:
     """Adds the command `game` to those of the command line, and returns it."""
     command = commands.add_parser("game", help=HELP, description=f"{HELP[0].upper()}{HELP[1:]}.", epilog=STATUS)
     command.add_argument("file", metavar="FILE", help="the description, with or without variables")
-    command.add_argument("--large", action="store_true", help="do not try for the usual limits of the program, but take those for large games")
+    command.add_argument("--large", action="store_true", help="use the limits for large games at once")
     seconds = whole(1, MOST_SECONDS)
     command.add_argument("--matches", type=whole(0, MOST_MATCHES), default=20, metavar="N", help="play N random matches (20)")
     command.add_argument("--seed", type=whole(0, MOST_SEED), default=1, metavar="S", help="the seed of the first match; each further one has the next (1)")
-    text = "the seconds of a processor in which a description with variables is instantiated (60)"
+    text = "the processor time for making a description with variables ground (60)"
     command.add_argument("--instantiate", type=seconds, default=INSTANTIATING, metavar="T", help=text)
     text = "search for T seconds at most, and begin no turn after T seconds of matches (60)"
     command.add_argument("--seconds", type=seconds, default=60, metavar="T", help=text)
@@ -63,7 +67,7 @@ def read_description(path: pathlib.Path) -> bytes:
 
 
 def run_game(asked: argparse.Namespace, referee: Referee) -> int:
-    """Tells what there is to tell of a description, and returns the status."""
+    """Reports on a description, and returns the exit status."""
     path, reporter, referee = pathlib.Path(asked.file), Reporter(), referee.taking(asked.large)
     text, why = read_description(path), None
     try:
@@ -82,7 +86,7 @@ def run_game(asked: argparse.Namespace, referee: Referee) -> int:
 
 
 def load(path: pathlib.Path, text: bytes, referee: Referee, limit: int) -> Rules:
-    """Returns the rules of a description. Where it has to be instantiated, and that came to no verdict, this is no fault of its own."""
+    """Returns the rules of a description. Raises `Unchecked` if it could not be made ground for a reason that is not in the description."""
     if len(text) <= MOST_BYTES and has_variables(text) and not shutil.which("gringo"):
         raise Unchecked(f"{path} can't be instantiated: the grounder gringo is not installed")
     try:
@@ -90,16 +94,16 @@ def load(path: pathlib.Path, text: bytes, referee: Referee, limit: int) -> Rules
     except Stopped as why:
         raise Unchecked(f"{path}: {'; '.join(str(why).splitlines())}; `--instantiate T` gives it more time") from None
     except NoDescription as why:
-        *more, said = str(why).splitlines()
-        if NO_VERDICT.fullmatch(said):
-            # It tells the end of a grounder that was killed in the same words.
-            said = f"{said}, or was ended" if "gringo took" in said else said
-            raise Unchecked(f"ggp-instantiate came to no verdict with {path}: {'; '.join([said, *more])}") from None
+        *more, last = str(why).splitlines()
+        if NO_VERDICT.fullmatch(last):
+            # The message is the same if the grounder was killed.
+            last = f"{last}, or was ended" if "gringo took" in last else last
+            raise Unchecked(f"ggp-instantiate came to no verdict with {path}: {'; '.join([last, *more])}") from None
         raise
 
 
 def report_game(reporter: Reporter, asked: argparse.Namespace, referee: Referee, path: pathlib.Path, text: bytes) -> bool:
-    """Tells all that there is to tell of a description. Returns whether it is not accepted, or something is wrong with its matches."""
+    """Reports on a description. Returns whether it is not accepted, or something is wrong with its matches."""
     reporter.draw("the description")
     try:
         rules = load(path, text, referee, asked.instantiate)
@@ -111,27 +115,27 @@ def report_game(reporter: Reporter, asked: argparse.Namespace, referee: Referee,
             reporter.line(line)
         report_suspicions(reporter, asked, text, None)
         return True
-    reporter.line(f"{path} is accepted: {said_of_rules(text, rules)}")
+    reporter.line(f"{path} is accepted: {counts_of_rules(text, rules)}")
     for note in rules.notes:
         reporter.line(f"its ground rules: {note}")
     report_suspicions(reporter, asked, text, rules.text)
     return bool(asked.matches) and report_matches(reporter, asked, referee, text, rules)
 
 
-def said_of_rules(text: bytes, rules: Rules) -> str:
+def counts_of_rules(text: bytes, rules: Rules) -> str:
     count, ground = len(sentence_starts(text)), len(sentence_starts(rules.text))
     became = f", which became {counted(ground, 'ground one')}" if has_variables(text) else ""
-    return f"{counted(count, 'sentence')}{became}; roles {' '.join(rules.roles)}"
+    return f"{counted(count, 'sentence')}{became}; roles {' '.join(map(quoted, rules.roles))}"
 
 
 def report_suspicions(reporter: Reporter, asked: argparse.Namespace, text: bytes, ground: bytes | None) -> None:
     reporter.draw("what is suspicious")
-    found = suspicions(text, ground, asked.seconds) if len(text) <= MOST_BYTES else Suspicions([], NOT_ALL)
-    for line in found.lines:
+    suspicious = suspicions(text, ground, asked.seconds) if len(text) <= MOST_BYTES else Suspicions([], NOT_ALL)
+    for line in suspicious.lines:
         reporter.line(f"suspicious: {line}")
-    if found.cut:
-        reporter.line(found.cut)
-    elif not found.lines:
+    if suspicious.cut:
+        reporter.line(suspicious.cut)
+    elif not suspicious.lines:
         reporter.line("nothing else is suspicious" if ground is None else "nothing is suspicious")
 
 
@@ -139,7 +143,7 @@ def report_suspicions(reporter: Reporter, asked: argparse.Namespace, text: bytes
 
 
 def report_matches(reporter: Reporter, asked: argparse.Namespace, referee: Referee, text: bytes, rules: Rules) -> bool:
-    """Plays random matches, and tells how they ended. Returns whether anything is wrong with one, or none came to its end."""
+    """Plays random matches, and reports how they ended. Returns whether anything is wrong with one, or none ended."""
     played = RandomMatches(rules.text, referee.taking(rules.is_large), asked.file, reporter, asked.seconds)
     played.run(asked.seed, asked.matches)
     ended, aborted = played.ended, Counter(match.cause for match in played.ended if match.cause)
@@ -150,10 +154,10 @@ def report_matches(reporter: Reporter, asked: argparse.Namespace, referee: Refer
         reporter.line(f"random matches, {seeds}: {len(ended) - aborted.total():,} finished, {aborted.total():,} aborted")
         for cause in aborted:
             matches = [match for match in ended if match.cause == cause]
-            reporter.line(said_of_cause(cause, matches))
+            reporter.line(aborted_line(cause, matches))
             kind, _, role = cause.partition(" ")
-            if kind == "nogoal" and (said := goals_said(text.decode("latin-1"), role, matches[0].state)):
-                reporter.line(said)
+            if kind == "nogoal" and (goals := goals_said(text.decode("latin-1"), role, matches[0].state)):
+                reporter.line(goals)
         report_figures(reporter, rules.roles, ended)
     if played.uncompared:
         reporter.line(f"the program had not played {played.uncompared:,} of them after {asked.seconds:,} s: their records are not compared")
@@ -165,21 +169,20 @@ def report_matches(reporter: Reporter, asked: argparse.Namespace, referee: Refer
     return bool(aborted or played.differing or not (ended or played.is_too_deep))
 
 
-def said_of_cause(cause: str, ended: list) -> str:
-    """Returns what there is to say of the matches that were aborted for a cause."""
+def aborted_line(cause: str, ended: list) -> str:
+    """Describes the matches that were aborted with a cause."""
     first = ended[0]
     seeds = ", ".join(str(match.seed) for match in ended[:LISTED]) + (", .." if len(ended) > LISTED else "")
-    state = " ".join(first.state) or "empty"
-    state = state if len(state) <= MOST_STATE else f"{state[:MOST_STATE]}.."
-    said = f"aborted with `{cause}`: {len(ended):,}, {'seeds' if len(ended) > 1 else 'seed'} {seeds}"
-    return f"{said}; after turn {first.turns:,} of seed {first.seed} the state is {state}"
+    state = shown(" ".join(first.state), MOST_STATE) or "empty"
+    count = f"aborted with `{quoted(cause)}`: {len(ended):,}, {'seeds' if len(ended) > 1 else 'seed'} {seeds}"
+    return f"{count}; after turn {first.turns:,} of seed {first.seed} the state is {state}"
 
 
 def spread(numbers: Sequence[int]) -> str:
-    """Returns the least, the greatest and the mean of numbers, as text."""
+    """Returns the smallest number, the largest one and the mean as text."""
     if min(numbers) == max(numbers):
         return f"always {numbers[0]:,}"
-    return f"{min(numbers):,} to {max(numbers):,}, on average {sum(numbers) / len(numbers):,.1f}"
+    return f"{min(numbers):,} to {max(numbers):,}, on average {statistics.fmean(numbers):,.1f}"
 
 
 def report_figures(reporter: Reporter, roles: Sequence[str], ended: list) -> None:
@@ -187,4 +190,26 @@ def report_figures(reporter: Reporter, roles: Sequence[str], ended: list) -> Non
     for role, name in enumerate(roles):
         goals = [match.goals[role] for match in ended if match.goals]
         most = max(match.choices[role] for match in ended)
-        reporter.line(f"{name}: goals {spread(goals) if goals else 'none'}; most legal moves at once: {most:,}")
+        reporter.line(f"{quoted(name)}: goals {spread(goals) if goals else 'none'}; most legal moves at once: {most:,}")
+
+
+def trial(rules: bytes, referee: Referee, name: str) -> tuple[str | None, str | None]:
+    """Plays random matches of a game before it is planned, since a game of which none ends is most likely described wrongly. Returns what is wrong, and
+    a note if there is no verdict. Both are None if a match ends."""
+    reporter = Reporter()
+    try:
+        played = RandomMatches(rules, referee, name, reporter, TRIAL_SECONDS)
+        for seed in range(1, TRIAL_MATCHES + 1):
+            played.play(seed, f"{name}: random match {seed}")
+            if not played.ended[-1].cause:
+                return None, None
+    except TimeIsOver:
+        return None, f"no random match of it came to its end in {TRIAL_SECONDS} s; `ggp_competition game` tries longer"
+    except RecursionError:
+        return None, "it was not tried: its rules ask for one another too deeply"
+    finally:
+        reporter.clear()
+    causes = ", ".join(dict.fromkeys(match.cause for match in played.ended))
+    if all(match.turns == 0 for match in played.ended):
+        return f"no match of it can begin: at the start it is aborted with `{causes}`", None
+    return f"all of {TRIAL_MATCHES} random matches were aborted, with `{causes}`", None

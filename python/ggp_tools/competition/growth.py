@@ -9,6 +9,7 @@ import itertools
 from collections import Counter
 from collections.abc import Callable, Mapping, Sequence
 from dataclasses import dataclass, replace
+from pathlib import Path
 
 from ggp_tools.competition.competition_file import KNOCKOUT, SWISS, Competition
 from ggp_tools.competition.results import Result
@@ -24,7 +25,15 @@ ResultOf = Callable[[Match], Result | None]
 
 
 class Misfit(Exception):
-    """Why a schedule can't grow so."""
+    """Why a schedule can't grow so, and the line of competition.toml that says it, if there is one."""
+
+    def __init__(self, words: str, line: int = 0) -> None:
+        super().__init__(words)
+        self.line = line
+
+    def at(self, path: Path) -> str:
+        """Returns why, after the path of competition.toml."""
+        return f"{path}:{self.line}: {self}" if self.line else f"{path}: {self}"
 
 
 @dataclass(frozen=True)
@@ -61,28 +70,41 @@ def refuse_unchanged(history: History, competition: Competition) -> None:
             raise Misfit(f"earlier/{until}.toml asks for the same matches as the file after it, so it was not replaced; take it away")
 
 
+def fixed(competition: Competition) -> dict[str, object]:
+    """Returns what can't change any more once matches were played, by keys: by these the matches count, and the table is made."""
+    form = competition.form
+    found = {"form.kind": form.kind, "faults.replaced": competition.faults.replaced}
+    found |= {key: getattr(competition, key) for key in ("name", "ids", "seeds", "strikes", "forfeit", "order", "anchor")}
+    if is_by_rounds(competition):
+        # Who meets whom in later rounds follows from these too.
+        found |= {"form.final": form.final, "the number of games": len(competition.games)}
+        found |= {"form.rounds": form.rounds} if form.final else {}
+        found |= {"the number of players": len(competition.players)} if form.kind == KNOCKOUT else {}
+    if competition.withdrawn() or competition.absent_rounds:
+        found["withdrawn_results"] = competition.withdrawn_results
+    return found
+
+
+def spelled(value: object) -> str:
+    return str(value).lower() if isinstance(value, bool) else repr(value)
+
+
 def refuse_changes(before: Competition, after: Competition) -> None:
     """Refuses what can't change any more once matches were played, by its name."""
-    said = [("name", before.name, after.name), ("ids", before.ids, after.ids), ("seeds", before.seeds, after.seeds), ("form.kind", before.form.kind, after.form.kind), ("strikes", before.strikes, after.strikes), ("faults.replaced", before.faults.replaced, after.faults.replaced)]
-    if is_by_rounds(before):
-        # Who meets whom in later rounds follows from these too.
-        said += [("form.final", before.form.final, after.form.final)] + [("form.rounds", before.form.rounds, after.form.rounds)] * bool(before.form.final)
-        said += [("forfeit", before.forfeit, after.forfeit), ("the number of games", len(before.games), len(after.games))]
-        said += [("the number of players", len(before.players), len(after.players))] if after.form.kind == KNOCKOUT else []
-    if before.withdrawn() or before.absent_rounds:
-        said += [("withdrawn_results", before.withdrawn_results, after.withdrawn_results)]
-    for key, old, new in said:
-        if old != new:
-            raise Misfit(f"{key} was {old!r} and is {new!r}")
+    now = fixed(after) | {"withdrawn_results": after.withdrawn_results}
+    for key, old in fixed(before).items():
+        if old != now.get(key, old):
+            raise Misfit(f"{key} was {spelled(old)} and is {spelled(now[key])}", after.line_of(*key.split(".")))
     if after.form.kind == SWISS and after.form.rounds < before.form.rounds:
-        raise Misfit(f"form.rounds was {before.form.rounds} and is {after.form.rounds}")
-    clocks = {game.name: (game.start, game.play) for game in after.games}
-    for game in before.games:
-        if game.name not in clocks:
-            raise Misfit(f"the game {game.name} is there no more")
-        if clocks[game.name] != (game.start, game.play):
-            now = " and ".join(map(str, clocks[game.name]))
-            raise Misfit(f"the clocks of {game.name} were {game.start} and {game.play}, and are {now}")
+        raise Misfit(f"form.rounds was {before.form.rounds} and is {after.form.rounds}", after.line_of("form", "rounds"))
+    games = {game.name: game for game in after.games}
+    for old in before.games:
+        if not (game := games.get(old.name)):
+            raise Misfit(f"the game {old.name} is there no more")
+        if (game.start, game.play) != (old.start, old.play):
+            raise Misfit(f"the clocks of {game.name} were {old.start} and {old.play}, and are {game.start} and {game.play}", game.line)
+        if game.player_rules != old.player_rules:
+            raise Misfit(f"player_rules of {game.name} was {old.player_rules!r} and is {game.player_rules!r}", game.player_rules_line)
     if gone := new_players(after, before):
         raise Misfit(f"the player {gone[0]} is there no more")
     if back := [name for name in before.withdrawn() if name not in after.withdrawn()]:

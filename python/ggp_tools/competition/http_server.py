@@ -3,15 +3,13 @@
 import asyncio
 import concurrent.futures
 import contextlib
-import ipaddress
 import logging
 import re
 import socket
 import sys
 import time
 import weakref
-from collections import Counter
-from collections.abc import Callable, Iterator, Sequence
+from collections.abc import Callable, Sequence
 from http import HTTPStatus
 from typing import TypeVar
 
@@ -21,6 +19,7 @@ from ggp_tools.competition.live_api import FEED, METRICS, json_bytes, metrics_te
 from ggp_tools.competition.live_site import LiveSite, OpenPage
 from ggp_tools.holding.game import MOST_CALLS
 from ggp_tools.human.server import is_own_name
+from ggp_tools.visitors import THIS_COMPUTER, Visitors, client_of
 
 Value = TypeVar("Value")
 # The folder is read once in so many seconds, and a page without changes gets a row after so many, by which a connection that is gone is
@@ -38,80 +37,14 @@ HEADERS = {
 # What is sent, by its path: pages, and what is for programs.
 PAGE, JSON, NUMBERS = "text/html", "application/json", "text/plain; version=0.0.4"
 NOBODY = ("'none'",)
-VERSION = re.compile("[0-9]{1,20}")
+VERSION, METHODS = re.compile("[0-9]{1,20}"), ("GET", "HEAD")
 # What is wrong with a request that cannot be read is for its sender, so nobody else gets a row about it.
 SILENT = logging.Logger("requests")
 SILENT.addHandler(logging.NullHandler())
 
 
-# The visitors of this computer, whose addresses are loopback addresses.
-THIS_COMPUTER = "this computer"
-
-
 def kind_of(path: str) -> str:
     return JSON if path.startswith("/api/") else NUMBERS if path == METRICS else PAGE
-
-
-def client_of(address: str) -> str:
-    """Returns whom an address counts for. A host with an IPv6 address mostly has all addresses with the same 64 bits, and an IPv4 address may
-    be written as one of IPv6."""
-    found = ipaddress.ip_address(address.partition("%")[0])
-    found = getattr(found, "ipv4_mapped", None) or found
-    if found.is_loopback:
-        return THIS_COMPUTER
-    return str(found if found.version == 4 else ipaddress.ip_network((int(found), 64), strict=False))
-
-
-class Visitors:
-    """The connections, at most so many at once. One client has at most half of them, except this computer, which may be a proxy."""
-
-    def __init__(self, most: int) -> None:
-        self.most = most
-        # The oldest one is first.
-        self.connections: dict["Connection", None] = {}
-        self.counts: Counter[str] = Counter()
-        self.viewers: Counter[str] = Counter()
-
-    def most_of(self, client: str) -> int:
-        return self.most if client == THIS_COMPUTER else max(1, self.most // 2)
-
-    def has_room_for(self, client: str) -> bool:
-        """Returns whether one more connection of a client is served. If there are too many, the oldest one that has asked for nothing
-        gives way, of the client that has most of these."""
-        if self.counts[client] >= self.most_of(client) < self.most:
-            return False
-        if len(self.connections) < self.most:
-            return True
-        idle = [connection for connection in self.connections if connection.is_idle]
-        if not idle:
-            return False
-        counts = Counter(connection.client for connection in idle)
-        worst = max(counts, key=counts.__getitem__)
-        next(connection for connection in idle if connection.client == worst).end()
-        return True
-
-    def come(self, connection: "Connection") -> None:
-        self.connections[connection] = None
-        self.counts[connection.client] += 1
-
-    def go(self, connection: "Connection") -> None:
-        if connection in self.connections:
-            del self.connections[connection]
-            self.counts[connection.client] -= 1
-            self.counts += Counter()
-
-    @contextlib.contextmanager
-    def viewing(self, client: str) -> Iterator[bool]:
-        """Gives whether a client may have one more page open that gets changes. The last eighth of all connections, and of those of an
-        client, is for loading pages."""
-        counts = (self.viewers.total(), self.most), (self.viewers[client], self.most_of(client))
-        has_room = all(count < most - most // 8 for count, most in counts)
-        self.viewers[client] += has_room
-        try:
-            yield has_room
-        finally:
-            self.viewers[client] -= has_room
-            self.viewers += Counter()
 
 
 class Connection(web.RequestHandler):
@@ -230,7 +163,7 @@ class Server:
         whole, _, query = request.raw_path.partition("?")
         asked = whole.removeprefix(self.base) if whole.startswith(f"{self.base}/") else ""
         try:
-            if request.method != "GET":
+            if request.method not in METHODS:
                 return await self.send(request, HTTPStatus.METHOD_NOT_ALLOWED)
             if not self.is_open_to(request.headers.get("Host", "")):
                 return await self.send(request, HTTPStatus.FORBIDDEN)
@@ -266,7 +199,8 @@ class Server:
         if data is None:
             data = json_bytes({"error": f"{status.phrase}: {path}"}) if kind == JSON else status.phrase.encode()
             kind = JSON if kind == JSON else "text/plain"
-        headers = self.headers_of(request, kind) | ({"Location": f"{self.base}/"} if status == HTTPStatus.PERMANENT_REDIRECT else {})
+        more = {HTTPStatus.PERMANENT_REDIRECT: {"Location": f"{self.base}/"}, HTTPStatus.METHOD_NOT_ALLOWED: {"Allow": ", ".join(METHODS)}}
+        headers = self.headers_of(request, kind) | more.get(status, {})
         response = web.Response(status=status, body=data, headers=headers)
         response.force_close()
         async with asyncio.timeout(PATIENCE):
@@ -283,7 +217,11 @@ class Server:
                 return await self.send(request, HTTPStatus.NOT_FOUND if has_room else HTTPStatus.SERVICE_UNAVAILABLE)
             response = web.StreamResponse(headers={**self.headers_of(request, "text/event-stream"), "X-Accel-Buffering": "no"})
             response.force_close()
-            await response.prepare(request)
+            writer = await response.prepare(request)
+            if request.method == "HEAD":
+                # Its answer has no body, and so no last chunk either.
+                writer.chunked = False
+                return response
             found.viewers += 1
             try:
                 await self.send_changes(response, found, int(known) if VERSION.fullmatch(known) else -1 if known else found.version)

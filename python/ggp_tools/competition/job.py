@@ -1,8 +1,8 @@
-"""Runs a referee or a player where a launcher has started this program. It needs nothing but Python's standard library.
+"""Runs a referee or a player on the computer on which a launcher has started this program. It needs only Python's standard library.
 
-It first says the name of its node, on standard error, and then a line every two seconds. It gets its task as a line of JSON on standard input,
-runs it, passes on what it says, and reports its exit status in the end. If nothing comes on standard input for so many seconds as it is told,
-or that is closed, it ends what it runs. A player gets a free port and its limits, and is ended with all that it has started."""
+It first writes the name of its node to standard error, and then a line every two seconds. It reads its task as a line of JSON from standard input, runs
+it, passes on the output, and reports the exit status at the end. If standard input is closed, or nothing comes for as many seconds as its argument says,
+it ends the task. A player gets a free port and its limits, and is ended with all processes that it has started."""
 
 import contextlib
 import ctypes
@@ -22,23 +22,25 @@ OURS, PORT = b"ggp_competition: ", "{port}"
 BEAT, ENDED = 2, 254
 MOST = 1 << 16
 END_WITH_PARENT, ADOPT_ORPHANS = 1, 36
-# A player has so many seconds to end by itself when it gets SIGTERM.
+# A player may have so many open files, so that it cannot use up the ports of this computer.
+MOST_FILES = 1_024
+# A player must end within so many seconds after SIGTERM.
 END_SECONDS = 2
 LIBRARY = ctypes.CDLL(None)
 
 
 def free_port(before: int) -> int:
-    """Returns a port that nobody listens on: if it is free, that of before."""
+    """Returns a free port: the one of before, if it is free."""
     for port in (before, 0):
-        with contextlib.suppress(OSError), socket.socket() as found:
-            found.setsockopt(socket.SOL_SOCKET, socket.SO_REUSEADDR, 1)
-            found.bind(("", port))
-            return found.getsockname()[1]
+        with contextlib.suppress(OSError), socket.socket() as probe:
+            probe.setsockopt(socket.SOL_SOCKET, socket.SO_REUSEADDR, 1)
+            probe.bind(("", port))
+            return probe.getsockname()[1]
     raise OSError("no port is free")
 
 
 def bounded(memory: int) -> list[str]:
-    """Returns the command that bounds the memory of all processes of a player together, where systemd takes it."""
+    """Returns a command that limits the memory of all processes of a player together, or an empty one if systemd does not support that."""
     user = ["--user"] if os.geteuid() else []
     words = ["systemd-run", *user, "--scope", "--quiet", f"--property=MemoryMax={memory}", "--property=MemorySwapMax=0", "--"]
     with contextlib.suppress(OSError):
@@ -49,27 +51,27 @@ def bounded(memory: int) -> list[str]:
 
 
 def limit(memory: int, processors: int, number: int) -> None:
-    """Limits the process that calls it: the memory of each of its processes, and the processors of all of them. Different players get
-    different processors, as far as there are any."""
+    """Limits the memory of each process, and the processors of all of them, for this process and those that it starts. Different players get different
+    processors, as far as there are enough."""
     if memory:
         resource.setrlimit(resource.RLIMIT_DATA, (memory, memory))
-    there = sorted(os.sched_getaffinity(0))
-    if count := min(processors, len(there)):
-        os.sched_setaffinity(0, [there[(number * count + at) % len(there)] for at in range(count)])
+    allowed = sorted(os.sched_getaffinity(0))
+    if count := min(processors, len(allowed)):
+        os.sched_setaffinity(0, [allowed[(number * count + at) % len(allowed)] for at in range(count)])
 
 
 def children() -> list[int]:
     """Returns the processes whose parent is this one."""
-    found = []
-    for place in pathlib.Path("/proc").glob("[0-9]*/stat"):
+    numbers = []
+    for file in pathlib.Path("/proc").glob("[0-9]*/stat"):
         with contextlib.suppress(OSError):
-            if place.read_text("ascii", "replace").rpartition(")")[2].split()[1] == str(os.getpid()):
-                found.append(int(place.parent.name))
-    return found
+            if file.read_text("ascii", "replace").rpartition(")")[2].split()[1] == str(os.getpid()):
+                numbers.append(int(file.parent.name))
+    return numbers
 
 
 class Job:
-    """A referee or a player, and what it says. Lines of the job are not put between the parts of a line of the referee."""
+    """A referee or a player and its output. The job writes its own lines only between lines of the referee."""
 
     def __init__(self, silence: float) -> None:
         self.silence, self.given = silence, b""
@@ -83,7 +85,7 @@ class Job:
         self.said = time.monotonic()
 
     def hear(self) -> bool:
-        """Takes what has come on standard input. Returns whether more may come."""
+        """Reads standard input. Returns whether it is still open."""
         data, self.heard = os.read(0, MOST), time.monotonic()
         self.given += data
         *lines, self.given = self.given.split(b"\n")
@@ -105,6 +107,9 @@ class Job:
         def ready() -> None:
             LIBRARY.prctl(END_WITH_PARENT, signal.SIGKILL)
             limit(*limits)
+            if player:
+                files = min(MOST_FILES, resource.getrlimit(resource.RLIMIT_NOFILE)[1])
+                resource.setrlimit(resource.RLIMIT_NOFILE, (files, files))
             if os.getppid() != parent:
                 os.kill(os.getpid(), signal.SIGKILL)
 
@@ -116,7 +121,7 @@ class Job:
             self.say(f"player {self.process.pid} {player['host'] or socket.gethostname()}:{port}")
 
     def pass_on(self) -> None:
-        """Passes on what the process has said."""
+        """Passes on output of the process."""
         data = left = os.read(self.pipe.fileno(), MOST)
         while left:
             left = left[os.write(1 if self.is_player else 2, left) :]
@@ -126,16 +131,16 @@ class Job:
             self.is_at_line, self.said = not data or data.endswith(b"\n"), time.monotonic()
 
     def status(self) -> int:
-        """Returns the status of a process that has ended, and passes on the rest: a pipe holds no more than is read at once. The process is
-        not waited for, so that no other one gets its number."""
+        """Returns the status of a process that has ended, and passes on the rest of its output. One read is enough for a pipe. This does not wait for the
+        process, so that no other process gets its number."""
         os.set_blocking(self.pipe.fileno(), False)
         with contextlib.suppress(BlockingIOError, KeyError):
             self.pass_on()
-        found = os.waitid(os.P_PID, self.process.pid, os.WEXITED | os.WNOWAIT)
-        return found.si_status if found.si_code == os.CLD_EXITED else -found.si_status
+        end = os.waitid(os.P_PID, self.process.pid, os.WEXITED | os.WNOWAIT)
+        return end.si_status if end.si_code == os.CLD_EXITED else -end.si_status
 
     def run(self) -> int | None:
-        """Runs the process, and returns its status; none if nobody hears the job any more."""
+        """Runs the process, and returns its status, or None if `play` has ended or is silent."""
         self.say(f"node {os.environ.get('SLURMD_NODENAME') or socket.gethostname()}")
         self.selector.register(0, selectors.EVENT_READ)
         while time.monotonic() < self.heard + self.silence:
@@ -151,7 +156,7 @@ class Job:
         return None
 
     def end(self) -> None:
-        """Ends what it runs. All that a player has started is, or becomes, a child of this process."""
+        """Ends the process. All processes that a player has started are, or become, children of this process."""
         for number in (signal.SIGTERM, signal.SIGKILL) if self.is_player else (signal.SIGKILL,):
             with contextlib.suppress(ProcessLookupError):
                 (os.killpg if self.is_player else os.kill)(self.process.pid, number)
@@ -174,7 +179,7 @@ def main() -> int:
         if status is not None:
             job.say(f"status {status}")
     except OSError as why:
-        # The program can't be run, or nobody hears the job any more.
+        # The program can't be run, or nobody reads the output any more.
         if not job.process:
             os.write(2, f"{why.filename}: {why.strerror or why}\n".encode("ascii", "replace"))
     finally:

@@ -1,4 +1,4 @@
-"""Jobs: what runs a match on another machine, and a player there or here."""
+"""Jobs, which run a match on another computer, or a player there or here."""
 
 import asyncio
 import json
@@ -13,14 +13,14 @@ from ggp_tools.match_log import LONGEST_LINE
 from ggp_tools.printable import printable
 
 SILENT, LONG = "nothing was heard of it for {:.0f} s", "a line that it said has more than {:,} bytes"
-# What a job has said is read for at most so many seconds after its end: a process that it left behind may hold the pipe.
+# The output of a job is read for at most so many seconds after its end, because a process that it has left may have the pipe open.
 MOST_UNREAD = 2
-# A job has so many seconds to end what runs on its node. It counts as lost if nothing was heard of it for so many.
-HANG_UP_SECONDS, LOST_SECONDS = 3, 10
-# A job ends what it runs if it has heard nothing of this program for so many seconds: then that can begin elsewhere. On this computer it hears
-# at once that this program has ended, and one that is stopped by Ctrl-Z may be silent.
+# A job has the first number of seconds to end its processes. It counts as lost if it sends nothing for the second one.
+END_SECONDS, LOST_SECONDS = 3, 10
+# A job ends its processes if this program sends nothing for so many seconds, so that they can begin elsewhere. On this computer it notices at once
+# that this program has ended, and a program that was stopped by Ctrl-Z may be silent.
 SILENCE, HERE_SILENCE = 20, 10**9
-# A name of a node, and of a process with its address, has at most so many characters.
+# The greatest length of the name of a node, and of a process with its address.
 MOST_OF_NAME = 300
 JOB = pathlib.Path(__file__).with_name("job.py").absolute()
 
@@ -30,25 +30,25 @@ class Lost(Exception):
 
 
 class Job:
-    """`job.py`, run by a launcher on another machine, or here if there is no launcher. `printed` gets what it prints, and `said` each line on
-    standard error that is not its own. It gets a byte every few seconds, and is up once it has said the line that begins with this word."""
+    """A run of `job.py` by a launcher on another computer, or on this one without a launcher. `take_output` gets its standard output, and `take_line`
+    each line of standard error that it passes on. It is up when it has sent the line that begins with the word `up`."""
 
     def __init__(
-        self, printed: Callable[[bytes], Awaitable[None]], said: Callable[[bytes], None], up: str = "node", hang_up_seconds: float = HANG_UP_SECONDS
+        self, take_output: Callable[[bytes], Awaitable[None]], take_line: Callable[[bytes], None], up: str = "node", end_seconds: float = END_SECONDS
     ) -> None:
-        self.printed, self.said, self.up, self.hang_up_seconds = printed, said, up, hang_up_seconds
+        self.take_output, self.take_line, self.up, self.end_seconds = take_output, take_line, up, end_seconds
         self.is_up, self.process, self.is_remote = asyncio.Event(), None, False
-        # The node, the process and address of a player, and the status, as the job itself reports them; and why it was given up.
+        # The node, the process and address of a player, and the exit status, as the job reports them; and why it was given up.
         self.node, self.player, self.status, self.why = "", "", None, ""
-        # Whether it has got its task, and may go on with it after it was ended here.
+        # Whether it has its task, and whether it may go on with it after its process here has ended.
         self.has_begun, self.goes_on = False, False
 
     def start(self, launcher: Sequence[str], task: dict[str, object] | None = None) -> None:
-        """Starts the job. `running` ends with it."""
+        """Starts the job. The task `running` ends with it."""
         self.running = asyncio.create_task(self.run(launcher, task))
 
     def begin(self, task: dict[str, object]) -> None:
-        """Gives the job what it runs: so no launcher has to quote anything."""
+        """Sends the job its command. No launcher needs to quote it."""
         self.has_begun = True
         self.process.stdin.write(json.dumps(task).encode() + b"\n")
 
@@ -62,7 +62,7 @@ class Job:
     async def run(self, launcher: Sequence[str], task: dict[str, object] | None) -> None:
         self.is_remote = bool(launcher)
         words = [*launcher, "python3" if launcher else sys.executable, "-I", str(JOB), str(SILENCE if launcher else HERE_SILENCE)]
-        # A job on this computer has to end what it runs before it ends.
+        # A job on this computer ends its processes before it ends.
         async with started(words, not launcher) as (self.process, has_ended):
             ending, beating, reading = map(asyncio.create_task, (has_ended.wait(), self.beat(), self.read()))
             if task:
@@ -71,31 +71,31 @@ class Job:
                 await asyncio.wait([ending, reading], return_when=asyncio.FIRST_COMPLETED)
             finally:
                 beating.cancel()
-                # It can first end what runs on the node, which may go on if this one is killed.
+                # It has time to end the processes on the node, because these may go on if it is killed.
                 self.process.stdin.close()
-                await asyncio.wait([ending], timeout=self.hang_up_seconds)
+                await asyncio.wait([ending], timeout=self.end_seconds)
                 self.goes_on = self.has_begun and not has_ended.is_set()
-                # What it left behind may hold the pipes.
+                # Processes that it has left may have the pipes open.
                 await asyncio.wait([reading], timeout=MOST_UNREAD if has_ended.is_set() else 0)
                 ending.cancel()
                 if not reading.cancel():
                     reading.result()
 
     async def read(self) -> None:
-        """Takes what the job prints and says, until it is given up."""
+        """Reads both outputs of the job, until it is given up."""
         try:
             async with asyncio.TaskGroup() as group:
-                group.create_task(self.read_printed())
-                await self.read_said()
+                group.create_task(self.read_output())
+                await self.read_lines()
         except* Lost as whys:
             self.why = str(whys.exceptions[0])
 
-    async def read_printed(self) -> None:
+    async def read_output(self) -> None:
         while data := await self.process.stdout.read(MOST_AT_ONCE):
-            await self.printed(data)
+            await self.take_output(data)
 
-    async def read_said(self) -> None:
-        """Takes the lines on standard error. A job that waits in a queue may be silent, and one that runs may not."""
+    async def read_lines(self) -> None:
+        """Reads standard error. A job may be silent while it waits in a queue, but not once it runs."""
         rest = b""
         try:
             async with asyncio.timeout(None) as silence:
@@ -113,9 +113,9 @@ class Job:
             self.take(rest)
 
     def take(self, line: bytes) -> None:
-        """Takes a line on standard error. Of its own the job says first the node, last the status."""
+        """Handles a line of standard error. The first line of the job itself is the node, the last one the status."""
         if not line.startswith(OURS):
-            self.said(line)
+            self.take_line(line)
             return
         word, _, rest = line.removeprefix(OURS).decode("ascii", "replace").partition(" ")
         if word in ("node", "player") and not getattr(self, word):
@@ -126,13 +126,12 @@ class Job:
             self.is_up.set()
 
     async def beat(self) -> None:
-        """Shows the other end that this process is there. A job that waits in a queue reads nothing."""
+        """Sends the job a byte every few seconds, once it runs."""
         await self.is_up.wait()
         while not self.process.stdin.is_closing():
             self.process.stdin.write(b"\n")
             await asyncio.sleep(BEAT)
 
     async def end(self) -> None:
-        """Ends the job."""
         self.running.cancel()
         await asyncio.wait([self.running])

@@ -1,31 +1,33 @@
-"""What was found of the files of a competition is known the next time, by the sums of all that it came from. Nothing is known by a file's
-name or its times: what has other bytes has another sum, and is looked at anew. It is kept in the cache of whoever runs this, so that a folder
-that comes from elsewhere brings nothing along that is believed."""
+"""Facts about the files of a competition that earlier commands have found, by the checksums of everything that they follow from: a changed file has
+another checksum. They are stored in the cache directory of the user, so a directory that comes from elsewhere cannot bring false ones."""
 
 import contextlib
+import dataclasses
 import hashlib
-import json
+import io
 import os
 import pathlib
+import pickle
 import sys
+import typing
 
 from ggp_tools.competition.files import opened_file, write_whole
 from ggp_tools.descriptions.kept import cache
 
 PACKAGE = pathlib.Path(__file__).resolve().parents[1]
 CODE = {".py", ".html", ".css", ".js"}
-# What is known of competitions that were not looked at lately goes first, once there are more than this.
+# The facts of competitions that were not used for the longest time are deleted, once there are more than this.
 MOST_KEPT = 20
-# Of a competition no more than this is kept: some 30,000 matches have as much.
+# The facts about a competition have at most this size, which suffices for about 30,000 matches.
 MOST_BYTES = 64 << 20
 
 
 def sum_of_parts(*parts: bytes) -> str:
-    """Returns a sum that no other parts have."""
-    found = hashlib.sha256()
+    """Returns a checksum of a sequence of parts."""
+    checksum = hashlib.sha256()
     for part in parts:
-        found.update(b"%d " % len(part) + part)
-    return found.hexdigest()
+        checksum.update(b"%d " % len(part) + part)
+    return checksum.hexdigest()
 
 
 def sum_of_file(path: str | pathlib.Path) -> str:
@@ -34,57 +36,72 @@ def sum_of_file(path: str | pathlib.Path) -> str:
 
 
 def sum_or_none(path: str | pathlib.Path) -> str | None:
-    """Returns the sum of a file, none where it can't be read."""
+    """Returns the checksum of a file, or None if it cannot be read."""
     try:
         return sum_of_file(path)
     except OSError:
         return None
 
 
+class Facts(pickle.Unpickler):
+    """Reads stored facts. They consist of dataclasses of this package and of these types, so reading a file that somebody else wrote runs no code."""
+
+    TYPES = {("collections", "Counter"), ("datetime", "datetime"), ("datetime", "timedelta"), ("datetime", "timezone"), ("markupsafe", "Markup")}
+
+    def find_class(self, module: str, name: str) -> typing.Any:
+        if module.startswith("ggp_tools.") and "." not in name:
+            found = super().find_class(module, name)
+            if isinstance(found, type) and dataclasses.is_dataclass(found):
+                return found
+        elif (module, name) in self.TYPES:
+            return super().find_class(module, name)
+        raise pickle.UnpicklingError(f"{module}.{name} is not a fact")
+
+
 class Known:
-    """What is known of the files of a competition's folder, by kinds: values of JSON by the sums of what they come from."""
+    """The known facts about a competition's directory, of several kinds: values by keys, which are checksums."""
 
     def __init__(self, folder: pathlib.Path) -> None:
-        self.name = sum_of_parts(os.fsencode(folder.absolute()))
-        # Whoever makes a value another way makes another one.
-        self.code = sum_of_parts(sys.version.encode(), *(file.read_bytes() for file in sorted(PACKAGE.rglob("*")) if file.suffix in CODE)).encode()
-        self.before, self.asked = self.read(), {}
+        # Other code may find other facts, and can't read these.
+        code = [file.read_bytes() for file in sorted(PACKAGE.rglob("*")) if file.suffix in CODE]
+        self.name = sum_of_parts(os.fsencode(folder.absolute()), sys.version.encode(), *code)
+        self.before, self.used = self.read(), {}
 
-    def read(self) -> dict[str, dict[str, object]]:
-        """Returns what is kept: nothing where a byte of it is another one than was written."""
+    def path(self) -> pathlib.Path:
+        return cache() / "known" / self.name
+
+    def read(self) -> dict[str, dict[str, typing.Any]]:
+        """Returns the stored facts: none if the file has changed since it was written, or if another user can have written it."""
         try:
-            digest, _, text = (cache() / "known" / self.name).read_bytes().partition(b"\n")
-        except (OSError, RuntimeError):
+            with opened_file(self.path()) as file:
+                status = os.fstat(file.fileno())
+                if status.st_uid != os.geteuid() or status.st_mode & 0o022:
+                    return {}
+                digest, _, data = file.read().partition(b"\n")
+            os.utime(self.path())
+            facts = Facts(io.BytesIO(data)).load() if hashlib.sha256(data).hexdigest().encode() == digest else {}
+        except (OSError, RuntimeError, pickle.UnpicklingError):
             return {}
-        return json.loads(text) if hashlib.sha256(text).hexdigest().encode() == digest else {}
+        return facts if isinstance(facts, dict) else {}
 
-    def key(self, *parts: bytes) -> str:
-        return sum_of_parts(self.code, *parts)
+    def get(self, kind: str, key: str) -> typing.Any:
+        """Returns a value, or None if it is not known."""
+        value = self.before.get(kind, {}).get(key)
+        if value is not None:
+            self.put(kind, key, value)
+        return value
 
-    def get(self, kind: str, key: str) -> object:
-        """Returns a value, none where nothing is known."""
-        found = self.before.get(kind, {}).get(key)
-        if found is not None:
-            self.put(kind, key, found)
-        return found
-
-    def put(self, kind: str, key: str, found: object) -> None:
-        self.asked.setdefault(kind, {})[key] = found
+    def put(self, kind: str, key: str, value: object) -> None:
+        self.used.setdefault(kind, {})[key] = value
 
     def write(self) -> None:
-        """Keeps what is known, of each kind that was asked for no more than that. Where it can't be written it is found again the next
-        time."""
-        known = {**self.before, **self.asked}
-        text = json.dumps(known, separators=(",", ":")).encode("ascii") if known != self.before else b""
-        if len(text) > MOST_BYTES:
+        """Stores the facts. Of each kind that was used, it drops those that were not. Facts that cannot be stored are found again the next time."""
+        facts = {**self.before, **self.used}
+        data = pickle.dumps(facts) if facts != self.before else b""
+        if not data or len(data) > MOST_BYTES:
             return
         with contextlib.suppress(OSError, RuntimeError):
-            folder = cache() / "known"
-            if not text:
-                # What was looked at lately goes last.
-                (folder / self.name).touch()
-                return
-            folder.mkdir(parents=True, exist_ok=True)
-            write_whole(folder / self.name, hashlib.sha256(text).hexdigest().encode() + b"\n" + text, is_lasting=False)
-            for old in sorted(folder.iterdir(), key=lambda file: file.stat().st_mtime)[:-MOST_KEPT]:
+            self.path().parent.mkdir(parents=True, exist_ok=True)
+            write_whole(self.path(), hashlib.sha256(data).hexdigest().encode() + b"\n" + data, is_lasting=False, is_private=True)
+            for old in sorted(self.path().parent.iterdir(), key=lambda file: file.stat().st_mtime)[:-MOST_KEPT]:
                 old.unlink(missing_ok=True)

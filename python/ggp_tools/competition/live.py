@@ -1,8 +1,8 @@
-"""Reads from the folder of a competition how its matches go: which are open, whom each waits for, and which are over. It writes nothing,
-starts nothing but the referee's desk, and reads each file on from where it was.
+"""Reads the state of the matches from the directory of a competition: which are open, whose answers they wait for, and which are over. It writes
+nothing, and starts only the referee's desk.
 
-A player of an open match can read the pages too. So what is shown of it follows from finished rounds alone, and from the clock of this
-computer. A round is START, a turn, or the end. It is finished once all of its roles have answered, or were passed over."""
+The players of an open match can read the pages too. So the pages show only what follows from finished rounds and from the clock of this computer.
+A round is START, a turn, or the end. It is finished once all of its roles have answered or were replaced."""
 
 import errno
 import os
@@ -14,14 +14,13 @@ from collections.abc import Container
 from dataclasses import dataclass
 from typing import NamedTuple
 
-from ggp_tools.competition.choices import counted_result
 from ggp_tools.competition.competition_file import EACH_MATCH
 from ggp_tools.competition.files import STAGES, Folder, lock_place, opened_file
 from ggp_tools.competition.live_board import Answers, LiveBoard
 from ggp_tools.competition.plan import Plan
 from ggp_tools.competition.playing import NOT_BEGUN
 from ggp_tools.competition.replaced import MOST_OF_MATCH, Replaced, newest, replaced_moves
-from ggp_tools.competition.results import Result, fault_of_record
+from ggp_tools.competition.results import Result, counted_result, fault_of_record
 from ggp_tools.competition.schedule import Match
 from ggp_tools.competition.tail import HEAD, Tail
 from ggp_tools.match_log import ENDS, SHORTAGE, START, Event, Host, Message, Open, Other, Runs, event_of
@@ -30,81 +29,86 @@ from ggp_tools.records.match_logs import logged
 from ggp_tools.records.show import NoRecord, read_record
 from ggp_tools.referee import Referee
 
-# All records are listed for at most so small a part of the time, and read for so many seconds in a look. The record of a match that was open
-# is read at once.
+# Listing all records takes at most this fraction of the time, and one look reads them for so many seconds. The record of a match that was open is read
+# at once.
 SHARE, READING = 10, 1.0
-# The list of many locks is read in pieces, and may lack one where others go meanwhile. So in so many lists it has to be missing.
+# The system lists many locks in pieces, and may leave one out while others go. So a lock must be missing in so many lists.
 LOOKS = 5
-# So many seconds the last state of a match stays where its boards were, once it is over.
+# The board of a match stays for so many seconds after its end.
 STAYS = 60
-# A match whose room names its players alone: they are sent ABORT for a run that was ended.
+# The stage of a match whose directory has only the names of its players: they get ABORT for a run that was ended.
 WAITING = "waiting"
 FAULT = "these pages have a fault, so what they show of it may be wrong: {!r}"
-# The lines of the journal of `play` by which a match is given up, or is open again.
+# The lines of `play.log` by which a match is given up, or is open again.
 RESTARTED = re.compile(r"restart (\S+) (\S+): .*")
 GIVEN_UP = re.compile(rf"(?:no record|missing) (\S+): (?!{NOT_BEGUN}$)(.*)|(?:info|begin) (\S+) .*")
-# The referee is asked what came of answers for at most so small a part of the time.
+# Asking the referee takes at most this fraction of the time.
 JUDGING_SHARE = 3
-# These errors are of this process, and say nothing about a file.
+# Errors of this process, which say nothing about a file.
 OUT_OF_FILES = errno.EMFILE, errno.ENFILE
-# What stands before the name of a file that is named by its whole path.
+# The directories in an absolute path of a file.
 WHOLE_PATH = re.compile(r"(?<![\w./-])/(?:[^\s/]+/)*(?=[^\s/])")
 
 
-# What is another where a file was replaced or written anew; and that of a file that the system says nothing of.
+# Number, size and time of a file, which change if it is replaced or written again; and those of a missing file.
 Identity = tuple[int, int, int]
 NOWHERE: Identity = (0, 0, 0)
 
 
 def clock() -> float:
-    """Returns the seconds of a clock that nobody sets."""
+    """Returns the seconds of a clock that never jumps."""
     return time.monotonic()
 
 
-class Room(NamedTuple):
-    """How far an open match is by the files of its room: its stage, and the bytes of its log. With a delay also the number and the first bytes of
-    that file: a match that begins again has another log."""
+class Extent(NamedTuple):
+    """The size of a growing file. With a delay also its number and its first bytes, because another file may replace it."""
 
-    stage: str
     size: int
     number: int = 0
     head: bytes = b""
 
 
+class Room(NamedTuple):
+    """The stage and the log of an open match, by the files of its directory."""
+
+    stage: str
+    log: Extent
+
+
 class Sight(NamedTuple):
-    """What stood in the folder at a moment of the clock: the rooms of matches, the bytes of the journal, and whether a run was at work."""
+    """The directory at a moment of the clock: the open matches, the journal, and whether `play` was running."""
 
     moment: float
     rooms: dict[str, Room]
-    journal: int
+    journal: Extent
     is_held: bool
 
 
 class Delay:
-    """Shows what was in the folder so many seconds ago, by the clock of this computer alone. Files may have any time."""
+    """Returns the directory as it was so many seconds ago, by the clock of this computer: the times of files may be wrong."""
 
     def __init__(self, seconds: float = 0.0) -> None:
         self.seconds = seconds
         self.sights: deque[Sight] = deque()
-        # Other things as they are now, and since when.
+        # Other values as they are now, and since when.
         self.things: dict[str, tuple[object, float]] = {}
         self.is_new = True
 
     def now(self) -> float:
-        """Returns the time of day that is shown."""
+        """Returns the time of day that the pages show."""
         return time.time() - self.seconds
 
-    def sight(self, rooms: dict[str, Room], journal: int, held: bool) -> Sight:
-        """Takes what stands in the folder now. Returns what stood there at the moment that is shown: nothing before the first look."""
+    def sight(self, rooms: dict[str, Room], journal: Extent, held: bool) -> Sight:
+        """Takes the directory as it is now. Returns it as it was at the moment that is shown: empty before the first look."""
         now = clock()
         self.sights.append(Sight(now, self.sights[-1].rooms if self.sights and self.sights[-1].rooms == rooms else rooms, journal, held))
         while len(self.sights) > 1 and self.sights[1].moment <= now - self.seconds:
             self.sights.popleft()
         first = self.sights[0]
-        return first if first.moment <= now - self.seconds else Sight(now, {}, 0, first.is_held)
+        return first if first.moment <= now - self.seconds else Sight(now, {}, Extent(0), first.is_held)
 
     def has_passed(self, name: str, value: object, age: float = 0.0) -> bool:
-        """Returns whether a thing was as it is now already at the moment that is shown. What is new is so many seconds old."""
+        """Returns whether a value is the same as at the moment that is shown. A value that is seen first is so many seconds old."""
         if self.seconds and self.things.get(name, (None,))[0] != value:
             self.things[name] = value, clock() - age
         return not self.seconds or clock() - self.things[name][1] >= self.seconds
@@ -114,61 +118,60 @@ NOTED = re.compile(rf"{MOMENT} (.*)\n")
 
 
 def note_of(line: bytes) -> str | None:
-    """Returns what a line of the journal says."""
+    """Returns the text of a line of the journal, without its time."""
     found = NOTED.fullmatch(line.decode("ascii", "replace"))
     return found[1] if found else None
 
 
 @dataclass
 class Seen:
-    """A match that is open, as its room and its log show it. What is shown follows from the rounds that are finished, and from a clock of
-    this computer that begins when the last of them was found finished. If the state says whose turn it is, that role is awaited. Once half
-    of the open round's time is over it is shown whose answers are awaited, and nothing else of that round. `version` counts what has changed
-    of this."""
+    """An open match. What is shown of it follows from the finished rounds, and from a clock that starts when the last of them is found finished. If
+    the state says whose turn it is, that role is shown as awaited. After half of the open round's time, all awaited roles are shown, and nothing else
+    of that round. `version` counts the changes of what is shown."""
 
     match: Match
     tail: Tail[Event]
     board: LiveBoard
     stage: str = ""
     version: int = 0
-    # When it was looked at last.
+    # The time of the last look.
     now: float = 0.0
-    # Since when it is as it is: the time of day, and the clock.
+    # When the open round began: the time of day, and the clock.
     since: float = 0.0
     began: float = 0.0
     is_late: bool = False
-    # When the referee was asked last.
+    # When the referee was last asked.
     judged: float = 0.0
     shown: tuple = ()
 
     def __post_init__(self) -> None:
         self.runs = Runs()
-        # The messages of a run that no line has announced, until its START is finished.
+        # The messages of a run whose begin the log lacks, until its START is finished.
         self.coming: list[Message] | None = None
         self.forget()
 
     def forget(self) -> None:
-        """Begins again: the match does, on another host."""
+        """Forgets everything, because the match begins again, for example on another computer."""
         self.board.begin()
         # The answers to STOP or ABORT, and the last answers of finished rounds.
         self.ends: Answers = {}
         self.last: Answers = {}
         self.missed: Counter[int] = Counter()
-        # The kind and the milliseconds of each message of finished rounds, by its role and number.
+        # The kind and the milliseconds of each message of finished rounds, by role and number.
         self.times: dict[tuple[int, int], tuple[str, int]] = {}
-        # When the last answer of each turn was there.
+        # The time of the last answer of each turn.
         self.moments: dict[int, float] = {}
         self.replaced: list[Replaced] = []
         self.replaced_count = 0
-        # The clock begins anew.
+        # Restarts the clock.
         self.shown = ()
 
     def turn(self) -> int:
-        """Returns the turn that is asked for: 0 is START."""
+        """Returns the open turn; 0 is START."""
         return self.board.position.round()
 
     def open_round(self) -> int | None:
-        """Returns the round that was open when the log was read last, or None if more of the log or of its answers is still to be judged."""
+        """Returns the round that was open when the log was read last, or None if lines or answers are still to be read."""
         return None if self.tail.is_behind or self.board.is_known_further() else self.turn()
 
     def is_over(self) -> bool:
@@ -176,11 +179,11 @@ class Seen:
         return len(self.ends) == len(self.match.players)
 
     def is_ending(self) -> bool:
-        """Returns whether STOP or ABORT is what is answered."""
+        """Returns whether the roles answer STOP or ABORT, or have answered it."""
         return self.is_over() or self.board.position.is_ending()
 
     def awaited(self) -> list[int]:
-        """Returns the roles that have not answered in the open round: of these only the one whose turn it is, if the state says it."""
+        """Returns the roles that have not answered in the open round; only the one whose turn it is, if the state says so."""
         position = self.board.position
         if self.is_ending():
             return [role for role in range(len(self.match.players)) if role not in self.ends]
@@ -188,14 +191,14 @@ class Seen:
         return [position.mover()] if position.mover() in found else found
 
     def named(self) -> list[int] | None:
-        """Returns the awaited roles that are shown, as far as they are: at first the one whose turn it is, which follows from the state."""
+        """Returns the awaited roles that are shown: before half of the time at most the one whose turn it is, which follows from the state."""
         if self.is_late:
             return self.awaited()
         mover = None if self.is_ending() else self.board.position.mover()
         return None if mover is None else [mover]
 
     def take_event(self, event: Event) -> None:
-        """Takes an event of the match. A message to another player says nothing of this one."""
+        """Takes an event of the match. Messages to other players are ignored."""
         if isinstance(event, Message) and (event.kind is None or self.match.players[event.role : event.role + 1] != (event.player,)):
             return
         if self.runs.is_next(event):
@@ -213,7 +216,7 @@ class Seen:
                 self.take(message)
 
     def take(self, message: Message) -> None:
-        """Holds the answer to a message."""
+        """Keeps the answer to a message."""
         if message.kind in ENDS:
             self.ends[message.role] = message
             if self.is_over():
@@ -222,7 +225,7 @@ class Seen:
             self.board.take(message)
 
     def judge(self, referee: Referee) -> None:
-        """Asks the referee what came of the finished rounds."""
+        """Asks the referee for the moves of the finished rounds."""
         for turn, answers in self.board.judge(referee).items():
             self.show_round(answers)
             self.moments[turn] = max(message.moment() or self.now for message in answers.values())
@@ -234,7 +237,7 @@ class Seen:
         self.count_change()
 
     def show_round(self, answers: Answers) -> None:
-        """Shows what a finished round was answered with."""
+        """Shows the answers of a finished round."""
         self.last = {**self.last, **answers, **(self.ends if self.is_over() else {})}
         self.missed.update(role for role, message in answers.items() if message.error and message.error != SHORTAGE)
         self.times |= {(role, message.number): (message.kind.lower(), message.ms) for role, message in answers.items()}
@@ -244,9 +247,9 @@ class Seen:
         return [[self.times[at] for at in sorted(self.times) if at[0] == role] for role in range(len(self.match.players))]
 
     def look(self, room: Room, now: float) -> None:
-        """Reads what has come."""
+        """Reads new lines of the log."""
         self.stage, self.now = room.stage, now
-        found, is_other = self.tail.added(room.size, room.number, room.head)
+        found, is_other = self.tail.added(*room.log)
         if is_other:
             self.runs, self.coming = Runs(), None
             self.forget()
@@ -256,7 +259,7 @@ class Seen:
         self.count_change()
 
     def count_change(self) -> None:
-        """Counts whether something else is shown than before. The clock begins when a round is finished."""
+        """Counts a change of what is shown. Restarts the clock if a round was finished."""
         since = self.stage, self.turn(), self.is_ending(), self.is_over()
         if self.shown[:1] != (since,):
             self.since, self.began = self.now, clock()
@@ -268,8 +271,8 @@ class Seen:
 
 @dataclass
 class Restart:
-    """A player that was started again for a match. `rounds` has the matches of the player that were open when this was read, each with the round
-    that was open then, or None until that is known."""
+    """A player that was started again for a match. `rounds` has the matches of the player that were open when this was read, each with its open
+    round, or None until that is known."""
 
     player: str
     match: str
@@ -277,36 +280,35 @@ class Restart:
 
 
 def stage_of(names: set[str]) -> str:
-    """Returns what happens to a match, by the files of its room. It waits where only the players of a run before are named."""
+    """Returns the stage of a match by the files of its directory. It waits if they are left of an earlier run."""
     return next((stage for stage in reversed(STAGES) if stage in names), WAITING)
 
 
-def size_of(path: pathlib.Path) -> int:
-    """Returns the bytes of a file, none where it is not there."""
+def extent_of(path: pathlib.Path, is_delayed: bool) -> Extent:
+    """Returns the size of a growing file: 0 if it is missing."""
     try:
-        return os.stat(path).st_size
-    except OSError:
-        return 0
-
-
-def beginning_of(path: pathlib.Path) -> tuple[int, bytes]:
-    """Returns the number of a file and its first bytes, none where it is not there."""
-    try:
+        if not is_delayed:
+            return Extent(os.stat(path).st_size)
         with opened_file(path) as file:
-            return os.fstat(file.fileno()).st_ino, file.read(HEAD)
+            found = os.fstat(file.fileno())
+            return Extent(found.st_size, found.st_ino, file.read(HEAD))
     except OSError as why:
         if why.errno in OUT_OF_FILES:
             raise
-        return 0, b""
+        return Extent(0)
 
 
-def identity(found: os.stat_result) -> Identity:
-    """Returns what is another where a file was replaced or written anew."""
+def identity_of(path: pathlib.Path) -> Identity:
+    """Returns number, size and time of a file."""
+    try:
+        found = os.stat(path)
+    except OSError:
+        return NOWHERE
     return found.st_ino, found.st_size, found.st_mtime_ns
 
 
 def for_visitors(folder: Folder, words: str) -> str:
-    """Returns words without a path of this computer: of a file only its name in the folder."""
+    """Returns a message without paths of this computer: of a file only its name in the directory."""
     for place in (folder.path, folder.path.absolute()):
         words = re.sub(rf"(?<![\w./-]){re.escape(str(place))}/", "", words)
     return WHOLE_PATH.sub("", words)
@@ -318,7 +320,7 @@ def locks() -> list[str]:
 
 
 def is_held(folder: pathlib.Path) -> bool:
-    """Returns whether a run holds the folder, without trying to hold it."""
+    """Returns whether a run has locked the directory, without trying to lock it."""
     try:
         place = lock_place(folder)
         return any(f" {place} " in line and "FLOCK" in line and " WRITE " in line for _ in range(LOOKS) for line in locks())
@@ -327,27 +329,27 @@ def is_held(folder: pathlib.Path) -> bool:
 
 
 class Reader:
-    """What the folder of a competition shows, or showed so many seconds ago. `version` counts what changes of open matches, and
-    `results_version` the results."""
+    """The matches as the directory of a competition has them, or had them so many seconds ago. `version` counts the changes of open matches, and
+    `results_version` those of results."""
 
     def __init__(self, plan: Plan, referee: Referee, delay: Delay | None = None) -> None:
         self.plan, self.referee, self.known, self.delay = plan, referee, {match.id: match for match in plan.matches}, delay or Delay()
         self.place = {match.id: at for at, match in enumerate(plan.matches)}
         self.open: dict[str, Seen] = {}
         self.results: dict[str, Result] = {}
-        # The matches that were open here and have no result yet, and those that got it a moment ago, with that moment of the clock.
+        # The matches that were open and have no result yet, and those that got it a moment ago, with that moment of the clock.
         self.ending: set[str] = set()
         self.ended: dict[str, float] = {}
         self.faults: dict[str, str] = {}
-        # What each record was when it was read, and those that are to be read.
-        self.identities: dict[str, Identity] = {}
+        # The files of each match when its record was read, and the records that are still to be read.
+        self.identities: dict[str, tuple[Identity, Identity]] = {}
         self.unread: deque[str] = deque()
-        # Why directories can't be read now, and the rooms when theirs was read last.
+        # Why directories can't be read, and the open matches when their directory was last read.
         self.unlisted: dict[str, str] = {}
         self.rooms: dict[str, Room] = {}
-        # What went wrong with an open match.
+        # Faults of these pages with open matches.
         self.troubles: dict[str, str] = {}
-        # The last replaced moves of matches that are over, and of these matches how many there were.
+        # The last replaced moves of matches that are over, and how many there were in each.
         self.replaced: list[Replaced] = []
         self.replaced_counts: dict[str, int] = {}
         self.version, self.results_version, self.is_held = 0, 0, False
@@ -361,9 +363,9 @@ class Reader:
         self.restarted: dict[str, tuple[int, str]] = {}
 
     def look(self) -> None:
-        """Reads what has come since the last look."""
-        # What the journal says happened before the logs were as long as they are found to be.
-        journal = size_of(self.plan.folder.journal)
+        """Reads what has changed since the last look."""
+        # The size of the journal is read before those of the logs, so what it says happened before.
+        journal = extent_of(self.plan.folder.journal, self.delay.seconds > 0)
         sight = self.delay.sight(self.rooms_there(), journal, is_held(self.plan.folder.path))
         gone = self.look_at_rooms(sight.rooms)
         self.look_at_journal(sight)
@@ -376,7 +378,7 @@ class Reader:
         self.is_held = sight.is_held
 
     def listed(self, folder: pathlib.Path) -> list[str] | None:
-        """Returns the names in a directory, or None if it can't be read now: that says nothing about what is in it."""
+        """Returns the names in a directory, or None if it can't be read now."""
         self.unlisted.pop(folder.name, None)
         try:
             return os.listdir(folder)
@@ -387,7 +389,7 @@ class Reader:
             return None
 
     def rooms_there(self) -> dict[str, Room]:
-        """Returns the rooms of open matches, as they were if the directory can't be read now."""
+        """Returns the open matches, as they were if their directory can't be read now."""
         names = self.listed(self.plan.folder.open)
         if names is not None:
             found = {name: self.room_there(name) for name in names if name in self.known}
@@ -395,22 +397,21 @@ class Reader:
         return self.rooms
 
     def room_there(self, name: str) -> Room | None:
-        """Returns the room of a match, as it was if it can't be read now."""
+        """Returns an open match, as it was if its directory can't be read now, or None if it is not open."""
         try:
-            stage, log = stage_of(set(os.listdir(self.plan.folder.open / name))), self.plan.folder.room_log(name)
-            beginning = beginning_of(log) if self.delay.seconds else ()
-            return Room(stage, size_of(log), *beginning)
+            stage = stage_of(set(os.listdir(self.plan.folder.open / name)))
+            return Room(stage, extent_of(self.plan.folder.room_log(name), self.delay.seconds > 0))
         except (FileNotFoundError, NotADirectoryError):
             return None
         except OSError:
             return self.rooms.get(name)
 
     def trouble(self) -> str:
-        """Returns which directories can't be read now."""
+        """Returns a message about directories that can't be read."""
         return " ".join(f"The directory {name} can't be read ({why}), so these pages may be behind." for name, why in self.unlisted.items())
 
     def look_at_rooms(self, rooms: dict[str, Room]) -> list[str]:
-        """Reads the logs of the open matches. Returns the matches that are open no more."""
+        """Reads the logs of the open matches. Returns those that are not open any more."""
         folder, strikes = self.plan.folder, self.plan.competition.strikes
         gone = [name for name in self.open if name not in rooms or name in self.results]
         for name in gone:
@@ -426,12 +427,12 @@ class Reader:
         return gone
 
     def look_at_journal(self, sight: Sight) -> None:
-        """Reads from the journal which matches were given up, and why. Another run plays them again."""
+        """Reads from the journal which matches were given up, and why, and which players were restarted. The next run plays these matches again."""
         before = dict(self.given_up)
         if sight.is_held and not self.is_held:
             self.given_up.clear()
             self.restarted.clear()
-        while notes := self.journal.added(sight.journal)[0]:
+        while notes := self.journal.added(*sight.journal)[0]:
             for found in map(RESTARTED.fullmatch, notes):
                 if found and found[2] in self.restarting:
                     rounds = {name: None for name, seen in self.open.items() if found[2] in seen.match.players}
@@ -444,7 +445,7 @@ class Reader:
         self.version += before != self.given_up
 
     def show_restarts(self) -> None:
-        """Shows which players were started again. A player that has died answers nothing, so the rounds that were open then come first."""
+        """Shows which players were restarted, once the rounds that were open then are finished: in these a player that has died did not answer."""
         for restart in self.restarts:
             found = ((self.open[name], name, at) for name, at in restart.rounds.items() if name in self.open)
             restart.rounds = {name: seen.open_round() if at is None else at for seen, name, at in found if at is None or seen.turn() <= at}
@@ -454,7 +455,7 @@ class Reader:
         self.restarts = [restart for restart in self.restarts if restart.rounds]
 
     def look_at_room(self, name: str, seen: Seen, room: Room) -> int:
-        """Reads what has come of an open match. Returns how much has changed; a fault of these pages is told, and stops no other match."""
+        """Reads the log of an open match. Returns how many changes there are. A fault of these pages is shown, and stops no other match."""
         before, trouble = seen.version, ""
         try:
             seen.look(room, self.delay.now())
@@ -467,7 +468,7 @@ class Reader:
         return seen.version - before + is_other
 
     def judge(self, until: float, first: Container[str] = ()) -> None:
-        """Asks the referee what came of the answers of open matches, until a moment: first of some of them. Then it shows restarts."""
+        """Asks the referee about the answers of open matches, until a moment: first about these matches. Then shows restarts."""
         began = time.monotonic()
         if began >= self.next_judging:
             self.judge_due(until, first)
@@ -483,7 +484,7 @@ class Reader:
             self.version += self.judge_match(seen)
 
     def judge_match(self, seen: Seen) -> int:
-        """Asks the referee what came of the answers of a match. Returns how much has changed; a fault here stops no other match."""
+        """Asks the referee about the answers of a match. Returns how many changes there are. A fault of these pages stops no other match."""
         before = seen.version
         try:
             seen.judge(self.plan.judge(self.referee, seen.match.game))
@@ -493,11 +494,11 @@ class Reader:
         return seen.version - before
 
     def troubles_of_matches(self) -> list[str]:
-        """Returns what went wrong with open matches."""
+        """Returns the faults of these pages with open matches."""
         return [f"{name}: {trouble}" for name, trouble in self.troubles.items() if trouble]
 
     def look_at_records(self) -> None:
-        """Reads records that have come or are other ones, for a while, and forgets those that are gone."""
+        """Reads new and replaced records for a while, and forgets those that are gone."""
         self.list_records()
         # The first pages do not wait long for the standings.
         ends = time.monotonic() + (READING if self.identities else READING / 5)
@@ -507,7 +508,7 @@ class Reader:
             self.version += 1
 
     def list_records(self) -> None:
-        """Looks for records that have come, have gone or are other ones."""
+        """Lists the records that are new or replaced, and forgets those that are gone."""
         began = time.monotonic()
         if began < self.next:
             return
@@ -515,60 +516,74 @@ class Reader:
         if names is None:
             return
         there = {name.removesuffix(".json") for name in names if name.endswith(".json")}
-        for name in self.results.keys() - there:
-            self.forget(name)
-        self.faults = {name: why for name, why in self.faults.items() if name in there}
+        for name in (self.results.keys() | self.faults.keys()) - there:
+            if self.delay.has_passed(name, NOWHERE):
+                self.forget(name)
+                self.faults.pop(name, None)
         self.unread = deque(name for name in self.known if name in there and self.is_news(name))
         self.delay.is_new = False
         ended = time.monotonic()
         self.next = ended + SHARE * (ended - began)
 
     def is_news(self, name: str) -> bool:
-        """Returns whether a record is to be read: it has come, or is another one than when it was read."""
+        """Returns whether a record must be read, because it is new or was replaced."""
         if name not in self.identities and not self.delay.seconds:
             return True
-        try:
-            found = identity(os.stat(self.plan.folder.record(name)))
-        except OSError:
-            found = NOWHERE
-        # Only of what is there at first it is believed how old it is.
-        age = time.time() - found[2] / 1e9 if self.delay.is_new else 0.0
+        found = self.files_of(name)
+        # The times of files count only in the first look.
+        age = time.time() - found[0][2] / 1e9 if self.delay.is_new else 0.0
         return self.delay.has_passed(name, found, age) and self.identities.get(name) != found
 
+    def files_of(self, name: str) -> tuple[Identity, Identity]:
+        """Returns the identities of the record and, with a delay, of the log of a match."""
+        folder = self.plan.folder
+        return identity_of(folder.record(name)), identity_of(folder.log(name)) if self.delay.seconds else NOWHERE
+
+    def must_be_shown(self, name: str) -> None:
+        """Raises NoRecord if other files have replaced those of the result that is shown. They wait like new ones."""
+        if self.delay.seconds and self.files_of(name) != self.identities.get(name):
+            raise NoRecord("it was replaced")
+
+    def record_of(self, match: Match) -> dict:
+        """Returns the record of a match that is shown as over."""
+        record = read_record(self.plan.read_record(match))
+        self.must_be_shown(match.id)
+        return record
+
     def forget(self, name: str) -> None:
-        """Has a match have no result any more."""
+        """Removes the result of a match."""
         self.identities.pop(name, None)
         if self.results.pop(name, None):
             self.results_version += 1
 
     def look_at_record(self, name: str) -> None:
-        """Reads the record of a match, if it is there. A fault of these pages is told, and stops no other match."""
+        """Reads the record of a match, if there is one. A fault of these pages is shown, and stops no other match."""
         try:
             self.take_record(name)
         except Exception as why:
             self.refuse(name, NoRecord(FAULT.format(why)))
 
     def take_record(self, name: str) -> None:
-        match, own = self.known[name], NOWHERE
+        match, own = self.known[name], self.files_of(name)
+        if not self.delay.has_passed(name, own):
+            return
         try:
-            found = self.plan.folder.record(name).stat()
-            own = identity(found)
-            if not self.delay.has_passed(name, own):
-                return
             data = self.plan.read_record(match)
+            if self.delay.seconds and self.files_of(name) != own:
+                return
             record = read_record(data)
         except FileNotFoundError:
             return
         except (OSError, NoRecord) as why:
             if isinstance(why, OSError) and why.errno in OUT_OF_FILES:
-                # It is read again at the next look.
+                # The next look reads it.
                 self.unlisted[self.plan.folder.records.name] = why.strerror
                 return
             self.refuse(name, why)
             self.identities[name] = own
             return
         self.forget(name)
-        # One that was replaced since then is another one at the next look.
+        # If it was replaced meanwhile, the next look reads it again.
         self.identities[name] = own
         if fault := fault_of_record(record, match, self.plan.competition.strikes):
             self.faults[name] = fault
@@ -579,11 +594,10 @@ class Reader:
         if name in self.ending:
             self.ending.remove(name)
             self.ended[name] = clock()
-        self.note_replaced(match, record, found.st_mtime)
+        self.note_replaced(match, record, own[0][2] / 1e9)
 
     def refuse(self, name: str, why: OSError | NoRecord) -> None:
-        """Has a record not count, since it can't be read."""
-        # The path of the folder is nothing for visitors.
+        """Notes why a record does not count, without paths."""
         self.faults[name] = f"it can't be read: {why.strerror}" if isinstance(why, OSError) else str(why)
         self.forget(name)
 
@@ -603,10 +617,9 @@ class Reader:
         self.replaced = newest(kept)
 
     def last_replaced(self) -> list[tuple[Replaced, int]]:
-        """Returns the last replaced moves, the newest first, each with the number of those before it in its match that are not among them."""
+        """Returns the last replaced moves, the newest first, each with the number of earlier ones of its match that are not among them."""
         over = (move for move in self.replaced if move.match.id in self.results)
-        found = [*over, *(move for seen in self.open.values() for move in seen.replaced)]
-        found = newest(found)
+        found = newest([*over, *(move for seen in self.open.values() for move in seen.replaced)])
         counts = self.replaced_counts | {name: seen.replaced_count for name, seen in self.open.items()}
         left = {name: counts[name] - count for name, count in Counter(move.match.id for move in found).items()}
         return [(move, left.pop(move.match.id, 0)) for move in found][::-1]
@@ -616,5 +629,5 @@ class Reader:
         return sorted(self.open.values(), key=lambda seen: self.place[seen.match.id])
 
     def waiting(self) -> list[Match]:
-        """Returns the matches that are neither open nor over, in the schedule's order, with those that were given up."""
+        """Returns the matches that are neither open nor over, in the schedule's order, including those that were given up."""
         return [match for match in self.plan.matches if match.id not in self.results and match.id not in self.open and not match.withdrawn]

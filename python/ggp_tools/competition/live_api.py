@@ -11,7 +11,6 @@ from ggp_tools.competition.results import result_keys
 from ggp_tools.competition.schedule import Match
 from ggp_tools.competition.table import Table
 from ggp_tools.records.match_logs import logged
-from ggp_tools.records.record import read_record
 
 # The paths: the events, and the others.
 FEED, METRICS = "/api/events", "/metrics"
@@ -63,7 +62,7 @@ def own_keys(reader: Reader, match: Match) -> Keys:
     """Returns all keys of a match. If it is over, they come from its record and its log."""
     plan, said = reader.plan, {}
     if match.id in reader.results:
-        record, messages = read_record(plan.read_record(match)), logged(plan.folder.run_of(match.id)).by_role(len(match.players))
+        messages, record = logged(plan.folder.run_of(match.id)).by_role(len(match.players)), reader.record_of(match)
         said = {"states": numbered(record["states"], len(record["states"]) - 1), "moves": record["moves"], "errors": record["errors"]}
         said["messages"] = messages
     elif seen := reader.open.get(match.id):

@@ -15,7 +15,7 @@ from ggp_tools.competition.results import Result, winner_words
 from ggp_tools.competition.round_pages import round_text
 from ggp_tools.competition.schedule import Match
 from ggp_tools.match_log import shown
-from ggp_tools.records.show import Named, states_of_page, turn_of_page
+from ggp_tools.records.show import Named, last_state, turn_of_page
 
 if typing.TYPE_CHECKING:
     from markupsafe import Markup
@@ -72,7 +72,7 @@ def open_row(seen: Seen, roles: tuple[str, ...]) -> Item:
 
 def state_html(states: list[list[str]], roles: tuple[str, ...], named: Named, notes: list[str]) -> "Markup":
     """Returns the last one of states, where there is one."""
-    found = next(states_of_page(states, roles, named, len(states) - 1), None)
+    found = last_state(states, roles, named)
     more = max(0, len(found["terms"]) - MOST_TERMS) if found else 0
     shown = found and {**found, "terms": found["terms"][:MOST_TERMS], "gone": found["gone"][:MOST_TERMS]}
     return html_of("live", "state", found=shown, more=more, notes=notes)

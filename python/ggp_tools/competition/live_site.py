@@ -9,21 +9,22 @@ import time
 import typing
 from collections import OrderedDict
 from collections.abc import Callable
-from dataclasses import dataclass
+from dataclasses import dataclass, replace
 
-from ggp_tools.competition import live_api, live_pages
+from ggp_tools.answers import game_of
+from ggp_tools.competition import live, live_api, live_pages
 from ggp_tools.competition.files import Folder, Refused
 from ggp_tools.competition.live import Delay, Reader, Seen, for_visitors
+from ggp_tools.competition.known import Known
 from ggp_tools.competition.live_board import last_states
-from ggp_tools.competition.page_changes import changes, event_text
-from ggp_tools.competition.page_parts import PageParts
+from ggp_tools.competition.page_parts import PageParts, changes, event_text
 from ggp_tools.competition.pages import PageOf, Site, pages_of, titled
 from ggp_tools.competition.plan import Plan
 from ggp_tools.competition.results import Result
 from ggp_tools.competition.schedule import Match
 from ggp_tools.competition.table import Table, tables_of
 from ggp_tools.competition.table_text import in_order, json_text
-from ggp_tools.records.show import NoRecord, read_record
+from ggp_tools.records.show import Frame, NoRecord, page_of, parts_of, read_record
 from ggp_tools.referee import NoReferee, Referee, Unchecked
 from ggp_tools.templating import page
 
@@ -37,6 +38,8 @@ IDLE, MOST_PAGES, MOST_EVENTS = 30.0, 200, 60
 # Of the pages of matches that are over so many bytes are kept. A browser without a script loads a page again after so many seconds.
 MOST_KEPT, RELOAD = 64 << 20, 10
 FIRST, MATCH = "/index.html", re.compile(r"/matches/([A-Za-z0-9_.-]+)\.html")
+# The page of a match that is over, or a part of it if the match is long.
+OVER = re.compile(r"/matches/([A-Za-z0-9_.-]+)(?:~([1-9][0-9]{0,4}))?\.html")
 
 
 def plan_stamp(folder: Folder) -> tuple:
@@ -49,6 +52,16 @@ def plan_stamp(folder: Folder) -> tuple:
         except OSError:
             found.append(None)
     return tuple(found)
+
+
+def without_new_rounds(plan: Plan, seconds: float) -> Plan:
+    """Returns a plan without the rounds that were paired by records that are younger than so many seconds, by the times of their files."""
+    for number in [found.number for found in plan.rounds[1:]] if seconds else ():
+        files = [plan.folder.record(match.id) for match in plan.matches if match.round == number - 1]
+        if any(file.stat().st_mtime > time.time() - seconds for file in files if file.exists()):
+            matches = [match for match in plan.matches if match.round < number]
+            return replace(plan, matches=matches, rounds=plan.rounds[: number - 1])
+    return plan
 
 
 def reason_for_visitors(folder: Folder, why: Exception) -> str:
@@ -87,24 +100,49 @@ class OpenPage:
         return [text for number, text in events if number > version], events[-1][0], False
 
 
+class SiteOfShown(Site):
+    """What pages say of the results that are shown, while other files may take the place of those that they are from."""
+
+    def __init__(self, plan: Plan, reader: Reader) -> None:
+        super().__init__(plan, written=lambda result: reader.identities[result.match.id][0][2])
+        self.reader = reader
+
+    def add(self, result: Result, known: Known | None = None) -> bytes:
+        data = super().add(result, known)
+        self.reader.must_be_shown(result.match.id)
+        return data
+
+    def part_of_match(self, result: Result, number: int) -> bytes:
+        """Returns a part of the page of a match, counted from 1; 0 is the last one."""
+        head, data, rules, answers, named, winner = self.match_work(result, self.plan.read_record(result.match))
+        record = read_record(data)
+        if number > len(parts_of(record["states"])):
+            raise NoRecord("its page has no such part")
+        return page_of(record, (lambda: game_of(rules)) if rules else None, answers, Frame(head, named, winner, number - 1))
+
+
 class LiveSite:
     """The pages, and the matches that they show."""
 
     def __init__(self, plan: Plan, referee: Referee, read_plan: Callable[[], Plan], stamp: tuple | None = None, delay: float = 0.0) -> None:
         self.referee, self.read_plan, self.delay = referee, read_plan, Delay(delay)
-        self.kept: OrderedDict[str, tuple[object, bytes]] = OrderedDict()
         # No two versions of pages are the same, also of another run.
         self.versions = itertools.count(time.time_ns())
         self.pages: OrderedDict[str, OpenPage] = OrderedDict()
-        self.begin(plan, plan_stamp(plan.folder) if stamp is None else stamp)
+        # The stamp of the plan's files before they were read last; and the plans that are not shown yet, or why they can't be read, each with its moment.
+        self.plan_stamp, shown = plan_stamp(plan.folder) if stamp is None else stamp, without_new_rounds(plan, delay)
+        self.plans: list[tuple[float, Plan | str]] = [] if shown is plan else [(live.clock(), plan)]
+        self.begin(shown)
 
-    def begin(self, plan: Plan, stamp: tuple) -> None:
-        """Begins with a plan, and with the stamp that its files had before they were read: what was written since then is read again."""
-        self.plan, self.trouble, self.fault, self.plan_stamp = plan, "", "", stamp
+    def begin(self, plan: Plan) -> None:
+        """Begins with a plan."""
+        self.plan, self.trouble, self.fault = plan, "", ""
         self.reader = Reader(plan, self.referee, self.delay)
-        self.site = Site(plan, written=lambda result: self.reader.identities[result.match.id][2])
+        self.site = SiteOfShown(plan, self.reader)
         # The states of open matches as HTML, each with the version of its board.
         self.states: dict[str, tuple[int, "Markup"]] = {}
+        # What was made of matches and tables, by paths, each with what it was made of.
+        self.kept: OrderedDict[str, tuple[object, bytes]] = OrderedDict()
         self.tables: list[Table] = []
         # The pages of results.
         self.made: dict[str, PageOf] = {}
@@ -145,23 +183,27 @@ class LiveSite:
             raise faults[0]
 
     def look_at_plan(self) -> None:
-        """Begins anew where the competition was planned anew."""
+        """Reads the plan if it has changed, and begins again with the one of the moment that is shown."""
         stamp = plan_stamp(self.plan.folder)
-        if stamp == self.plan_stamp or not self.delay.has_passed("", stamp):
-            return
-        try:
-            plan = self.read_plan()
-        except (Refused, NoReferee, Unchecked, OSError) as why:
+        if stamp != self.plan_stamp:
             self.plan_stamp = stamp
-            # Whoever serves is told all of it.
-            print(f"ggp_competition: the plan has changed, and can't be read: {why}", file=sys.stderr)
-            said = reason_for_visitors(self.plan.folder, why)
-            self.trouble = f"The plan has changed, and can't be read, so what stands here is of the plan before: {said}"
-            return
-        for found in self.pages.values():
-            found.is_final = True
-        self.pages = OrderedDict()
-        self.begin(plan, stamp)
+            try:
+                self.plans.append((live.clock(), self.read_plan()))
+            except (Refused, NoReferee, Unchecked, OSError) as why:
+                # The person who serves gets the whole message.
+                print(f"ggp_competition: the plan has changed, and can't be read: {why}", file=sys.stderr)
+                said = reason_for_visitors(self.plan.folder, why)
+                trouble = f"The plan has changed, and can't be read, so what stands here is of the plan before: {said}"
+                self.plans.append((live.clock(), trouble))
+        while self.plans and self.plans[0][0] <= live.clock() - self.delay.seconds:
+            _, plan = self.plans.pop(0)
+            if isinstance(plan, str):
+                self.trouble = plan
+                continue
+            for found in self.pages.values():
+                found.is_final = True
+            self.pages = OrderedDict()
+            self.begin(plan)
 
     def count_results(self) -> None:
         """Computes the tables where results have come, if that was not done just before."""
@@ -254,7 +296,7 @@ class LiveSite:
         for name in sorted(self.reader.ended, key=self.reader.ended.__getitem__)[-live_pages.BOARDS_OVER :]:
             result = self.reader.results[name]
             with contextlib.suppress(OSError, NoRecord):
-                state = self.state(result.match, -1, lambda: last_states(read_record(self.plan.read_record(result.match))["states"]), [])
+                state = self.state(result.match, -1, lambda: last_states(self.reader.record_of(result.match)["states"]), [])
                 found[name] = live_pages.last_board_item(result, state, self.plan.roles(result.match.game))
         return [found[name] for name in sorted(found, key=self.reader.place.__getitem__)]
 
@@ -296,9 +338,9 @@ class LiveSite:
             events = f"{'../' * (path.count('/') - 1)}events{path}?after={found.version}"
             live = {"now": self.delay.now(), "events": events, "reload": RELOAD}
             return page("parts", title=found.title, script="live.js", live=live, parts=found.parts)
-        match = MATCH.fullmatch(path)
+        match = OVER.fullmatch(path)
         result = self.reader.results.get(match[1]) if match else None
-        data = result and self.kept_data(path, result, lambda: self.site.match_page(result, self.plan.read_record(result.match)))
+        data = result and self.data_of_match(path, result.match, lambda: self.site.part_of_match(result, int(match[2] or 0)))
         trouble = live_pages.trouble_part(self.trouble).text.encode("ascii", "xmlcharrefreplace")
         return data and data.replace(b"<body>", b"<body>" + trouble, 1)
 
@@ -310,22 +352,33 @@ class LiveSite:
         if not found:
             return None
         if found[1]:
-            return self.kept_data(path, self.tables, lambda: json_text(self.plan, self.tables).encode("ascii")) if self.tables else None
+            return self.kept_data(path, self.tables_version, lambda: json_text(self.plan, self.tables).encode("ascii")) if self.tables else None
         if match := self.reader.known.get(found[3]):
-            result, make = self.reader.results.get(match.id), lambda: live_api.json_bytes(live_api.own_keys(self.reader, match))
-            return self.kept_data(path, result, make) if result else make()
+            return self.data_of_match(path, match, lambda: live_api.json_bytes(live_api.own_keys(self.reader, match)))
         said = None if found[3] else live_api.list_keys(self.reader, int(found[2] or 1))
         return said and live_api.json_bytes({**said, "now": self.delay.now(), "trouble": self.shown_trouble()})
 
-    def kept_data(self, path: str, made_of: object, make: Callable[[], bytes]) -> bytes | None:
-        """Returns what is made of a result or of tables, and keeps it for a while; none where the record is not there any more."""
-        if path in self.kept and self.kept[path][0] is made_of:
-            self.kept.move_to_end(path)
-            return self.kept[path][1]
-        try:
+    def data_of_match(self, path: str, match: Match, make: Callable[[], bytes]) -> bytes | None:
+        """Returns what is made of a match, none if other files have taken the place of those that are shown of it."""
+        if (stamp := self.match_stamp(match.id)) is not None:
+            return self.kept_data(path, stamp, make)
+
+        def made() -> bytes:
             data = make()
+            self.reader.must_be_shown(match.id)
+            return data
+
+        try:
+            return self.kept_data(path, self.reader.identities[match.id], made)
         except (OSError, NoRecord):
             return None
+
+    def kept_data(self, path: str, made_of: object, make: Callable[[], bytes]) -> bytes:
+        """Returns what is made of this, and keeps it for a while."""
+        if path in self.kept and self.kept[path][0] == made_of:
+            self.kept.move_to_end(path)
+            return self.kept[path][1]
+        data = make()
         self.kept[path] = made_of, data
         while sum(len(kept) for _, kept in self.kept.values()) > MOST_KEPT:
             self.kept.popitem(last=False)

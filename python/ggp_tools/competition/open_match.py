@@ -6,68 +6,71 @@ import pathlib
 import shutil
 import tempfile
 import time
-from typing import TYPE_CHECKING
+from typing import TYPE_CHECKING, NamedTuple
 
-from ggp_tools.competition.aborts import send_aborts
-from ggp_tools.competition.checking import check
-from ggp_tools.competition.children import Done, run
+from ggp_tools.competition.children import Done, run, send_aborts
+from ggp_tools.competition.described import DIFFERS, IS_NOT_FOLLOWED, IS_SAME, comparisons, description_of, write_report
 from ggp_tools.competition.files import ASKING, CHECKING, PLAYERS, PLAYING, file_bytes, new_file, write_whole
 from ggp_tools.competition.jobs import SILENCE, Job, Lost
+from ggp_tools.competition.match_files import check_of, fault_of_files, keep, referee_faults
+from ggp_tools.competition.plan import Plan
+from ggp_tools.competition.results import Result
 from ggp_tools.competition.schedule import Match
 from ggp_tools.match_log import Event, Host, Other, line_of
-from ggp_tools.printable import MOST_READ
+from ggp_tools.printable import MOST_READ, printable
 from ggp_tools.records.lengths import LONGEST_ACCOUNT, MOST_TURNS, longest_record
+from ggp_tools.referee import Referee, Unchecked
 
 if TYPE_CHECKING:
     from ggp_tools.competition.playing import Playing
 
-# The referee ends INFO by itself after so many seconds, and soon after that it has said whether it was short of something itself.
+# The referee ends INFO by itself after the first number of seconds. After the second one it has reported whether it was out of a resource.
 WHOLE, SOON = 10, 1
-THERE = ("available", "ready", "unknown")
-# A launcher says at most so many bytes before the match, and of each message the log has at most so many besides its texts.
+FREE = ("available", "ready", "unknown")
+# At most this many bytes come from a launcher before a match, and this many are in the log for each message besides its texts.
 MOST_BEFORE, MOST_OF_MESSAGE = 1 << 20, 1 << 10
 TOO_MUCH = "it sent more than {:,} bytes, which no match has"
-# The players of a match that was lost with its node have so many seconds to answer ABORT.
+# The players of a match that was lost with its node must answer ABORT within so many seconds.
 ABORT_SECONDS = 5
 EVENT = b'{"event":'
 
 
-def leave_players(room: pathlib.Path) -> None:
-    """Leaves only the file that names the players in the directory of a match that is not played any more: so the match does not look open."""
+def leave_players(directory: pathlib.Path) -> None:
+    """Deletes all files in the directory of an open match except the one that names the players: the match no longer seems to be open."""
     with contextlib.suppress(OSError):
-        for file in room.iterdir():
+        for file in directory.iterdir():
             if file.name != PLAYERS:
                 file.unlink()
 
 
 class OpenMatch:
-    """A match that is open. In the end it has a result, or the reason why there is none. If it has neither, it waits to be played later."""
+    """An open match. At the end it has a result, or the reason why there is none. Without either it waits to be played later."""
 
     def __init__(self, playing: "Playing", match: Match) -> None:
         self.playing, self.match = playing, match
-        self.plan, self.seats, self.reporter, self.players = playing.plan, playing.seats, playing.reporter, playing.players
+        self.plan, self.slots, self.reporter, self.players = playing.plan, playing.slots, playing.reporter, playing.players
         self.referee = self.plan.judge(playing.referee, match.game)
-        self.room, self.log = self.plan.folder.open / match.id, self.plan.folder.room_log(match.id)
+        self.directory, self.log = self.plan.folder.open / match.id, self.plan.folder.room_log(match.id)
         self.places: list[str] = []
         self.stage, self.seconds = ASKING, 0.0
-        # When its players sat down. All matches that were open when a player turned out to be missing asked it in one try.
-        self.seated, self.is_seated = time.monotonic(), True
+        # When it took the slots of its players. All matches that were open when a player failed to answer asked it in one try.
+        self.taken_at, self.has_slots = time.monotonic(), True
         self.result, self.why = None, None
-        # Whether its players must be sent ABORT; whether a referee may still play it on a node; and whether the rules of its game are wrong.
+        # Whether its players must be sent ABORT, whether a referee may still play it on a node, and whether the rules of its game are wrong.
         self.is_broken, self.goes_on, self.stops_game = False, False, False
 
     async def go(self) -> None:
-        """Plays the match. If it is ended before its end while it is at play, it is broken."""
+        """Plays the match. If it is ended while it is being played, it is broken."""
         try:
-            self.room.mkdir(0o700, parents=True, exist_ok=True)
+            self.directory.mkdir(0o700, parents=True, exist_ok=True)
             self.enter(ASKING)
             new_file(self.log).close()
             if played := await (self.play_elsewhere() if self.playing.launcher else self.play_here()):
-                self.leave()
+                self.release_players()
                 self.enter(CHECKING)
-                # Files are written to the disk in a thread, so that other matches go on meanwhile.
-                files = self.room, played, file_bytes(self.log)
-                self.result, self.why, self.stops_game = await asyncio.to_thread(check, self.plan, self.playing.referee, self.match, *files)
+                # The check runs in a thread, because it waits for the disk.
+                check = await asyncio.to_thread(check_match, self.plan, self.playing.referee, self.match, played, file_bytes(self.log))
+                self.result, self.why, self.stops_game = check
         except BaseException:
             self.is_broken = self.stage == PLAYING
             raise
@@ -76,27 +79,26 @@ class OpenMatch:
 
     def enter(self, stage: str) -> None:
         self.stage = stage
-        (self.room / stage).touch()
+        (self.directory / stage).touch()
 
-    def leave(self) -> None:
-        """Frees its players for other matches."""
-        if self.is_seated:
-            self.is_seated = False
-            self.seats.leave(self.match)
+    def release_players(self) -> None:
+        if self.has_slots:
+            self.has_slots = False
+            self.slots.give_back(self.match)
             self.players.leave(self.match.id, self.match.players)
             self.playing.news.set()
 
     def close(self) -> None:
-        """Removes its directory, unless its players have yet to be freed: it broke off now, or in a `play` before and has not begun again."""
-        if self.stage == ASKING and (self.room / PLAYERS).exists():
-            leave_players(self.room)
+        """Removes the directory, unless its players must still be sent ABORT: because it broke now, or during an earlier `play`."""
+        if self.stage == ASKING and (self.directory / PLAYERS).exists():
+            leave_players(self.directory)
         elif not self.is_broken:
-            shutil.rmtree(self.room, ignore_errors=True)
+            shutil.rmtree(self.directory, ignore_errors=True)
 
     async def can_be_played(self) -> bool:
-        """Returns whether the match is at play from now on: its players are free, or are in it already."""
+        """Returns whether the match is being played from now on: its players are free, or it had them already."""
         if self.stage == ASKING and await self.ask() and self.playing.may_begin(self.match):
-            write_whole(self.room / PLAYERS, "".join(f"{place}\n" for place in self.places).encode())
+            write_whole(self.directory / PLAYERS, "".join(f"{place}\n" for place in self.places).encode())
             self.enter(PLAYING)
         return self.stage == PLAYING
 
@@ -107,44 +109,43 @@ class OpenMatch:
         self.places = list(map(self.players.place, players))
         async with asyncio.TaskGroup() as group:
             asked = [group.create_task(self.info(player, place)) for player, place in zip(players, self.places)]
-        # An error of this computer says nothing about a player.
+        # An error of this computer does not count against a player.
         return not self.why and self.can_begin({player: task.result() for player, task in zip(players, asked)})
 
     async def info(self, player: str, place: str) -> str:
-        """Returns what a player answers to INFO. If there is no answer it is silent."""
+        """Returns a player's answer to INFO, or `silent`."""
         seconds = self.plan.competition.info
         done = await run(self.referee.info_words(place), seconds=seconds if seconds < WHOLE else WHOLE + SOON)
         verdict = done.verdict()
-        word, is_unknown = verdict.get("verdict", ""), verdict.get("lacks") == "resolver"
-        is_silent = done.status is None or word == "no_answer" or is_unknown
+        answer, is_unknown = verdict.get("verdict", ""), verdict.get("lacks") == "resolver"
+        is_silent = done.status is None or answer == "no_answer" or is_unknown
         if is_silent:
             # Only the time distinguishes a refused or lost connection from a player that let the seconds pass.
             is_refused = done.status is not None and done.seconds < WHOLE
-            word = "its name is not known" if is_unknown else "refused" if is_refused else "silent"
+            answer = "its name is not known" if is_unknown else "refused" if is_refused else "silent"
         elif done.status:
-            word = done.last_words()
-            self.why = self.why or f"{player} could not be asked: {word}"
-        self.reporter.note(f"info {self.match.id} {player}: {word}, {done.seconds:.1f} s")
-        return "silent" if is_silent else word
+            answer = done.message()
+            self.why = self.why or f"{player} could not be asked: {answer}"
+        self.reporter.note(f"info {self.match.id} {player}: {answer}, {done.seconds:.1f} s")
+        return "silent" if is_silent else answer
 
-    def can_begin(self, said: dict[str, str]) -> bool:
-        """Returns whether the match can begin by what its players have said. If not, it is left with the reason, or put back. This is
-        reported once all of its players have been considered."""
-        missed = {player: word for player, word in said.items() if word not in THERE}
-        for player in said.keys() - missed.keys():
-            self.seats.was_there(player)
-        again = [name for name in missed if self.seats.was_not_there(name, self.seated)]
-        played_without = [name for name, word in missed.items() if word == "silent" and self.plan.competition.absent == "play"]
-        left = [name for name in missed if name not in again and name not in played_without]
-        words = ", ".join(f"{name} is {missed[name]}" for name in left or again)
-        if left:
-            self.why = words
+    def can_begin(self, answers: dict[str, str]) -> bool:
+        """Returns whether the match can begin after these answers. If not, it waits, or has the reason why it is not played."""
+        missed = {player: answer for player, answer in answers.items() if answer not in FREE}
+        for player in answers.keys() - missed.keys():
+            self.slots.count_answer(player)
+        again = [name for name in missed if self.slots.count_failure(name, self.taken_at)]
+        played_without = [name for name, answer in missed.items() if answer == "silent" and self.plan.competition.absent == "play"]
+        given_up = [name for name in missed if name not in again and name not in played_without]
+        reason = ", ".join(f"{name} is {missed[name]}" for name in given_up or again)
+        if given_up:
+            self.why = reason
         elif again:
-            self.reporter.line(f"back {self.match.id}: {words}")
+            self.reporter.line(f"back {self.match.id}: {reason}")
         else:
             for name in missed:
                 self.reporter.line(f"absent {self.match.id}: {name} is silent, and the match is played")
-        return not left and not again
+        return not given_up and not again
 
     def run_words(self, log: pathlib.Path | str) -> list[str]:
         """Returns the command of the referee, which may run in another directory."""
@@ -157,78 +158,81 @@ class OpenMatch:
             file.write(line_of(event))
 
     async def play_here(self) -> bytes | None:
-        """Plays the match on this computer. Returns what the referee printed. If there is nothing, the match is broken, or not begun."""
+        """Plays the match on this computer. Returns the referee's output, or None if the match is broken or has not begun."""
         if not await self.can_be_played():
             return None
         self.reporter.begins(self.match)
         return self.outcome_of(await run(self.run_words(self.log.absolute())))
 
     def outcome_of(self, done: Done) -> bytes | None:
-        """Returns what the referee printed, if it says that it has played the match."""
+        """Returns the referee's output, if its exit status says that it has played the match."""
         self.seconds = done.seconds
         if done.status:
-            self.why, self.is_broken = done.last_words(), True
-        return None if done.status else done.printed
+            self.why, self.is_broken = done.message(), True
+            # A started player may run as the same user, and could have killed the referee.
+            if done.status < 0 and (started := [player.name for player in self.players.of(self.match.players)]):
+                self.why += f"; started players that ran: {', '.join(started)}"
+        return None if done.status else done.output
 
     async def play_elsewhere(self) -> bytes | None:
-        """Plays the match as a job of the launcher; if that is lost, again as another one."""
+        """Plays the match as a job of the launcher. If the job is lost, this starts another one."""
         for tries_left in reversed(range(self.plan.competition.tries)):
             job = MatchJob(self)
             if not (done := await job.play()):
                 return None
             if not job.why and job.status is not None:
                 return self.outcome_of(done)
-            why = job.why or done.last_words()
+            why = job.why or done.message()
             self.add_event(Other("lost", {"match": self.match.id, "time": int(time.time() * 1_000), "reason": why}))
             self.reporter.line(f"lost {self.match.id} on {job.node or 'no node'}: {why}")
             if job.has_begun:
-                # The match may go on at a node that is not reached any more.
+                # The referee may go on at a node that cannot be reached any more.
                 await asyncio.sleep(SILENCE)
-                await self.free_players()
+                await self.abort()
             elif tries_left:
                 await asyncio.sleep(self.plan.competition.wait)
         self.why, self.is_broken = f"its jobs were lost: {why}", self.stage == PLAYING
         return None
 
-    async def free_players(self) -> None:
-        """Sends its players ABORT, since the match that they play in is lost."""
+    async def abort(self) -> None:
+        """Sends its players ABORT, because the job that played the match is lost."""
         silent = await send_aborts(self.referee, {self.match.id: self.places}, ABORT_SECONDS)
         for player, place in zip(self.match.players, self.places):
             self.reporter.note(f"abort {self.match.id} {player}: {'no answer' if place in silent.get(self.match.id, ()) else 'answered'}")
 
 
 class MatchJob(Job):
-    """A job that plays a match on a node. It may send no more than a referee can write of the match."""
+    """A job that plays a match on a node. It may not send more than a referee can write about the match."""
 
     def __init__(self, open_match: OpenMatch) -> None:
-        super().__init__(self.take_printed, self.take_said)
+        super().__init__(self.take_output, self.take_line)
         self.match = open_match
         record, roles = longest_record(open_match.plan.rules[open_match.match.game].text), len(open_match.match.players)
         # Each player is sent all moves, and a byte of an answer may take six.
         self.most = self.left = MOST_BEFORE + LONGEST_ACCOUNT + record + roles * (MOST_OF_MESSAGE * (MOST_TURNS + 2) + 6 * record)
-        self.output, self.words = tempfile.SpooledTemporaryFile(MOST_BEFORE, dir=open_match.room), b""
+        self.output, self.errors = tempfile.SpooledTemporaryFile(MOST_BEFORE, dir=open_match.directory), b""
 
     def count(self, size: int) -> None:
         self.left -= size
         if self.left < 0:
             raise Lost(TOO_MUCH.format(self.most))
 
-    async def take_printed(self, data: bytes) -> None:
+    async def take_output(self, data: bytes) -> None:
         self.count(len(data))
         self.output.write(data)
 
-    def take_said(self, line: bytes) -> None:
-        """Takes a line that the job has passed on: an event of the log, or what the launcher or the referee says."""
+    def take_line(self, line: bytes) -> None:
+        """Takes a line of standard error: an event of the log, or a message of the launcher or the referee."""
         self.count(len(line) + 1)
         if line.startswith(EVENT):
             with open(self.match.log, "ab") as log:
                 log.write(line + b"\n")
         else:
-            self.words = (self.words + line + b"\n")[-MOST_READ:]
+            self.errors = (self.errors + line + b"\n")[-MOST_READ:]
 
     async def play(self) -> Done | None:
-        """Has the launcher run the job. Once it runs the players are asked, and if these are free the job plays the match. Returns what came
-        of it; none if the players are not free."""
+        """Has the launcher run the job. Once it runs, the players are asked, and if they are free, the job plays the match. Returns None if they are
+        not free."""
         match, began = self.match, time.monotonic()
         self.start([word.replace("{match}", match.match.id) for word in match.playing.launcher.command])
         try:
@@ -242,7 +246,63 @@ class MatchJob(Job):
             await self.running
             status = self.process.returncode if self.status is None else self.status
             self.output.seek(0)
-            return Done(status, self.output.read(), self.words, time.monotonic() - began)
+            return Done(status, self.output.read(), self.errors, time.monotonic() - began)
         finally:
             await self.end()
             match.goes_on = self.goes_on
+
+
+# ---- the check of a match that was played
+
+
+class Checked(NamedTuple):
+    """The result of a match, or why it does not count, and whether the rules of its game are wrong."""
+
+    result: Result | None = None
+    why: str | None = None
+    stops_game: bool = False
+
+
+def check_match(plan: Plan, referee: Referee, match: Match, output: bytes, log: bytes) -> Checked:
+    """Has the referee verify the record and replay the call log, which are its output, compares the match with its description, and only then writes
+    the files. If the referee gives no verdict, the files get the ending `.unchecked`."""
+    line, end, account = output.partition(b"\n")
+    record = line + end
+    if fault := fault_of_files(record, account, plan.rules[match.game].text):
+        return Checked(why=fault)
+    try:
+        (fault,) = referee_faults(plan, referee, match.game, [record], [account])
+    except Unchecked as why:
+        file = keep(plan.folder, match.id, record, account, log, "unchecked")
+        return Checked(why=f"it was played, but not checked, and is kept as {file}: {why}")
+    check = check_of(plan, match, record, fault)
+    if not check.result:
+        return Checked(why=check.fault or check.misfit)
+    description, comparison = compare(plan, match, record)
+    if comparison and comparison.startswith(DIFFERS):
+        file = keep(plan.folder, match.id, record, account, log, "differs")
+        files = {"description.kif": description, "record.json": record, "account.txt": account, "words.txt": f"{comparison}\n".encode("ascii", "replace")}
+        report = write_report(plan, match, files)
+        return Checked(None, f"by the description of {match.game} it {comparison}; it is kept as {file}; please report it, with {report}", True)
+    if comparison:
+        why_not = None if comparison.startswith(IS_SAME) else printable(comparison.removeprefix(IS_NOT_FOLLOWED))
+        log += line_of(Other("held", {"match": match.id, "reason": why_not}))
+    keep(plan.folder, match.id, record, account, log)
+    return Checked(check.result)
+
+
+def compare(plan: Plan, match: Match, record: bytes) -> tuple[bytes | None, str | None]:
+    """Compares a record with the description of its game. Returns the description, and the outcome or why there is none. Both are None if the game was
+    given as ground rules."""
+    game = next(game for game in plan.competition.games if game.name == match.game)
+    description, why_not = description_of(plan, game)
+    if description is None:
+        return None, why_not
+    # A copy is compared, because the file may change meanwhile.
+    with tempfile.NamedTemporaryFile(dir=plan.folder.open / match.id) as copy:
+        copy.write(description)
+        copy.flush()
+        try:
+            return description, comparisons(pathlib.Path(copy.name), [record])[0]
+        except Unchecked as why:
+            return description, str(why)

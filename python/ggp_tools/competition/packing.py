@@ -1,7 +1,6 @@
-"""How the files of an archive are packed, and unpacked from one that may be hostile.
+"""Packs the files of an archive, and unpacks an archive that may be hostile.
 
-Programs differ in what they make of unusual tar files. So only the files of `pack` are unpacked: each header is packed again from what it
-says, and the bytes are compared."""
+Programs unpack unusual tar files differently. So only the output of `pack` is unpacked: each header is made again from its values, and compared."""
 
 import gzip
 import io
@@ -12,24 +11,28 @@ import zlib
 from collections.abc import Iterable, Iterator
 from typing import BinaryIO
 
-from ggp_tools.competition.competition_file import Mistaken, read_competition
 from ggp_tools.competition.files import Refused
-from ggp_tools.competition.pages import MOST_LISTED
-from ggp_tools.competition.schedule import MOST_MATCHES
+from ggp_tools.competition.schedule import MOST_MATCHES, is_row
+from ggp_tools.records.lengths import LONGEST_ACCOUNT
 
-# The names of the files of an archive, all below one directory. A directory in the place of one of these files could not be read.
-FLAT, WORD = "rules|games|records|accounts|logs|earlier", "[A-Za-z0-9_.-]+"
+# The names of the files of an archive, all below one directory.
+FLAT, WORD = "rules|games|records|accounts|logs|earlier", "[A-Za-z0-9_.-]{1,255}"
 NAME = re.compile(rf"{WORD}/(({FLAT})/{WORD}|pages/((matches|games|players)/)?{WORD}|(?!({FLAT}|pages)$){WORD})")
-# A name of more than 100 bytes stands in an extended header.
+# A name of more than 100 bytes is in an extended header.
 LONG_NAME = re.compile(rb"[0-9]+ path=([^\n]*)\n")
 AT_ONCE, MOST_BYTES = 1 << 20, 8 << 30
-# These come first, since they say how many files there may be, and have at most so many bytes.
-FIRST, MOST_OF_FIRST = ("competition.toml", "schedule.tsv"), 64 << 20
-# A match has a record, an account, a log, a page, and perhaps the file that was replaced before it; a game its description, the rules of the
-# referee and of players, and a page; a player has a page. Of the others there are fewer.
-FILES_OF_MATCH, FILES_OF_GAME, OTHER_FILES = 5, 4, 100
-MOST_FILES = 6 * MOST_MATCHES
-# How hard an archive is packed: a harder one takes much longer, and makes it little smaller.
+# The greatest sizes of files that `check` reads as a whole, by their names or directories.
+MOST_OF_FILES = {
+    **dict.fromkeys(("competition.toml", "planned.toml", "earlier"), 8 << 20),
+    **dict.fromkeys(("schedule.tsv", "SHA256SUMS", "again.tsv", "seeds.csv", "ids.key", "rules", "games"), 64 << 20),
+    **dict.fromkeys(("accounts", "logs", "pages"), LONGEST_ACCOUNT),
+    "records": 1 << 30,
+}
+# These files are first, because the matches determine how many files there may be.
+FIRST = "competition.toml", "schedule.tsv"
+# A match has a record, a call log, a match log, a page, and perhaps a file in `earlier`. All other files, of games and players too, are fewer.
+FILES_OF_MATCH, OTHER_FILES = 5, 10_000
+# Higher levels take much longer, and save little.
 LEVEL = 6
 OTHERWISE = "it is not packed as `publish` packs"
 
@@ -39,7 +42,7 @@ class Spoilt(Refused):
 
 
 class TooLarge(Exception):
-    """What there is to publish is more than `check` would take."""
+    """The archive, or a file in it, would be larger than `check` accepts."""
 
 
 def header(name: str, size: int) -> tarfile.TarInfo:
@@ -49,14 +52,21 @@ def header(name: str, size: int) -> tarfile.TarInfo:
 
 
 def pack(file: BinaryIO, contents: Iterable[tuple[str, bytes]]) -> None:
-    """Writes an archive of these files. The same files give the same archive."""
+    """Writes an archive of these files, which is the same for the same files."""
     size = 0
     with gzip.GzipFile(filename="", mode="wb", fileobj=file, mtime=0, compresslevel=LEVEL) as packed, tarfile.open(fileobj=packed, mode="w|") as archive:
         for name, data in contents:
             size += len(data)
+            if len(data) > (most := most_of_file(name)):
+                raise TooLarge(f"{name} has more than {most:,} bytes, which are the most of such a file in an archive")
             if size > MOST_BYTES:
                 raise TooLarge(f"it has more than {MOST_BYTES:,} bytes, which are the most of an archive")
             archive.addfile(header(name, len(data)), io.BytesIO(data))
+
+
+def most_of_file(name: str) -> int:
+    """Returns how many bytes a file of an archive may have."""
+    return MOST_OF_FILES.get(name.split("/")[1], MOST_BYTES) if "/" in name else MOST_BYTES
 
 
 def read_all(stream: BinaryIO, size: int) -> bytes:
@@ -67,7 +77,7 @@ def read_all(stream: BinaryIO, size: int) -> bytes:
 
 
 def members(stream: BinaryIO) -> Iterator[tuple[str, int]]:
-    """Gives the name and the size of each file in a tar file. The bytes of each must be read by `copy` before the next one."""
+    """Yields the name and the size of each file in a tar file. The caller must read its bytes with `copy` before the next one."""
     while any(head := read_all(stream, tarfile.BLOCKSIZE)):
         if head[156:157] == tarfile.XHDTYPE:
             head += read_all(stream, 2 * tarfile.BLOCKSIZE)
@@ -86,7 +96,7 @@ def members(stream: BinaryIO) -> Iterator[tuple[str, int]]:
 
 
 def copy(stream: BinaryIO, size: int, path: pathlib.Path) -> None:
-    """Writes the bytes of a member to a new file, and makes the directories above it."""
+    """Writes the bytes of a member to a new file, and creates its directories."""
     try:
         path.parent.mkdir(parents=True, exist_ok=True)
         with open(path, "xb") as file:
@@ -98,38 +108,34 @@ def copy(stream: BinaryIO, size: int, path: pathlib.Path) -> None:
         raise Spoilt(f"{OTHERWISE}: see what is after {path}")
 
 
-def most_files(folder: pathlib.Path) -> int:
-    """Returns how many files the matches, the games and the players have at most."""
-    competition, schedule = ((folder / name).read_bytes() for name in FIRST)
-    try:
-        asked = read_competition(competition)
-    except Mistaken:
-        # The file is refused by its line, once all is unpacked.
-        return MOST_FILES
-    rows = schedule.count(b"\n")
-    return FILES_OF_MATCH * rows + rows // MOST_LISTED + FILES_OF_GAME * len(asked.games) + len(asked.players) + OTHER_FILES
+def most_files(schedule: pathlib.Path) -> int:
+    """Returns how many files an archive with this schedule may have."""
+    with open(schedule, "rb") as rows:
+        return FILES_OF_MATCH * min(sum(map(is_row, rows)), MOST_MATCHES) + OTHER_FILES
 
 
-def unpack(path: pathlib.Path, room: pathlib.Path) -> pathlib.Path:
+def unpack(path: pathlib.Path, empty: pathlib.Path) -> pathlib.Path:
     """Unpacks an archive into an empty directory, and returns the directory of the competition in it."""
-    folder, count, size, most = room, 0, 0, MOST_FILES
+    folder, count, size, most = empty, 0, 0, OTHER_FILES
     try:
         with gzip.open(path) as stream:
             for count, (name, own) in enumerate(members(stream), 1):
                 size += own
                 if not NAME.fullmatch(name) or {".", ".."} & set(name.split("/")):
                     raise Spoilt(f"{name!r} is no file of a competition")
-                folder = room / name.partition("/")[0] if count == 1 else folder
-                if not (room / name).is_relative_to(folder):
+                folder = empty / name.partition("/")[0] if count == 1 else folder
+                if not (empty / name).is_relative_to(folder):
                     raise Spoilt(f"{name!r} is not below {folder.name}")
-                if count <= len(FIRST) and (room / name != folder / FIRST[count - 1] or own > MOST_OF_FIRST):
-                    raise Spoilt(f"it does not begin with {' and '.join(FIRST)}, of at most {MOST_OF_FIRST:,} bytes")
+                if count <= len(FIRST) and empty / name != folder / FIRST[count - 1]:
+                    raise Spoilt(f"it does not begin with {' and '.join(FIRST)}")
                 if count > most:
-                    raise Spoilt(f"it has more than {most:,} files, and the matches of its schedule, its games and its players have no more")
+                    raise Spoilt(f"it has more than {most:,} files, and the matches of its schedule have no more")
+                if own > most_of_file(name):
+                    raise Spoilt(f"{name} has more than {most_of_file(name):,} bytes, which are the most of such a file in an archive")
                 if size > MOST_BYTES:
                     raise Spoilt(f"with {name!r} it has more than {MOST_BYTES:,} bytes, which are the most of an archive")
-                copy(stream, own, room / name)
-                most = most_files(folder) if count == len(FIRST) else most
+                copy(stream, own, empty / name)
+                most = most_files(empty / name) if count == len(FIRST) else most
     except (EOFError, zlib.error, gzip.BadGzipFile) as why:
         raise Spoilt(f"it can't be unpacked: {why}") from None
     if count < len(FIRST):

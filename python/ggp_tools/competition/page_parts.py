@@ -1,5 +1,6 @@
-"""What the pages of a competition are made of: parts with names, so that one of an open page can be replaced where it has changed."""
+"""The pages of a competition consist of parts with names, so that a browser that shows a page can replace the parts that have changed."""
 
+import json
 import typing
 from dataclasses import dataclass
 
@@ -16,7 +17,7 @@ Item = tuple[str, str]
 
 @dataclass(frozen=True)
 class Part:
-    """A part of a page. It is HTML, and changes as a whole."""
+    """A part of a page, which is replaced as a whole."""
 
     name: str
     text: str
@@ -27,8 +28,8 @@ class Part:
 
 @dataclass(frozen=True)
 class Items:
-    """A part of a page whose items come and go: each is one element of HTML, with its name as id. They are between an opening, whose last
-    element has the part's name, and a closing."""
+    """A part of a page whose items come and go. Each item is one HTML element with its name as id. The last element of the opening has the name of the
+    part."""
 
     name: str
     opening: str
@@ -47,17 +48,64 @@ def html_of(template: str, macro: str, **values: object) -> "Markup":
     return getattr(macros(template), macro)(**values).strip()
 
 
-def part(macro: str, /, **values: object) -> Part:
-    """Returns the part that a macro of competition.html makes, which has its name."""
-    return Part(macro, html_of("competition", macro, **values))
+def part(macro: str, /, has_content: object = True, **values: object) -> Part:
+    """Returns the part of a page that a macro of competition.html makes, or one without content."""
+    return Part(macro, html_of("competition", macro, **values) if has_content else "")
 
 
 def list_part(name: str, title: str, intro: str, rows: list[tuple["Match", str]], more: int, where: str = "") -> Part:
-    """Returns a list of matches without a result, each with what there is to say of it, and how many more there are. Empty without any."""
+    """Returns a list of matches without a result, each with a remark, and how many more there are."""
     return Part(name, html_of("competition", "match_list", title=title, intro=intro, rows=rows, more=more, where=where) if rows else "")
 
 
 def rows_part(name: str, title: str, heads: list[str], rows: list[Item], nothing: str, control: str = "") -> Items:
-    """Returns a table whose rows come and go, what it says if it has no row, and the HTML of a control that is above it."""
+    """Returns a table whose rows come and go, with a text for the case without rows, and the HTML of a control above it."""
     opening = html_of("links", "open_table", name=name, title=title, heads=heads, nothing=nothing, control=control)
     return Items(name, opening, tuple(rows), "</tbody></table></div>")
+
+
+# ---- the changes of a page
+
+
+def frame(parts: PageParts) -> list[tuple]:
+    """Returns what cannot change while a browser shows the page: the parts, and what is around their items."""
+    return [(part.name,) if isinstance(part, Part) else (part.name, part.opening, part.closing) for part in parts]
+
+
+def item_changes(old: Items, new: Items) -> tuple[list, list, list]:
+    """Returns the names of dropped items, the replaced items with their HTML, and the added ones, the last one first, each with the part, the item
+    before which it is inserted, and its HTML. An item that moves is dropped and added."""
+    before, after = dict(old.items), dict(new.items)
+    kept = [name for name, _ in old.items if name in after]
+    if kept != [name for name, _ in new.items if name in before]:
+        kept = []
+    stays = set(kept)
+    dropped = [name for name, _ in old.items if name not in stays]
+    replaced = [[name, after[name]] for name in kept if after[name] != before[name]]
+    added, following = [], None
+    for name, text in reversed(new.items):
+        if name not in stays:
+            added.append([new.name, following, text])
+        following = name
+    return dropped, replaced, added
+
+
+def changes(old: PageParts, new: PageParts) -> dict | None:
+    """Returns the changes of a page, or None without any. If more than parts and items have changed, the browser must load the page again."""
+    if frame(old) != frame(new):
+        return {"reload": True}
+    dropped, replaced, added = [], [], []
+    for before, after in zip(old, new):
+        if isinstance(before, Items):
+            of_part = item_changes(before, after)
+            dropped += of_part[0]
+            replaced += of_part[1]
+            added += of_part[2]
+        elif before.text != after.text:
+            replaced.append([after.name, after.html()])
+    return {"drop": dropped, "set": replaced, "add": added} if dropped or replaced or added else None
+
+
+def event_text(version: int, changes: dict) -> bytes:
+    """Returns the event that sends a browser the changes."""
+    return f"id: {version}\ndata: {json.dumps(changes)}\n\n".encode("ascii")

@@ -1,4 +1,4 @@
-"""Plans a competition: its rules and its schedule are written, may grow, and are read again by whatever works on it later."""
+"""Plans a competition: writes its rules and its schedule, lets them grow later, and reads them again."""
 
 import functools
 import os
@@ -9,22 +9,22 @@ from dataclasses import dataclass, field, replace
 from pathlib import Path
 
 from ggp_tools.competition.addresses import mistakes_of_addresses, places_now, written
-from ggp_tools.competition.competition_file import Competition, Game, Mistake, Mistaken, mistake_lines
+from ggp_tools.competition.competition_file import REASON, Competition, Game, Mistake, Mistaken, mistake_lines
 from ggp_tools.competition.files import UNFINISHED, Folder, Refused, file_bytes, held, write_whole
-from ggp_tools.competition.growth import Growing, History, Misfit, grown, refuse_changes, refuse_unchanged, shape
-from ggp_tools.competition.history import competition_of_file, history_files, read_history, read_key, seeded
-from ggp_tools.competition.kept import look_at_records, most_of_record, result_in_file, size_of
+from ggp_tools.competition.game import trial
+from ggp_tools.competition.growth import Again, Growing, History, Misfit, grown, refuse_changes, refuse_unchanged, shape
+from ggp_tools.competition.history import again_text, competition_of_file, history_files, read_history, read_key, seeded
+from ggp_tools.competition.match_files import check_records, checks, record_bytes, unverified_result
 from ggp_tools.competition.results import Result
 from ggp_tools.competition.rounds import Round, is_by_rounds, rounds_of
 from ggp_tools.competition.schedule import Match, id_of, matches_in, schedule_text
 from ggp_tools.competition.started_players import mistakes_of_programs
-from ggp_tools.competition.trial import trial
 from ggp_tools.descriptions.loading import NoDescription, Rules, Stopped, has_variables, load_described, load_description, rules_of, sum_of
 from ggp_tools.referee import Referee, Unchecked
 
 SUM_LINE = re.compile(rb"([0-9a-f]{64})  ([^\n]+)\n")
-SUMS_ALONE = re.compile(rb"(?:[0-9a-f]{64}  [^\n]+\n)*")
-# The file of a table that the seeds of another competition are read from.
+ONLY_SUMS = re.compile(rb"(?:[0-9a-f]{64}  [^\n]+\n)*")
+# The file of another competition's table, from which the seeds are read.
 TABLE = "table.csv"
 WRITES = "`ggp_competition plan` writes it"
 PUT_BACK = "put back what was changed: once matches were played, the plan only grows"
@@ -32,8 +32,8 @@ PUT_BACK = "put back what was changed: once matches were played, the plan only g
 
 @dataclass
 class Plan:
-    """A competition with its rules by the names of the games, its matches in the schedule's order, the bytes of competition.toml, and how
-    it came to this schedule; the rounds of one by rounds; and how many of the matches were planned before it grew just now, or none."""
+    """A competition with its rules by the names of the games, its matches in the order of the schedule, the bytes of competition.toml, its history, and
+    its rounds. `known` is the number of matches that were planned before the plan grew, or None."""
 
     folder: Folder
     competition: Competition
@@ -45,30 +45,30 @@ class Plan:
     known: int | None = None
 
     def next_id(self) -> str:
-        """Returns the id of the match that is planned next."""
-        name = self.competition.name
-        width = len(self.matches[0].id.removeprefix(f"{name}-").partition("-")[0])
+        """Returns the id of the next match that is planned."""
+        width = len(self.matches[0].id.removeprefix(f"{self.competition.name}-").partition("-")[0])
         return id_of(self.competition, len(self.matches) + 1, width, self.history.key)
 
     def new_matches(self) -> list[Match]:
-        """Returns the matches that were added just now."""
         return self.matches[self.known or 0 :]
 
     def roles(self, game: str) -> tuple[str, ...]:
         return self.rules[game].roles
 
     def judge(self, referee: Referee, game: str) -> Referee:
-        """Returns the program as it takes the rules of a game: by the usual limits, or those for large games."""
+        """Returns the referee with the limits of a game: the usual ones, or those for large games."""
         return referee.taking(self.rules[game].is_large)
 
     def read_record(self, match: Match) -> bytes:
-        """Returns the record of a match, and of a file that no record of its game can be as much as shows it."""
-        file = self.folder.record(match.id)
-        return file_bytes(file, most_of_record(self.rules[match.game].text, size_of(file)) + 2)
+        """Returns the record of a match. If the file is too long for its game, this returns just enough of it to show that."""
+        return record_bytes(self.folder, match.id, self.rules[match.game].text)
 
     def player_rules_path(self, game: str) -> Path | None:
-        """Returns the file of what the game's players are told of its rules, or none where they are told the rules themselves."""
+        """Returns the file of the rules that players get instead of the ground rules, or None."""
         return None if self.rules[game].player_rules is None else self.folder.player_rules_of(game)
+
+
+# ---- files of a plan
 
 
 def read_file(path: Path) -> bytes:
@@ -85,43 +85,83 @@ def read_planned(path: Path) -> bytes:
     return read_file(path)
 
 
+def not_planned(path: Path) -> Refused:
+    """Returns the error of a file that was changed after `plan` wrote it."""
+    return Refused(f"{path} is not what `ggp_competition plan` wrote", f"take it away, and {WRITES} again")
+
+
+def sums_text(sums: Mapping[str, str]) -> bytes:
+    """Returns checksums by file names in the format of `sha256sum`."""
+    return "".join(f"{digest}  {name}\n" for name, digest in sorted(sums.items())).encode("utf-8")
+
+
+def read_sums(data: bytes) -> dict[str, str] | None:
+    """Returns the checksums in a file by file names, or None if it has a name twice or anything else."""
+    sums = {name.decode(errors="replace"): digest.decode() for digest, name in SUM_LINE.findall(data)}
+    return sums if ONLY_SUMS.fullmatch(data) and len(sums) == data.count(b"\n") else None
+
+
+def sums_of(path: Path) -> dict[str, str]:
+    """Returns the checksums in a file that `plan` has written."""
+    sums = read_sums(read_planned(path))
+    if sums is None:
+        raise not_planned(path)
+    return sums
+
+
 def is_played(folder: Folder) -> bool:
-    """Returns whether a match has a record. What a killed `play` has left unfinished is none."""
+    """Returns whether a match has a record. Unfinished files of a killed `play` do not count."""
     return folder.records.is_dir() and any(not file.name.startswith(UNFINISHED) for file in folder.records.glob("*.json"))
 
 
+def is_begun(folder: Folder) -> bool:
+    """Returns whether matches were played. The plan of a competition only grows then, so its history shows this even if the records are elsewhere."""
+    return is_played(folder) or bool(history_files(folder))
+
+
+def count_of_matches(folder: Folder) -> int | None:
+    """Returns the number of matches in schedule.tsv, or None if it does not exist."""
+    return read_file(folder.schedule).count(b"\n") - 1 if folder.schedule.exists() else None
+
+
+def files_of_origin(plan: Plan) -> list[Path]:
+    """Returns the files besides competition.toml from which the schedule follows."""
+    folder = plan.folder
+    return [folder.planned, *history_files(folder), *([folder.key] if plan.history.key else []), *([folder.seeds] if plan.competition.seeds else [])]
+
+
 def refused_plan(folder: Folder, path: Path) -> Refused:
-    """Returns the fault of a file that `plan` has written for another competition.toml."""
+    """Returns the error of a file that `plan` has written for another competition.toml."""
     advice = "matches were played, so put back what was changed, or add to it and plan again" if is_played(folder) else f"{WRITES} anew"
     return Refused(f"{path} is not what {folder.competition} says", advice)
 
 
-def competition_of(folder: Folder) -> tuple[Competition, bytes]:
-    """Returns the competition, and the bytes that say it."""
-    text = read_file(folder.competition)
-    return competition_of_file(folder.competition, text, folder.seeds), text
+def lost_key(folder: Folder) -> Refused:
+    return Refused(f"{folder.key} is not there", "put it back: the ids of the matches follow from it")
+
+
+# ---- making a plan
 
 
 def schedule_of(folder: Folder, competition: Competition, rules: Mapping[str, Rules], history: History, most: int | None = None) -> Growing:
-    """Returns the schedule that follows from a competition, its history and its records; of one by rounds no round that begins after so
-    many matches."""
+    """Returns the schedule that follows from a competition, its history and its records. No round begins after the given number of matches."""
     roles = {name: len(ground.roles) for name, ground in rules.items()}
     try:
-        return grown(history, competition, roles, functools.partial(result_in_file, folder, competition, rules), most)
+        return grown(history, competition, roles, functools.partial(unverified_result, folder, competition, rules), most)
     except Mistaken as why:
         raise Refused(mistake_lines(folder.competition, why.mistakes)) from None
     except Misfit as why:
-        raise Refused(f"{folder.competition}: {why}", PUT_BACK) from None
+        raise Refused(why.at(folder.competition), PUT_BACK) from None
 
 
 def is_in_rules(folder: Folder, path: Path) -> bool:
-    """Returns whether a file stands where `plan` writes the rules. Unlike a path's own `resolve` this bears links in a circle."""
+    """Returns whether a file is in the directory of the rules. `Path.resolve` would fail for links in a circle."""
     return os.path.dirname(os.path.realpath(path)) == os.path.realpath(folder.rules)
 
 
 def loaded_games(folder: Folder, competition: Competition, referee: Referee) -> dict[str, Rules]:
-    """Returns the rules of each game by its name. All descriptions that are none are told at once."""
-    found, mistakes = {}, []
+    """Returns the rules of each game by its name. Refuses all invalid descriptions together."""
+    rules_by_name, mistakes = {}, []
     for game in competition.games:
         path, program = folder.given(game), referee.taking(game.large)
         if inside := [file for file in (path, folder.description(game)) if is_in_rules(folder, file)]:
@@ -132,7 +172,7 @@ def loaded_games(folder: Folder, competition: Competition, referee: Referee) -> 
                 rules = load_described(path, folder.description(game), program, game.tells_variables())
             else:
                 rules = load_description(path, program, game.tells_variables(), game.instantiate)
-            found[game.name] = rules
+            rules_by_name[game.name] = rules
         except Stopped as why:
             raise Unchecked(f"{path}: {why}; `instantiate` of the game gives it more time") from None
         except NoDescription as why:
@@ -143,33 +183,32 @@ def loaded_games(folder: Folder, competition: Competition, referee: Referee) -> 
         if not game.aborts:
             why, note = trial(rules.text, program.taking(rules.is_large), game.name)
             mistakes += [Mistake(game.line, "games.file", f"{path}: {why}; with `aborts = true` it is planned all the same")] if why else []
-            found[game.name] = replace(rules, notes=(*rules.notes, *([note] if note else [])))
+            rules_by_name[game.name] = replace(rules, notes=(*rules.notes, *([note] if note else [])))
     if mistakes:
         raise Refused(mistake_lines(folder.competition, mistakes))
-    return found
+    return rules_by_name
 
 
-def sums_text(sums: Mapping[str, str]) -> bytes:
-    """Returns sums by names in the form of `sha256sum`."""
-    return "".join(f"{digest}  {name}\n" for name, digest in sorted(sums.items())).encode("utf-8")
-
-
-def is_begun(folder: Folder) -> bool:
-    """Returns whether matches were played. Where a competition grew they were, although the records are elsewhere."""
-    return is_played(folder) or bool(history_files(folder))
+def refuse_addresses(folder: Folder, competition: Competition) -> dict[str, str]:
+    """Refuses players that no match can reach or start, and two players at one address. Returns the current addresses of the others, because a name may
+    lead to another player later."""
+    places = places_now(competition)
+    if mistakes := [*mistakes_of_addresses(competition, places), *mistakes_of_programs(folder, competition)]:
+        raise Refused(mistake_lines(folder.competition, mistakes))
+    return {name: written(name, own) for name, own in places.items() if own}
 
 
 def seeds_of(folder: Folder, competition: Competition) -> Path | None:
-    """Returns the file that the seeds of a competition are from, none if that is its own. Once matches were played it is the copy of it."""
+    """Returns the file with the seeds from another competition, or None. Once matches were played, this is the copy of it."""
     if not competition.seeds or is_begun(folder) and folder.seeds.exists():
         return folder.seeds if competition.seeds else None
-    found = folder.path / competition.seeds
-    return found / TABLE if found.is_dir() else found
+    path = folder.path / competition.seeds
+    return path / TABLE if path.is_dir() else path
 
 
 def make_plan(path: str, referee: Referee, is_preview: bool = False) -> Plan:
-    """Writes the rules and the schedule of the competition in a folder, and returns it. Nothing is written where anything is wrong, where
-    the schedule of matches that were played does not grow but change, or while any are played; nor for a preview."""
+    """Writes the rules and the schedule of the competition in a directory, and returns it. Writes nothing for a preview, if anything is wrong, if the
+    schedule of matches that were played would change and not only grow, or while matches are played."""
     folder = Folder(path)
     text = read_file(folder.competition)
     competition = competition_of_file(folder.competition, text)
@@ -179,125 +218,85 @@ def make_plan(path: str, referee: Referee, is_preview: bool = False) -> Plan:
     rules = loaded_games(folder, competition, referee)
     files = {folder.rules_of(name): ground.text for name, ground in rules.items()}
     files |= {folder.player_rules_of(name): ground.player_rules for name, ground in rules.items() if ground.player_rules is not None}
-    sums = sums_text({file.name: sum_of(data) for file, data in files.items()})
     with held(folder.path):
         has_begun = is_begun(folder)
         known = count_of_matches(folder) if has_begun else None
         key = read_key(folder, competition)
         new_key = secrets.token_hex(16).encode("ascii") + b"\n" if key is None else key
-        history, wanted = history_of(folder, competition, rules, new_key) if has_begun else (History(key=new_key), {})
+        history, earlier = history_of(folder, competition, rules, new_key) if has_begun else (History(key=new_key), {})
         if has_begun and key is None:
             raise lost_key(folder)
-        wanted |= {folder.key: new_key} if key is None else {}
-        wanted |= {folder.seeds: read_file(seeds)} if seeds else {}
         schedule = schedule_of(folder, competition, rules, history, known)
-        wanted |= files
-        wanted[folder.description_sums()] = sums_text({f"{name}.kif": ground.description_sum for name, ground in rules.items()})
-        # Without these sums the other files do not count, so where this is broken off it has to be done again.
-        wanted[folder.rule_sums()] = sums
-        wanted[folder.planned] = text
-        wanted[folder.schedule] = schedule_text(schedule.matches)
         if not is_preview:
-            write_plan(folder, wanted, has_begun)
+            write_plan(folder, has_begun, {
+                **earlier,
+                **({folder.key: new_key} if key is None else {}),
+                **({folder.seeds: read_file(seeds)} if seeds else {}),
+                **files,
+                folder.description_sums(): sums_text({f"{name}.kif": ground.description_sum for name, ground in rules.items()}),
+                # Without these checksums the other files do not count, so an interrupted plan must be made again.
+                folder.rule_sums(): sums_text({file.name: sum_of(data) for file, data in files.items()}),
+                folder.planned: text,
+                folder.schedule: schedule_text(schedule.matches),
+            })
     return Plan(folder, competition, rules, schedule.matches, text, history, schedule.rounds.found, known)
 
 
-def refuse_addresses(folder: Folder, competition: Competition) -> dict[str, str]:
-    """Refuses players that no match can reach or start, and two that are one. Returns the others with the addresses that they have now: a
-    name may lead to another player later."""
-    found = places_now(competition)
-    if mistakes := [*mistakes_of_addresses(competition, found), *mistakes_of_programs(folder, competition)]:
-        raise Refused(mistake_lines(folder.competition, mistakes))
-    return {name: written(name, places) for name, places in found.items() if places}
-
-
-def count_of_matches(folder: Folder) -> int | None:
-    """Returns how many matches the schedule has that is there, or none where none is."""
-    return read_file(folder.schedule).count(b"\n") - 1 if folder.schedule.exists() else None
-
-
 def history_of(folder: Folder, competition: Competition, rules: Mapping[str, Rules], key: bytes) -> tuple[History, dict[Path, bytes]]:
-    """Returns how a competition that was played came to its schedule, where its file may have grown now; and the file that it grew from,
-    where that is to be kept."""
-    history = replace(read_history(folder), key=key)
-    if not folder.planned.exists():
-        return history, {}
-    text = read_file(folder.planned)
-    before = competition_of_file(folder.planned, text, folder.seeds)
-    try:
-        refuse_changes(before, competition)
-    except Misfit as why:
-        raise Refused(f"{folder.competition}: {why}", PUT_BACK) from None
-    if shape(before) == shape(competition):
+    """Returns the history of a competition that was played, which ends with the planned file if competition.toml asks for other matches now; and that
+    file, if it must be stored."""
+    history, before = replace(read_history(folder), key=key), planned_before(folder, competition)
+    if before is None or shape(before) == shape(competition):
         return history, {}
     until = len(schedule_of(folder, before, rules, history, count_of_matches(folder)).matches)
     if history.earlier and history.earlier[-1][0] == until:
         return history, {}
-    return replace(history, earlier=(*history.earlier, (until, before))), {folder.earlier / f"{until}.toml": text}
+    return replace(history, earlier=(*history.earlier, (until, before))), {folder.earlier / f"{until}.toml": read_file(folder.planned)}
+
+
+def planned_before(folder: Folder, competition: Competition) -> Competition | None:
+    """Returns the competition that `plan` read last, or None. Since matches were played, this refuses changes of what must stay."""
+    if not folder.planned.exists():
+        return None
+    before = competition_of_file(folder.planned, read_file(folder.planned), folder.seeds)
+    try:
+        refuse_changes(before, competition)
+    except Misfit as why:
+        raise Refused(why.at(folder.competition), PUT_BACK) from None
+    return before
 
 
 def grows(folder: Folder, file: Path, old: bytes, new: bytes) -> bool:
-    """Returns whether a file of a plan may be written again though matches were played: nothing is changed of what it said before."""
+    """Returns whether a file of a plan may be replaced although matches were played, because nothing in it changes."""
     if file in (folder.rule_sums(), folder.description_sums()):
         return (read_sums(old) or {"": ""}).items() <= (read_sums(new) or {}).items()
     if file == folder.schedule:
-        # A round may be planned anew as long as none of its matches has a record.
-        return new.startswith(old) or old.startswith(new) and not any(folder.record(match).exists() for match in ids_of(old[len(new) :]))
+        # A round may be planned again as long as none of its matches has a record.
+        dropped = old[len(new) :].decode("ascii", "replace").splitlines()
+        return new.startswith(old) or old.startswith(new) and not any(folder.record(line.partition("\t")[0]).exists() for line in dropped)
     return old == new or file == folder.planned
 
 
-def ids_of(lines: bytes) -> list[str]:
-    """Returns the ids of the matches in lines of a schedule."""
-    return [line.partition("\t")[0] for line in lines.decode("ascii", "replace").splitlines()]
-
-
-def write_plan(folder: Folder, wanted: dict[Path, bytes], is_begun: bool) -> None:
-    """Writes the files of a plan. Where matches were played, what is there may only grow."""
-    for file, data in wanted.items():
-        # What is missing is written again.
+def write_plan(folder: Folder, is_begun: bool, files: dict[Path, bytes]) -> None:
+    """Writes the files of a plan. Once matches were played, they may only grow; missing ones are written again."""
+    for file, data in files.items():
         if is_begun and file.exists() and not grows(folder, file, read_file(file), data):
             raise Refused(f"{file} would change, and matches were played", "put back what was changed, or take another folder")
     try:
-        folder.make(folder.rules, *([folder.earlier] if any(file.parent == folder.earlier for file in wanted) else []))
-        # The schedule is last, so that there is none without its rules.
-        for file in sorted(wanted, key=lambda path: path == folder.schedule):
-            write_whole(file, wanted[file])
+        folder.make(folder.rules, *([folder.earlier] if any(file.parent == folder.earlier for file in files) else []))
+        # The schedule is last, so that it never exists without its rules.
+        for file in sorted(files, key=lambda path: path == folder.schedule):
+            write_whole(file, files[file], is_private=file == folder.key)
     except OSError as why:
         raise Refused(f"{folder.path} can't be written: {why.filename}: {os.strerror(why.errno)}") from None
 
 
-def lost_key(folder: Folder) -> Refused:
-    return Refused(f"{folder.key} is not there", "put it back: the ids of the matches follow from it")
-
-
-def files_of_origin(plan: Plan) -> list[Path]:
-    """Returns the files beside competition.toml that the schedule follows from."""
-    folder = plan.folder
-    return [*history_files(folder), *([folder.key] if plan.history.key else []), *([folder.seeds] if plan.competition.seeds else [])]
-
-
-def read_sums(data: bytes) -> dict[str, str] | None:
-    """Returns the sums that the bytes of a file spell, by names. None where it has a name twice, or anything else."""
-    found = {name.decode(errors="replace"): digest.decode() for digest, name in SUM_LINE.findall(data)}
-    return found if SUMS_ALONE.fullmatch(data) and len(found) == data.count(b"\n") else None
-
-
-def not_planned(path: Path) -> Refused:
-    """Returns the fault of a file that was changed after `plan` wrote it."""
-    return Refused(f"{path} is not what `ggp_competition plan` wrote", f"take it away, and {WRITES} again")
-
-
-def sums_of(path: Path) -> dict[str, str]:
-    """Returns the sums of a file of sums that `plan` has written, by names."""
-    found = read_sums(read_planned(path))
-    if found is None:
-        raise not_planned(path)
-    return found
+# ---- reading a plan
 
 
 def faults_of_descriptions(plan: Plan, path_of: Callable[[Game], Path], advice: str = "") -> Iterator[str]:
-    """Gives each description that is not the one that the rules were made from; `path_of` tells the file of a game, and the advice what
-    helps where their sums are missing."""
+    """Yields each description from which the rules were not made. `path_of` returns the file of a game, and the advice is added if the file of their
+    checksums is missing."""
     path = plan.folder.description_sums()
     if not path.is_file():
         yield f"{path} is missing: it has the sums of the descriptions{advice}"
@@ -317,36 +316,36 @@ def faults_of_descriptions(plan: Plan, path_of: Callable[[Game], Path], advice: 
 
 def read_rules(folder: Folder, competition: Competition, referee: Referee) -> dict[str, Rules]:
     """Returns the rules of each game by its name, as `plan` wrote them."""
-    sums, found = sums_of(folder.rule_sums()), {}
+    sums, rules = sums_of(folder.rule_sums()), {}
     if sums.keys() != {file.name for game in competition.games for file in folder.rule_files(game)}:
         raise refused_plan(folder, folder.rule_sums())
     for game in competition.games:
         files = folder.rule_files(game)
-        written = list(map(read_planned, files))
-        others = [file for file, data in zip(files, written) if sum_of(data) != sums[file.name]]
-        if others:
-            raise not_planned(others[0])
+        texts = list(map(read_planned, files))
+        if changed := [file for file, data in zip(files, texts) if sum_of(data) != sums[file.name]]:
+            raise not_planned(changed[0])
         try:
-            found[game.name] = rules_of(written[0], files[0], referee.taking(game.large), *written[1:])
+            rules[game.name] = rules_of(texts[0], files[0], referee.taking(game.large), *texts[1:])
         except NoDescription as why:
             raise Refused(f"{files[0]} is refused by the referee: {why}") from None
-    return found
+    return rules
 
 
 def read_plan(path: str, referee: Referee) -> Plan:
-    """Returns the competition that was planned in a folder. Refuses one whose rules or schedule are not those of the plan."""
+    """Returns the competition that was planned in a directory. Refuses one whose rules or schedule are not those of the plan."""
     folder = Folder(path)
     folder.refuse_old_logs()
-    competition, text = competition_of(folder)
+    text = read_file(folder.competition)
+    competition = competition_of_file(folder.competition, text, folder.seeds)
     schedule, rules, history = read_planned(folder.schedule), read_rules(folder, competition, referee), read_history(folder)
     key = read_key(folder, competition)
     if key is None:
         raise lost_key(folder)
     history = replace(history, key=key)
     try:
-        found = schedule_of(folder, competition, rules, history, count_of_matches(folder))
-        if schedule != schedule_text(found.matches):
-            refuse_lost_record(folder, found, schedule)
+        growing = schedule_of(folder, competition, rules, history, count_of_matches(folder))
+        if schedule != schedule_text(growing.matches):
+            refuse_lost_record(folder, growing, schedule)
             raise refused_plan(folder, folder.schedule)
     except Refused:
         if is_by_rounds(competition):
@@ -356,32 +355,36 @@ def read_plan(path: str, referee: Referee) -> Plan:
         refuse_unchanged(history, competition)
     except Misfit as why:
         raise Refused(f"{folder.path}: {why}") from None
-    return Plan(folder, competition, rules, found.matches, text, history, found.rounds.found)
+    if is_begun(folder):
+        planned_before(folder, competition)
+    return Plan(folder, competition, rules, growing.matches, text, history, growing.rounds.found)
 
 
 def refuse_wrong_records(plan: Plan, referee: Referee) -> None:
-    """Refuses records that do not count, by the matches that the schedule has: rounds that were paired by them are not those of the plan."""
-    _, faults, misfits = look_at_records(plan, referee)
-    wrong = [f"{plan.folder.record(match)}: {why}" for match, why in {**faults, **misfits}.items()]
-    if wrong:
+    """Refuses records that do not count. If rounds were paired by them, the schedule differs from that of the plan."""
+    _, faults, misfits = check_records(plan, referee)
+    if wrong := [f"{plan.folder.record(match)}: {why}" for match, why in {**faults, **misfits}.items()]:
         raise Refused("\n".join(wrong))
 
 
-def refuse_lost_record(folder: Folder, found: Growing, schedule: bytes) -> None:
-    """Refuses a schedule with a round that can't be planned, since a match of the round before has no record."""
-    number = len(found.rounds.found)
-    lost = [match.id for match in found.of_round(number) if match.counts() and found.result_of(match) is None]
-    if lost and schedule.startswith(schedule_text(found.matches)):
-        words = f"{folder.schedule} has round {number + 1}, which was paired by {lost[0]}, and that has no record of this match"
-        raise Refused(words, f"put it back; where no match of a later round has a record, {WRITES} without these rounds")
+def refuse_lost_record(folder: Folder, growing: Growing, schedule: bytes) -> None:
+    """Refuses a schedule with a round that cannot be planned, because a match of the round before has no record."""
+    number = len(growing.rounds.found)
+    lost = [match.id for match in growing.of_round(number) if match.counts() and growing.result_of(match) is None]
+    if lost and schedule.startswith(schedule_text(growing.matches)):
+        fault = f"{folder.schedule} has round {number + 1}, which was paired by {lost[0]}, and that has no record of this match"
+        raise Refused(fault, f"put it back; where no match of a later round has a record, {WRITES} without these rounds")
 
 
 def refuse_lost_results(plan: Plan, results: Mapping[str, Result]) -> None:
-    """Refuses to go on where the record of a match does not count by which a later round was paired."""
+    """Refuses to go on if a later round was paired by a match whose record does not count."""
     last = len(plan.rounds)
     lost = [match.id for match in plan.matches if match.round < last and match.counts() and match.id not in results]
     if last and lost:
         raise Refused(f"{lost[0]} has no record that counts, and a later round was paired by it", "put its record, account and log back")
+
+
+# ---- rounds, and matches that are played again
 
 
 def rounds_left(plan: Plan) -> int:
@@ -390,28 +393,61 @@ def rounds_left(plan: Plan) -> int:
 
 
 def next_plan(plan: Plan, results: Mapping[str, Result]) -> Plan | None:
-    """Returns the plan with the next round, which is not written yet; none where there is no further round, or the last one is not over."""
+    """Returns the plan with the next round, which is not written yet, or None if the last round is not over or there are no more rounds."""
     if not rounds_left(plan) or any(match.id not in results and match.counts() for match in plan.matches):
         return None
     roles = {name: len(ground.roles) for name, ground in plan.rules.items()}
-    # Not yet another round after this one: no match of it has a result.
-    found = grown(plan.history, plan.competition, roles, lambda match: results.get(match.id))
-    return replace(plan, matches=found.matches, rounds=found.rounds.found, known=len(plan.matches))
+    # No match of the next round has a result, so there is no further round.
+    growing = grown(plan.history, plan.competition, roles, lambda match: results.get(match.id))
+    return replace(plan, matches=growing.matches, rounds=growing.rounds.found, known=len(plan.matches))
 
 
 def plan_next_round(plan: Plan, results: Mapping[str, Result]) -> list[Match]:
-    """Plans the next round where the last one is over, and writes the schedule. Returns its matches: none where there is no further round,
-    or the last one is not over."""
-    if not (found := next_plan(plan, results)):
+    """Plans the next round if there is one and the last one is over, writes the schedule, and returns the new matches."""
+    if not (following := next_plan(plan, results)):
         return []
-    write_whole(plan.folder.schedule, schedule_text(found.matches))
-    plan.matches, plan.rounds = found.matches, found.rounds
-    return found.new_matches()
+    write_whole(plan.folder.schedule, schedule_text(following.matches))
+    plan.matches, plan.rounds = following.matches, following.rounds
+    return following.new_matches()
 
 
 def round_words(plan: Plan) -> str:
-    """Returns what there is to say of the last round of a plan."""
-    found = plan.rounds[-1]
-    matches = [match for match in plan.matches if match.round == found.number]
+    """Describes the last round of a plan."""
+    last = plan.rounds[-1]
+    matches = [match for match in plan.matches if match.round == last.number]
     span = f"{matches[0].id} to {matches[-1].id}" if matches else "no match"
-    return f"round {found.number} of {rounds_of(plan.competition)}: {span}{found.byes_words()}"
+    return f"round {last.number} of {rounds_of(plan.competition)}: {span}{last.byes_words()}"
+
+
+def replaceable_match(plan: Plan, referee: Referee, match_id: str) -> Match:
+    """Returns the match with this id. Refuses one that does not count, or by which a later round was paired."""
+    match = next((planned for planned in plan.matches if planned.id == match_id), None)
+    if match is None:
+        raise Refused(f"{plan.folder.schedule} has no match {match_id}")
+    if match.again:
+        raise Refused(f"{match_id} was ordered again already, as {match.again}: {match.reason}")
+    if match.withdrawn:
+        raise Refused(f"{match_id} does not count: {match.withdrawn}")
+    if match.round < len(plan.rounds):
+        raise Refused(f"{match_id} is of round {match.round}, by which the next one was paired, so it can't be played again")
+    if not plan.folder.record(match_id).exists():
+        raise Refused(f"{match_id} has no record, so `ggp_competition play` plays it")
+    (check,) = checks(plan, referee, match.game, [match])
+    if why := check.fault or check.misfit:
+        raise Refused(f"{match_id} does not count, so `ggp_competition play` plays it again: {why}")
+    return match
+
+
+def order_again(path: str, referee: Referee, match_id: str, reason: str) -> Match:
+    """Plans another match in place of this one, with the reason, and returns it."""
+    if not REASON.fullmatch(reason):
+        raise Refused("--reason: 1 to 200 printable characters of ASCII are wanted, without a space at either end")
+    with held(path):
+        plan = read_plan(path, referee)
+        match = replaceable_match(plan, referee, match_id)
+        history = replace(plan.history, again=(*plan.history.again, Again(plan.next_id(), match.id, reason)))
+        schedule = schedule_of(plan.folder, plan.competition, plan.rules, history, len(plan.matches) + 1)
+        # The schedule is last: if this is interrupted before it, `plan` writes it.
+        write_whole(plan.folder.again, again_text(history.again))
+        write_whole(plan.folder.schedule, schedule_text(schedule.matches))
+    return schedule.matches[-1]

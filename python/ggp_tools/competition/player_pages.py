@@ -1,95 +1,162 @@
-"""The page of a player: its place and rating, its goals by game and seat and over time, its response times, its errors, its matches."""
+"""The page of a player: its rank and rating, its goals by game and role and over time, its response times, its errors and its matches."""
 
 import itertools
-from collections.abc import Iterator
+from collections.abc import Iterator, Sequence
+from dataclasses import dataclass
 
 from ggp_tools.competition.page_parts import PageParts, Part, part
-from ggp_tools.competition.plots import BARS, goals_plot, times_plot
-from ggp_tools.competition.results import again_words
-from ggp_tools.competition.sittings import MOST_ERRORS as MOST_OF_MATCH
-from ggp_tools.competition.sittings import Fault, Sitting
+from ggp_tools.competition.plots import BARS, bar_of, goals_plot, times_plot
+from ggp_tools.competition.results import Result, again_words
 from ggp_tools.competition.table import Table
 from ggp_tools.competition.table_text import rating_text
+from ggp_tools.match_log import PLAY, START, Event, Message, messages, shown
 from ggp_tools.records.show import why_of
 
-# So many errors stand on a page, the newest first.
-MOST_ERRORS = 100
-SAID = f"The last {MOST_ERRORS}, and of a match the last {MOST_OF_MATCH}."
+# A page shows at most this many errors of a player, and of one match, the newest ones.
+MOST_ERRORS, MOST_OF_MATCH = 100, 10
+LAST_ERRORS = f"The last {MOST_ERRORS}, and of a match the last {MOST_OF_MATCH}."
+
+
+@dataclass(frozen=True)
+class MoveError:
+    """A replaced move: its turn, counted from 1, the error, the move that was played, and, if the log has them, the message and the answer."""
+
+    turn: int
+    error: str
+    move: str
+    message: str = ""
+    answer: str = ""
+
+
+@dataclass(frozen=True)
+class Appearance:
+    """A player in a match: how many of its response times fall into each bar of a plot, how long its START and its longest PLAY took, and its last
+    errors."""
+
+    result: Result
+    role: int
+    role_name: str
+    ended: str
+    times: tuple[int, ...]
+    start: int | None
+    longest: int | None
+    errors: tuple[MoveError, ...]
+
+    def goal(self) -> int | None:
+        """Returns the goal that counts, or None. A match that another one replaces has none."""
+        return None if not self.result.match.counts() else self.result.counted()[self.role]
+
+
+def times_of_role(asked: list[Message]) -> tuple[tuple[int, ...], int | None, int | None]:
+    """Returns how many response times of a role fall into each bar, how long its START took, and its longest PLAY."""
+    counts, start = [0] * BARS, None
+    plays = [message.ms for message in asked if message.kind == PLAY]
+    for milliseconds in plays:
+        counts[bar_of(milliseconds)] += 1
+    for message in asked:
+        if message.kind == START:
+            start = message.ms
+    return tuple(counts), start, max(plays, default=None)
+
+
+def errors_of_role(record: dict, role: int, asked: list[Message]) -> tuple[MoveError, ...]:
+    """Returns the last errors of a role."""
+    turns = [turn for turn, errors in enumerate(record["errors"], 1) if errors[role]][-MOST_OF_MATCH:]
+    plays = {message.turn(): message for message in asked if message.kind == PLAY} if turns else {}
+    errors = []
+    for turn in turns:
+        message = plays.get(turn)
+        error, move = record["errors"][turn - 1][role], record["moves"][turn - 1][role]
+        # A retired role was not asked.
+        texts = (shown(message.message), shown(message.came())) if message and error != "RT" else ()
+        errors.append(MoveError(turn, error, move, *texts))
+    return tuple(errors)
+
+
+def appearances_of(result: Result, record: dict, run: Sequence[Event], ended: str | None) -> list[Appearance]:
+    """Returns the appearance of each role's player in a match, by the last run in its log."""
+    by_role: list[list[Message]] = [[] for _ in result.match.players]
+    for message in messages(run):
+        if message.role < len(by_role):
+            by_role[message.role].append(message)
+    return [
+        Appearance(result, role, record["roles"][role], ended or "", *times_of_role(asked), errors_of_role(record, role, asked))
+        for role, asked in enumerate(by_role)
+    ]
+
+
+# ---- the page
 
 
 def page_name(player: str) -> str:
-    """Returns the file of a player's page. A player's name may begin with a point."""
+    """Returns the file of a player's page. The prefix is there because a player's name may begin with a point."""
     return f"players/player-{player}.html"
 
 
-def in_time(sittings: list[Sitting]) -> list[Sitting]:
-    """Returns sittings in the order in which their matches ended; those whose logs do not say it come first."""
-    return sorted(sittings, key=lambda sitting: sitting.ended)
-
-
-def standing_texts(found: Table) -> dict[str, str]:
-    """Returns the place, the mean goal and the rating of each player that has played, as a sentence."""
-    texts, lines = {}, found.standings()
-    for place, line in zip(found.places(), lines):
+def standing_texts(table: Table) -> dict[str, str]:
+    """Returns a sentence with the rank, the mean goal and the rating of each player that has played."""
+    texts, lines = {}, table.standings()
+    for rank, line in zip(table.ranks(), lines):
         mean = "none" if line.mean() is None else f"{line.mean():.2f}"
         counts = f"{line.won} won, {line.drawn} drawn, {line.lost} lost; {line.replaced} of {line.moves} moves replaced"
-        rating = f"; rating {rating_text(found, line)}" if found.is_of_pairs() else ""
-        texts[line.player] = f"Place {place} of {len(lines)} in all games: {line.matches} matches, mean goal {mean}, {counts}{rating}."
+        rating = f"; rating {rating_text(table, line)}" if table.is_of_pairs() else ""
+        texts[line.player] = f"Place {rank} of {len(lines)} in all games: {line.matches} matches, mean goal {mean}, {counts}{rating}."
     return texts
 
 
 def standing_of(texts: dict[str, str], player: str, has_played: bool) -> str:
-    """Returns the sentence of a player, also of one that is in no match that counts."""
+    """Returns the sentence about a player, which may not be in a match that counts."""
     return texts.get(player) or f"It has played no match{' that counts' if has_played else ''}."
 
 
-def seat_rows(sittings: list[Sitting]) -> Iterator[tuple[str, str, list[str]]]:
-    """Gives each game and role, with the goals of the player there."""
-    seats: dict[tuple[str, int, str], list[Sitting]] = {}
-    for sitting in sittings:
-        seats.setdefault((sitting.result.match.game, sitting.role, sitting.role_name), []).append(sitting)
-    for (game, _, role), found in sorted(seats.items()):
-        goals = [goal for sitting in found if (goal := sitting.goal()) is not None]
+def role_rows(appearances: list[Appearance]) -> Iterator[tuple[str, str, list[str]]]:
+    """Yields each game and role, with the goals and times of the player there."""
+    by_role: dict[tuple[str, int, str], list[Appearance]] = {}
+    for appearance in appearances:
+        by_role.setdefault((appearance.result.match.game, appearance.role, appearance.role_name), []).append(appearance)
+    for (game, role, name), own in sorted(by_role.items()):
+        goals = [goal for appearance in own if (goal := appearance.goal()) is not None]
         mean = f"{sum(goals) / len(goals):.2f}" if goals else "none"
-        moves, replaced = (sum(count) for count in zip(*((sitting.result.turns, sitting.result.replaced(sitting.role)) for sitting in found)))
-        longest = [longest_text([sitting.start for sitting in found]), longest_text([sitting.longest for sitting in found])]
-        yield game, role, [str(len(found)), mean, f"{replaced} of {moves}", *longest]
+        replaced, moves = sum(appearance.result.replaced(role) for appearance in own), sum(appearance.result.turns for appearance in own)
+        longest = [longest_text([appearance.start for appearance in own]), longest_text([appearance.longest for appearance in own])]
+        yield game, name, [str(len(own)), mean, f"{replaced} of {moves}", *longest]
 
 
 def longest_text(times: list[int | None]) -> str:
-    known = [time for time in times if time is not None]
-    return f"{max(known):,} ms" if known else ""
+    return f"{max(known):,} ms" if (known := [time for time in times if time is not None]) else ""
 
 
 def reason_of(error: str) -> str:
-    """Returns what an error means; that of a log may have a reason of its own behind it."""
+    """Returns what an error means. An error of a log may be followed by its reason."""
     return why_of(error if error.startswith("IL ") else error.partition(" ")[0])
 
 
-def error_row(sitting: Sitting, fault: Fault) -> dict[str, object]:
-    """Returns what a row says of an error."""
-    told = {"reason": reason_of(fault.error), "error": fault.error.partition(" ")[0]}
-    return {"match": sitting.result.match.id, "turn": fault.turn, "texts": (fault.message, fault.answer, fault.move), **told}
-
-
-def errors_part(sittings: list[Sitting]) -> Part:
+def errors_part(appearances: list[Appearance]) -> Part:
     """Returns the newest errors, each with the message that caused it."""
-    newest = ((sitting, fault) for sitting in reversed(sittings) for fault in reversed(sitting.faults))
-    rows = [error_row(sitting, fault) for sitting, fault in itertools.islice(newest, MOST_ERRORS)]
-    return part("errors", said=SAID, rows=rows, count=sum(sitting.result.replaced(sitting.role) for sitting in sittings))
+    newest = ((appearance, error) for appearance in reversed(appearances) for error in reversed(appearance.errors))
+    rows = [
+        {
+            "match": appearance.result.match.id,
+            "turn": error.turn,
+            "reason": reason_of(error.error),
+            "error": error.error.partition(" ")[0],
+            "texts": (error.message, error.answer, error.move),
+        }
+        for appearance, error in itertools.islice(newest, MOST_ERRORS)
+    ]
+    return part("errors", said=LAST_ERRORS, rows=rows, count=sum(appearance.result.replaced(appearance.role) for appearance in appearances))
 
 
-def player_parts(competition: str, player: str, standing: str, sittings: list[Sitting]) -> PageParts:
-    """Returns the parts of a player's page before the list of its matches; `standing` is a sentence. A match in whose place another one
-    was ordered counts in none of them."""
-    ordered = [sitting for sitting in in_time(sittings) if sitting.result.match.counts()]
-    left_out = [again_words(sitting.result.match) for sitting in sittings if not sitting.result.match.counts()]
-    goals = goals_plot([goal for sitting in ordered if (goal := sitting.goal()) is not None])
-    times = times_plot([sum(counts) for counts in zip(*(sitting.times for sitting in ordered))] or [0] * BARS)
+def player_parts(competition: str, player: str, standing: str, appearances: list[Appearance]) -> PageParts:
+    """Returns the parts of a player's page before the list of its matches; `standing` is a sentence. Matches that others replace do not count."""
+    ordered = sorted((appearance for appearance in appearances if appearance.result.match.counts()), key=lambda appearance: appearance.ended)
+    left_out = [again_words(appearance.result.match) for appearance in appearances if not appearance.result.match.counts()]
+    goals = goals_plot([goal for appearance in ordered if (goal := appearance.goal()) is not None])
+    times = times_plot([sum(counts) for counts in zip(*(appearance.times for appearance in ordered))] or [0] * BARS)
     return [
         part("player", name=competition, title=player, standing=standing, left_out=left_out),
-        part("seats", rows=list(seat_rows(ordered))) if ordered else Part("seats", ""),
-        part("goals", plot=goals) if goals else Part("goals", ""),
-        part("times", plot=times) if times else Part("times", ""),
+        part("seats", ordered, rows=list(role_rows(ordered))),
+        part("goals", goals, plot=goals),
+        part("times", times, plot=times),
         errors_part(ordered),
     ]

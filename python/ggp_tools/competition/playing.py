@@ -1,69 +1,74 @@
-"""Plays the matches of a competition that have no lawful record yet, many at once, each when its players are free."""
+"""Plays the matches of a competition that have no lawful record yet, many at the same time, each when its players are free."""
 
 import asyncio
-import collections
 import contextlib
 import errno
 import math
 import os
+import pathlib
 import shutil
 import signal
 import sys
 import time
-from collections.abc import Callable, Container
+from collections import Counter, deque
+from collections.abc import Callable, Container, Iterable, Mapping
 
-from ggp_tools.competition.aborts import send_aborts
-from ggp_tools.competition.files import ASKING, PLAYING, allow_files
+from ggp_tools.competition.children import send_aborts
+from ggp_tools.competition.competition_file import is_place
+from ggp_tools.competition.files import ASKING, PLAYERS, PLAYING, Refused, allow_files, file_bytes
+from ggp_tools.competition.match_files import check_records, set_aside, unplanned_records
 from ggp_tools.competition.open_match import OpenMatch, leave_players
-from ggp_tools.competition.plan import Plan, plan_next_round, round_words
-from ggp_tools.competition.resuming import prepare
+from ggp_tools.competition.plan import Plan, plan_next_round, refuse_addresses, refuse_lost_results, round_words
 from ggp_tools.competition.schedule import Match
-from ggp_tools.competition.seats import Seats
+from ggp_tools.competition.slots import Slots
 from ggp_tools.competition.started_players import StartedPlayers
-from ggp_tools.competition.time_left import seconds_left
 from ggp_tools.referee import Referee
 from ggp_tools.reporting import REDRAWN, Reporter
 
-# The players of matches that are ended have so many seconds to answer ABORT.
+# The players of matches that are ended must answer ABORT within so many seconds.
 ABORT_SECONDS = 3
 NOT_BEGUN, ENDED = "it was not begun", "it was ended before its end"
-# How many interrupts a signal counts as: after the first no more matches begin, the second ends those that are open.
+# How many interrupts a signal counts as: after the first no more matches begin, the second ends the open ones.
 INTERRUPTS = {signal.SIGINT: 1, signal.SIGTERM: 2, signal.SIGHUP: 2}
+# The names and addresses of a match's players have fewer bytes.
+MOST_OF_PLACES = 1 << 20
 
 
 class Playing:
-    """The matches that wait, those that are open, and what came of the others. `watch` gets the results now and then, if it is given."""
+    """The matches that wait, those that are open, and the outcomes of the others. `watch` gets the results now and then, if it is set."""
 
-    def __init__(self, plan: Plan, referee: Referee, seats: Seats, reporter: Reporter, at_once: int) -> None:
-        self.plan, self.referee, self.seats, self.reporter = plan, referee, seats, reporter
-        self.launcher = plan.competition.launcher
+    def __init__(self, plan: Plan, referee: Referee, reporter: Reporter, at_once: int) -> None:
+        self.plan, self.referee, self.reporter = plan, referee, reporter
+        self.slots, self.launcher = Slots(plan.competition), plan.competition.launcher
         self.at_once = self.launcher.slots if self.launcher else at_once
-        # `news` is set when matches may begin that could not before, or there is an interrupt; `ends` when there is another result.
+        # `news` is set when matches may begin that could not before, or after an interrupt; `ends` when there is another result.
         self.news, self.ends = asyncio.Event(), asyncio.Event()
         self.players = StartedPlayers(plan.folder, plan.competition, referee, reporter)
+        # By the ids of matches, the results, and why there is none; by games, why their matches do not begin any more.
         self.results, self.left, self.stopped = {}, {}, {}
-        # By games, how long the matches took that are over, from the INFO before them on.
+        # By games, how many seconds the finished matches took, from their INFO.
         self.took: dict[str, list[float]] = {}
         self.open: dict[OpenMatch, asyncio.Task] = {}
-        self.waiting: collections.deque[Match] = collections.deque()
-        self.interrupts, self.is_full, self.looked = 0, False, 0.0
+        self.waiting: deque[Match] = deque()
+        # `searched_at` is when matches that can begin were last searched.
+        self.interrupts, self.is_full, self.searched_at = 0, False, 0.0
         self.group: asyncio.TaskGroup | None = None
         self.watch: Callable[[dict], str | None] | None = None
 
     def may_begin(self, match: Match | None = None) -> bool:
-        """Returns whether further matches may begin, or one whose players are free."""
+        """Returns whether more matches may begin, or this one, whose players are free."""
         return not self.interrupts and not self.is_full and not (match and match.game in self.stopped)
 
     def begin(self) -> None:
-        """Opens matches as long as fewer than may be are at play and one can begin."""
-        self.looked, at_play = time.monotonic(), sum(open_match.is_seated for open_match in self.open)
-        while self.may_begin() and at_play < self.at_once and (match := self.seats.next_match(self.waiting, self.looked)):
+        """Opens matches, as long as fewer than allowed have slots and one can begin."""
+        self.searched_at, playing = time.monotonic(), sum(open_match.has_slots for open_match in self.open)
+        while self.may_begin() and playing < self.at_once and (match := self.slots.next_match(self.waiting, self.searched_at)):
             open_match = OpenMatch(self, match)
-            self.open[open_match] = self.group.create_task(self.hold(open_match))
-            at_play += 1
+            self.open[open_match] = self.group.create_task(self.run_match(open_match))
+            playing += 1
 
-    async def hold(self, open_match: OpenMatch) -> None:
-        """Plays a match, and settles what comes of it."""
+    async def run_match(self, open_match: OpenMatch) -> None:
+        """Plays a match, and handles its outcome."""
         try:
             try:
                 await open_match.go()
@@ -75,7 +80,7 @@ class Playing:
                 await self.abort({open_match.match.id: open_match.places})
             self.settle(open_match)
         finally:
-            open_match.leave()
+            open_match.release_players()
             del self.open[open_match]
             self.news.set()
 
@@ -83,11 +88,11 @@ class Playing:
         match = open_match.match
         if open_match.result:
             self.results[match.id] = open_match.result
-            self.took.setdefault(match.game, []).append(time.monotonic() - open_match.seated)
+            self.took.setdefault(match.game, []).append(time.monotonic() - open_match.taken_at)
             self.reporter.ends(open_match.result, open_match.seconds)
             self.ends.set()
         elif open_match.why:
-            # The referee may be the first to see that the disk is full.
+            # The referee may be the first to notice that the disk is full.
             self.is_full |= open_match.why.endswith("write fault")
             self.left[match.id] = open_match.why
             self.reporter.line(f"no record {match.id}: {open_match.why}")
@@ -99,11 +104,11 @@ class Playing:
             self.waiting.append(match)
 
     def stop_game(self, match: Match) -> None:
-        """Has no further match begin of a game whose rules are wrong. Those that are open are played to their ends."""
+        """Lets no more matches of a game begin, because its rules are wrong. Open matches are played to their ends."""
         self.stopped[match.game] = f"{match.game} is not played on, since {match.id} is no match of its description"
         others = [waiting for waiting in self.waiting if waiting.game == match.game]
         self.left.update((other.id, self.stopped[match.game]) for other in others)
-        self.waiting = collections.deque(waiting for waiting in self.waiting if waiting.game != match.game)
+        self.waiting = deque(waiting for waiting in self.waiting if waiting.game != match.game)
         self.reporter.line(f"stopped {self.stopped[match.game]}; {len(others)} matches of it do not begin")
 
     async def go(self) -> None:
@@ -112,13 +117,13 @@ class Playing:
             shown = [self.group.create_task(self.show_progress()), self.group.create_task(self.show_results())]
             while self.is_going_on():
                 self.begin()
-                await self.hear_news()
+                await self.wait_for_news()
             for task in shown:
                 task.cancel()
         self.reporter.clear()
 
     def is_going_on(self) -> bool:
-        """Returns whether a match is open, or one waits and may begin: none if nobody gets its lines, or nothing can be added to the journal."""
+        """Returns whether a match is open, or one waits and may begin. None begins if nobody reads the output, or the journal cannot be written."""
         if self.reporter.fault and not self.interrupts:
             self.interrupts = 1
         if (fault := self.reporter.journal.fault) and not self.is_full:
@@ -126,25 +131,26 @@ class Playing:
             self.reporter.line(f"{fault.filename} is not written, and no more matches begin: {fault.strerror}")
         return bool(self.open or self.waiting and self.may_begin())
 
-    async def hear_news(self) -> None:
-        """Waits until something has happened that lets matches begin or end, or until a player has rested."""
-        until = self.seats.idle_until if self.waiting and self.may_begin() and self.looked < self.seats.idle_until < math.inf else None
+    async def wait_for_news(self) -> None:
+        """Waits until matches may begin or have ended, or until a player has rested."""
+        idle_until = self.slots.idle_until
+        until = idle_until if self.waiting and self.may_begin() and self.searched_at < idle_until < math.inf else None
         with contextlib.suppress(TimeoutError):
             async with asyncio.timeout_at(until):
                 await self.news.wait()
         self.news.clear()
 
     async def show_progress(self) -> None:
-        """Shows on a terminal how far the matches are, and how many seconds the rest takes."""
+        """Shows the progress and the time left on a terminal."""
         concurrent = {player.name: player.concurrent for player in self.plan.competition.players}
         while self.reporter.is_shown:
-            open_matches = [(open_match.match, time.monotonic() - open_match.seated) for open_match in self.open]
+            open_matches = [(open_match.match, time.monotonic() - open_match.taken_at) for open_match in self.open]
             left = seconds_left(self.waiting, open_matches, self.took, concurrent, self.at_once)
             self.reporter.progress(len(self.results), len(self.open), len(self.waiting), left)
             await asyncio.sleep(REDRAWN)
 
     async def show_results(self) -> None:
-        """Passes on the results when there are more, in a thread: matches go on meanwhile."""
+        """Calls `watch` when there are more results, in a thread, because matches go on meanwhile."""
         while self.watch:
             await self.ends.wait()
             self.ends.clear()
@@ -152,17 +158,17 @@ class Playing:
                 self.reporter.line(why)
 
     def interrupt(self, count: int) -> None:
-        """Has no more matches begin, or, the second time, ends those that are open."""
+        """Lets no more matches begin, or ends the open ones at the second interrupt."""
         before, self.interrupts = self.interrupts, self.interrupts + count
         self.news.set()
         if self.interrupts == 1:
-            at_play = sum(open_match.stage == PLAYING for open_match in self.open)
-            self.reporter.line(f"no more matches begin; {at_play} are played to their ends, or ended by one more Ctrl-C")
+            playing = sum(open_match.stage == PLAYING for open_match in self.open)
+            self.reporter.line(f"no more matches begin; {playing} are played to their ends, or ended by one more Ctrl-C")
         elif before < 2 and self.open:
             self.group.create_task(self.end_open_matches())
 
     async def end_open_matches(self) -> None:
-        """Ends the matches whose players are asked or play, and sends those that play ABORT. Matches that are being checked go on."""
+        """Ends the matches that are asking or playing, and sends the players of the latter ABORT. Matches that are being checked go on."""
         ended = {open_match: task for open_match, task in self.open.items() if open_match.stage in (ASKING, PLAYING)}
         broken = [open_match for open_match in ended if open_match.stage == PLAYING]
         for task in ended.values():
@@ -175,24 +181,23 @@ class Playing:
         await self.abort(places, ABORT_SECONDS, going_on)
 
     async def abort(self, places: dict[str, list[str]], seconds: float | None = None, going_on: Container[str] = ()) -> None:
-        """Sends the players of these matches ABORT, within so many seconds if they are given. The directory of a match is kept if one does
-        not answer, or if the match may be going on at a node, so that it is sent again."""
+        """Sends the players of these matches ABORT, within so many seconds if they are given. If a player does not answer, or the match may go on at a
+        node, the directory of the match stays, so that the next `play` sends it again."""
         folder = self.plan.folder
         for match in places:
             leave_players(folder.open / match)
         silent = await send_aborts(self.referee, places, seconds)
-        for match, found in places.items():
-            self.reporter.line(f"abort {match}: {', '.join(found)}")
+        for match, players in places.items():
+            self.reporter.line(f"abort {match}: {', '.join(players)}")
             if match in silent:
                 self.reporter.line(f"no answer to abort {match}: {', '.join(silent[match])}")
             elif match not in going_on:
                 shutil.rmtree(folder.open / match, ignore_errors=True)
 
     async def play_rounds(self) -> None:
-        """Plays the matches that wait, and round after round those that follow from them, unless something has hindered those before. In a
-        competition that pauses it is one round."""
+        """Plays the matches that wait, and then one round after the other, unless matches are missing. A competition that pauses plays one round."""
         for number, count in INTERRUPTS.items():
-            # A hang-up that is ignored, as under nohup, stays so.
+            # A hang-up that is ignored, for example under nohup, stays ignored.
             if number != signal.SIGHUP or signal.getsignal(number) != signal.SIG_IGN:
                 asyncio.get_running_loop().add_signal_handler(number, self.interrupt, count)
         may_pair = not self.plan.competition.pause or not self.waiting
@@ -202,15 +207,108 @@ class Playing:
                 may_pair = not self.plan.competition.pause
                 self.reporter.line(round_words(self.plan))
                 self.waiting.extend(matches)
-                self.seats.idle_until = 0.0
+                self.slots.idle_until = 0.0
                 await self.go()
         finally:
             await self.players.end()
 
 
+def seconds_left(
+    waiting: Iterable[Match], open_matches: Iterable[tuple[Match, float]], took: Mapping[str, list[float]], concurrent: Mapping[str, int], at_once: int
+) -> float | None:
+    """Estimates how many seconds the remaining matches take, or returns None before the first one has ended. They take at least as long as those of the
+    player with the most to play, and as all of them if as many as allowed are played at the same time. `open_matches` has for each match how long it
+    is open. A game without finished matches counts like the others."""
+    times = [seconds for game in took.values() for seconds in game]
+    if not times:
+        return None
+    lengths = {game: sum(of_game) / len(of_game) for game, of_game in took.items()}
+    mean = sum(times) / len(times)
+    rest = [(match.players, max(lengths.get(match.game, mean) - seconds, 0.0), 1) for match, seconds in open_matches]
+    longest = max((seconds for _, seconds, _ in rest), default=0.0)
+    counts = Counter((match.game, match.players) for match in waiting)
+    rest += [(players, lengths.get(game, mean), count) for (game, players), count in counts.items()]
+    loads: Counter[str] = Counter()
+    for players, seconds, count in rest:
+        for player in players:
+            loads[player] += seconds * count / concurrent[player]
+    whole = sum(seconds * count for _, seconds, count in rest)
+    return max(whole / at_once, longest, *loads.values(), 0.0)
+
+
+# ---- before the first match
+
+
+def open_directories(plan: Plan) -> dict[pathlib.Path, list[str]]:
+    """Returns the directories of matches that were open when an earlier `play` was killed, also by an earlier plan, with the players that they name."""
+    ids, directories = {match.id for match in plan.matches}, {}
+    for directory in sorted(plan.folder.open.iterdir()):
+        if directory.is_symlink() or not directory.is_dir():
+            continue
+        places = []
+        with contextlib.suppress(OSError, ValueError):
+            places = file_bytes(directory / PLAYERS, MOST_OF_PLACES).decode("ascii").split()
+        places = places if all(map(is_place, places)) else []
+        if places or directory.name in ids:
+            directories[directory] = places
+    return directories
+
+
+def abort_open_matches(playing: Playing, directories: dict[pathlib.Path, list[str]]) -> None:
+    """Sends ABORT to the players of matches that were open when an earlier `play` was killed. Players that it had started have ended by now."""
+    left = {}
+    for directory, places in directories.items():
+        others = [place for place in places if place.partition("@")[0] not in playing.players.players]
+        if directory.name in playing.results or not others:
+            shutil.rmtree(directory)
+        else:
+            left[directory.name] = others
+    if left:
+        asyncio.run(playing.abort(left))
+
+
+def set_all_aside(playing: Playing, faults: dict[str, str]) -> None:
+    """Renames the files that do not count, because of these faults of records or without a record, and reports what happens to each match. A match that
+    another one replaces is not played any more."""
+    for match in playing.plan.matches:
+        if match.id not in playing.results and set_aside(playing.plan, match.id):
+            fault = faults.get(match.id)
+            what = f"refused {match.id}: {fault}; its files" if fault else f"aside {match.id}: it has no record; its other files"
+            then = f"{match.again} stays in its place" if match.again else match.withdrawn or ("it is played again" if fault else "it is played")
+            playing.reporter.line(f"{what} are set aside, and {then}")
+
+
+def prepare(playing: Playing) -> None:
+    """Checks the existing files, sends ABORT for matches that were open, and lets the other matches wait."""
+    plan, folder, reporter = playing.plan, playing.plan.folder, playing.reporter
+    folder.must_be_text()
+    playing.players.addresses = refuse_addresses(folder, plan.competition)
+    try:
+        folder.make(folder.records, folder.accounts, folder.logs, folder.open, *([folder.players] if playing.players.players else []))
+        folder.drop_unfinished()
+    except OSError as why:
+        raise Refused(f"{folder.path} can't be written: {why.filename}: {os.strerror(why.errno)}") from None
+    if others := unplanned_records(plan):
+        more = f", and {len(others) - 1} more" if others[1:] else ""
+        advice = f"move what is of no match out of {folder.records}, and play again"
+        raise Refused(f"{folder.records / others[0]} is of no match of the schedule{more}", advice)
+    directories = open_directories(plan)
+    if count := sum(bool(places) and not folder.record(directory.name).exists() for directory, places in directories.items()):
+        # The check of the records takes a while, and players that do not answer take longer.
+        reporter.line(f"open {count} matches, when a play before this one was ended; their players are sent ABORT")
+    reporter.draw("checking the records")
+    playing.results, faults, misfits = check_records(plan, playing.referee)
+    refuse_lost_results(plan, playing.results)
+    for match, why in misfits.items():
+        raise Refused(f"{folder.record(match)} is lawful, and of another match: {why}")
+    set_all_aside(playing, faults)
+    abort_open_matches(playing, directories)
+    playing.waiting.extend(match for match in plan.matches if match.id not in playing.results and match.counts())
+
+
 def play(playing: Playing) -> dict[str, str]:
-    """Plays, in a folder that is held. Returns for each match that has no lawful record why."""
-    # A shell mostly lets a process open fewer files: an open match takes several.
+    """Plays all matches. The caller holds the lock of the directory. Returns for each match without a lawful record the reason."""
+    # A shell usually lets a process open fewer files than many open matches need.
     allow_files()
     if sys.version_info < (3, 12):
         # The default is a thread for each process.

@@ -1,4 +1,4 @@
-"""Small plots, as SVG inside of a page: ratings with their intervals, goals over time, and response times."""
+"""Small SVG plots for pages: ratings with their intervals, goals over time, and response times."""
 
 import itertools
 import typing
@@ -13,7 +13,7 @@ WIDTH, ROW, MARGIN = 640, 20, 8
 NAMES, FIGURES = 150, 90
 MOST_ROWS, MOST_POINTS = 100, 200
 HEIGHT = 120
-# Each bar of response times reaches to twice the milliseconds of the one before it; the last one has all that is longer.
+# Each bar of response times ends at twice the milliseconds of the one before it. The last one has all longer times.
 BARS = 18
 
 
@@ -22,7 +22,7 @@ def drawn(plot: str, **values: object) -> "Markup":
 
 
 def rating_plot(lines: list[Line]) -> str:
-    """Returns the ratings of players with their intervals, a row for each; nothing where fewer than two have one."""
+    """Plots the ratings of players with their intervals. The text is empty for fewer than two ratings."""
     rated = [line for line in lines if line.rating and line.rating.rating is not None][:MOST_ROWS]
     if len(rated) < 2:
         return ""
@@ -42,19 +42,19 @@ def rating_plot(lines: list[Line]) -> str:
 
 
 def ticks(least: int, most: int) -> range:
-    """Returns round values between two, at most five."""
+    """Returns at most five round values between two values."""
     step = next(size for power in itertools.count() for size in (10**power, 2 * 10**power, 5 * 10**power) if (most - least) // size < 5)
     return range(-(-least // step) * step, most + 1, step)
 
 
 def sampled(values: list[float]) -> list[tuple[int, float]]:
-    """Returns so many of the values as a plot has room for, each with its number counted from 1; the last one is among them."""
+    """Returns as many values as fit into a plot, each with its number counted from 1. The last one is among them."""
     step = max(1, -(-len(values) // MOST_POINTS))
     return [(at + 1, value) for at, value in enumerate(values) if (len(values) - 1 - at) % step == 0]
 
 
 def goals_plot(goals: list[int]) -> str:
-    """Returns the goals of matches in their order, as dots, and the mean of all until then as a line; nothing for fewer than two."""
+    """Plots the goals of matches in their order as dots, and the mean until then as a line. The text is empty for fewer than two matches."""
     if len(goals) < 2:
         return ""
     means = [total / count for count, total in enumerate(itertools.accumulate(goals), 1)]
@@ -68,7 +68,7 @@ def goals_plot(goals: list[int]) -> str:
 
 
 def bar_of(milliseconds: int) -> int:
-    """Returns the bar of a response time: bar 0 has what took less than a millisecond."""
+    """Returns the bar of a response time. Bar 0 has times below one millisecond."""
     return min(BARS - 1, milliseconds.bit_length())
 
 
@@ -77,7 +77,7 @@ def spelt_time(milliseconds: int) -> str:
 
 
 def times_plot(counts: list[int]) -> str:
-    """Returns how many response times fall into each bar; nothing where there are none."""
+    """Plots how many response times fall into each bar. The text is empty without any."""
     if not any(counts):
         return ""
     most, wide = max(counts), (WIDTH - 20) / BARS

@@ -1,14 +1,14 @@
 """Ratings by the model of Bradley and Terry: a player with strength s beats one with strength t with the chance s / (s + t).
 
-The strengths are those under which the results are likeliest, where a draw counts as half a win for each. They are unique, up to a factor,
-exactly for players of whom each group has won something against the others (Ford, "Solution of a ranking problem from binary
-comparisons", The American Mathematical Monthly 64, 1957). So each such set of players is rated separately, and a player outside of all sets
-has no rating. A rating is 400 times the decimal logarithm of the strength, with the mean 0 in its group unless it has anchors. The intervals of 95% come from the
-observed information: the negative second derivatives of the logarithm of the likelihood, inverted where the sum of the ratings is 0. In
-tests with eight players of known strengths 763 of 800 intervals contain the strength."""
+The strengths are those with which the results are most likely. A draw counts as half a win for each. The strengths are unique, up to a factor, if
+each part of the players has won something against the others (Ford, "Solution of a ranking problem from binary comparisons", The American
+Mathematical Monthly 64, 1957). So each such group of players is rated separately, and a player without a group has no rating. A rating is 400 times
+the decimal logarithm of the strength. Its mean in a group is 0, unless the group has anchors. The intervals of 95% follow from the observed
+information: the negative second derivatives of the logarithm of the likelihood, inverted for ratings whose sum is 0. In tests with eight players of
+known strengths, 763 of 800 intervals contain the strength."""
 
 import math
-from collections.abc import Iterator, Mapping, Sequence
+from collections.abc import Mapping, Sequence
 from dataclasses import dataclass
 from types import MappingProxyType
 
@@ -21,48 +21,36 @@ MOST_STEPS, CLOSE = 100, 1e-8
 
 @dataclass(frozen=True)
 class Rating:
-    """A player's rating, half the length of its interval of 95%, and the group within which ratings compare. Without a group there is no
-    rating. In a group there is none if its results limit the strengths so little that floating-point numbers can't find them."""
+    """A player's rating, half the length of its interval of 95%, and the group in which ratings can be compared. Without a group a player has no
+    rating. A group has no ratings if its results limit the strengths so little that floating-point numbers cannot find them."""
 
     rating: float | None
     half: float | None
     group: int | None
 
 
-def searched(roots: Sequence[int], leads: numpy.ndarray) -> Iterator[list[int]]:
-    """Gives what depth-first search finds from each root and not from those before it, in the order in which it leaves them."""
-    is_new = numpy.ones(len(leads), bool)
-    for root in roots:
-        path, left = [root] if is_new[root] else [], []
-        while path:
-            is_new[path[-1]] = False
-            following = leads[path[-1]] & is_new
-            if following.any():
-                path.append(following.argmax())
-            else:
-                left.append(path.pop())
-        if left:
-            yield left
-
-
 def groups(points: numpy.ndarray) -> list[list[int]]:
-    """Returns the largest groups of players in which each has points, by a chain, against each other: strongly connected components, by
-    two searches (Kosaraju and Sharir). The order is that of their first players."""
-    order = [player for left in searched(range(len(points)), points > 0) for player in left]
-    return sorted(sorted(left) for left in searched(order[::-1], points.T > 0))
+    """Returns the largest groups of players in which each leads to each other by a chain of players with points against the next one, in the order of
+    their first players."""
+    leads = (points > 0) | numpy.eye(len(points), dtype=bool)
+    # Each step doubles the length of the chains.
+    for _ in range(len(points).bit_length()):
+        leads = leads.astype(numpy.float32) @ leads.astype(numpy.float32) > 0
+    both = leads & leads.T
+    return [both[first].nonzero()[0].tolist() for first in range(len(points)) if both[first].argmax() == first]
 
 
 def likeliest(points: numpy.ndarray) -> list[tuple[float, float]] | None:
-    """Returns the ratings of a group, each with half its interval, or None if they can't be found.
+    """Returns the ratings of a group, each with half its interval, or None if they cannot be found.
 
-    Newton's method; if a step would change the difference of two that have met by d, it is shortened to log(1 + d) / d of its length. Then
-    the likelihood grows with each step: meanwhile no second derivative grows by more than the factor 1 + d."""
+    This is Newton's method. A step that would change a difference of two players that have met by d is shortened to log(1 + d) / d of its length.
+    Then the likelihood grows with each step, because no second derivative grows by more than the factor 1 + d."""
     met, won, logs = points + points.T, points.sum(axis=1), numpy.zeros(len(points))
     for _ in range(MOST_STEPS):
         chances = 1 / (1 + numpy.exp(numpy.clip(logs - logs[:, None], -700, 700)))
         information = -met * chances * chances.T
         information -= numpy.diag(information.sum(axis=1))
-        # This adds 1 where all move together, which no result tells, so that there is an inverse.
+        # No result says anything about all ratings together. This adds 1 there, so that the matrix has an inverse.
         information += 1 / len(met)
         try:
             step = numpy.linalg.solve(information, won - (met * chances).sum(axis=1))
@@ -77,16 +65,16 @@ def likeliest(points: numpy.ndarray) -> list[tuple[float, float]] | None:
 
 
 def rated(players: Sequence[str], points: Mapping[tuple[str, str], float], anchors: Mapping[str, int] = MappingProxyType({})) -> dict[str, Rating]:
-    """Returns the rating of each player, where `points` has what each pair's first player got against the second: 1 for a match that
-    it won, a half for one that was drawn. The ratings of a group with anchors are shifted, so that the mean of the anchors is the given one."""
-    place, got = {player: at for at, player in enumerate(players)}, numpy.zeros((len(players), len(players)))
+    """Returns the rating of each player. `points` has the points of each pair's first player against the second: 1 for a win, a half for a draw. The
+    ratings of a group with anchors are shifted, so that the anchors have the given mean."""
+    numbers, matrix = {player: number for number, player in enumerate(players)}, numpy.zeros((len(players), len(players)))
     for (player, opponent), count in points.items():
-        got[place[player], place[opponent]] = count
-    found, several = dict.fromkeys(players, Rating(None, None, None)), (group for group in groups(got) if len(group) > 1)
-    for number, group in enumerate(several, 1):
-        ratings = likeliest(got[numpy.ix_(group, group)])
-        shifts = [anchors[players[member]] - rating for member, (rating, _) in zip(group, ratings or ()) if players[member] in anchors]
+        matrix[numbers[player], numbers[opponent]] = count
+    ratings = dict.fromkeys(players, Rating(None, None, None))
+    for number, group in enumerate((group for group in groups(matrix) if len(group) > 1), 1):
+        of_group = likeliest(matrix[numpy.ix_(group, group)])
+        shifts = [anchors[players[member]] - rating for member, (rating, _) in zip(group, of_group or ()) if players[member] in anchors]
         shift = sum(shifts) / (len(shifts) or 1)
-        for member, (rating, half) in zip(group, ratings or [(None, None)] * len(group)):
-            found[players[member]] = Rating(rating if rating is None else rating + shift, half, number)
-    return found
+        for member, (rating, half) in zip(group, of_group or [(None, None)] * len(group)):
+            ratings[players[member]] = Rating(rating if rating is None else rating + shift, half, number)
+    return ratings

@@ -1,27 +1,35 @@
-"""What came of a match, as its record says, and its times, as its log says."""
+"""The result of a match by its record, with forfeits by the rules of the competition, and its row in matches.jsonl."""
 
 import json
+import threading
 from collections import Counter
-from collections.abc import Iterator
-from dataclasses import astuple, dataclass
-from typing import NamedTuple
+from collections.abc import Iterator, Mapping
+from dataclasses import dataclass
+from typing import TYPE_CHECKING
 
+from ggp_tools.answers import Illegal, game_of
+from ggp_tools.competition.competition_file import Competition
 from ggp_tools.competition.schedule import Match
-from ggp_tools.records.lengths import without_states
+from ggp_tools.records.lengths import MOST_TURNS, states_in, without_states
 from ggp_tools.records.match_logs import Beginning
 from ggp_tools.records.show import winner_words as winner_of_worths
 
+if TYPE_CHECKING:
+    from ggp_tools.descriptions.loading import Rules
+
 WON, DRAWN, LOST = "won", "drawn", "lost"
-# What a player that is left alone by a forfeit gets, and several that are left share.
+# The goal of a single opponent of a player that forfeits; several share it if the match was aborted.
 FULL_GOAL = 100
-# Of a value that is wrong so many signs are cited.
+# The greatest length of a wrong value that is quoted.
 MOST_CITED = 200
+# A game stores what it has computed of a state, so only one thread at a time may use it.
+GAMES = threading.Lock()
 
 
 @dataclass(frozen=True)
 class Retirement:
-    """Why a role was retired, or has lost its match: the kinds of its errors in those turns that were one too many, and the last of these
-    turns; and the first one if they are not in a row."""
+    """Why a role was retired, or has forfeited its match: the kinds of its errors in the turns that led to this, the last of these turns, and the first
+    one if they are not in a row."""
 
     errors: tuple[str, ...]
     turn: int
@@ -36,8 +44,8 @@ class Retirement:
 
 @dataclass(frozen=True)
 class Result:
-    """What a record says of its match: by roles the goals (none where the match has none), how often each error came, and why roles
-    were retired. And whether the competition has a match lost for who was retired in it, and who has lost it by too many replaced moves."""
+    """What a record says about its match: by roles the goals (none if the match has none), the number of errors of each kind, and why roles were retired.
+    `has_forfeits` says whether retired players forfeit, and `lapses` who forfeits because of too many replaced moves."""
 
     match: Match
     goals: tuple[int, ...]
@@ -53,17 +61,17 @@ class Result:
         return sum(self.errors[role].values())
 
     def is_absent(self, role: int) -> bool:
-        """Returns whether each move of the role was replaced, so that its player has made none."""
+        """Returns whether all moves of the role were replaced."""
         return 0 < self.turns == self.replaced(role)
 
     def forfeits(self) -> dict[int, Retirement]:
-        """Returns the roles whose players have lost the match by forfeit, with the reason."""
+        """Returns the roles whose players have forfeited the match, with the reasons."""
         retired = self.retirements if self.has_forfeits else ()
-        return {role: why for found in (self.lapses, retired) for role, why in enumerate(found) if why}
+        return {role: why for whys in (self.lapses, retired) for role, why in enumerate(whys) if why}
 
     def counted(self) -> tuple[int | None, ...]:
-        """Returns the goals that count, by roles: none where none does. Who forfeited the match gets 0. A single opponent gets the full
-        goal, since moves that no player made have led to its own. Several keep their goals; where there are none they share the full goal."""
+        """Returns the goals that count, by roles, or None without goals. A player that forfeits gets 0. A single opponent gets the full goal, because
+        moves that no player made have led to its own goal. Several opponents keep their goals, or share the full goal without any."""
         lost, roles = self.forfeits(), range(len(self.retirements))
         if not lost:
             return self.goals or (None,) * len(roles)
@@ -72,13 +80,12 @@ class Result:
         return tuple(0 if role in lost else kept[role] for role in roles)
 
     def worths(self) -> tuple[int, ...] | None:
-        """Returns what orders the players of the match, by roles: the goals that count, and below each of them a forfeit. None where
-        there are none."""
+        """Returns numbers that order the players of the match, by roles: the goals that count, and -1 for a forfeit. Returns None without goals."""
         lost, goals = self.forfeits(), self.counted()
         return None if None in goals else tuple(-1 if role in lost else goal for role, goal in enumerate(goals))
 
     def outcome(self, role: int) -> str | None:
-        """Returns what the match was for a role: won, drawn or lost. None in a match of one role, or without goals that count."""
+        """Returns whether a role has won, drawn or lost. Returns None in a match of one role, or without goals that count."""
         worth = self.worths() or ()
         others = worth[:role] + worth[role + 1 :]
         if not others:
@@ -89,7 +96,7 @@ class Result:
 
 
 def forfeit_words(result: Result) -> str:
-    """Returns who has lost a match by forfeit, why, and what counts of it for each player. Empty where nobody has."""
+    """Says who has forfeited a match, why, and which goals count. The text is empty without a forfeit."""
     lost, players = result.forfeits(), result.match.players
     if not lost:
         return ""
@@ -98,17 +105,17 @@ def forfeit_words(result: Result) -> str:
 
 
 def winner_words(result: Result) -> str:
-    """Returns who won a match, or who drew. Empty where no goals count, and for one role."""
+    """Says who won a match, or who drew. The text is empty for one role, and without goals that count."""
     return winner_of_worths(result.match.players, result.worths() or ())
 
 
 def again_words(match: Match) -> str:
-    """Returns why a match does not count any more."""
+    """Says why a match does not count any more."""
     return f"{match.id} does not count: {match.withdrawn or f'{match.again} was ordered in its place: {match.reason}'}"
 
 
 def remarks(result: Result) -> Iterator[str]:
-    """Gives what there is to say of a match beside its goals: by what it was decided, and whether it counts."""
+    """Yields remarks about a match: forfeits, and whether it counts."""
     if result.forfeits():
         yield forfeit_words(result)
     if not result.match.counts():
@@ -118,31 +125,33 @@ def remarks(result: Result) -> Iterator[str]:
 
 
 def fault_of_record(record: dict, match: Match, strikes: int) -> str | None:
-    """Returns why a lawful record is not that of the match, or none."""
-    wanted = {
+    """Returns how a lawful record differs from its match, or None."""
+    expected = {
         "matchId": match.id,
         "players": list(match.players),
         "startClock": match.start,
         "playClock": match.play,
         "strikes": strikes,
     }
-    for key, value in wanted.items():
+    for key, value in expected.items():
         if record.get(key) != value:
-            said = "competition.toml" if key == "strikes" else "the schedule"
-            found = repr(record.get(key))
-            return f"its {key} is {found[:MOST_CITED]}{'..' * (len(found) > MOST_CITED)}, and {said} has {value!r}"
+            source = "competition.toml" if key == "strikes" else "the schedule"
+            actual = repr(record.get(key))
+            return f"its {key} is {actual[:MOST_CITED]}{'..' * (len(actual) > MOST_CITED)}, and {source} has {value!r}"
+    if len(record["moves"]) > MOST_TURNS:
+        return f"it has {len(record['moves']):,} turns, and a match has at most {MOST_TURNS:,}"
     if not all(0 <= goal <= FULL_GOAL for goal in record["goalValues"]):
         return f"one of its goals is not from 0 to {FULL_GOAL}"
     return None if record["phase"] in ("finished", "aborted") else f"its match is not over: {record['phase']}"
 
 
 def kind_of(error: str) -> str:
-    """Returns the error without the text that was answered."""
+    """Returns an error without the answer."""
     return "IL" if error.startswith("IL ") else error
 
 
 def retirement_of(record: dict, role: int) -> Retirement | None:
-    """Returns why the role was retired: its moves were replaced in as many turns in a row as the strikes say. None where it was not."""
+    """Returns why a role was retired, after replaced moves in as many turns in a row as the strikes say, or None."""
     row: list[str] = []
     for number, turn in enumerate(record["errors"] if record["strikes"] else (), 1):
         if not turn[role]:
@@ -155,7 +164,7 @@ def retirement_of(record: dict, role: int) -> Retirement | None:
 
 
 def result_of(record: dict, match: Match, has_forfeits: bool = False, lapses: tuple[Retirement | None, ...] = ()) -> Result:
-    """Returns what a record says of its match, in a competition with or without forfeits, where these roles have lost it by replaced moves."""
+    """Returns the result of a match by its record. `has_forfeits` and `lapses` are explained at the class."""
     roles = range(len(match.players))
     errors = tuple(Counter(kind_of(turn[role]) for turn in record["errors"] if turn[role]) for role in roles)
     retirements = tuple(retirement_of(record, role) for role in roles)
@@ -163,63 +172,65 @@ def result_of(record: dict, match: Match, has_forfeits: bool = False, lapses: tu
     return Result(match, tuple(record["goalValues"]), len(record["moves"]), errors, retirements, *end, has_forfeits, lapses)
 
 
-def values_of(result: Result) -> list:
-    """Returns what a record says of its match, as values of JSON."""
-    whys = [[why and astuple(why) for why in found] for found in (result.retirements, result.lapses)]
-    return [result.goals, result.turns, result.errors, *whys, result.phase, result.cause]
+def lapse_of(record: dict, data: bytes, rules: "Rules", role: int, most: int) -> Retirement | None:
+    """Returns why a role has lost a match by so many replaced moves, or None. A turn in which the ground game has one legal move for it does not
+    count."""
+    errors, lapses = [turn[role] for turn in record["errors"]], []
+    if len(errors) - errors.count("") < most:
+        return None
+    with GAMES:
+        for turn, (error, state) in enumerate(zip(errors, states_in(data))):
+            if error and len(Illegal({turn: state}, rules.roles, lambda: game_of(rules.text)).legal(role, turn)) != 1:
+                lapses.append((kind_of(error), turn + 1))
+                if len(lapses) == most:
+                    kinds, turns = zip(*lapses)
+                    return Retirement(kinds, turns[-1], turns[0])
+    return None
 
 
-def result_of_values(values: list, match: Match, has_forfeits: bool) -> Result:
-    """Returns the result of a match that these values say."""
-    goals, turns, errors, *whys, phase, cause = values
-    retirements, lapses = (tuple(why and Retirement(tuple(why[0]), *why[1:]) for why in found) for found in whys)
-    return Result(match, tuple(goals), turns, tuple(map(Counter, errors)), retirements, phase, cause, has_forfeits, lapses)
+def counted_result(record: dict, data: bytes, match: Match, competition: Competition, rules: "Rules") -> Result:
+    """Returns the result of a match by its record, which was read from these bytes, and by the rules of its competition."""
+    most, roles = competition.faults.replaced, range(len(match.players))
+    lapses = tuple(lapse_of(record, data, rules, role, most) for role in roles) if most else ()
+    return result_of(record, match, competition.forfeit, lapses)
 
 
 def read_record(data: bytes) -> dict:
-    """Returns the record that the bytes of a file spell, which `verify` has called lawful, without its states."""
+    """Parses a lawful record without its states."""
     return json.loads(without_states(data))
 
 
 def forfeit_keys(result: Result) -> dict[str, object]:
-    """Returns what the line of a match says of its forfeit: who has lost it so, why, and which goals count in place of its own."""
+    """Returns the keys of a match about its forfeits: who has forfeited it, why, and which goals count."""
     lost, players = result.forfeits(), result.match.players
     if not lost:
         return {}
-    said = [{"player": players[role], "errors": why.errors, "turn": why.turn} for role, why in lost.items()]
-    return {"forfeit": said, "counted": result.counted()}
+    forfeits = [{"player": players[role], "errors": why.errors, "turn": why.turn} for role, why in lost.items()]
+    return {"forfeit": forfeits, "counted": result.counted()}
 
 
 def again_keys(match: Match) -> dict[str, object]:
-    """Returns what the line of a match says of its round, of the match that was ordered in its place and why, in whose place it is, and who has
-    withdrawn so that it does not count."""
-    said = {"round": match.round, "again": match.again, "reason": match.reason, "insteadOf": match.instead_of, "withdrawn": match.withdrawn}
-    return {key: value for key, value in said.items() if value}
+    """Returns the keys of a match about its round, its replacement, and players that have withdrawn, as far as they apply."""
+    keys = {"round": match.round, "again": match.again, "reason": match.reason, "insteadOf": match.instead_of, "withdrawn": match.withdrawn}
+    return {key: value for key, value in keys.items() if value}
 
 
 def result_keys(result: Result) -> dict[str, object]:
-    """Returns how a match ended."""
+    """Returns the keys of a match about its end."""
     ended = {"turns": result.turns, "phase": result.phase, "cause": result.cause}
     return {"goals": result.goals, **forfeit_keys(result), **again_keys(result.match), **ended}
 
 
-class Sums(NamedTuple):
-    """The sums of what a result comes from: of the record, of the rules, and of the description that these were made from."""
-
-    record: str
-    rules: str
-    description: str | None = None
-
-
-def match_line(result: Result, sums: Sums, logged: Beginning, broken: list[dict[str, object]]) -> bytes:
-    """Returns the match as one line of JSON; `broken` has the answers that were broken, with their reasons."""
+def match_line(result: Result, sums: Mapping[str, str | None], logged: Beginning, broken: list[dict[str, object]]) -> bytes:
+    """Returns a match as one line of JSON. `sums` has the checksums of the record, of the rules, and of the description from which these were made, and
+    `broken` the broken answers with their reasons."""
     match = result.match
-    said = {
+    values = {
         "id": match.id,
-        "record": sums.record,
+        "record": sums["record"],
         "game": match.game,
-        "rules": sums.rules,
-        "description": sums.description,
+        "rules": sums["rules"],
+        "description": sums["description"],
         "players": match.players,
         **result_keys(result),
         "errors": [dict(sorted(errors.items())) for errors in result.errors],
@@ -227,4 +238,4 @@ def match_line(result: Result, sums: Sums, logged: Beginning, broken: list[dict[
         "messages": logged.by_role(len(match.players)),
         "broken": broken,
     }
-    return (json.dumps(said, separators=(",", ":")) + "\n").encode("ascii")
+    return (json.dumps(values, separators=(",", ":")) + "\n").encode("ascii")

@@ -1,4 +1,4 @@
-"""What the pages say of the rounds of a Swiss competition or a knockout: how many there are, who meets whom, and what came of it."""
+"""The rounds of a Swiss competition or a knockout on the pages: their number, the pairings, and the results."""
 
 from collections.abc import Iterator
 
@@ -12,49 +12,49 @@ from ggp_tools.competition.rounds import (
 from ggp_tools.competition.schedule import Match
 from ggp_tools.competition.table_text import count_of_planned, points_text
 
-# A round, a pair, of whom the second may be missing, and their points, goals and matches.
+# A round, a pair, whose second player may be missing, and their points, goals and matches.
 Row = tuple[int, tuple[str, str], list[str]]
-# A player in a bracket, its points, and whether it has come through; the name is empty as long as it is not known.
+# A player in a bracket, its points, and whether it advances. The name is empty as long as it is not known.
 Place = tuple[str, str, bool]
-# Of a bracket the rounds of so many pairs at most are drawn. BYE is in the place of an opponent.
+# A bracket shows only rounds with at most so many pairs. BYE stands for a missing opponent.
 MOST_PAIRS, BYE = 32, "(bye)"
 
 
 def count_of_all(plan: Plan) -> int:
-    """Returns how many matches count, if each is played, with those of rounds that are not planned yet."""
+    """Returns how many matches count if all are played, with those of rounds that are not planned yet."""
     return count_of_planned(plan) + (matches_to_come(plan.competition, plan.rounds) if plan.rounds else 0)
 
 
 def rounds_words(plan: Plan) -> str:
-    """Returns how many rounds are planned, and how many matches later ones have; nothing where there are no rounds."""
+    """Says how many rounds are planned, and how many matches later rounds have. The text is empty without rounds."""
     if not plan.rounds:
         return ""
     left = matches_to_come(plan.competition, plan.rounds)
-    said = f"; {left:,} matches of later rounds are to come, which are not planned yet" if left else ""
-    return f" Round {len(plan.rounds)} of {rounds_of(plan.competition)}{said}."
+    later = f"; {left:,} matches of later rounds are to come, which are not planned yet" if left else ""
+    return f" Round {len(plan.rounds)} of {rounds_of(plan.competition)}{later}."
 
 
 def round_text(competition: Competition, match: Match) -> str:
-    """Returns the round of a match; an empty text if it has none."""
+    """Names the round of a match. The text is empty if it has none."""
     return f"Round {match.round} of {rounds_of(competition)}." if match.round else ""
 
 
 def rounds_part(plan: Plan, results: list[Result], most: int) -> Part:
-    """Returns who meets whom in each round that is planned, the last one first, and what came of it; so many rows at most."""
+    """Returns the pairings and their results in each planned round, the last one first, with at most so many rows."""
     of_meeting = by_meeting(result for result in results if result.match.counts())
-    rows = [row for found in reversed(plan.rounds) for row in rows_of(plan.competition, found, of_meeting)]
-    return part("rounds", rows=rows[:most], count=len(rows)) if rows else Part("rounds", "")
+    rows = [row for planned in reversed(plan.rounds) for row in rows_of(plan.competition, planned, of_meeting)]
+    return part("rounds", rows, rows=rows[:most], count=len(rows))
 
 
-def rows_of(competition: Competition, found: Round, of_meeting: dict[Meeting, list[Result]]) -> list[Row]:
+def rows_of(competition: Competition, planned: Round, of_meeting: dict[Meeting, list[Result]]) -> list[Row]:
     """Returns the rows of a round: its pairs, and then its byes."""
     rows = []
-    for pair in found.pairs:
-        over = of_meeting[found.number, frozenset(pair)]
+    for pair in planned.pairs:
+        over = of_meeting[planned.number, frozenset(pair)]
         scores = scores_of(competition, (), over)
         points, goals = (" : ".join(points_text(counts[player]) for player in pair) for counts in (scores.points, scores.goals))
-        rows.append((found.number, pair, [points, goals, f"{len(over)} of {scores.meeting}"]))
-    return rows + [(found.number, (player, ""), [""] * 3) for player in found.byes]
+        rows.append((planned.number, pair, [points, goals, f"{len(over)} of {scores.meeting}"]))
+    return rows + [(planned.number, (player, ""), [""] * 3) for player in planned.byes]
 
 
 def bracket_part(plan: Plan, results: list[Result]) -> Part:
@@ -66,7 +66,7 @@ def bracket_part(plan: Plan, results: list[Result]) -> Part:
 
 
 def bracket_rounds(plan: Plan, results: list[Result]) -> Iterator[list[tuple[Place, Place]]]:
-    """Gives the pairs of each round in the order of the bracket, also of rounds that are not planned."""
+    """Yields the pairs of each round in the order of the bracket, also of rounds that are not planned."""
     competition, swiss, of_meeting = plan.competition, swiss_rounds(plan.competition), by_meeting(results)
     _, names = scores_and_seeds(competition, plan.rounds, results)
     seeds, withdrawn = [name for name in names if not swiss or name in plan.rounds[swiss].players()], withdrawn_by(competition, plan.rounds)

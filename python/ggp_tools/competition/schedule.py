@@ -1,4 +1,4 @@
-"""The matches of a competition: who meets whom in which game, and the file that says it. The same competition gives the same ones."""
+"""The matches of a competition: who plays whom in which game, and schedule.tsv. The same competition gives the same matches."""
 
 import base64
 import hmac
@@ -11,17 +11,17 @@ from ggp_tools.competition.competition_file import ROUND_KINDS, Competition, Mis
 
 HEAD = "id\tgame\tstart\tplay\tplayers\n"
 MOST_MATCHES = 100_000
-# So many letters and digits of an id that can't be guessed follow from the key: 60 bits.
+# The number of letters and digits of a random id that follow from the key: 60 bits.
 SECRET_LETTERS = 12
-# The first fields of a line: the match, its game, and its clocks.
-ROW = re.compile(r"[A-Za-z0-9_.-]{1,60}\t[A-Za-z0-9_.-]{1,40}\t[0-9]{1,5}\t[0-9]{1,5}")
+# The match, its game, its clocks, and the players.
+ROW = re.compile(rb"([A-Za-z0-9_.-]{1,60})\t([A-Za-z0-9_.-]{1,40})\t([0-9]{1,5})\t([0-9]{1,5})\t([A-Za-z0-9_. -]+)\n?")
 
 
 @dataclass(frozen=True)
 class Match:
-    """A match: its id, its game, its clocks, and its players' names in the order of the roles. Its round, in a competition by rounds. And
-    where it does not count any more, the match that was ordered in its place, with the reason; that one names this one. Or who has withdrawn,
-    so that it does not count, or is not played."""
+    """A match: its id, its game, its clocks, its players' names in the order of the roles, and its round, if there are rounds. `again` is the match that
+    replaces it, with the reason, and `instead_of` the match that it replaces. `withdrawn` says who has withdrawn, so that it does not count, or is
+    not played."""
 
     id: str
     game: str
@@ -42,9 +42,9 @@ class Match:
 
 
 def circle_steps(count: int, roles: int, rounds: int) -> Iterator[tuple[int, ...]]:
-    """Gives, block by block, how far the player of each seat stands behind that of the first seat, where all players stand in a circle.
-    A block has a match for each place of the circle, so in it each player sits in each seat once. Between two seats each step comes as
-    often as can be: with two roles exactly once a round, else the step of which the players have met least."""
+    """Yields for each block of matches how far the player of each role is from that of the first role, in a circle of all players. A block has a match
+    for each place in the circle, so each player has each role once. With two roles, each distance occurs once in a round. With more, the distance
+    is chosen at which players have met least."""
     if roles == 1:
         yield from [(0,)] * rounds
         return
@@ -64,26 +64,26 @@ def circle_steps(count: int, roles: int, rounds: int) -> Iterator[tuple[int, ...
 
 
 def round_robin(players: Sequence[str], roles: int, rounds: int) -> Iterator[tuple[str, ...]]:
-    """Gives the players of each match: with two roles each pair in both orders, with one each player alone."""
+    """Yields the players of each match: with two roles each pair in both orders, with one role each player."""
     for steps in circle_steps(len(players), roles, rounds):
         for first in range(len(players)):
             yield tuple(players[(first + step) % len(players)] for step in steps)
 
 
 def gauntlet(players: Sequence[str], one: str, roles: int, rounds: int) -> Iterator[tuple[str, ...]]:
-    """Gives the players of each match of one against all: the one sits in each seat in turn, the others in the seats beside it."""
+    """Yields the players of each match of one player against all others. It plays each role in turn."""
     if roles == 1:
         yield from round_robin(players, 1, rounds)
         return
     others = [player for player in players if player != one]
-    for seat in [*range(roles)] * rounds:
+    for role in [*range(roles)] * rounds:
         for first in range(len(others)):
-            beside = [others[(first + offset) % len(others)] for offset in range(roles - 1)]
-            yield (*beside[:seat], one, *beside[seat:])
+            opponents = [others[(first + offset) % len(others)] for offset in range(roles - 1)]
+            yield (*opponents[:role], one, *opponents[role:])
 
 
 def mistakes_of_numbers(competition: Competition, roles: Mapping[str, int]) -> Iterator[Mistake]:
-    """Gives where the number of players does not fit the roles of a game."""
+    """Yields a mistake for each game or line whose roles do not fit the number of players."""
     form, games = competition.form, {game.name: game for game in competition.games}
     if form.kind == "schedule":
         for line in form.lines:
@@ -99,8 +99,8 @@ def mistakes_of_numbers(competition: Competition, roles: Mapping[str, int]) -> I
             yield Mistake(game.line, "games.file", words)
 
 
-def seatings(competition: Competition, roles: Mapping[str, int]) -> Iterator[tuple[str, Sequence[str]]]:
-    """Gives each match's game and players."""
+def pairings(competition: Competition, roles: Mapping[str, int]) -> Iterator[tuple[str, Sequence[str]]]:
+    """Yields the game and the players of each match."""
     form, players = competition.form, [player.name for player in competition.players]
     if form.kind == "schedule":
         for line in form.lines:
@@ -108,24 +108,22 @@ def seatings(competition: Competition, roles: Mapping[str, int]) -> Iterator[tup
             yield name, players
         return
     for game in competition.games:
-        seats = roles[game.name]
-        found = gauntlet(players, form.one, seats, form.rounds) if form.kind == "gauntlet" else round_robin(players, seats, form.rounds)
-        yield from ((game.name, seated) for seated in found)
+        count = roles[game.name]
+        matches = gauntlet(players, form.one, count, form.rounds) if form.kind == "gauntlet" else round_robin(players, count, form.rounds)
+        yield from ((game.name, pairing) for pairing in matches)
 
 
 def asked(competition: Competition, roles: Mapping[str, int]) -> list[tuple[str, tuple[str, ...]]]:
-    """Returns the matches that competition.toml asks for, each a game and its players, where the numbers of roles of its games are known by
-    their names."""
+    """Returns the matches that competition.toml asks for, each as a game and its players. `roles` has the number of roles of each game."""
     refuse_numbers(competition, roles)
-    found = list(itertools.islice(seatings(competition, roles), MOST_MATCHES + 1))
-    refuse_too_many(competition, len(found))
-    return [(name, tuple(players)) for name, players in found]
+    matches = list(itertools.islice(pairings(competition, roles), MOST_MATCHES + 1))
+    refuse_too_many(competition, len(matches))
+    return [(name, tuple(players)) for name, players in matches]
 
 
 def refuse_numbers(competition: Competition, roles: Mapping[str, int]) -> None:
     """Refuses a competition whose players do not fit the roles of its games."""
-    mistakes = list(mistakes_of_numbers(competition, roles))
-    if mistakes:
+    if mistakes := list(mistakes_of_numbers(competition, roles)):
         raise Mistaken(mistakes)
 
 
@@ -135,19 +133,24 @@ def refuse_too_many(competition: Competition, count: int) -> None:
 
 
 def id_of(competition: Competition, number: int, width: int, key: bytes = b"") -> str:
-    """Returns the id of the match with a number, from 1 on. The numbers have as many digits as those of the matches that were planned
-    first need, or more. With a key nobody guesses the id who does not know the key."""
+    """Returns the id of the match with a number, counted from 1. The number has at least as many digits as those of the matches that were planned first.
+    Without the key, nobody can guess an id with a key."""
     counted = f"{competition.name}-{number:0{max(3, width)}}"
     digest = base64.b32encode(hmac.digest(key, counted.encode("ascii"), "sha256")).decode("ascii").lower() if key else ""
     return f"{counted}-{digest[:SECRET_LETTERS]}" if key else counted
 
 
 def matches_in(schedule: bytes, competition: Competition) -> list[Match]:
-    """Returns the matches of a file as `schedule_text` writes it, without lines that are of no match of the competition."""
+    """Returns the matches of a file that `schedule_text` has written, without rows that are not matches of the competition."""
     games, names = {game.name for game in competition.games}, {player.name for player in competition.players}
-    rows = [line.split("\t") for line in schedule.decode("ascii", "replace").splitlines()[1:]]
-    found = [Match(row[0], row[1], int(row[2]), int(row[3]), tuple(row[4].split())) for row in rows if len(row) == 5 and ROW.fullmatch("\t".join(row[:4]))]
-    return [match for match in found if match.game in games and names.issuperset(match.players)]
+    rows = ([field.decode("ascii") for field in row.groups()] for line in schedule.splitlines()[1:] if (row := ROW.fullmatch(line)))
+    matches = [Match(match, game, int(start), int(play), tuple(players.split())) for match, game, start, play, players in rows]
+    return [match for match in matches if match.game in games and names.issuperset(match.players)]
+
+
+def is_row(line: bytes) -> bool:
+    """Returns whether a line of schedule.tsv is a match."""
+    return ROW.fullmatch(line) is not None
 
 
 def schedule_text(matches: Iterable[Match]) -> bytes:

@@ -7,6 +7,7 @@ import re
 import signal
 from collections.abc import Callable
 
+from ggp_tools.competition.competition_file import MOST_PORT
 from ggp_tools.competition.files import Folder, Refused, allow_files
 from ggp_tools.competition.live_site import LiveSite, plan_stamp
 from ggp_tools.competition.plan import read_plan
@@ -18,6 +19,8 @@ MOST_CONNECTIONS, MOST_DELAY = 4_096, 3_600
 # So many files may be open beside the connections.
 OTHER_FILES = 64
 NAME = "[A-Za-z0-9]([A-Za-z0-9.-]{0,251}[A-Za-z0-9])?"
+ORIGIN = re.compile(f"(https?)://({NAME})(?::([0-9]{{1,5}}))?", re.IGNORECASE)
+DEFAULT_PORTS = {"http": 80, "https": 443}
 
 
 def matching(form: str, wanted: str) -> Callable[[str], str]:
@@ -33,12 +36,20 @@ def matching(form: str, wanted: str) -> Callable[[str], str]:
 
 HOST = matching(NAME, "a host name, such as cup.example.org")
 BASE = matching("(/[A-Za-z0-9_~-][A-Za-z0-9._~-]*)*", "a path that begins with / and does not end with it, such as /cup")
-ORIGIN = matching(f"https?://{NAME}(:[0-9]{{1,5}})?", "an origin, such as https://club.example")
+
+
+def origin(text: str) -> str:
+    """Returns an origin as browsers write it: in small letters, and without the usual port of its scheme."""
+    found = ORIGIN.fullmatch(text)
+    if not found or not 1 <= int(found[4] or 1) <= MOST_PORT:
+        raise argparse.ArgumentTypeError(f"expected an origin, such as https://club.example, found {text!r}")
+    scheme, name, port = found[1].lower(), found[2].lower(), int(found[4] or 0)
+    return f"{scheme}://{name}" if port in (0, DEFAULT_PORTS[scheme]) else f"{scheme}://{name}:{port}"
 
 
 def add_serve(command: argparse.ArgumentParser) -> None:
     """Adds the options of `serve`."""
-    command.add_argument("--port", type=whole(0, 65_535), default=8_000, metavar="P", help="the port (8000); 0: any that is free")
+    command.add_argument("--port", type=whole(0, MOST_PORT), default=8_000, metavar="P", help="the port (8000); 0: any that is free")
     text = "the address at which it listens (127.0.0.1, which this computer alone can reach; 0.0.0.0: all)"
     command.add_argument("--bind", type=address, default="127.0.0.1", metavar="ADDRESS", help=text)
     text = "at most N connections at once (256)"
@@ -49,7 +60,7 @@ def add_serve(command: argparse.ArgumentParser) -> None:
     command.add_argument("--host", type=HOST, action="append", default=[], metavar="NAME", help=text)
     command.add_argument("--base-path", type=BASE, default="", metavar="PATH", help="the path below which a proxy has the pages, such as /cup")
     text = "an origin whose pages may show these pages in a frame, such as https://club.example; may be given several times"
-    command.add_argument("--embed", type=ORIGIN, action="append", default=[], metavar="ORIGIN", help=text)
+    command.add_argument("--embed", type=origin, action="append", default=[], metavar="ORIGIN", help=text)
 
 
 def run_serve(asked: argparse.Namespace, referee: Referee) -> int:

@@ -1,49 +1,42 @@
-"""What is made of many matches, by several processes."""
+"""Calls a function for many matches in several processes."""
 
 import concurrent.futures.process
 import itertools
 import multiprocessing
+import os
 import signal
 import threading
 import typing
 from collections.abc import Callable, Iterator, Sequence
 
-from ggp_tools.competition.kept import PROCESSORS
 from ggp_tools.referee import Unchecked
 
-# So many works are done by several processes, each so many at a time.
+PROCESSORS = min(8, len(os.sched_getaffinity(0)))
+# The calls that are worth several processes, and how many of them a process gets at a time.
 MANY, CHUNK = 100, 16
+# In such a process: the function and the arguments of each call. They are inherited, and not sent.
+WORK: list[typing.Any] = []
 
 
-class Works(typing.NamedTuple):
-    """A function, and what it is to be called with. The processes have it from the one that splits, so it is not sent to them."""
-
-    function: Callable[..., object]
-    works: Sequence[tuple]
-
-
-SPLIT = Works(tuple, [])
-
-
-def ignore_interrupts() -> None:
-    """Has an interrupt be that of the process that waits for this one."""
+def begin(function: Callable[..., object], calls: Sequence[tuple]) -> None:
+    """Begins such a process. An interrupt is meant for the process that waits for it."""
     signal.signal(signal.SIGINT, signal.SIG_IGN)
+    WORK[:] = function, calls
 
 
-def made_of(at: int) -> object:
-    return SPLIT.function(*SPLIT.works[at])
+def called(at: int) -> object:
+    function, calls = WORK
+    return function(*calls[at])
 
 
-def made_side_by_side(function: Callable[..., object], works: Sequence[tuple]) -> Iterator[typing.Any]:
-    """Gives what a function makes of these works, in order: by several processes where it is worth it. A process that runs other threads
-    is not split."""
-    global SPLIT
-    if len(works) < MANY or PROCESSORS == 1 or threading.active_count() > 1:
-        yield from itertools.starmap(function, works)
+def made_side_by_side(function: Callable[..., object], calls: Sequence[tuple]) -> Iterator[typing.Any]:
+    """Yields what a function returns for each of these arguments, in order. It uses several processes if there are many calls, unless this process
+    has other threads, with which it cannot fork."""
+    if len(calls) < MANY or PROCESSORS == 1 or threading.active_count() > 1:
+        yield from itertools.starmap(function, calls)
         return
-    SPLIT, fork = Works(function, works), multiprocessing.get_context("fork")
-    with concurrent.futures.ProcessPoolExecutor(PROCESSORS, fork, ignore_interrupts) as at_once:
+    with concurrent.futures.ProcessPoolExecutor(PROCESSORS, multiprocessing.get_context("fork"), begin, (function, calls)) as pool:
         try:
-            yield from at_once.map(made_of, range(len(works)), chunksize=CHUNK)
+            yield from pool.map(called, range(len(calls)), chunksize=CHUNK)
         except concurrent.futures.process.BrokenProcessPool:
             raise Unchecked("matches can't be checked, or pages made: a process was ended, as where memory is short") from None

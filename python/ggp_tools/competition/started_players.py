@@ -1,4 +1,4 @@
-"""The players that the competition starts itself, here or by launchers: each with a port, limits, a log, and an end."""
+"""Players that the competition starts and ends, on this computer or by launchers, each with a port, limits and a log."""
 
 import asyncio
 import contextlib
@@ -16,22 +16,22 @@ from ggp_tools.printable import MOST_READ, message_lines
 from ggp_tools.referee import Referee
 from ggp_tools.reporting import Reporter
 
-# The address of a player that is not there: nobody answers at this port.
+# The address of a player that does not run. Nothing listens at this port.
 HERE, NOWHERE = "127.0.0.1", "127.0.0.1:1"
-# A player has so many seconds to end.
+# A player must end within so many seconds.
 END_SECONDS = 15
-# Between two INFO to a player that comes up there is a pause: this one first, then twice the one before, up to a second.
+# The pause between two INFO to a player that is starting. Each is twice the one before, up to a second.
 FIRST_PAUSE, LONGEST_PAUSE = 0.05, 1.0
-# A log that has more bytes is renamed, and a new one begun; the one that was renamed before is lost.
+# A larger log is renamed, and replaces the one that was renamed before.
 MOST_BYTES = 1 << 20
-# A player that says so many bytes at once is read again after a pause, so that it holds up no match.
+# If so many bytes come at once, the next ones are read after a pause, so that a player cannot slow down matches.
 CHUNK, CHUNK_PAUSE = 1 << 16, 0.02
-# So many last lines show why a player does not come up.
+# If a player does not start, so many of its last lines are reported.
 LAST_LINES = 5
 
 
 class PlayerLog:
-    """The file NAME.log, which has what a player prints and says."""
+    """The file NAME.log, which has the output of a player."""
 
     def __init__(self, path: pathlib.Path) -> None:
         self.path, self.size = path, path.stat().st_size if path.exists() else 0
@@ -42,17 +42,17 @@ class PlayerLog:
             await asyncio.sleep(CHUNK_PAUSE)
 
     def write(self, data: bytes) -> None:
-        """Adds what has come. What can't be written is lost: a full disk ends no player."""
+        """Appends output. What cannot be written is lost, because a full disk must not end the player."""
         with contextlib.suppress(OSError):
             if self.size > MOST_BYTES:
                 os.replace(self.path, f"{self.path}.1")
-            # Like all of an open match, only the user who plays it reads it.
+            # Like the directory of open matches, only its owner can read it.
             with open(self.path, "ab", buffering=0) if self.path.exists() else new_file(self.path) as file:
                 file.write(data)
                 self.size = file.tell()
 
     def last_lines(self) -> list[str]:
-        """Returns the last lines, none if there is nothing."""
+        """Returns the last lines, or none if the file is empty or missing."""
         try:
             return message_lines(file_bytes(self.path)[-MOST_READ:])[-LAST_LINES:]
         except OSError:
@@ -60,13 +60,13 @@ class PlayerLog:
 
 
 class StartedPlayer:
-    """A player with a command. `matches` are those that it plays now."""
+    """A player with a command. `matches` are the matches that it is playing."""
 
     def __init__(self, folder: Folder, player: Player, number: int, referee: Referee, reporter: Reporter) -> None:
         self.folder, self.name, self.command, self.number = folder, player.name, player.command, number
         self.referee, self.reporter, self.log = referee, reporter, PlayerLog(folder.players / f"{player.name}.log")
         self.job, self.address, self.port, self.was_started = None, NOWHERE, 0, False
-        self.lock, self.matches, self.shown = asyncio.Lock(), set(), []
+        self.lock, self.matches, self.reported_lines = asyncio.Lock(), set(), []
         self.watching: asyncio.Task | None = None
 
     def place(self) -> str:
@@ -76,7 +76,7 @@ class StartedPlayer:
         return self.job is not None and not self.job.running.done()
 
     async def ready(self, match: str) -> None:
-        """Starts the player for a match, unless it runs. If it does not come up, that is reported, and it is asked in vain."""
+        """Starts the player for a match, unless it is running. If it does not start, that is reported, and it is silent in the match."""
         async with self.lock:
             if self.command.restart == EACH_MATCH:
                 await self.end()
@@ -102,16 +102,16 @@ class StartedPlayer:
         self.watching = asyncio.create_task(self.watch(self.job))
 
     def report_down(self, match: str, why: str) -> None:
-        """Reports that the player did not come up, with the last lines of its log unless they were reported before."""
-        last, before = self.log.last_lines(), self.shown
-        self.shown = last
+        """Reports that the player did not start, with the last lines of its log unless they were reported before."""
+        last, before = self.log.last_lines(), self.reported_lines
+        self.reported_lines = last
         end = f"{self.log.path} is empty" if not last else f"the end of {self.log.path}:" if last != before else f"{self.log.path} ends as before"
         self.reporter.line(f"down {match} {self.name}: {why}; {end}")
         for line in last if last != before else ():
             self.reporter.line(f"down {match} {self.name}: | {line}")
 
     async def came_up(self) -> str:
-        """Starts the process, and waits until it answers INFO. Returns why it does not, or nothing."""
+        """Starts the process, and waits until it answers INFO. Returns why it does not, or an empty text."""
         command, launcher = self.command, [word.replace("{player}", self.name) for word in self.command.launcher]
         job = Job(self.log.take, lambda line: self.log.write(line + b"\n"), "player", END_SECONDS)
         self.job = job
@@ -133,14 +133,14 @@ class StartedPlayer:
         return f"it did not answer INFO within {command.start_seconds} s"
 
     async def watch(self, job: Job) -> None:
-        """Reports if the player ends by itself, for each match that it plays."""
+        """If the player ends by itself, this reports it for each match that it is playing."""
         await asyncio.wait([job.running])
         last = "".join(f": {line}" for line in self.log.last_lines()[-1:])
         for match in sorted(self.matches):
             self.reporter.line(f"died {match} {self.name}: {ended_words(job)}{last}")
 
     async def end(self) -> None:
-        """Ends the player, with all that it has started."""
+        """Ends the player, with all processes that it has started."""
         if self.watching:
             self.watching.cancel()
         if self.job:
@@ -149,16 +149,16 @@ class StartedPlayer:
 
 
 def ended_words(job: Job) -> str:
-    """Returns how a player has ended."""
+    """Describes how a player has ended."""
     return job.why or ("it can't be started" if job.status is None else f"it ended with status {job.status}")
 
 
 class StartedPlayers:
-    """All players of a competition that have a command. They are started when their first matches begin, and ended in the end."""
+    """All players of a competition that have a command. Each is started before its first match, and ended when `play` ends."""
 
     def __init__(self, folder: Folder, competition: Competition, referee: Referee, reporter: Reporter) -> None:
         self.competition = competition
-        # Where the other players are reached, as far as that is known: the same in all matches.
+        # The addresses of the other players that were looked up, which are the same in all matches.
         self.addresses: dict[str, str] = {}
         players = [player for player in competition.players if player.command]
         self.players = {player.name: StartedPlayer(folder, player, number, referee, reporter) for number, player in enumerate(players)}
@@ -167,13 +167,13 @@ class StartedPlayers:
         return [self.players[name] for name in names if name in self.players]
 
     def place(self, name: str) -> str:
-        """Returns the name and the address of a player: one that is started again may get another port."""
+        """Returns the name and the current address of a player."""
         if name in self.players:
             return self.players[name].place()
         return self.addresses.get(name) or self.competition.player(name).place()
 
     async def ready(self, match: str, names: tuple[str, ...]) -> None:
-        """Has those players of a match run that have a command."""
+        """Starts the players of a match that have a command, unless they are running."""
         async with asyncio.TaskGroup() as group:
             for player in self.of(names):
                 group.create_task(player.ready(match))
@@ -187,12 +187,12 @@ class StartedPlayers:
 
 
 def program_of(folder: Folder, word: str) -> str:
-    """Returns a program. A path is relative to the directory of the competition; a name is looked for as the shell does."""
+    """Returns a program. A path is relative to the directory of the competition; a name is searched for in PATH."""
     return str((folder.path / word).absolute()) if "/" in word else word
 
 
 def mistakes_of_programs(folder: Folder, competition: Competition) -> Iterator[Mistake]:
-    """Gives each player that can't be started, since its program, launcher or directory is not there."""
+    """Yields a mistake for each player whose program, launcher or directory does not exist."""
     for player in competition.players:
         if not player.command:
             continue

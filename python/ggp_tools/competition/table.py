@@ -1,11 +1,12 @@
-"""The table of a competition: what each player got in each game and in all, who got what against whom, and the ratings.
+"""The table of a competition: the results of each player in each game and in all of them, the crosstable, and the ratings.
 
-It follows from the records alone. A player's result in a match is won where its goal is above that of every other player, lost where
-one is above its own, else drawn; in a match of one role, or without goals, it is none of the three. A player that has forfeited a match
-has lost it, whatever the goals and also without any, against each player that has not. Its goal counts as 0. A single opponent gets 100;
-several keep their goals, or share 100 where there are none."""
+It follows from the records. A player has won a match if its goal is above all others, lost it if another one is above its goal, and drawn otherwise. A
+match of one role, or without goals, is none of these. A player that has forfeited a match has lost it against each player that has not, whatever the
+goals are. Its goal counts as 0. A single opponent gets 100; several keep their goals, or share 100 if there are none."""
 
+import itertools
 import typing
+from collections import Counter
 from collections.abc import Callable, Iterable, Sequence
 from dataclasses import dataclass, field
 
@@ -25,7 +26,7 @@ FINAL = "final"
 
 @dataclass
 class Line:
-    """What a player got."""
+    """The results of a player."""
 
     player: str
     matches: int = 0
@@ -41,7 +42,7 @@ class Line:
     absent: int = 0
     retired: int = 0
     rating: "Rating | None" = None
-    # In a competition by rounds, and of all games together.
+    # Only in the table of all games of a competition by rounds.
     byes: int = 0
     round_points: float | None = None
     buchholz: float | None = None
@@ -51,13 +52,13 @@ class Line:
         return round(self.goals / self.scored, 2) if self.scored else None
 
     def points(self) -> float:
-        """Returns a point for each match that was won, half of one for each that was drawn, and in a Swiss competition those of byes."""
+        """Returns a point for each win and half of one for each draw, in a Swiss competition also the points of byes."""
         return self.won + self.drawn / 2 if self.round_points is None else self.round_points
 
     def order(self, by: str) -> tuple[float, ...]:
-        """Returns what orders the line: the mean goals as they are printed, 0 where there are none, then wins, then losses; or all of it
-        after the points; in a Swiss competition the points and Buchholz's number, in a knockout the rounds, and in a Swiss competition with a
-        knockout at its end first the rounds of that."""
+        """Returns a key that orders lines: the mean goals as they are printed, or 0 without any, then wins, then fewer losses; before that the points, if
+        the order is by points. In a Swiss competition these are the points and Buchholz's number, in a knockout the rounds, and in a Swiss competition
+        with a final first the rounds of the final."""
         if by in (SWISS, FINAL):
             final = -1 if self.rounds_won is None else self.rounds_won
             return *((-final,) if by == FINAL else ()), -self.points(), -(self.buchholz or 0)
@@ -69,14 +70,13 @@ class Line:
 
 @dataclass
 class Table:
-    """The lines of a game, or of all, in the order of the standings; by pairs of players the points of the first against the second, and
-    how often they met; what the lines are ordered by; the matches that do not count, since others were ordered in their place; and, if it is
-    of all games, the rounds, and what there is to say of players that have withdrawn."""
+    """The lines of a game, or of all games, by players; by pairs of players the points of the first against the second, and how often they met; the
+    order of the lines; the matches that others replace; and, if it is of all games, the rounds, and remarks about players that have withdrawn."""
 
     game: str
     lines: dict[str, Line]
-    points: dict[tuple[str, str], float] = field(default_factory=dict)
-    met: dict[tuple[str, str], int] = field(default_factory=dict)
+    points: Counter[tuple[str, str]] = field(default_factory=Counter)
+    met: Counter[tuple[str, str]] = field(default_factory=Counter)
     matches: int = 0
     by: str = ""
     again: list[Match] = field(default_factory=list)
@@ -84,11 +84,11 @@ class Table:
     withdrawn: Sequence[str] = ()
 
     def standings(self) -> list[Line]:
-        """Returns the lines of who has played, in order; equal ones as they stand in competition.toml."""
+        """Returns the lines of the players that have played, in order. Equal ones have the order of competition.toml."""
         return sorted((line for line in self.lines.values() if line.matches or line.byes), key=lambda line: line.order(self.by))
 
-    def places(self) -> list[int]:
-        """Returns the places of the standings: lines that nothing orders share one, and the places behind it stay free."""
+    def ranks(self) -> list[int]:
+        """Returns the ranks of the standings. Equal lines share a rank, and the ranks after it stay free."""
         orders, first = [line.order(self.by) for line in self.standings()], {}
         for at, order in enumerate(orders, 1):
             first.setdefault(order, at)
@@ -119,22 +119,16 @@ def count_player(line: Line, result: Result, role: int) -> None:
 
 
 def count_pairs(table: Table, result: Result) -> None:
-    """Counts each two players of a match as having met: the higher goal has won, and equal ones are half a win for each. Two that both
-    forfeited it have not."""
-    players, worth = result.match.players, result.worths() or ()
-    for seat in range(len(worth)):
-        for beside in range(seat):
-            if worth[seat] == worth[beside] < 0:
-                continue
-            points = (1 + (worth[seat] > worth[beside]) - (worth[seat] < worth[beside])) / 2
-            for first, second, got in ((seat, beside, points), (beside, seat, 1 - points)):
-                pair = players[first], players[second]
-                table.points[pair] = table.points.get(pair, 0) + got
-                table.met[pair] = table.met.get(pair, 0) + 1
+    """Counts that each two players of a match have met, unless both forfeited it. The higher goal wins, and equal goals are half a win for each."""
+    worths = result.worths() or ()
+    for (player, worth), (other, beside) in itertools.permutations(zip(result.match.players, worths), 2):
+        if worth != beside or worth >= 0:
+            table.points[player, other] += (1 + (worth > beside) - (worth < beside)) / 2
+            table.met[player, other] += 1
 
 
 def count_rounds(table: Table, competition: Competition, results: Iterable[Result]) -> None:
-    """Counts in the table of all games what follows from the rounds."""
+    """Counts the rounds in the table of all games."""
     counted, swiss = [result for result in results if result.match.counts()], swiss_rounds(competition)
     scores, seeds = scores_and_seeds(competition, table.rounds, counted)
     won = rounds_won(competition, table.rounds, counted, seeds)
@@ -146,7 +140,7 @@ def count_rounds(table: Table, competition: Competition, results: Iterable[Resul
 
 
 def loaded_ratings() -> "Callable[..., dict[str, Rating]]":
-    """Returns what rates players. Ends the command if the module that it needs is missing."""
+    """Returns the function that rates players. Ends the command if numpy is missing."""
     try:
         from ggp_tools.competition.ratings import rated
     except ImportError as why:
@@ -159,21 +153,24 @@ def tables_of(competition: Competition, results: Sequence[Result], rounds: Seque
     rated = loaded_ratings()
     names = [entrant.name for entrant in competition.players]
     kind = competition.form.kind if is_by_rounds(competition) else ""
-    by = [(ALL, FINAL if competition.form.final else kind or competition.order), *((game.name, BY_POINTS if kind else competition.order) for game in competition.games)]
-    found = [Table(game, {name: Line(name) for name in names}, by=order) for game, order in by]
-    found[0].rounds, counts = rounds, "do not count" if competition.withdrawn_results == VOID else "count"
+    order, order_of_game = FINAL if competition.form.final else kind or competition.order, BY_POINTS if kind else competition.order
+    whole, *of_games = [
+        Table(game, {name: Line(name) for name in names}, by=by)
+        for game, by in [(ALL, order), *((game.name, order_of_game) for game in competition.games)]
+    ]
+    whole.rounds, counts = rounds, "do not count" if competition.withdrawn_results == VOID else "count"
     withdrawn = withdrawn_by(competition, rounds).items()
-    found[0].withdrawn = [f"{withdrawn_words(name, why)}; the matches that it has played {counts}" for name, why in withdrawn]
-    by_game = {table.game: table for table in found[1:]}
+    whole.withdrawn = [f"{withdrawn_words(name, why)}; the matches that it has played {counts}" for name, why in withdrawn]
+    by_game = {table.game: table for table in of_games}
     for result in results:
-        for table in (found[0], by_game[result.match.game]):
+        for table in (whole, by_game[result.match.game]):
             count_result(table, result)
     if kind:
-        count_rounds(found[0], competition, results)
-    for table in found if is_rated else ():
+        count_rounds(whole, competition, results)
+    for table in [whole, *of_games] if is_rated else ():
         for player, rating in rated([name for name in names if table.lines[name].matches], table.points, competition.anchor).items():
             table.lines[player].rating = rating
-    return found
+    return [whole, *of_games]
 
 
 def count_result(table: Table, result: Result) -> None:

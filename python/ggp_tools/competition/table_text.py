@@ -1,4 +1,4 @@
-"""The table as text, as CSV and as JSON."""
+"""The table as text, as CSV and as JSON, also that of several competitions."""
 
 import csv
 import io
@@ -6,10 +6,11 @@ import json
 from collections.abc import Iterable, Iterator, Mapping, Sequence
 from dataclasses import replace
 
-from ggp_tools.competition.competition_file import BY_POINTS, KNOCKOUT, SWISS, Competition
+from ggp_tools.competition.competition_file import BY_POINTS, KNOCKOUT, SWISS, Competition, Faults
+from ggp_tools.competition.files import Refused
 from ggp_tools.competition.plan import Plan
 from ggp_tools.competition.results import FULL_GOAL, Result, again_words
-from ggp_tools.competition.rounds import rounds_of
+from ggp_tools.competition.rounds import is_by_rounds, rounds_of
 from ggp_tools.competition.schedule import Match
 from ggp_tools.competition.table import FINAL, Line, Table
 
@@ -25,46 +26,49 @@ METHOD = (
 
 
 def forfeit_rule(competition: Competition) -> str:
-    """Returns by what a player loses a match, and what counts then; empty where nothing does it."""
+    """Explains how a player forfeits a match, and what counts then. The text is empty if nothing is a forfeit."""
     most = competition.faults.replaced
-    whys = ["was retired"] * competition.forfeit + [f"had {most:,} or more moves replaced in turns in which it had a choice"] * bool(most)
-    counts = f"its goal counts as 0; a single opponent gets {FULL_GOAL}, several keep their goals, or share {FULL_GOAL} if the match was aborted"
-    return f"A player that {' or '.join(whys)} has lost that match: {counts}." if whys else ""
+    whys = ["it was retired"] * competition.forfeit + [f"{most:,} or more of its moves were replaced (forced moves do not count)"] * bool(most)
+    counts = (
+        f"It then gets 0. In a match of two players its opponent gets {FULL_GOAL}. "
+        f"In a larger match the others keep their goals; if that match was aborted, they share {FULL_GOAL}."
+    )
+    return f"A player loses a match if {', or if '.join(whys)}. {counts}" if whys else ""
 
 
 def method_of(competition: Competition) -> str:
-    """Returns how the ratings are found."""
+    """Explains the ratings."""
     anchors = " and ".join(f"{name} has {rating}" for name, rating in competition.anchor.items())
     return f"{METHOD}; shifted so that {anchors}{' on average' * (len(competition.anchor) > 1)}" if anchors else METHOD
 
 
 def in_order(plan: Plan, results: Mapping[str, Result]) -> list[Result]:
-    """Returns the results in the schedule's order, with what it says of their matches by now."""
-    found = ((results[match.id], match) for match in plan.matches if match.id in results)
-    return [result if result.match is match else replace(result, match=match) for result, match in found]
+    """Returns the results in the order of the schedule, with its current matches."""
+    pairs = ((results[match.id], match) for match in plan.matches if match.id in results)
+    return [result if result.match is match else replace(result, match=match) for result, match in pairs]
 
 
 def without_record(plan: Plan, results: Iterable[Result]) -> list[Match]:
-    """Returns the matches that are not among the results, in the schedule's order, but for those of players that have withdrawn."""
+    """Returns the matches that have no result, in the order of the schedule, except those of players that have withdrawn."""
     known = {result.match.id for result in results}
     return [match for match in plan.matches if match.id not in known and not match.withdrawn]
 
 
 def rounded(number: float | None, places: int) -> float | None:
-    """Returns the number for a file: the last places may differ from one machine to another, and are left away."""
+    """Rounds a number for a file, because its last digits may differ between computers."""
     return None if number is None else round(number, places) + 0.0
 
 
 def fields(line: Line) -> dict[str, object]:
-    """Returns what a line says, by the heads of the columns of a file."""
-    said = {**vars(line), "goals": line.mean(), "points": line.points(), "rating": None, "half": None, "group": None}
+    """Returns the values of a line by the heads of the columns of a file."""
+    values = {**vars(line), "goals": line.mean(), "points": line.points(), "rating": None, "half": None, "group": None}
     if line.rating:
-        said |= {"rating": rounded(line.rating.rating, 1), "half": rounded(line.rating.half, 1), "group": line.rating.group}
-    return {head: said[head] for head in HEADS}
+        values |= {"rating": rounded(line.rating.rating, 1), "half": rounded(line.rating.half, 1), "group": line.rating.group}
+    return {head: values[head] for head in HEADS}
 
 
 def crosstable(table: Table) -> list[dict[str, object]]:
-    """Returns how many matches each two players had, and the points of the first, by the heads of the columns of a file."""
+    """Returns how often each two players met, and the points of the first, by the heads of the columns of a file."""
     return [
         {"player": player, "opponent": opponent, "matches": met, "points": table.points[player, opponent]}
         for (player, opponent), met in sorted(table.met.items())
@@ -76,7 +80,7 @@ def points_text(points: float) -> str:
 
 
 def rating_text(table: Table, line: Line) -> str:
-    """Returns the rating with its interval, and the group where there are more than one."""
+    """Returns the rating with its interval, and its group if there are several."""
     if not line.rating or line.rating.rating is None:
         return "none"
     several = max(line.rating.group or 0 for line in table.lines.values() if line.rating) > 1
@@ -84,7 +88,7 @@ def rating_text(table: Table, line: Line) -> str:
 
 
 def columns(rows: Sequence[list[str]]) -> Iterator[str]:
-    """Returns rows of texts as lines: the first two columns to the left, the others to the right."""
+    """Formats rows as lines. The second column is aligned to the left, the others to the right."""
     widths = [max(map(len, column)) for column in zip(*rows)]
     for row in rows:
         cells = [cell.ljust(width) if at == 1 else cell.rjust(width) for at, (cell, width) in enumerate(zip(row, widths))]
@@ -92,7 +96,7 @@ def columns(rows: Sequence[list[str]]) -> Iterator[str]:
 
 
 def cells_of(table: Table, line: Line) -> dict[str, str]:
-    """Returns what the standings say of a line, by the heads of the columns that the table has."""
+    """Returns the cells of a line in the standings by the heads of the columns that the table has."""
     cells = {
         "player": f"{line.player} (no move of its own)" if 0 < line.absent == line.matches else line.player,
         "matches": str(line.matches),
@@ -113,24 +117,24 @@ def cells_of(table: Table, line: Line) -> dict[str, str]:
 
 
 def standings_rows(table: Table) -> Iterator[list[str]]:
-    """Gives the rows of the standings, the heads first."""
+    """Yields the rows of the standings, the heads first."""
     yield ["", *cells_of(table, Line("nobody"))]
-    for place, line in zip(table.places(), table.standings()):
-        yield [str(place), *cells_of(table, line).values()]
+    for rank, line in zip(table.ranks(), table.standings()):
+        yield [str(rank), *cells_of(table, line).values()]
 
 
 def crosstable_rows(table: Table) -> Iterator[list[str]]:
-    """Gives the rows of the crosstable, the heads first: points, and behind a stroke the matches. Players are numbered in the order of
-    the standings."""
+    """Yields the rows of the crosstable, the heads first. A cell has the points, and after a slash the matches. The players have the order and the
+    numbers of the standings."""
     order = [line.player for line in table.standings()]
     yield ["", "player", *map(str, range(1, len(order) + 1))]
     for number, player in enumerate(order, 1):
-        cells = ((table.points.get((player, opponent), 0), table.met.get((player, opponent), 0)) for opponent in order)
+        cells = ((table.points[player, opponent], table.met[player, opponent]) for opponent in order)
         yield [str(number), player, *(f"{points_text(points)}/{met}" if met else "." for points, met in cells)]
 
 
 def notes(table: Table) -> Iterator[str]:
-    """Gives what a reader of the standings has to know."""
+    """Yields remarks about the standings."""
     yield from table.withdrawn
     yield from map(again_words, table.again)
     yield from (f"round {found.number}{found.byes_words()}" for found in table.rounds if found.byes)
@@ -147,7 +151,7 @@ def notes(table: Table) -> Iterator[str]:
 
 
 def count_of_planned(plan: Plan) -> int:
-    """Returns how many matches of the schedule count, if each is played."""
+    """Returns how many matches of the schedule count if all are played."""
     return sum(match.counts() for match in plan.matches)
 
 
@@ -174,7 +178,7 @@ def csv_text(heads: Sequence[str], rows: Iterable[dict[str, object]]) -> str:
 
 
 def json_text(plan: Plan, tables: list[Table]) -> str:
-    said = {
+    values = {
         "name": plan.competition.name,
         "matches": tables[0].matches,
         "planned": count_of_planned(plan),
@@ -194,13 +198,39 @@ def json_text(plan: Plan, tables: list[Table]) -> str:
             for table in tables
         ],
     }
-    return json.dumps(said, indent=1) + "\n"
+    return json.dumps(values, indent=1) + "\n"
 
 
 def table_files(plan: Plan, tables: list[Table]) -> dict[str, bytes]:
-    """Returns the files of the table by their names, each as bytes."""
+    """Returns the files of the table by their names."""
     lines = ({"game": table.game, **fields(line)} for table in tables for line in table.standings())
     met = ({"game": table.game, **row, "points": points_text(row["points"])} for table in tables for row in crosstable(table))
     pairs = csv_text(("game", "player", "opponent", "matches", "points"), met)
     texts = table_text(plan, tables), csv_text(("game", *HEADS), lines), pairs, json_text(plan, tables)
     return {name: text.encode("ascii") for name, text in zip(TABLE_FILES, texts)}
+
+
+def joined(plans: Sequence[Plan]) -> Plan:
+    """Returns a plan with the players, games and matches of several plans, for one table. Refuses two of the same name, and a game that does not have
+    the same rules in all of them. Each match counts by the rules of its own competition, and rounds do not count."""
+    if len(plans) == 1:
+        return plans[0]
+    first, competitions, rules = plans[0].competition, [plan.competition for plan in plans], {}
+    names = [competition.name for competition in competitions]
+    if twice := [name for name in names if names.count(name) > 1]:
+        raise Refused(f"two of the folders have a competition of the name {twice[0]}: one table needs different ones")
+    for plan in plans:
+        for name, ground in plan.rules.items():
+            if rules.setdefault(name, ground).sum != ground.sum:
+                raise Refused(f"{name} has other rules in {plan.folder.path} than in a folder before it")
+    anchor = {name: rating for competition in competitions[::-1] for name, rating in competition.anchor.items()}
+    # The table explains forfeits if they are the same in all competitions.
+    has_same_forfeits = len({(competition.forfeit, competition.faults) for competition in competitions}) == 1
+    forfeit, faults = (first.forfeit, first.faults) if has_same_forfeits else (False, Faults(0))
+    whole = replace(
+        first, name=" + ".join(names), anchor=anchor, forfeit=forfeit, faults=faults, form=replace(first.form, kind="round_robin", final=0),
+        order=BY_POINTS if any(map(is_by_rounds, competitions)) else first.order,
+        games=tuple({game.name: game for competition in competitions for game in competition.games}.values()),
+        players=tuple({player.name: replace(player, withdrawn=None) for competition in competitions for player in competition.players}.values()),
+    )
+    return Plan(plans[0].folder, whole, rules, [match for plan in plans for match in plan.matches])

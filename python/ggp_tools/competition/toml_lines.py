@@ -1,24 +1,29 @@
-"""Reads TOML with the line of each value, which Python's own reader does not keep: the lines are found again in the text that it took."""
+"""Reads TOML with the line of each value. Python's parser does not report lines, so they are found in the text that it has accepted."""
 
 import re
 import tomllib
 from collections import Counter
 from collections.abc import Iterator
 
-# The names and numbers that lead to a value.
+# The keys and indexes that lead to a value.
 Path = tuple[str | int, ...]
-# The words of a statement, each with its line.
+# The tokens of a statement, each with its line.
 Statement = list[tuple[int, str]]
-# Strings of several lines and of one, comments, marks, and all that stands between them.
+# Strings of several lines and of one, comments, punctuation, and everything between them.
 TOKEN = re.compile(
     r'"""(?:[^\\]|\\.)*?"{3,5}|\'\'\'.*?\'{3,5}|"(?:[^"\\]|\\.)*"|\'[^\']*\'|#[^\n]*|[\[\]{}=,\n]|[^\s\[\]{}=,"\'#]+', re.DOTALL
 )
+PUNCTUATION = frozenset("[]{}=,\n")
 PLACE = re.compile(r" \(at line (\d+), column \d+\)")
 KEY = re.compile(r"\s*([A-Za-z0-9_-]+)")
 
 
+# The time that Python's parser takes for a dotted key grows with the square of its dots, so more dots are refused.
+MOST_DOTS = 100
+
+
 class TomlFault(Exception):
-    """Why a text is no TOML, with the line, and the key that the line begins with, if it does."""
+    """Why a text is not TOML, with the line, and the key at the beginning of the line, if it has one."""
 
     def __init__(self, line: int, key: str, words: str) -> None:
         super().__init__(words)
@@ -26,7 +31,9 @@ class TomlFault(Exception):
 
 
 def read_toml(text: str) -> tuple[dict, dict[Path, int]]:
-    """Returns what the text says, and the lines of its tables, of the keys in them, and of the members of arrays."""
+    """Returns the values of a text, and the lines of its tables, of the keys in them, and of the members of arrays."""
+    if text.count(".") > MOST_DOTS:
+        refuse_long_keys(text)
     try:
         return tomllib.loads(text), lines_of(text)
     except tomllib.TOMLDecodeError as why:
@@ -34,12 +41,25 @@ def read_toml(text: str) -> tuple[dict, dict[Path, int]]:
     except RecursionError:
         raise TomlFault(1, "", "its arrays or tables stand too deep in one another") from None
     except ValueError:
-        # What Python says of a number whose digits it does not convert.
+        # Python does not convert a number with so many digits.
         raise TomlFault(1, "", "a number in it has too many digits") from None
 
 
+def refuse_long_keys(text: str) -> None:
+    """Refuses more dots than a key may have between two signs of punctuation. Python's parser reads no further than the first unfinished string."""
+    line, dots, end = 1, 0, 0
+    for token in TOKEN.finditer(text):
+        if text[end : token.start()].strip():
+            return
+        word, end = token[0], token.end()
+        dots = 0 if word in PUNCTUATION else dots + word.count(".") * (word[0] not in "\"'#")
+        if dots > MOST_DOTS:
+            raise TomlFault(line, "", f"there are more than {MOST_DOTS} dots outside of texts and comments")
+        line += word.count("\n")
+
+
 def fault_of(text: str, why: str) -> TomlFault:
-    """Returns the fault that Python's reader reports in these words, with its line."""
+    """Returns the error that Python's parser reports with this message, with its line."""
     lines = text.split("\n")
     found = PLACE.search(why)
     line = min(int(found[1]), len(lines)) if found else len(lines)
@@ -48,7 +68,7 @@ def fault_of(text: str, why: str) -> TomlFault:
 
 
 def statements(text: str) -> Iterator[Statement]:
-    """Gives the words of each header and of each key with its value."""
+    """Yields the tokens of each header and of each key with its value."""
     statement, depth, line = [], 0, 1
     for token in TOKEN.finditer(f"{text}\n"):
         word = token[0]
@@ -63,16 +83,16 @@ def statements(text: str) -> Iterator[Statement]:
 
 
 def names_of(words: list[str]) -> Path:
-    """Returns the names that a key is made of, as Python's reader reads it."""
-    found, names = tomllib.loads(f"{''.join(words)} = 0"), ()
-    while isinstance(found, dict):
-        ((name, found),) = found.items()
+    """Returns the names in a dotted key, as Python's parser reads it."""
+    value, names = tomllib.loads(f"{''.join(words)} = 0"), ()
+    while isinstance(value, dict):
+        ((name, value),) = value.items()
         names += (name,)
     return names
 
 
 def member_lines(statement: Statement) -> Iterator[int]:
-    """Gives the line of each member of the array that a statement has as its value."""
+    """Yields the line of each member of the array that is the value of a statement."""
     depth, is_next = 0, False
     for line, word in statement:
         if is_next and word != "]":
@@ -84,7 +104,7 @@ def member_lines(statement: Statement) -> Iterator[int]:
 
 
 def lines_of(text: str) -> dict[Path, int]:
-    """Returns the lines of what a text says that is TOML."""
+    """Returns the lines of the values in a text that is TOML."""
     lines, counts, table = {(): 1}, Counter(), ()
     for statement in statements(text):
         line, words = statement[0][0], [word for _, word in statement]
@@ -102,7 +122,7 @@ def lines_of(text: str) -> dict[Path, int]:
 
 
 def header_path(names: Path, is_member: bool, counts: Counter) -> Path:
-    """Returns the path of the table that a header begins; `counts` has how many members each array of tables has so far."""
+    """Returns the path of the table that a header begins; `counts` has the number of members of each array of tables so far."""
     path = ()
     for number, name in enumerate(names, 1):
         path += (name,)

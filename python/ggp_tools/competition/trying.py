@@ -14,29 +14,29 @@ from ggp_tools.descriptions.loading import Rules
 from ggp_tools.referee import Referee
 from ggp_tools.reporting import Reporter
 
-# It stands in the place of a match in what is reported.
+# Reports have this instead of the id of a match.
 NO_MATCH = "try"
 
 
-def found_in(competition: Competition, path: pathlib.Path, name: str, game: str | None) -> tuple[Player, Game]:
+def chosen(competition: Competition, path: pathlib.Path, name: str, game: str | None) -> tuple[Player, Game]:
     """Returns the player and the game of these names. Refuses a player without a command."""
     player = next((player for player in competition.players if player.name == name), None)
     if not player or not player.command:
         raise Refused(f"{path}: {name} has no `command`; `ggp_manager check` tries a player that runs" if player else f"{path} has no player {name}")
-    found = next((candidate for candidate in competition.games if game in (None, candidate.name)), None)
-    if not found:
+    first = next((candidate for candidate in competition.games if game in (None, candidate.name)), None)
+    if not first:
         raise Refused(f"{path} has no game {game}")
-    return player, found
+    return player, first
 
 
 async def checked(started: StartedPlayer, referee: Referee, game: Game, rules: Rules) -> int:
-    """Starts a player, and returns the exit status of its check: 1 if it does not come up."""
+    """Starts a player, and returns the exit status of its check, or 1 if it does not start."""
     try:
         await started.ready(NO_MATCH)
         if not started.is_running():
             return 1
-        with tempfile.TemporaryDirectory() as room:
-            file = pathlib.Path(room) / f"{game.name}.kif"
+        with tempfile.TemporaryDirectory() as directory:
+            file = pathlib.Path(directory) / f"{game.name}.kif"
             file.write_bytes(rules.text)
             words = [referee.path, "check", *referee.rules_words(file), f"--start={game.start}", f"--play={game.play}"]
             if rules.player_rules is not None:
@@ -53,10 +53,10 @@ def try_player(folder_or_file: str, name: str, game_name: str | None, referee: R
     folder = Folder(given if given.is_dir() else given.parent)
     path = folder.competition if given.is_dir() else given
     competition = competition_of_file(path, read_file(path))
-    player, game = found_in(competition, path, name, game_name)
+    player, game = chosen(competition, path, name, game_name)
     refuse_addresses(folder, replace(competition, players=(player,)))
     rules = loaded_games(folder, replace(competition, games=(game,)), referee)[game.name]
-    # A `play` would start the same player.
+    # `play` would start the same player.
     with held(folder.path):
         folder.make(folder.players)
         started = StartedPlayer(folder, player, 0, referee, reporter)

@@ -4,7 +4,7 @@ from collections.abc import Sequence
 
 from ggp_tools.holding.game import GOAL_NUMBER, Game
 from ggp_tools.holding.reading import GOAL, term_of
-from ggp_tools.kif import Refused, spelled
+from ggp_tools.kif import Refused, quoted, spelled
 
 MOST_NAMED = 3
 
@@ -16,14 +16,14 @@ def goals_said(text: str, role: str, terms: Sequence[str]) -> str:
         state, name = frozenset(map(term_of, terms)), term_of(role)
         position = game.position(state)
         values = sorted(game.goal_terms(position, name), key=spelled)
-        goals = [f"{spelled(value)}{past(value)}, by {named(game, game.sources(GOAL, (name, value), state))}" for value in values]
+        goals = [f"{quoted(value)}{past(value)}, by {named(game, game.sources(GOAL, (name, value), state))}" for value in values]
     except (Refused, RecursionError):
         return ""
     if len(goals) > 1:
-        return f"{role} has {len(goals):,} goals there: {'; '.join(goals[:MOST_NAMED])}"
+        return f"{quoted(role)} has {len(goals):,} goals there: {'; '.join(goals[:MOST_NAMED])}"
     if goals:
-        return f"{role} has the goal {goals[0]}"
-    return f"nothing gives {role} a goal there; its goals are those of {named(game, list(game.by_sentence(GOAL))) or 'no sentence'}"
+        return f"{quoted(role)} has the goal {goals[0]}"
+    return f"nothing gives {quoted(role)} a goal there; its goals are those of {named(game, list(game.by_sentence(GOAL))) or 'no sentence'}"
 
 
 def past(value: object) -> str:

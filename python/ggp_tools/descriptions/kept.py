@@ -25,7 +25,8 @@ def folder() -> pathlib.Path:
 
 def sources() -> list[pathlib.Path]:
     """Returns the code that a result depends on."""
-    return sorted([*(HERE.parent / "instantiating").glob("*.py"), HERE.parent / "kif.py", HERE.parent / "gdl.py"])
+    shared = (HERE.parent / name for name in ("gdl.py", "kif.py", "printable.py"))
+    return sorted([*(HERE.parent / "instantiating").glob("*.py"), *shared])
 
 
 def sum_of_work(text: bytes, options: list[str]) -> str:

@@ -17,9 +17,8 @@ from ggp_tools.gdl import Relations, Rule, all_rules, as_read
 from ggp_tools.instantiating.for_players import text_for_players as text_for_players
 from ggp_tools.referee import BadRules, Referee
 
-# The directory of this package, for the process that grounds.
+# The directory of this package.
 FOLDER = pathlib.Path(__file__).resolve().parents[2]
-INSTANTIATE = [sys.executable, "-B", "-P", "-m", "ggp_tools.instantiating"]
 # The maximum lengths of a description, and of the text for players.
 MOST_BYTES, MOST_BYTES_FOR_PLAYERS = LARGE["bytes"], 1 << 20
 # The command and the file before the place of a sentence.
@@ -79,6 +78,12 @@ def has_variables(text: bytes) -> bool:
     return kif.has_variables(text.decode("latin-1"))
 
 
+def run_module(name: str, *words: str, data: bytes | None = None) -> subprocess.CompletedProcess:
+    """Runs a module of this package as a command."""
+    command, environment = [sys.executable, "-B", "-P", "-m", f"ggp_tools.{name}", *words], {**os.environ, "PYTHONPATH": str(FOLDER)}
+    return subprocess.run(command, env=environment, input=data, capture_output=True)
+
+
 def why_not(made: subprocess.CompletedProcess) -> str:
     """Returns why a run of `ggp-instantiate` failed: its last line, after the sentences that cost most if a limit was exceeded."""
     lines = made.stderr.decode(errors="replace").strip().splitlines() or [f"ggp-instantiate ended with status {made.returncode}"]
@@ -95,8 +100,7 @@ def instantiated(path: pathlib.Path, text: bytes, tells_variables: bool, seconds
         player_rules = pathlib.Path(directory) / "player_rules"
         words = [f"--seconds={seconds}", *large, *(["--player-rules", str(player_rules)] if tells_variables else [])]
         # A name that begins with a hyphen would be an option.
-        environment = {**os.environ, "PYTHONPATH": str(FOLDER)}
-        run = subprocess.run([*INSTANTIATE, *words, os.path.abspath(path)], env=environment, capture_output=True)
+        run = run_module("instantiating", *words, os.path.abspath(path))
         if run.returncode:
             raise (Stopped if STOPPED.match(why_not(run).splitlines()[-1]) else NoDescription)(why_not(run))
         result = run.stdout, player_rules.read_bytes() if tells_variables else None
@@ -171,7 +175,7 @@ def load_described(path: pathlib.Path, described: pathlib.Path, referee: Referee
         raise NoDescription(f"its description {described} has no variables")
     player_rules = None
     if tells_variables:
-        heads = [Rule(0, sentence[1] if sentence[0] == "<=" else sentence, ()) for sentence in kif.expressions(ground.decode("latin-1"))]
+        heads = [Rule(0, kif.head_of(sentence), ()) for sentence in kif.expressions(ground.decode("latin-1"))]
         player_rules = text_for_players(list(map(as_read, kif.expressions(text.decode("latin-1")))), heads).encode("ascii")
         if len(player_rules) > MOST_BYTES_FOR_PLAYERS:
             raise NoDescription(f"the text for players has more than {MOST_BYTES_FOR_PLAYERS:,} bytes")

@@ -8,7 +8,7 @@ import time
 from collections.abc import Iterator
 from dataclasses import dataclass
 
-from ggp_tools.descriptions.suspicious import is_too_long
+from ggp_tools.descriptions.suspicious import TimeIsOver, is_too_long
 from ggp_tools.holding.game import MOST_CALLS, Game
 from ggp_tools.holding.match import Match, texts_of
 from ggp_tools.kif import Expression, spelled
@@ -20,10 +20,6 @@ from ggp_tools.reporting import REDRAWN, Reporter
 MOST_BYTES, MOST_MATCHES = 1_000_000, 1_000
 # The bytes of a script that are reserved for lines that do not belong to a turn.
 BESIDE_TURNS = 10_000
-
-
-class TimeIsOver(Exception):
-    """The time is up."""
 
 
 def sum_of(texts: list[str]) -> bytes:

@@ -1,11 +1,12 @@
 """Explains why the referee refuses a ground description. The referee names the place of only one sentence."""
 
+import itertools
 from collections.abc import Iterator
 
 from ggp_tools.instantiating.limits import refuse_faults
 from ggp_tools.instantiating.rounds import asked, circles
 from ggp_tools.gdl import Relations, Rule, all_rules
-from ggp_tools.kif import Expression, Refused, expressions, place_of, spelled, starts, told
+from ggp_tools.kif import Expression, Refused, expressions, place_of, quoted, starts, told
 
 MOST_LISTED, MOST_SHOWN = 8, 80
 
@@ -18,9 +19,9 @@ class Sentences:
 
     def listed(self, numbers: list[int]) -> str:
         """Cites some of these sentences, each with its place."""
-        shown = [f"{place_of(self.text, self.starts[number])}: {spelled(self.sentences[number])[:MOST_SHOWN]}" for number in numbers]
-        more = [f"and {len(shown) - MOST_LISTED:,} more"] if len(shown) > MOST_LISTED else []
-        return "; ".join(shown[:MOST_LISTED] + more)
+        cited = [f"{place_of(self.text, self.starts[number])}: {quoted(self.sentences[number], MOST_SHOWN)}" for number in numbers[:MOST_LISTED]]
+        more = [f"and {len(numbers) - MOST_LISTED:,} more"] if len(numbers) > MOST_LISTED else []
+        return "; ".join(cited + more)
 
 
 def roles_named_again(sentences: list[Expression]) -> Iterator[list[int]]:
@@ -48,8 +49,8 @@ def why_refused(text: bytes) -> list[str]:
         return [] if why.sentence is None else [told(text.decode("latin-1"), why)]
     if not rules:
         return []
-    errors = [f"these name the same role: {read.listed(numbers)}" for numbers in roles_named_again(read.sentences)]
-    errors += [f"these depend on each other: {read.listed(numbers)}" for numbers in cycles(rules)]
+    errors = [f"these name the same role: {read.listed(numbers)}" for numbers in itertools.islice(roles_named_again(read.sentences), MOST_LISTED)]
+    errors += [f"these depend on each other: {read.listed(numbers)}" for numbers in itertools.islice(cycles(rules), MOST_LISTED)]
     try:
         refuse_faults(rules)
         Relations(rules).refuse_dependence()

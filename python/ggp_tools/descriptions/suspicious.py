@@ -10,8 +10,10 @@ from collections.abc import Iterable, Iterator, Sequence
 from typing import NamedTuple
 
 from ggp_tools.descriptions.loading import NoDescription, sentence_starts
-from ggp_tools.gdl import ARITIES, GAME, SECRET, as_read, must_be_atomic, must_be_literal
-from ggp_tools.kif import TOKEN, Expression, Refused, Relation, blanked, expressions, head_of, place_of, relation, spelled, variables
+from ggp_tools.gdl import ARITIES, GAME, SECRET, as_read, must_be_atomic, must_be_literal, reached
+from ggp_tools.kif import TOKEN, Expression, Refused, Relation, blanked, expressions, head_of, place_of, quoted, relation, spelled, variables
+from ggp_tools.printable import shown
+from ggp_tools.referee import MOST_OF_MOVE
 
 # The relations that no rule needs to use, and those whose first argument is a role.
 OWN = {*((name, ARITIES[name]) for name in GAME), ("base", 1), ("input", 2)}
@@ -36,9 +38,7 @@ OFTEN = {
 # The similarity of two words, the maximum lengths of a sentence and of the list, and the maximum number of names to compare.
 ALIKE, MOST_SHOWN, MOST_LINES, MOST_COMPARED = 0.75, 80, 100, 20_000
 MOST_LISTED = 3
-# The longest answer that the desk accepts.
-MOST_ANSWER = 4_096
-TOO_LONG = f"no player can make this move: its text is longer than {MOST_ANSWER:,} bytes"
+TOO_LONG = f"no player can make this move: its text is longer than {MOST_OF_MOVE:,} bytes"
 # The path to an expression inside a sentence: the indices of members.
 Way = tuple[int, ...]
 NOT_ALL = "the rest was not checked"
@@ -188,13 +188,7 @@ class Description:
 
     def needed(self) -> set[Relation]:
         """Returns the relations of the game, and those that they depend on."""
-        needed_relations, left = set(), list(OWN)
-        while left:
-            key = left.pop()
-            if key not in needed_relations:
-                needed_relations.add(key)
-                left += self.asks.get(key, ())
-        return needed_relations
+        return OWN | reached(self.asks, OWN)
 
     def told_places(self, parts: list[Part]) -> dict[tuple[int, Way], str]:
         """Returns the line and column of each part, by sentence and path."""
@@ -238,13 +232,9 @@ def meant(atom: Expression, words: dict[str, int | str | None], names: Sequence[
     return matches[0] if matches else None
 
 
-def cut(text: str) -> str:
-    return text if len(text) <= MOST_SHOWN else f"{text[:MOST_SHOWN]}.."
-
-
 def form(name: str, count: int | None) -> str:
     """Returns the form of an atomic sentence of a relation."""
-    return cut(name if count is None else f"({' '.join([name] + ['_'] * count)})")
+    return shown(name if count is None else f"({' '.join([name] + ['_'] * count)})", MOST_SHOWN)
 
 
 def listed(name: str, counts: Sequence[int | None]) -> str:
@@ -252,13 +242,9 @@ def listed(name: str, counts: Sequence[int | None]) -> str:
     return " and ".join([f"`{form(name, count)}`" for count in counts[:MOST_LISTED]] + ["others"] * (len(counts) > MOST_LISTED))
 
 
-def shown(atom: Expression) -> str:
-    return cut(spelled(atom))
-
-
 def is_too_long(move: Expression) -> bool:
     """Returns whether no player can make a move because the desk accepts no answer that long."""
-    return len(spelled(move)) > MOST_ANSWER
+    return len(spelled(move)) > MOST_OF_MOVE
 
 
 def by_name(relations: Iterable[Relation]) -> dict[str, list[int | None]]:
@@ -331,7 +317,7 @@ class Search:
     def of_role(self, part: Part) -> Finding | None:
         if relation(part.atom) not in OF_ROLES or self.known.may_give(("role", part.atom[1])):
             return None
-        return Finding(part, f"{shown(part.atom[1])} is not a role", ("role", part.atom[1]))
+        return Finding(part, f"{quoted(part.atom[1], MOST_SHOWN)} is not a role", ("role", part.atom[1]))
 
     def of_move(self, part: Part) -> Finding | None:
         if relation(part.atom) != ("legal", 2) or not is_too_long(part.atom[2]):
@@ -341,7 +327,7 @@ class Search:
     def of_term(self, part: Part) -> Finding | None:
         if relation(part.atom) not in (("init", 1), ("next", 1)) or self.asked.may_give(("true", part.atom[1])):
             return None
-        return Finding(part, f"no condition uses the term {shown(part.atom[1])}", ("unasked", relation(part.atom[1])))
+        return Finding(part, f"no condition uses the term {quoted(part.atom[1], MOST_SHOWN)}", ("unasked", relation(part.atom[1])))
 
     def of_condition(self, part: Part) -> Finding | None:
         self.look_at_clock()
@@ -349,7 +335,7 @@ class Search:
         if finding := self.of_role(part):
             return finding
         if key == ("true", 1):
-            is_given, words = self.terms.may_give(atom), f"no `init` and no `next` gives the term {shown(atom[1])}"
+            is_given, words = self.terms.may_give(atom), f"no `init` and no `next` gives the term {quoted(atom[1], MOST_SHOWN)}"
             return None if is_given else Finding(part, words, ("true", relation(atom[1])))
         if key == ("does", 2):
             is_given, words = self.heads.may_give(("legal", *atom[1:])), "no `legal` gives this move"
@@ -387,7 +373,7 @@ class Search:
                 if name == "legal" and is_too_long(atom[2]):
                     yield from self.of_instance(atom, TOO_LONG, ("long", relation(atom[2])))
                 if atom in self.facts and not self.known.may_give(("role", atom[1])):
-                    words = f"{shown(atom[1])} is not a role, but a fact of the ground rules has it"
+                    words = f"{quoted(atom[1], MOST_SHOWN)} is not a role, but a fact of the ground rules has it"
                     yield from self.of_instance(atom, words, ("role", atom[1]))
 
     def of_instance(self, atom: Expression, words: str, kind: tuple) -> Iterator[Finding]:
@@ -395,7 +381,7 @@ class Search:
         parts = [] if atom in self.parts else [part for head in self.heads.like(atom) for part in self.parts[head]]
         if parts:
             is_sure = len(parts) == 1
-            yield Finding(parts[0]._replace(atom=atom) if is_sure else None, words if is_sure else f"{words}: {shown(atom)}", kind)
+            yield Finding(parts[0]._replace(atom=atom) if is_sure else None, words if is_sure else f"{words}: {quoted(atom, MOST_SHOWN)}", kind)
 
     def of_roles(self) -> Iterator[Finding]:
         """Yields what a role lacks, and whether there is no end."""
@@ -404,7 +390,7 @@ class Search:
             for name in ("legal", "goal"):
                 if not self.known.may_give((name, atom[1], "?it")):
                     part = next((self.parts[head][0] for head in self.heads.like(atom)), None)
-                    yield Finding(part, f"nothing gives the role {shown(atom[1])} a `{name}`", ("lacks", name, atom))
+                    yield Finding(part, f"nothing gives the role {quoted(atom[1], MOST_SHOWN)} a `{name}`", ("lacks", name, atom))
         if not self.known.may_give("terminal"):
             yield Finding(None, "nothing gives `terminal`, so no match is finished", ("terminal",))
 
@@ -441,5 +427,5 @@ def lines_of(description: Description, found: list[Finding]) -> list[str]:
     places_of_parts, lines = description.told_places([finding.part for finding in shown_ones if finding.part]), []
     for finding in shown_ones:
         more = f" (and {counts[finding.kind] - 1:,} more like this)" if counts[finding.kind] > 1 else ""
-        lines.append(f"{places_of_parts[finding.part[:2]]}: {finding.words}: {shown(finding.part.atom)}{more}" if finding.part else finding.words)
+        lines.append(f"{places_of_parts[finding.part[:2]]}: {finding.words}: {quoted(finding.part.atom, MOST_SHOWN)}{more}" if finding.part else finding.words)
     return lines + ([f"and {len(firsts) - MOST_LINES:,} more lines"] if len(firsts) > MOST_LINES else [])

@@ -2,17 +2,17 @@
 
 import argparse
 import resource
-import signal
 import sys
 from collections.abc import Iterable, Iterator
 
 from ggp_tools.kif import Refused, told
+from ggp_tools.printable import shown
 from ggp_tools.records.record import NoRecord
 from ggp_tools.streams import MOST_SECONDS, opened, say, seconds, status_of
+from ggp_tools.timed import Late, limited
 
-from .following import Differs, Following
+from .following import Differs, Following, read_record
 from .game import Game
-from .records import read_record
 
 USAGE = "ggp-hold-against [--seconds N] DESCRIPTION [RECORD ..]"
 ABOUT = """Checks records of matches with the published description of the game, which may have variables: whether the roles, states, moves, errors,
@@ -26,14 +26,6 @@ MOST_CALLS = 100_000
 # The limit of memory, the same as for the grounder of `ggp-instantiate`.
 MEMORY = 2 << 30
 SAME, DIFFERENT, NOT_FOLLOWED = 0, 1, 3
-
-
-class Late(Exception):
-    """The time is up."""
-
-
-def late(signal_number: int, frame: object) -> None:
-    raise Late
 
 
 def arguments() -> argparse.Namespace:
@@ -93,22 +85,13 @@ def place_of(why: BaseException) -> str:
 
 def hold(holding: Holding, lines: Iterable[str], limit: float) -> Iterator[tuple[int, str]]:
     """Yields an exit status and a message for each record, each within the time limit."""
-    signal.signal(signal.SIGPROF, late)
     for line in lines:
-        yield within(limit, holding, line) or (NOT_FOLLOWED, f"not followed: out of time after {limit:g} s")
-
-
-def within(limit: float, holding: Holding, line: str) -> tuple[int, str] | None:
-    """Returns the result of a record, or None if the time runs out."""
-    try:
         try:
-            signal.setitimer(signal.ITIMER_PROF, limit)
-            return holding.held(line)
-        finally:
-            # The timer may fire here too.
-            signal.setitimer(signal.ITIMER_PROF, 0)
-    except Late:
-        return None
+            with limited(limit):
+                result = holding.held(line)
+        except Late:
+            result = NOT_FOLLOWED, f"not followed: out of time after {limit:g} s"
+        yield result
 
 
 def limit_memory() -> None:
@@ -132,8 +115,7 @@ def perform(asked: argparse.Namespace) -> int:
         holding = Holding(file.read().decode("latin-1"), asked.description)
     for status, words in hold(holding, records_in(asked.records or ["-"]), asked.seconds):
         statuses.add(status)
-        # A record may contain characters that the output's encoding lacks.
-        say(words.encode("ascii", "backslashreplace").decode())
+        say(shown(words))
     return DIFFERENT if DIFFERENT in statuses else NOT_FOLLOWED if NOT_FOLLOWED in statuses else SAME
 
 

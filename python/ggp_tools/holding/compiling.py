@@ -6,7 +6,7 @@ Results are cached for each position. Relations that depend on themselves are de
 
 from collections.abc import Callable, Iterable, Iterator, Sequence
 
-from ggp_tools.kif import Relation, is_variable, spelled, variables
+from ggp_tools.kif import Relation, is_variable, quoted, variables
 
 from . import positions
 from .planning import Sizes, is_known, is_test
@@ -167,7 +167,7 @@ class Lines:
         return 2 if isinstance(condition, Either) else 0
 
     def texts(self, relation: tuple, arguments: list, bound: dict[str, str]) -> list[str]:
-        """The expressions of arguments that are asked for. What a relation asks of itself may grow."""
+        """Returns expressions for the arguments of a query. In a relation that queries itself terms may grow, so `low` limits their depth."""
         may_grow = relation in self.program.relations.denying
         found = [(argument, term_text(argument, bound)) for argument in arguments]
         return [f"low({text})" if may_grow and is_built(argument) else text for argument, text in found]
@@ -208,7 +208,7 @@ class Lines:
             self.put(place, f"for {bound[pattern]} in D.state:")
             return
         if is_variable(pattern[0]):
-            raise NotFollowed(f"{spelled(pattern)} is not a term")
+            raise NotFollowed(f"{quoted(pattern)} is not a term")
         functor = functor_of(pattern)
         places = tuple(at for at, member in enumerate(pattern) if at and is_known(member, bound))
         rows = f"D.rows.get({functor!r}, NONE)"
@@ -463,12 +463,9 @@ class Asking:
         call = f"_{self.name}({', '.join(words)})" if self.is_test else f"list(_{self.name}({', '.join(['D', '{}', *self.parameters])}))"
         yield f"        T[{key}] = R = {call}"
         if self.relation in self.program.relations.denying:
-            yield f"    if R is BUSY: raise GoesRound({spelled_relation(self.relation)!r})"
+            why = f"a sentence of `{quoted(self.relation[0])}` depends on itself through a negation"
+            yield f"    if R is BUSY: raise GoesRound({why!r})"
         yield "    return R"
-
-
-def spelled_relation(relation: Relation) -> str:
-    return f"a sentence of `{spelled(relation[0])}` depends on itself through a negation"
 
 
 class Circle:

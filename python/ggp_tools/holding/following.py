@@ -2,21 +2,35 @@
 
 from collections.abc import Callable, Sequence
 
-from ggp_tools.kif import Relation, fits, place, spelled
+from ggp_tools.kif import Relation, fits, place, quoted, spelled
+from ggp_tools.records.record import ABORTED, COMPLETED, ERRORS, NoRecord, checked_record, parsed
 
 from .game import Game
 from .positions import Position, State
 from .reading import GOAL, INIT, LEGAL, NEXT, TERMINAL, NotFollowed, Term, term_of
-from .records import AT_END, ILLEGAL, UNREADABLE
 
 # At most this many differences of each kind are reported.
 MOST_TOLD = 5
-# At most this many characters of an invalid term are shown.
-MOST_SHOWN = 100
+ILLEGAL, UNREADABLE = "IL ", "IL ?"
 
 
 class Differs(Exception):
     """The differences between the record and the description, in lines."""
+
+
+def read_record(line: bytes | str) -> dict:
+    """Parses a record. Refuses a text that is not a record."""
+    record = checked_record(parsed(line))
+    phase, cause, goals, marks = record["phase"], record["cause"], record["goalValues"], record["startMarks"]
+    if not all(error in ERRORS or error.startswith(ILLEGAL) for turn in record["errors"] for error in turn):
+        raise NoRecord("errors has a text that is not an error")
+    if (phase in ABORTED) != (cause is not None):
+        raise NoRecord("its cause does not fit its phase")
+    if None in marks and (record["moves"] or phase != "starting" and cause != "asked") or phase == "starting" and None not in marks:
+        raise NoRecord("startMarks do not fit its phase")
+    if len(goals) != (len(record["roles"]) if phase in COMPLETED else 0):
+        raise NoRecord("goalValues do not fit its phase")
+    return record
 
 
 class Following:
@@ -36,7 +50,7 @@ class Following:
         if text not in self.terms:
             parsed = term_of(text)
             if spelled(parsed) != text:
-                raise NotFollowed(f"it is not a record: {text[:MOST_SHOWN]!r} is not canonical text")
+                raise NotFollowed(f"it is not a record: `{quoted(text)}` is not canonical text")
             self.terms[text] = parsed
         return self.terms[text]
 
@@ -56,7 +70,7 @@ class Following:
         own = list(map(self.text, self.game.roles))
         # Roles that a rule derives have no order in the description.
         if own != roles and (self.game.has_fixed_order or sorted(own) != sorted(roles)):
-            raise Differs(f"the roles are {' '.join(own)} by the description, and {' '.join(roles)} in the record")
+            raise Differs(f"the roles are {' '.join(map(quoted, own))} by the description, and {' '.join(map(quoted, roles))} in the record")
         self.in_order = list(map(self.term, roles))
 
     def look_at_state(self, when: str, state: State, texts: list[str], cited: Callable) -> None:
@@ -66,9 +80,9 @@ class Following:
             return
         lines = []
         for text in sorted(own.keys() - set(texts))[:MOST_TOLD]:
-            lines.append(f"{when} lacks {text}, which {cited(own[text])}")
+            lines.append(f"{when} lacks {quoted(text)}, which {cited(own[text])}")
         for text in sorted(set(texts) - own.keys())[:MOST_TOLD]:
-            lines.append(f"{when} has {text}, which no sentence of the description gives there")
+            lines.append(f"{when} has {quoted(text)}, which no sentence of the description gives there")
         raise Differs("\n".join(lines or [f"{when} has a term twice"]))
 
     def cited(self, relation: Relation, arguments: Sequence[Term], state: State, moves: Sequence[Term] = ()) -> str:
@@ -90,7 +104,7 @@ class Following:
         if self.game.is_over(position):
             raise Differs(f"{when} was played, but the match had ended before it: {self.cited(TERMINAL, (), state)} `terminal`")
         for role, move, error in zip(self.in_order, moves, errors):
-            self.look_at_move(f"{when}, {self.text(role)}", position, role, move, error)
+            self.look_at_move(f"{when}, {quoted(role)}", position, role, move, error)
         after = frozenset(self.game.following(position))
         self.look_at_state(f"after {when} the record", after, following, lambda term: self.cited(NEXT, (term,), state, moves))
         return after
@@ -98,12 +112,12 @@ class Following:
     def look_at_move(self, when: str, position: Position, role: str, move: Term, error: str) -> None:
         """Checks that a move is legal. If it was substituted, it must be the first legal move, and the answer must be illegal."""
         if not self.game.is_legal(position, role, move):
-            raise Differs(f"{when}: the record plays {self.text(move)}, which is not legal by the description")
+            raise Differs(f"{when}: the record plays {quoted(move)}, which is not legal by the description")
         if error.startswith(ILLEGAL) and error != UNREADABLE:
             answer = self.term(error.removeprefix(ILLEGAL))
             if self.game.is_legal(position, role, answer):
                 sources = self.cited(LEGAL, (role, answer), position.state)
-                raise Differs(f"{when}: the answer {self.text(answer)} was counted as illegal, but {sources} it")
+                raise Differs(f"{when}: the answer {quoted(answer)} was counted as illegal, but {sources} it")
         if error:
             self.look_at_first(when, position, role, move)
 
@@ -114,7 +128,7 @@ class Following:
         for move in self.game.moves(position, role):
             greatest = self.greatest_place(position, role, move)
             if greatest < least:
-                words = f"the record plays {self.text(first)} instead of an answer, but {self.text(move)} comes before it"
+                words = f"the record plays {quoted(first)} instead of an answer, but {quoted(move)} comes before it"
                 raise Differs(f"{when}: {words}, by {self.game.cited(greatest[0])}")
 
     def least_place(self, role: str, move: Term) -> tuple[int, tuple]:
@@ -122,7 +136,7 @@ class Following:
         for number, rules in self.game.by_sentence(LEGAL).items():
             if any(fits(rule.arguments, (role, move), {}) for rule in rules):
                 return number, place(move)
-        raise NotFollowed(f"no head of a sentence fits the legal move {self.text(move)}")
+        raise NotFollowed(f"no head of a sentence fits the legal move {quoted(move)}")
 
     def greatest_place(self, position: Position, role: str, move: Term) -> tuple[int, tuple]:
         """Returns the latest possible place of a move: that of the first sentence that was seen to derive it."""
@@ -137,7 +151,7 @@ class Following:
         if None in record.get("startMarks", ()):
             return
         position, (kind, *at) = self.game.position(state), (record.get("cause") or "none").split()
-        is_at_end = record["phase"] in AT_END or kind == "nogoal"
+        is_at_end = record["phase"] in COMPLETED or kind == "nogoal"
         is_over = self.game.is_over(position)
         if is_at_end and not is_over:
             raise Differs("the match ends by the rules in the record, but not in the description: nothing gives `terminal`")
@@ -155,20 +169,20 @@ class Following:
         goals = self.game.goals(position, role)
         if goals != [value]:
             reasons = [f"{self.cited(GOAL, (role, str(goal)), position.state)} {goal}" for goal in goals]
-            raise Differs(f"{self.text(role)} has the goal {value} in the record, and by the description {'; '.join(reasons) or 'none'}")
+            raise Differs(f"{quoted(role)} has the goal {value} in the record, and by the description {'; '.join(reasons) or 'none'}")
 
     def look_at_missing_goal(self, position: Position, at: int) -> None:
         """Checks the role for whose goals a match was given up: it must be the first without exactly one goal."""
         counts = [len(self.game.goals(position, role)) for role in self.in_order]
         without = next((place for place, count in enumerate(counts) if count != 1), None)
         if without != at:
-            words = "no role lacks its goal" if without is None else f"{self.text(self.in_order[without])} does"
-            raise Differs(f"the match was given up because {self.text(self.in_order[at])} has no single goal, and by the description {words}")
+            words = "no role lacks its goal" if without is None else f"{quoted(self.in_order[without])} does"
+            raise Differs(f"the match was given up because {quoted(self.in_order[at])} has no single goal, and by the description {words}")
 
     def look_at_legal(self, position: Position, at: int | None) -> None:
         """Checks which role has no legal move."""
         without = next((place for place, role in enumerate(self.in_order) if not self.game.moves(position, role)), None)
         if without != at:
-            stuck = "no role" if without is None else self.text(self.in_order[without])
-            recorded = "no role" if at is None else self.text(self.in_order[at])
+            stuck = "no role" if without is None else quoted(self.in_order[without])
+            recorded = "no role" if at is None else quoted(self.in_order[at])
             raise Differs(f"after the last turn {recorded} has no legal move in the record, and by the description {stuck}")

@@ -8,7 +8,7 @@ from collections.abc import Iterator
 from typing import NamedTuple
 
 from ggp_tools import gdl
-from ggp_tools.kif import MOST_LEVELS, Expression, Refused, expressions, relation, variables
+from ggp_tools.kif import MOST_LEVELS, Expression, Refused, arguments_of, expressions, relation, variables
 
 Term = Expression
 TRUE, DOES, INIT, NEXT = ("true", 1), ("does", 2), ("init", 1), ("next", 1)
@@ -85,10 +85,6 @@ def variables_of(condition: Condition) -> dict[str, None]:
     return dict.fromkeys(variables(condition.arguments))
 
 
-def arguments_of(atom: Expression) -> tuple[Term, ...]:
-    return () if isinstance(atom, str) else atom[1:]
-
-
 def condition_of(literal: gdl.Literal) -> Condition:
     if literal.same:
         return Same(literal.positive, literal.atom)
@@ -111,7 +107,7 @@ def rules_of(number: int, sentence: Expression, names: Iterator[str]) -> list[Ru
     rules."""
     head, body = gdl.parted(sentence)
     bound = {name for literal in body if literal[0] not in gdl.NO_RELATIONS for name in variables(literal)}
-    tested = [literal for literal in body if literal[0] in ("or", "and", "not") and bound.issuperset(variables(literal))]
+    tested = {literal: None for literal in body if literal[0] in ("or", "and", "not") and bound.issuperset(variables(literal))}
     others = [literal for literal in body if literal not in tested]
     tests = [condition for literal in tested for condition in tests_of(literal)]
     expanded = gdl.rules_of(number, ("<=", head, *others), names)

@@ -3,7 +3,6 @@
 from collections.abc import Iterator
 
 from ggp_tools import gdl
-from ggp_tools.instantiating.rounds import components
 from ggp_tools.kif import Relation
 
 from .reading import DOES, TRUE, Either, Rule, all_asked
@@ -25,7 +24,7 @@ class Relations:
         self.timely = {TRUE, DOES}
         # The numbers of the functions' caches, and the caches of results that do not depend on the state.
         self.tables, self.fixed = {}, {}
-        for group in components(self.asks):
+        for group in gdl.components(self.asks):
             self.take(set(group))
 
     def source(self, head: Relation, asked: Relation) -> int:

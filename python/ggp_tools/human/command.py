@@ -1,6 +1,6 @@
 """A player that lets a person make its moves in a browser.
 
-    ggp-human [--port P] [--bind ADDRESS] [--referee ADDRESS]..
+    ggp-human [--port P] [--bind ADDRESS] [--referee ADDRESS].. [--board hex]
 
 The referee reaches it at `NAME@HOST:P`, like any other player. It prints the address of its page. Open this address in a browser. It
 contains a token: without the token nobody can see the page or move. Until the page is open, INFO is answered `busy` and START waits. The page
@@ -14,6 +14,7 @@ import sys
 from ggp_tools.human.seat import Seat
 from ggp_tools.human.server import Server
 from ggp_tools.streams import address, whole
+from ggp_tools.templating import environment
 
 MOST_CALLS = 20_000
 
@@ -24,10 +25,14 @@ def main() -> int:
     words.add_argument("--bind", default="127.0.0.1", metavar="ADDRESS", help="the address to listen on (default: 127.0.0.1)")
     text = "accept matches only from this address; may be given several times (default: the sender of the first INFO or START)"
     words.add_argument("--referee", type=address, action="append", default=[], metavar="ADDRESS", help=text)
+    text = "draw all boards with hexagons (default: boards whose places have the shape of a hexagon, a star or a triangle)"
+    words.add_argument("--board", choices=["hex"], help=text)
     options = words.parse_args()
+    # If the package is missing, the command ends here.
+    environment()
     sys.setrecursionlimit(MOST_CALLS)
     try:
-        server = Server((options.bind, options.port), Seat(), options.referee)
+        server = Server((options.bind, options.port), Seat(is_hex=options.board == "hex"), options.referee)
     except (OSError, OverflowError) as why:
         print(f"ggp-human: {options.bind}:{options.port}: {getattr(why, 'strerror', None) or why}", file=sys.stderr)
         return 1

@@ -1,22 +1,22 @@
-"""Computes what the page shows of a game: boards, other terms, and the places that a move names."""
+"""Computes what the page shows of a game: the state, and the places that a move names."""
 
 from ggp_tools.holding.game import Game
 from ggp_tools.holding.match import texts_of
 from ggp_tools.kif import spelled
-from ggp_tools.printable import visible
-from ggp_tools.records.show import Board, Group, Named, board_places, boards_of, is_on_board, places_of, words_of
+from ggp_tools.records.show import Board, Group, Named, Place, last_state, places_of, words_of
+from ggp_tools.templating import macros
 
 State = frozenset
-Place = tuple[int, int]
 # Stands for the row of a move that names only a column.
 ANY_ROW = 0
 
 
 class Shown:
-    """The states of a match so far. Boards are computed from all of them, so that a board keeps its size."""
+    """The states of a match so far."""
 
-    def __init__(self, game: Game) -> None:
-        self.game, self.states, self.named = game, [texts_of(game.initial)], Named(game.sentences)
+    def __init__(self, game: Game, is_hex: bool = False) -> None:
+        self.game, self.states, self.named = game, [texts_of(game.initial)], Named(game.sentences, is_hex)
+        self.roles = list(map(spelled, game.roles))
         self.state: State = game.initial
         # The moves that were legal so far, by relation; the last move of each role that had a choice; and the roles that have a choice now.
         self.known: dict[Group, set[str]] = {}
@@ -43,16 +43,14 @@ class Shown:
         return {role: values[0] if len(values) == 1 else None for role, values in values_by_role.items()}
 
     def picture(self, legal: list[str]) -> dict:
-        """Returns the boards, the terms that no board shows, the legal moves with the places that they name on each board, and for each role whether
-        it has several moves and which one it made last."""
-        boards = boards_of(self.states, self.named)
-        forms = {form for board in boards for form in board.forms}
+        """Returns the state as HTML, the legal moves with the places that they name on each of its boards, and for each role whether it has several
+        moves and which one it made last."""
+        found = last_state(self.states, self.roles, self.named, is_played=True)
         for move in filter(words_of, legal):
             self.known.setdefault((words_of(move)[0], len(words_of(move))), set()).add(move)
-        placed = list(map(self.placed, boards))
+        placed = list(map(self.placed, found["drawn"]))
         return {
-            "boards": [self.board_value(board) for board in boards],
-            "terms": [term for term in self.states[-1] if not is_on_board(term, forms)],
+            "state": macros("boards").state(found),
             "legal": [{"text": move, "places": [places.get(move, []) for places in placed]} for move in legal],
             "players": [{"role": spelled(role), "made": self.made.get(role, ""), "can": role in self.choosing} for role in self.game.roles],
         }
@@ -67,12 +65,3 @@ class Shown:
                 places = {move: [(board.across.index(words_of(move)[1]) + 1, ANY_ROW)] for move in known}
             named_places |= places if all(places.values()) else {}
         return named_places
-
-    def board_value(self, board: Board) -> dict:
-        """Returns a board for the page: its axes, the labels at each place, how to show them, and the places that have changed."""
-        places, before = (board_places(board, state) for state in (self.states[-1], self.states[-2:][0]))
-        marks = board.marks(self.named)
-        signs = {label: (marks[visible(label)].text, " ".join(marks[visible(label)].kinds())) for _, _, label in board.known.values()}
-        cells = {f"{across},{up}": found for (across, up), found in places.items()}
-        changed = [at for at in places.keys() | before.keys() if places.get(at) != before.get(at)]
-        return {"across": board.across, "up": board.up, "cells": cells, "signs": signs, "changed": sorted(changed)}

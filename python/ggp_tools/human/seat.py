@@ -66,9 +66,9 @@ def joint_move(moves: object, count: int) -> tuple:
 class Seat:
     """The state of the match that the page shows, and the person's pending move. Each change increases `version` and wakes the waiting threads."""
 
-    def __init__(self, waits_for_page: bool = True) -> None:
+    def __init__(self, waits_for_page: bool = True, is_hex: bool = False) -> None:
         self.changed = threading.Condition()
-        self.version, self.pages, self.waits_for_page = 0, 0, waits_for_page
+        self.version, self.pages, self.waits_for_page, self.is_hex = 0, 0, waits_for_page, is_hex
         self.match, self.receiver = "", ""
         # The number of the current message, counted over all matches. Threads that wait for an earlier one give up.
         self.asked = 0
@@ -126,9 +126,8 @@ class Seat:
         deadline, play_clock = time.monotonic() + clock_of(start) - SPARE, clock_of(play)
         asked = self.next_message(clock_of(start))
         try:
-            shown, own = Shown(game_of(rules)), spelled(role)
-            roles = [spelled(role) for role in shown.game.roles]
-            if own not in roles:
+            shown, own = Shown(game_of(rules), self.is_hex), spelled(role)
+            if own not in shown.roles:
                 raise Refused(f"they have no role {own}")
         except BAD_RULES as why:
             self.refuse(asked, f"A match was refused, since its rules can't be followed: {why}")
@@ -137,7 +136,7 @@ class Seat:
             if self.asked != asked:
                 return "busy"
             self.match, self.receiver, self.role, self.play_clock, self.sent = match, receiver, role, play_clock, None
-            self.shown, self.roles = shown, roles
+            self.shown, self.roles = shown, shown.roles
             self.show("ready", [], f"Match {match}: you are {own}.")
             self.changed.wait_for(lambda: self.is_person_there() or self.asked != asked, max(0.0, deadline - time.monotonic()))
         return "ready"

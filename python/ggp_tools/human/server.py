@@ -1,31 +1,37 @@
 """Serves the referee and the person's browser on one port: POST / is a message of the referee, GET /TOKEN/ is the page. Only the person has the
 token, so other users of this computer and pages of other sites cannot see the page or the chosen move."""
 
+import contextlib
+import io
 import ipaddress
 import json
 import re
 import secrets
 import socket
-import threading
-from collections import Counter
-from collections.abc import Iterable
+import sys
+import time
+from collections.abc import Iterable, Mapping
 from http.server import BaseHTTPRequestHandler, ThreadingHTTPServer
 from http import HTTPStatus
 
 from ggp_tools.human.seat import Seat, Unread, read_message
 from ggp_tools.templating import source
+from ggp_tools.visitors import Visitors, client_of
 
-# A START carries the whole rules.
-MOST_BYTES, MOST_MOVE = 16_777_216, 65_536
+# START has the whole rules, with a space for each atom and each list.
+MOST_BYTES, MOST_MOVE = 33_554_432, 65_536
 # A referee introduces itself with one of these messages. Before that no other long message is parsed.
 INTRODUCES = re.compile(r"[\s(]*(?:info|start)\b", re.IGNORECASE)
 # After this many seconds without a change the page gets a line, which also detects that the page was closed.
 ALIVE = 1.0
-# The maximum number of connections from one address.
-MOST_CONNECTIONS = 32
+# A request must be there after so many seconds, and one more for each MiB of its body. A reader must take the answer in PATIENCE seconds.
+REQUEST_SECONDS, PATIENCE = 5, 30
+# The maximum number of connections.
+MOST_CONNECTIONS = 128
 # The files of the page by their names below the token. The page may load and run only these.
 FILES = {"": ("human.html", "text/html"), "style.css": ("style.css", "text/css"), "human.js": ("human.js", "text/javascript")}
-POLICY = "default-src 'none'; style-src 'self'; script-src 'self'; connect-src 'self'; base-uri 'none'; form-action 'none'; frame-ancestors 'none'"
+HEADERS = {"X-Content-Type-Options": "nosniff", "Referrer-Policy": "no-referrer"}
+HEADERS["Content-Security-Policy"] = "default-src 'none'; style-src 'self' 'unsafe-inline'; script-src 'self'; connect-src 'self'; base-uri 'none'; form-action 'none'; frame-ancestors 'none'"
 
 
 def is_own_name(host: str, own: str) -> bool:
@@ -38,13 +44,43 @@ def is_own_name(host: str, own: str) -> bool:
     return True
 
 
-class Handler(BaseHTTPRequestHandler):
-    """Handles one request. A connection that sends nothing for `timeout` seconds is closed."""
+class Request(io.RawIOBase):
+    """A request that is read from a socket within a deadline. It is a connection of visitors."""
 
-    timeout = 30
+    def __init__(self, connection: socket.socket, client: str, visitors: Visitors) -> None:
+        self.connection, self.client, self.visitors = connection, client, visitors
+        self.is_idle, self.ends = True, time.monotonic() + REQUEST_SECONDS
+
+    def readable(self) -> bool:
+        return True
+
+    def readinto(self, data: memoryview) -> int:
+        self.connection.settimeout(max(0.001, self.ends - time.monotonic()))
+        return self.connection.recv_into(data)
+
+    def is_whole(self) -> None:
+        """Notes that the request is there: the connection gives way to no other, and its answer has another deadline."""
+        self.is_idle = False
+        self.connection.settimeout(PATIENCE)
+
+    def end(self) -> None:
+        self.visitors.go(self)
+        with contextlib.suppress(OSError):
+            self.connection.shutdown(socket.SHUT_RDWR)
+
+
+class Handler(BaseHTTPRequestHandler):
+    """Handles one request."""
+
     server: "Server"
 
+    def setup(self) -> None:
+        super().setup()
+        self.asked = self.server.requests[self.connection]
+        self.rfile = io.BufferedReader(self.asked)
+
     def do_GET(self) -> None:
+        self.asked.is_whole()
         if not is_own_name(self.headers["Host"] or "", self.server.server_name):
             self.send_error(HTTPStatus.FORBIDDEN)
         elif self.path == f"{self.server.page}events":
@@ -55,10 +91,20 @@ class Handler(BaseHTTPRequestHandler):
         else:
             self.send_error(HTTPStatus.NOT_FOUND)
 
+    def do_HEAD(self) -> None:
+        """Answers like GET, without the body."""
+        self.do_GET()
+
+    def refuse_method(self) -> None:
+        self.reply(HTTPStatus.METHOD_NOT_ALLOWED, "text/plain", b"", {"Allow": "GET, HEAD, POST"})
+
+    do_DELETE = do_OPTIONS = do_PATCH = do_PUT = refuse_method
+
     def do_POST(self) -> None:
         is_move = self.path == f"{self.server.page}move"
         is_trusted = is_move or self.server.may_be_referee(self.client_address[0])
         body = self.body(MOST_BYTES if is_trusted and not is_move else MOST_MOVE)
+        self.asked.is_whole()
         if not is_move and self.path != "/":
             self.send_error(HTTPStatus.NOT_FOUND)
         elif not is_own_name(self.headers["Host"] or "localhost", self.server.server_name):
@@ -77,11 +123,13 @@ class Handler(BaseHTTPRequestHandler):
             self.take_message(body)
 
     def body(self, most: int) -> bytes | None:
-        """Returns the body of a request, or None if its length is missing or too large."""
+        """Returns the body of a request, or None if it is cut off, or its length is missing or too large."""
         size = self.headers["Content-Length"] or ""
         if not re.fullmatch("[0-9]{1,8}", size) or int(size) > most:
             return None
-        return self.rfile.read(int(size))
+        self.asked.ends += int(size) >> 20
+        body = self.rfile.read(int(size))
+        return body if len(body) == int(size) else None
 
     def take_message(self, body: bytes) -> None:
         """Answers the referee. If there is no move in time, the connection is closed without an answer."""
@@ -114,6 +162,8 @@ class Handler(BaseHTTPRequestHandler):
         self.send_header("Content-Type", "text/event-stream")
         self.send_header("Cache-Control", "no-store")
         self.end_headers()
+        if self.command == "HEAD":
+            return
         version, seat = -1, self.server.seat
         seat.page_opens(1)
         try:
@@ -127,15 +177,13 @@ class Handler(BaseHTTPRequestHandler):
         finally:
             seat.page_opens(-1)
 
-    def reply(self, status: HTTPStatus, kind: str, body: bytes) -> None:
+    def reply(self, status: HTTPStatus, kind: str, body: bytes, more: Mapping[str, str] = HEADERS) -> None:
         self.send_response(status)
-        self.send_header("Content-Type", kind)
-        self.send_header("Content-Length", str(len(body)))
-        self.send_header("Content-Security-Policy", POLICY)
-        self.send_header("X-Content-Type-Options", "nosniff")
-        self.send_header("Referrer-Policy", "no-referrer")
+        for name, value in {"Content-Type": kind, "Content-Length": str(len(body)), **HEADERS, **more}.items():
+            self.send_header(name, value)
         self.end_headers()
-        self.wfile.write(body)
+        if self.command != "HEAD":
+            self.wfile.write(body)
 
     def log_message(self, format: str, *arguments: object) -> None:
         pass
@@ -150,23 +198,26 @@ class Server(ThreadingHTTPServer):
     def __init__(self, address: tuple[str, int], seat: Seat, referees: Iterable[str] = ()) -> None:
         super().__init__(address, Handler)
         self.seat, self.referees, self.page = seat, set(referees), f"/{secrets.token_urlsafe(16)}/"
-        self.connections: Counter[str] = Counter()
-        self.counting = threading.Lock()
+        self.visitors, self.requests = Visitors(MOST_CONNECTIONS), {}
 
-    def verify_request(self, request: object, client_address: tuple[str, int]) -> bool:
-        """Counts a connection, or closes it if its address has too many."""
-        with self.counting:
-            if self.connections[client_address[0]] >= MOST_CONNECTIONS:
-                return False
-            self.connections[client_address[0]] += 1
+    def verify_request(self, request: socket.socket, client_address: tuple[str, int]) -> bool:
+        """Returns whether a connection is served. If there are too many, the oldest one without a whole request gives way."""
+        client = client_of(client_address[0])
+        if not self.visitors.has_room_for(client):
+            return False
+        self.requests[request] = Request(request, client, self.visitors)
+        self.visitors.come(self.requests[request])
         return True
 
-    def process_request_thread(self, request: socket.socket, client_address: tuple[str, int]) -> None:
-        try:
-            super().process_request_thread(request, client_address)
-        finally:
-            with self.counting:
-                self.connections[client_address[0]] -= 1
+    def shutdown_request(self, request: socket.socket) -> None:
+        if asked := self.requests.pop(request, None):
+            self.visitors.go(asked)
+        super().shutdown_request(request)
+
+    def handle_error(self, request: socket.socket, client_address: tuple[str, int]) -> None:
+        """Prints errors, but not those of connections, which visitors can cause."""
+        if not isinstance(sys.exception(), OSError):
+            super().handle_error(request, client_address)
 
     def may_be_referee(self, address: str) -> bool:
         """Returns whether messages from this address are read: it is a referee's, or there is no referee yet."""

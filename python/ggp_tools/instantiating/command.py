@@ -1,22 +1,4 @@
-"""Grounds a game: reads a description with variables, and writes a ground description of the same game for --rules-file of ggp_manager.
-
-    ggp-instantiate [--seconds N] [--large] [--folded | --unfolded] [--split] [--player-rules FILE] [FILE]
-
-Reads FILE, or standard input, and reports its steps and the limits on standard error. If it transforms the ground rules, it says so in a comment
-at the top of the output. N is the limit of processor time in seconds, above 0 and up to 1,000,000 (60 by default). It needs the grounder gringo.
-
-If a ground description exceeds the limits of ggp_manager, it is factored into fewer and shorter sentences for the same game. --folded factors every
-description, --unfolded none. If factoring takes too long or does not help, the larger limits of `ggp_manager --large` apply; with --large they
-apply from the start. If there are too many instances, or the limits are still exceeded, rules are split: parts of them become auxiliary
-relations, so that each rule has fewer variables. --split splits in any case. --player-rules writes the description with variables to this FILE
-for players, one sentence on each line, with `base` and `input`.
-
-How it works: each sentence is expanded into rules without `or`. For each rule the grounder computes all instances that are possible in any state:
-`true` ranges over the terms that some `init` or `next` derives, `does` over the moves that some `legal` derives. The grounder evaluates relations
-that do not depend on the state, and they are left out. Sentences that depend on each other within one state are unrolled in rounds. The order of
-the output depends only on the description: the instances follow the order of sentences; those of one sentence are sorted by head, then by body.
-Numbers are sorted by value and come before other atoms, which are sorted by bytes. Atoms come before lists, and lists are sorted by their members.
-"""
+"""The command `ggp-instantiate`. examples/games/general/README.md says how it works."""
 
 import argparse
 
@@ -47,8 +29,7 @@ def write_player_rules(made: Making, file: str) -> None:
 
 
 def arguments() -> argparse.Namespace:
-    usage = "ggp-instantiate [--seconds N] [--large] [--folded | --unfolded] [--split] [--player-rules FILE] [FILE]"
-    words = argparse.ArgumentParser(COMMAND, usage=usage, description=HELP, epilog="examples/games/general/README.md has details.")
+    words = argparse.ArgumentParser(COMMAND, description=HELP, epilog="examples/games/general/README.md has details.")
     text = f"the limit of processor time in seconds, above 0 and up to {MOST_SECONDS:,} (default: {SECONDS})"
     words.add_argument("--seconds", type=seconds, default=SECONDS, metavar="N", help=text)
     words.add_argument("--large", action="store_true", help="use the limits of ggp_manager --large from the start")

@@ -1,7 +1,7 @@
 """Detects rules that derive infinitely many instances."""
 
 from ggp_tools.gdl import Rule
-from ggp_tools.kif import Expression, fits, put, relation, variables
+from ggp_tools.kif import arguments_of, fits, put, relation, variables
 
 # Derived terms of a state become `true`, and derived moves become `does`.
 TURNED = {("next", 1): ("true", 1), ("init", 1): ("true", 1), ("legal", 2): ("does", 2)}
@@ -22,10 +22,6 @@ def is_endless(rule: Rule) -> bool:
     # The variables of the derived instance are renamed, because the next instance has its own.
     head = put(head, {name: name + "'" for name in variables(head)})
     for literal in asked:
-        if relation(literal.atom) != key or not all(fits(pattern, term, values) for pattern, term in zip(arguments(literal.atom), arguments(head))):
+        if relation(literal.atom) != key or not all(fits(pattern, term, values) for pattern, term in zip(arguments_of(literal.atom), arguments_of(head))):
             return False
     return any(isinstance(term, tuple) and name + "'" in variables(term) for name, term in values.items())
-
-
-def arguments(atom: Expression) -> Expression:
-    return () if isinstance(atom, str) else atom[1:]

@@ -224,10 +224,8 @@ class Folded:
                 for formula in body:
                     counts[formula] += 1
         for number in range(len(counts) - 1, -1, -1):
-            node = self.formulas.nodes[number]
-            if counts[number] and node[0] in ("not", "or"):
-                for member in (node[1],) if node[0] == "not" else node[1]:
-                    counts[member] += counts[number]
+            for member in self.formulas.members(number) if counts[number] else ():
+                counts[member] += counts[number]
         return counts
 
     def below(self, head: int) -> set[int]:
@@ -245,11 +243,9 @@ class Folded:
             if formula in seen:
                 continue
             seen.add(formula)
-            node = self.formulas.nodes[formula]
-            if node[0] == "atom":
+            if self.formulas.nodes[formula][0] == "atom":
                 atoms_found.add(formula)
-            else:
-                open_formulas += (node[1],) if node[0] == "not" else node[1]
+            open_formulas += self.formulas.members(formula)
         return atoms_found
 
     def place_in(self, most: int) -> None:
@@ -369,7 +365,7 @@ class Folded:
         nodes, sizes = self.formulas.nodes, self.formulas.sizes
         for number in range(len(nodes) - 1, -1, -1):
             if refs[number]:
-                for member in self.members(number):
+                for member in self.formulas.members(number):
                     refs[member] += 1
         name_size = len(self.word) + 4
         gains = [
@@ -381,10 +377,6 @@ class Folded:
         chosen = [formula for gain, formula in sorted(gains, key=lambda pair: (-pair[0], pair[1])) if gain > 0][: max(allowed, 0)]
         if chosen:
             self.name_parts(sorted(chosen))
-
-    def members(self, number: int) -> tuple[int, ...]:
-        node = self.formulas.nodes[number]
-        return (node[1],) if node[0] == "not" else node[1] if node[0] == "or" else ()
 
     def rename(self) -> None:
         """Gives short names to relations that are not the game's own, if this makes the text smaller."""

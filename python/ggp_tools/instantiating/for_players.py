@@ -1,16 +1,15 @@
 """Writes the description with variables for players, whose programs read `base` and `input` there."""
 
-from collections.abc import Iterator
-
-from ggp_tools.kif import Expression, Relation, head_of, relation, spelled
 from ggp_tools.gdl import Literal, Rule, each_of, ways_of
+from ggp_tools.instantiating.limits import atoms_of
+from ggp_tools.kif import Expression, head_of, relation, spelled
 
 
 def text_for_players(sentences: list[Expression], rules: list[Rule]) -> str:
     """Returns one sentence on each line, in canonical text and without `and`. Roles that rules derive are written as facts, in the order of the
     ground description. If no sentence mentions `base` or `input`, its facts are added: all possible terms of states, or all possible moves. If a
     sentence uses them without defining them, adding facts would change the game."""
-    mentioned = {used for sentence in sentences for used in relations_in(sentence)}
+    mentioned = {relation(atom) for sentence in sentences for atom in atoms_of(sentence)}
     written = [plain for sentence in sentences if relation(head_of(sentence)) != ("role", 1) for plain in without_and(sentence)]
     written = [rule.head for rule in rules if relation(rule.head) == ("role", 1)] + written
     if ("base", 1) not in mentioned:
@@ -20,15 +19,6 @@ def text_for_players(sentences: list[Expression], rules: list[Rule]) -> str:
         moves = dict.fromkeys(rule.head[1:] for rule in rules if relation(rule.head) == ("legal", 2))
         written += [("input", *move) for move in moves]
     return "".join(f"{spelled(expression)}\n" for expression in written)
-
-
-def relations_in(expression: Expression) -> Iterator[Relation]:
-    """Yields the relations in a sentence or a literal."""
-    if isinstance(expression, tuple) and expression[0] in ("<=", "not", "or", "and"):
-        for member in expression[1:]:
-            yield from relations_in(member)
-    else:
-        yield relation(expression)
 
 
 def without_and(sentence: Expression) -> list[Expression]:

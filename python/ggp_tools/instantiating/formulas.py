@@ -79,6 +79,11 @@ class Formulas:
         """Returns the formula that is true if all of these are."""
         return self.no(self.any([self.no(number) for number in numbers]))
 
+    def members(self, number: int) -> tuple[int, ...]:
+        """Returns the formulas that this one joins or negates."""
+        node = self.nodes[number]
+        return (node[1],) if node[0] == "not" else node[1] if node[0] == "or" else ()
+
     def parts(self, number: int) -> list[int]:
         """Returns the members of a conjunction, or the formula itself."""
         node = self.nodes[number]

@@ -10,7 +10,7 @@ from collections import Counter
 from collections.abc import Iterable, Iterator
 from typing import TextIO
 
-from ggp_tools.kif import MOST_LEVELS, Expression, Refused, Relation, relation, variables
+from ggp_tools.kif import MOST_LEVELS, Expression, Refused, Relation, arguments_of, relation, variables
 from ggp_tools.gdl import GAME, Literal, Rule
 
 # The limits of the grounder's memory and of the number of instances.
@@ -71,8 +71,7 @@ class LogicProgram:
         return ("" if literal.positive else "not ") + self.atom(literal.atom, names)
 
     def atom(self, atom: Expression, names: dict[str, str]) -> str:
-        arguments = () if isinstance(atom, str) else atom[1:]
-        return applied(self.name(relation(atom)), [term_text(argument, names) for argument in arguments])
+        return applied(self.name(relation(atom)), [term_text(argument, names) for argument in arguments_of(atom)])
 
 
 def applied(name: str, arguments: list[str]) -> str:

@@ -4,12 +4,12 @@ import re
 from collections import Counter
 from collections.abc import Iterator, Sequence
 
-from ggp_tools.kif import MOST_LEVELS, Expression, Refused, levels, relation, spelled
+from ggp_tools.kif import MOST_LEVELS, Expression, Refused, head_of, levels, quoted, relation, spelled
 from ggp_tools.gdl import SECRET, Rule, cited
 
 MOST = {"sentences": 8192, "atomic sentences": 16384, "roles": 16, "moves": 4096, "bytes": 1048576, "levels": MOST_LEVELS}
 # The limits of ggp_manager --large.
-LARGE = {**MOST, "sentences": 65536, "atomic sentences": 65536, "bytes": 4194304}
+LARGE = {**MOST, "sentences": 262144, "atomic sentences": 262144, "bytes": 16777216}
 # The first comment of a ground description that exceeds the usual limits.
 LARGE_NOTE = "large = true: this is past the usual limits of ggp_manager, which takes it with --large"
 # The longest argument of a command on Linux, without the final NUL byte.
@@ -28,7 +28,7 @@ def without_high_goals(rules: list[Rule]) -> tuple[list[Rule], int]:
     for rule in rules:
         for literal in rule.body:
             if is_high(literal.atom):
-                raise Refused(f"{spelled(rule.head)} uses {spelled(literal.atom)}, and a goal is a number from 0 to 100", rule.sentence)
+                raise Refused(f"{quoted(rule.head)} uses {quoted(literal.atom)}, and a goal is a number from 0 to 100", rule.sentence)
     return [rule for rule in rules if rule.head not in high], len(high)
 
 
@@ -41,18 +41,18 @@ def refuse_faults(rules: list[Rule]) -> None:
     for rule in rules:
         for atom in (rule.head, *(literal.atom for literal in rule.body)):
             if relation(atom)[0] == "goal" and not (isinstance(atom[2], str) and GOAL.fullmatch(atom[2])):
-                raise Refused(f"{spelled(atom)} can be derived, and its goal is not a number from 0 to 100", rule.sentence)
+                raise Refused(f"{quoted(atom)} can be derived, and its goal is not a number from 0 to 100", rule.sentence)
         if rule.head == ("role", "random"):
             raise Refused(f"the role `random` {SECRET}", rule.sentence)
         if relation(rule.head)[0] == "role" and rule.body:
-            raise Refused(f"{spelled(rule.head)} is not known before the game", rule.sentence, "make it a fact")
+            raise Refused(f"{quoted(rule.head)} is not known before the game", rule.sentence, "make it a fact")
     if not any(relation(rule.head)[0] == "role" for rule in rules):
         raise Refused("there is no role", advice="write (role NAME) for each role")
 
 
 def atoms_of(expression: Expression) -> Iterator[Expression]:
-    """Yields the atomic sentences of a ground sentence."""
-    if isinstance(expression, tuple) and expression[0] in ("<=", "not", "or"):
+    """Yields the atomic sentences of a sentence or a literal."""
+    if isinstance(expression, tuple) and expression[0] in ("<=", "not", "or", "and"):
         for member in expression[1:]:
             yield from atoms_of(member)
     else:
@@ -61,14 +61,14 @@ def atoms_of(expression: Expression) -> Iterator[Expression]:
 
 def figures(written: list[Numbered], size: int) -> Iterator[Figure]:
     """Yields each limited quantity: its name, its value, and the usual limit."""
-    heads = dict.fromkeys(sentence[1] if sentence[0] == "<=" else sentence for _, sentence in written)
+    heads = dict.fromkeys(head_of(sentence) for _, sentence in written)
     moves = Counter(head[1] for head in heads if relation(head) == ("legal", 2))
     roles = [head[1] for head in heads if relation(head) == ("role", 1)]
     yield "sentences", len(written), MOST["sentences"]
     yield "atomic sentences", len({atom for _, sentence in written for atom in atoms_of(sentence)}), MOST["atomic sentences"]
     yield "roles", len(roles), MOST["roles"]
     for role in roles:
-        yield f"moves of {spelled(role)}", moves[role], MOST["moves"]
+        yield f"moves of {quoted(role)}", moves[role], MOST["moves"]
     yield "bytes", size, MOST["bytes"]
     yield "nested lists", max((levels(sentence) for _, sentence in written), default=0), MOST["levels"]
 

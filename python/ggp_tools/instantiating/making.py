@@ -1,20 +1,22 @@
 """Grounds a description step by step, and reports what was done."""
 
 import math
-import signal
 import time
 from typing import NamedTuple
 
 from . import folding, for_players, gringo, grounding, limits, rounds
 from .endless import endless
-from ggp_tools.kif import Expression, Refused, expressions, relation, spelled
+from .splitting import split
+from ggp_tools.kif import Expression, Refused, expressions, quoted, relation, spelled
 from ggp_tools.streams import report
-from .forms import Form, forms
+from ggp_tools.timed import Late, limited
 from ggp_tools.gdl import Relations, Rule, all_rules, as_read, cited, lines_of
 
 # When to factor a game: only if it exceeds a limit otherwise, always, or never.
 WHERE_NEEDED, ALWAYS, NEVER = "where needed", "always", "never"
 FOLDABLE = ("sentences", "atomic sentences", "bytes")
+# A longer game is factored if possible, also if it fits the limits of --large: each process that loads it needs memory for all of it.
+LONG = {"sentences": 65536, "bytes": 4194304}
 # More than this many times a limit is far past it.
 FAR = 4
 # The maximum work of factoring a game to within the usual limits, about twenty seconds of processor time. It is counted in steps, so that the
@@ -22,14 +24,27 @@ FAR = 4
 MOST_WORK = 400_000
 # After this many seconds intermediate results are reported at once.
 SOON = 2
+# Up to this many instances a description is tried unchanged. In this form it factors best, within seconds.
+FEW_INSTANCES = 1 << 16
 
 
-class Late(Exception):
-    """The time is up."""
+class Form(NamedTuple):
+    """The rules of a description in one form, the maximum number of instances, and notes."""
+
+    rules: list[Rule]
+    most: int
+    notes: tuple[str, ...] = ()
 
 
-def late(signal_number: int, frame: object) -> None:
-    raise Late
+def forms(rules: list[Rule], is_whole: bool, is_split: bool) -> list[Form]:
+    """Returns the unchanged description if it has few instances, then the one with split rules, then the unchanged one with any number of instances.
+    If one of these was asked for, it is the only one."""
+    whole, parts = Form(rules, gringo.MOST_INSTANCES), split(rules)
+    if is_whole or len(parts) == len(rules):
+        return [whole]
+    note = f"split: {len(parts) - len(rules):,} parts of rules became auxiliary relations, so that each rule has fewer variables"
+    parted = Form(parts, gringo.MOST_INSTANCES, (note,))
+    return [parted] if is_split else [whole._replace(most=FEW_INSTANCES), parted, whole]
 
 
 class Written(NamedTuple):
@@ -48,6 +63,9 @@ class Written(NamedTuple):
         text = f"; {limits.LARGE_NOTE}\n{self.text}"
         figures = [(name, len(text) if name == "bytes" else count, limits.LARGE.get(name, most)) for name, count, most in self.figures]
         return self._replace(text=text, figures=figures, notes=[limits.LARGE_NOTE, *self.notes], is_large=True)
+
+    def is_long(self) -> bool:
+        return any(count > LONG.get(name, count) for name, count, _ in self.figures)
 
     def past(self) -> list[limits.Figure]:
         """Returns the quantities that exceed their limits."""
@@ -71,14 +89,9 @@ class Making:
         """Returns the ground description, or refuses the description. The limit of processor time applies to this process and to the grounder
         separately."""
         self.began = time.monotonic()
-        signal.signal(signal.SIGPROF, late)
         try:
-            try:
-                signal.setitimer(signal.ITIMER_PROF, self.seconds)
+            with limited(self.seconds):
                 return self.made()
-            finally:
-                # The timer may fire here too.
-                signal.setitimer(signal.ITIMER_PROF, 0)
         except Late:
             why = f"stopped after {self.seconds:g} s, {self.work}"
         return self.reported(self.best) if self.best else self.refuse(why)
@@ -142,7 +155,7 @@ class Making:
     def note_circles(self, circles: list[tuple[Expression, int, int]]) -> None:
         if circles:
             atom, count, last = max(circles, key=lambda circle: circle[1])
-            largest = f"the largest, of {count:,} sentences with {spelled(atom)}, in {last + 1:,} rounds"
+            largest = f"the largest, of {count:,} sentences with {quoted(atom)}, in {last + 1:,} rounds"
             self.notes.append(f"{len(circles):,} cycles of sentences are unrolled, {largest}")
 
     def ground(self, program: gringo.LogicProgram, most: int) -> list[Rule]:
@@ -191,18 +204,20 @@ class Making:
 
     def written(self, rules: list[Rule]) -> Written:
         """Returns the ground description of rules: unchanged if it is within the usual limits, else factored. If factoring to within the usual limits
-        takes too much work, it is left unchanged within the large limits."""
+        takes too much work, it is left unchanged within the large limits, unless it is long and can be made shorter."""
         plain = self.as_written([(rule.sentence, grounding.sentence_of(rule)) for rule in rules])
         can_stay = self.wanted == WHERE_NEEDED and not plain.past()
-        if self.wanted == NEVER or can_stay and (self.is_large or not plain.is_large) or any(name not in FOLDABLE for name, _, _ in plain.past()):
+        is_short = self.is_large and not plain.is_long() or not plain.is_large
+        if self.wanted == NEVER or can_stay and is_short or any(name not in FOLDABLE for name, _, _ in plain.past()):
             return plain
         if can_stay:
             # The result if the time runs out.
             self.best = plain
         self.work = "factoring it"
-        usual, large = (folding.Target(most["sentences"], most["bytes"], work) for most, work in ((limits.MOST, MOST_WORK), (limits.LARGE, math.inf)))
+        usual, short, large = ((limits.MOST, MOST_WORK), (LONG, math.inf), (limits.LARGE, math.inf))
+        targets = [*([] if self.is_large else [usual]), *([short] if plain.is_long() else []), *([] if can_stay else [large])]
         try:
-            game = folding.folded(rules, [*([] if self.is_large else [usual]), *([] if can_stay else [large])])
+            game = folding.folded(rules, [folding.Target(most["sentences"], most["bytes"], work) for most, work in targets])
         except folding.Hopeless:
             if can_stay:
                 return plain

@@ -10,10 +10,10 @@ twice. The last round is the sentence itself, and sentences that no later round 
   has at most two sentences of each clique, because it could go directly from one to any other.
 """
 
-from collections.abc import Iterable, Iterator, Mapping
+from collections.abc import Iterator
 
-from ggp_tools.kif import Expression, Refused, atoms, fresh, relation, spelled
-from ggp_tools.gdl import Literal, Rule
+from ggp_tools.kif import Expression, Refused, atoms, fresh, quoted, relation
+from ggp_tools.gdl import Literal, Rule, components
 
 # The rules of each sentence.
 RulesFor = dict[Expression, list[Rule]]
@@ -33,47 +33,6 @@ def circles(rules: list[Rule]) -> list[list[Expression]]:
     for rule in rules:
         graph.setdefault(rule.head, {}).update(dict.fromkeys(asked(rule)))
     return [component for component in components(graph) if len(component) > 1 or component[0] in graph[component[0]]]
-
-
-def components(graph: Mapping[Expression, Iterable[Expression]]) -> list[list[Expression]]:
-    """Returns the strongly connected components of a graph, each as a list, in topological order from below."""
-    indices, lows, stack, on_stack, components_found = {}, {}, [], set(), []
-    for start in graph:
-        open_nodes = [] if start in indices else [(start, iter(graph[start]))]
-        if open_nodes:
-            indices[start] = lows[start] = len(indices)
-            stack.append(start)
-            on_stack.add(start)
-        while open_nodes:
-            node, others = open_nodes[-1]
-            for other in others:
-                if other not in graph:
-                    continue
-                if other not in indices:
-                    indices[other] = lows[other] = len(indices)
-                    stack.append(other)
-                    on_stack.add(other)
-                    open_nodes.append((other, iter(graph[other])))
-                    break
-                if other in on_stack:
-                    lows[node] = min(lows[node], indices[other])
-            else:
-                open_nodes.pop()
-                if open_nodes:
-                    above = open_nodes[-1][0]
-                    lows[above] = min(lows[above], lows[node])
-                if lows[node] == indices[node]:
-                    components_found.append(popped_until(node, stack))
-                    on_stack.difference_update(components_found[-1])
-    return components_found
-
-
-def popped_until(last: Expression, stack: list[Expression]) -> list[Expression]:
-    """Pops the elements of a stack down to `last`, and returns them in their order."""
-    popped = [stack.pop()]
-    while popped[-1] != last:
-        popped.append(stack.pop())
-    return popped[::-1]
 
 
 def is_halved(circle: list[Expression], rules_for: RulesFor) -> bool:
@@ -161,8 +120,8 @@ def refuse_denial(circle: list[Expression], rules_for: RulesFor) -> None:
         for rule in rules_for[atom]:
             for literal in rule.body:
                 if not literal.positive and literal.atom in members:
-                    words = f"a cycle: {spelled(atom)} depends on itself through the negation of {spelled(literal.atom)}"
-                    if others := [spelled(other) for other in circle if other not in (atom, literal.atom)]:
+                    words = f"a cycle: {quoted(atom)} depends on itself through the negation of {quoted(literal.atom)}"
+                    if others := [quoted(other) for other in circle if other not in (atom, literal.atom)]:
                         words += f", with {', '.join(others[:MOST_NAMED])}" + (f" and {len(others) - MOST_NAMED:,} more" if len(others) > MOST_NAMED else "")
                     raise Refused(words, rule.sentence, "ask for one of these in the state before it, by `true`")
 
@@ -225,6 +184,6 @@ def unrolled(rules: list[Rule]) -> tuple[list[Rule], list[tuple[Expression, int,
         summary.append((cycle[0], len(cycle), last))
         if len(made) + last * sum(len(rules_for[atom]) for atom in cycle) > MOST_RULES:
             why = f"its {last + 1:,} rounds have more than {MOST_RULES:,} rules"
-            raise Refused(f"a cycle of {len(cycle):,} sentences, such as {spelled(cycle[0])}: {why}")
+            raise Refused(f"a cycle of {len(cycle):,} sentences, such as {quoted(cycle[0])}: {why}")
         made += layers(cycle, rules_for, last, word)
     return made, summary

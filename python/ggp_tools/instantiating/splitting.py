@@ -27,11 +27,11 @@ class Part(NamedTuple):
 
 def split(rules: list[Rule]) -> list[Rule]:
     """Returns the rules after splitting, or the same rules if no part is worth it."""
-    below = Relations(rules).below
+    circular = Relations(rules).circular
     word = fresh_before_digits("split", {name for rule in rules for name in (*atoms(rule.head), *body_atoms(rule.body))})
     splitting = Splitting(word)
     for rule in rules:
-        if relation(rule.head) in below.get(relation(rule.head), ()):
+        if relation(rule.head) in circular:
             splitting.rules.append(rule)
         else:
             splitting.add(rule)

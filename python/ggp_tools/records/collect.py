@@ -41,7 +41,7 @@ import sys
 from collections.abc import Iterable, Iterator
 
 from ggp_tools.match_log import event_of, text_of
-from ggp_tools.printable import counted, visible
+from ggp_tools.printable import counted, shown
 from ggp_tools.records.collection import Judged, Pile, judged_lines, known_games
 from ggp_tools.records.explain import explanation
 from ggp_tools.records.facts import Facts, description_sums, version_beside, write_facts
@@ -49,7 +49,7 @@ from ggp_tools.records.ggp_base import write_matches
 from ggp_tools.records.index import write_pages
 from ggp_tools.records.match_logs import MatchLogs, lines_of_logs
 from ggp_tools.records.pgn import write_pgn
-from ggp_tools.records.record import json_lines
+from ggp_tools.records.record import MOST_OF_VALUE, json_lines
 from ggp_tools.records.tables import write_csv, write_sqlite
 from ggp_tools.records.verify_many import MOST_JOBS
 from ggp_tools.referee import NoReferee, Referee, Unchecked, find_program
@@ -83,9 +83,8 @@ class Count:
 
 
 def row_of(judged: Judged) -> str:
-    game = visible(judged.game.name) if judged.game else "-"
-    line = judged.line
-    return "\t".join([visible(line.file), str(line.number), visible(line.match_id) or "-", game, visible(judged.verdict)])
+    line, game = judged.line, judged.game.name if judged.game else "-"
+    return "\t".join(map(shown, [line.file, str(line.number), shown(line.match_id, MOST_OF_VALUE) or "-", game, judged.verdict]))
 
 
 def explained(judged: Judged) -> list[str]:
@@ -98,13 +97,13 @@ def explained(judged: Judged) -> list[str]:
 def print_check(lines: Iterable[Judged], explains: bool) -> None:
     """Prints a line for each record and, if wanted, explanations of those that are not lawful."""
     for judged in lines:
-        say("\n\t".join([row_of(judged), *(explained(judged) if explains else ())]))
+        say("\n\t".join([row_of(judged), *map(shown, explained(judged) if explains else ())]))
 
 
 def name_others(others: Iterable[Judged]) -> None:
     """Reports each line that was not written."""
     for judged in others:
-        report(f"{COMMAND}: not written: {visible(judged.line.file)}, line {judged.line.number}: {visible(judged.verdict)}")
+        report(f"{COMMAND}: not written: {judged.line.file}, line {judged.line.number}: {judged.verdict}")
 
 
 def facts_for(given: argparse.Namespace, referee: Referee, logs: MatchLogs) -> Facts:
@@ -170,9 +169,9 @@ def perform(given: argparse.Namespace) -> int:
     facts = facts_for(given, referee, logs) if given.action == "facts" else None
     games, refused = known_games(given.rules, referee)
     for error in refused:
-        report(f"{COMMAND}: skipped: {visible(error)}")
+        report(f"{COMMAND}: skipped: {error}")
     if not games:
-        report(f"{COMMAND}: {visible(given.rules)} has no rules of a game, in a file NAME.kif")
+        report(f"{COMMAND}: {given.rules} has no rules of a game, in a file NAME.kif")
         return 3
     lines = count.over(judged_lines(referee, games, pile, given.jobs))
     match given.action:
@@ -191,7 +190,7 @@ def perform(given: argparse.Namespace) -> int:
         case "facts":
             name_others(write_facts(given.output, lines, facts))
             for match_id, why in facts.faults.items():
-                report(f"{COMMAND}: nothing of a log is written of {visible(match_id)}: {why}")
+                report(f"{COMMAND}: nothing of a log is written of {match_id}: {why}")
     report(f"{COMMAND}: {count.words(pile.skipped)}")
     return 0 if count.are_all_lawful() else 1
 

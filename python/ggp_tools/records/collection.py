@@ -1,8 +1,9 @@
-"""Reads files of records, finds the game of each record by its roles and its first state, and has the referee check it. Lines of accounts are
-skipped."""
+"""Reads files of records, finds the game of each record by its roles and its first state, and has the referee check it. Lines of call logs
+are skipped."""
 
 import collections
 import concurrent.futures
+import contextlib
 import hashlib
 import os
 import pathlib
@@ -13,7 +14,7 @@ from dataclasses import dataclass
 from ggp_tools.holding.game import Game
 from ggp_tools.holding.match import texts_of
 from ggp_tools.kif import Refused, has_variables, spelled, told
-from ggp_tools.records.record import ACCOUNT_LINE, LONGEST_RECORD, TOO_LONG, NoRecord, numbered_lines, parsed
+from ggp_tools.records.record import ACCOUNT_LINE, LONGEST_RECORD, TOO_LONG, NoRecord, checked_record, numbered_lines, parsed
 from ggp_tools.referee import LAWFUL, BadRules, Referee
 from ggp_tools.streams import opened
 
@@ -50,6 +51,13 @@ class Line:
     @property
     def is_too_long(self) -> bool:
         return self.said == TOO_LONG
+
+    @property
+    def shaped(self) -> dict | None:
+        """The record, if the line has the shape of one."""
+        with contextlib.suppress(NoRecord):
+            return checked_record(dict(self.record or {}))
+        return None
 
     @property
     def match_id(self) -> str:

@@ -11,11 +11,12 @@ from collections.abc import Callable, Iterator, Sequence
 
 from ggp_tools.holding.game import MOST_CALLS, Game
 from ggp_tools.holding.match import Match, texts_of
-from ggp_tools.kif import spelled
+from ggp_tools.instantiating.limits import LARGE, MOST
+from ggp_tools.kif import quoted, spelled
 from ggp_tools.printable import counted, shown
 from ggp_tools.records.collection import Pile
 from ggp_tools.records.countdown import countdown
-from ggp_tools.records.record import LONGEST_RECORD, MOST_OF_VALUE, json_lines, shape_lines
+from ggp_tools.records.record import COMPLETED, LONGEST_RECORD, MOST_OF_VALUE, json_lines, shape_lines
 from ggp_tools.referee import JSON, Referee, read_objects, rules_file
 from ggp_tools.streams import STANDARD_INPUT, Ended, opened, report, say, status_of, whole
 
@@ -27,7 +28,6 @@ ABOUT = (
     "each line is a record. Those that are not lawful are printed, with the number of the line and an explanation. Lines of accounts are skipped."
 )
 STATUS = "status 0: all records are lawful. 1: a record is not. 2: usage error. 3: there is no verdict."
-LONGEST_RULES, LONGEST_OF_LARGE = 1 << 20, 4 << 20
 MOST_LISTED, MOST_OF_TEXT = 20, 400
 
 
@@ -57,7 +57,7 @@ WHY = {
 }
 
 
-# A fault in the words of `verify`, and the lines that explain it.
+# A fault as `verify` prints it, and the lines that explain it.
 Found = tuple[str, ...]
 
 
@@ -139,7 +139,7 @@ class Replay(Match):
 
     def goals_fault(self) -> Found | None:
         phase, recorded = self.given["phase"], self.given["goalValues"]
-        has_goals = phase in ("stopping", "finished")
+        has_goals = phase in COMPLETED
         wanted = self.goals() if has_goals else []
         if recorded == wanted:
             return None
@@ -173,7 +173,7 @@ def explanation(word: str, game: Game, data: bytes) -> list[str]:
         return [f"The text is not JSON: {first}.", *more]
     try:
         record = json.loads(data, parse_int=lambda digits: -0.0 if digits == "-0" else int(digits))
-        names = list(map(spelled, game.roles))
+        names = list(map(quoted, game.roles))
         if word.startswith("shape "):
             return shape_lines(word.split()[1], record, names)
         sys.setrecursionlimit(MOST_CALLS)
@@ -187,35 +187,21 @@ def explanation(word: str, game: Game, data: bytes) -> list[str]:
     return [f"The interpreter finds {': '.join(fault[:2]) if fault else 'no fault'}", "One of the two is wrong: please report this, with the record and the rules."]
 
 
-def asked(program: str, words: list[str], data: bytes) -> subprocess.CompletedProcess:
-    """Runs `verify` on records."""
+def judged(program: str, words: list[str], data: bytes, count: int = 1) -> list[str | None]:
+    """Returns the referee's fault of each record, or None if the record is lawful."""
     try:
-        return subprocess.run([program, "verify", JSON, *words], input=data, capture_output=True)
+        run = subprocess.run([program, "verify", JSON, *words], input=data, capture_output=True)
     except (OSError, ValueError) as why:
         raise Ended(f"cannot run {program}: {getattr(why, 'strerror', None) or 'its name has a NUL byte'}", 3) from None
-
-
-def no_verdict(program: str, run: subprocess.CompletedProcess) -> Ended:
-    lines = run.stderr.decode("ascii", "replace").splitlines()
-    return Ended("\n".join(lines) or f"{program} gives no verdict, and its status is {run.returncode}", 3)
-
-
-def faults_in(program: str, run: subprocess.CompletedProcess, count: int) -> list[str | None]:
-    """Returns the referee's fault of each record, or None if the record is lawful."""
     faults = [verdict.get("fault") for verdict in read_objects(run) or ()]
     if len(faults) != count or run.returncode != int(any(faults)):
-        raise no_verdict(program, run)
+        raise Ended(run.stderr.decode("ascii", "replace").strip() or f"{program} gives no verdict, and its status is {run.returncode}", 3)
     return faults
 
 
-def judged(program: str, words: list[str], data: bytes) -> str | None:
-    """Returns the referee's fault, or None if the record is lawful."""
-    return faults_in(program, asked(program, words, data), 1)[0]
-
-
 def judged_lines(program: str, words: list[str], lines: list[bytes]) -> list[str | None]:
-    """Returns the fault of each line, or None. No line is one of an account."""
-    return faults_in(program, asked(program, ["--lines", *words], b"".join(line + b"\n" for line in lines)), len(lines))
+    """Returns the fault of each line, or None. None of the lines belongs to a call log."""
+    return judged(program, ["--lines", *words], b"".join(line + b"\n" for line in lines), len(lines))
 
 
 def read(name: str, most: int) -> bytes:
@@ -230,7 +216,7 @@ def rules_of(asked_for: argparse.Namespace) -> Iterator[tuple[list[str], Callabl
     if asked_for.countdown is not None:
         yield [f"--countdown={asked_for.countdown}"], functools.cache(lambda: Game(countdown(asked_for.countdown)))
         return
-    rules = read(asked_for.rules_file, LONGEST_OF_LARGE if asked_for.large else LONGEST_RULES)
+    rules = read(asked_for.rules_file, (LARGE if asked_for.large else MOST)["bytes"])
     with rules_file(rules) as path:
         yield Referee(asked_for.program, asked_for.large).rules_words(path), functools.cache(lambda: Game(rules.decode("latin-1")))
 
@@ -239,8 +225,8 @@ def explain_one(asked_for: argparse.Namespace) -> int:
     """Explains a record. Returns the exit status."""
     data = read(asked_for.record, LONGEST_RECORD)
     with rules_of(asked_for) as (words, game):
-        word = judged(asked_for.program, words, data)
-    say("\n".join([f"not lawful: {word}", *explanation(word, game(), data)] if word else ["lawful"]))
+        word, = judged(asked_for.program, words, data)
+    say("\n".join(map(shown, [f"not lawful: {word}", *explanation(word, game(), data)] if word else ["lawful"])))
     return int(bool(word))
 
 
@@ -258,7 +244,7 @@ def explain_lines(asked_for: argparse.Namespace) -> int:
                 counts[bool(word)] += 1
                 if word:
                     match = f", match {shown(line.match_id, MOST_OF_VALUE)}" if line.match_id else ""
-                    lines = [] if line.is_too_long else explanation(word, game(), line.data)
+                    lines = [] if line.is_too_long else map(shown, explanation(word, game(), line.data))
                     say("\n\t".join([f"line {line.number}{match}: {'no record: ' if line.is_too_long else 'not lawful: '}{word}", *lines]))
     skipped = f", {counted(pile.skipped, 'line')} of accounts skipped" if pile.skipped else ""
     report(f"{COMMAND}: {counts[0]:,} lawful, {counts[1]:,} not lawful{skipped}")

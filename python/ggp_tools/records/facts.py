@@ -11,9 +11,8 @@ from ggp_tools.competition.known import sum_of_file
 from ggp_tools.competition.plan import read_sums
 from ggp_tools.match_log import BROKEN, KINDS
 from ggp_tools.records.collection import Judged
-from ggp_tools.records.ggp_base import ABORTED, COMPLETED
 from ggp_tools.records.match_logs import Beginning, MatchLogs, message_sum
-from ggp_tools.records.record import record_sum
+from ggp_tools.records.record import ABORTED, COMPLETED, record_sum
 from ggp_tools.records.tables import made_whole
 from ggp_tools.referee import VERSION_LINE
 

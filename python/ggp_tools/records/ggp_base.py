@@ -9,10 +9,10 @@ from collections.abc import Iterable, Iterator
 from ggp_tools.records.collection import Judged
 from ggp_tools.records.index import file_name
 from ggp_tools.records.match_logs import Beginning, MatchLogs
+from ggp_tools.records.record import ABORTED, COMPLETED
 
 # The values of ggp-base for a match without a preview, and for an unknown start time, which must be a number.
 NO_PREVIEW, UNKNOWN = -1, 0
-ABORTED, COMPLETED = ("aborting", "aborted"), ("stopping", "finished")
 
 
 def times_of(found: list[Beginning], turns: int) -> tuple[int, list[int]]:

@@ -5,7 +5,6 @@ import re
 from collections.abc import Iterable
 
 from ggp_tools.records.collection import Judged
-from ggp_tools.records.record import NoRecord, checked_record
 from ggp_tools.records.show import page_of, winner_words
 from ggp_tools.templating import page
 
@@ -19,17 +18,13 @@ def file_name(number: int, match_id: str, ending: str) -> str:
     return f"{number:06}-{OTHERS.sub('_', match_id)[:LONGEST_ID] or 'match'}.{ending}"
 
 
-def page_name(number: int, match_id: str) -> str:
-    return file_name(number, match_id, "html")
-
-
-def index_row(number: int, judged: Judged, record: dict | None) -> dict[str, object]:
-    """Returns the row of a line. It links to a page if the line has the shape of a record."""
+def index_row(judged: Judged, record: dict | None, name: str) -> dict[str, object]:
+    """Returns the row of a line. It links to the page of this name if the line has the shape of a record."""
     row = {"name": judged.line.match_id or f"line {judged.line.number}", "game": judged.game.name if judged.game else "", "page": ""}
     row |= {"phase": "", "turns": "", "verdict": judged.verdict, "is_lawful": judged.is_lawful}
     if record:
         goals = record["goalValues"] or [None] * len(record["players"])
-        row |= {"page": page_name(number, judged.line.match_id), "players": [*zip(record["players"], goals)]}
+        row |= {"page": name, "players": [*zip(record["players"], goals)]}
         row |= {"winner": winner_words(record["players"], record["goalValues"]).rstrip("."), "phase": record["phase"], "turns": len(record["moves"])}
     return row
 
@@ -39,12 +34,9 @@ def write_pages(folder: pathlib.Path, lines: Iterable[Judged]) -> None:
     folder.mkdir(parents=True, exist_ok=True)
     rows = []
     for number, judged in enumerate(lines, 1):
-        try:
-            record = checked_record(dict(judged.line.record or {}))
-        except NoRecord:
-            record = None
-        if record:
+        name = file_name(number, judged.line.match_id, "html")
+        if record := judged.line.shaped:
             game = judged.game.rules if judged.game else None
-            (folder / page_name(number, judged.line.match_id)).write_bytes(page_of(record, game and (lambda: game)))
-        rows.append(index_row(number, judged, record))
+            (folder / name).write_bytes(page_of(record, game and (lambda: game)))
+        rows.append(index_row(judged, record, name))
     (folder / "index.html").write_bytes(page("records", title=f"{len(rows):,} records", rows=rows))

@@ -4,11 +4,11 @@ import functools
 import json
 from collections.abc import Iterator
 
-from ggp_tools.kif import Expression, expressions, spelled
+from ggp_tools.kif import Expression, expressions, head_of, spelled
 
 # Records of most games cannot be longer, and those that can rarely are.
 USUAL_RECORD = 16 << 20
-# The longest account that `replay` accepts.
+# The longest call log that `replay` accepts.
 LONGEST_ACCOUNT = 256 << 20
 # The maximum number of turns. All answers of a player together may have this many bytes beyond 64 each, or beyond the longest legal move.
 MOST_TURNS, BUDGET, USUAL_ANSWER = 10_000, 1 << 20, 64
@@ -27,7 +27,7 @@ def longest_record(rules: bytes) -> int:
     """Returns an upper bound for the length of a record of a game. It assumes the maximum number of turns, all terms in each state, the longest move
     of each role, and the longest answers."""
     sentences = expressions(rules.decode("latin-1"))
-    heads = {sentence[1] if sentence[0] == "<=" else sentence for sentence in sentences}
+    heads = set(map(head_of, sentences))
     state = sum(text_length(term) for term in {head[1] for head in heads if head[0] in ("init", "next")})
     move = max((text_length(head[2]) for head in heads if head[0] == "legal"), default=0)
     roles = sum(head[0] == "role" for head in heads)

@@ -7,28 +7,26 @@ import sys
 from collections.abc import Callable, Iterator, Sequence
 from typing import BinaryIO
 
-from ggp_tools.kif import Refused
+from ggp_tools.kif import KifFault, Refused, expressions, spelled
 from ggp_tools.printable import counted, shown
 from ggp_tools.records.lengths import USUAL_RECORD, states_in, without_states
 
 LONGEST_RECORD = USUAL_RECORD
 TOO_LONG = "it is longer than 16 MiB"
-PHASES = ("starting", "playing", "stopping", "finished", "aborting", "aborted")
+COMPLETED, ABORTED = ("stopping", "finished"), ("aborting", "aborted")
+PHASES = ("starting", "playing", *COMPLETED, *ABORTED)
 ERRORS = ("", "TO", "CE", "RT", "IL ?")
 CAUSE = re.compile(r"(asked|toolong|allretired)|(nolegal|nogoal) (0|[1-9][0-9]?)")
 # The referee uses the same format. A reply never ends as a record does, so a record that was joined to a cut line does not match.
 ACCOUNT_LINE = re.compile(rb"[0-9]+\t(?:open|strict|next|submit|miss|query|abort)(?: [^\t]*)?\t[^\t]*[0-9A-Za-z)]")
-MOST_LISTS, LONGEST_EXPRESSION, MOST_OF_VALUE = 64, 8_192, 80
+LONGEST_EXPRESSION, MOST_OF_VALUE, MOST_OF_ROLES = 8_192, 80, 1_000
 # The JSON parser is recursive, and more than ROOM calls overflow its stack. Records are nested three lists deep. The limit applies to all
 # threads, so it is lowered only if a command has raised it above ROOM; such commands have no threads.
 ROOM, MOST_CALLS = 20_000, 1_000
-TOKEN = re.compile(r"[()]|[^() ]+|.")
-# Printable ASCII without capitals and `;`, with single spaces between members and none inside parentheses.
-SPACED = re.compile(r"(?!.*(^ | $|  |\( | \)|[^ (]\(|\)[^ )]))[!-:<-@\[-~ ]+")
 
 # ---- JSON
 
-# A record may be followed by another one, or by a line of its account.
+# A record may be followed by another one, or by a line of its call log.
 FOLLOWS = re.compile(r"\{|[0-9]+\t[^\t\n]+\t")
 # The beginning of each record, and the end of one that was cut within a word or a number.
 BEGIN = '{"cause":'
@@ -122,14 +120,10 @@ def list_of(is_one: Kind) -> Kind:
 
 def is_expression(text: str) -> bool:
     """Returns whether a text is the canonical text of one expression in lower case."""
-    level = 0
-    for place, token in enumerate(TOKEN.findall(text)):
-        if place and not level:
-            return False
-        level += (token == "(") - (token == ")")
-        if not 0 <= level <= MOST_LISTS:
-            return False
-    return not level and SPACED.fullmatch(text) is not None
+    try:
+        return list(map(spelled, expressions(text))) == [text]
+    except KifFault:
+        return False
 
 
 def is_error(value: object) -> bool:
@@ -152,10 +146,10 @@ KEYS: dict[str, tuple[Kind, str]] = {
     "goalValues": (list_of(is_whole), "an empty list, or for each role a whole number of 0 to 100"),
     "matchId": (is_text, NAME),
     "moves": (list_of(list_of(is_text)), "for each turn, at most 10,000 of them, a list with one text for each role"),
-    "phase": (is_text, f"one of the texts {', '.join(PHASES)}"),
+    "phase": (PHASES.__contains__, f"one of the texts {', '.join(PHASES)}"),
     "playClock": (is_whole, CLOCK),
     "players": (list_of(is_text), f"for each role a name of {NAME}"),
-    "roles": (list_of(is_text), "the names of the game's roles, in their order"),
+    "roles": (lambda value: is_list(value, is_text) and bool(value), "the names of the game's roles, in their order"),
     "startClock": (is_whole, CLOCK),
     "startMarks": (list_of(is_text_or_null), MARKS),
     "states": (list_of(list_of(is_text)), "a list of states, one more than turns in moves, each a list of texts"),
@@ -169,7 +163,7 @@ IS_ONE = {"errors": is_error, "moves": is_text, "states": is_text}
 def shape_lines(key: str, record: object, roles: Sequence[str]) -> list[str]:
     """Returns the expected and the actual value of a key."""
     expected = KEYS[key][1]
-    lines = [f"expected in {key}: {expected}", *[f"the roles are: {', '.join(roles)}"] * bool(roles and "role" in expected)]
+    lines = [f"expected in {key}: {expected}", *[f"the roles are: {shown(', '.join(roles), MOST_OF_ROLES)}"] * bool(roles and "role" in expected)]
     if not isinstance(record, dict):
         return [*lines, f"found: not a JSON object, but {shown(json.dumps(record), MOST_OF_VALUE)}"]
     if key not in record:
@@ -196,7 +190,7 @@ def check_lengths(record: dict, is_cut: bool) -> None:
     if is_cut:
         lengths["states"] = range(1, turns + 2)
     for key, allowed in lengths.items():
-        if len(record[key]) not in allowed or key == "roles" and not roles:
+        if len(record[key]) not in allowed:
             refuse_key(key, record)
     for key in ("moves", "errors"):
         if any(len(texts) != roles for texts in record[key]):
@@ -211,10 +205,6 @@ def checked_record(record: object, is_cut: bool = False) -> dict:
     for key, (is_of_kind, _) in KEYS.items():
         if (key != "strikes" or record["version"] == 2) and not (key in record and is_of_kind(record[key])):
             refuse_key(key, record)
-    if record["phase"] not in PHASES:
-        refuse_key("phase", record)
-    if not record["roles"]:
-        refuse_key("roles", record)
     check_lengths(record, is_cut)
     why = CAUSE.fullmatch(record["cause"] or "asked")
     if not why or int(why[3] or 0) >= len(record["roles"]):

@@ -3,10 +3,11 @@
 import argparse
 import functools
 import itertools
+import math
 import re
 from collections.abc import Callable, Iterable, Iterator, Sequence
 from dataclasses import dataclass
-from typing import TYPE_CHECKING, BinaryIO
+from typing import TYPE_CHECKING, Any, BinaryIO
 
 from ggp_tools.answers import Whys
 from ggp_tools.holding.game import Game
@@ -32,6 +33,11 @@ ONE_RECORD = "Pass one record, or make a page of each with `ggp-records pages`"
 LONGEST_AXIS = 32
 # A page that would have more boards lists terms instead, because a board is about a hundred times as long as its terms.
 MOST_DRAWN = 32_768
+# A single state is drawn from at most so many terms of it, of the states before it, and of the rules, and its boards have at most so many places and
+# names together. This bounds the processor time of a drawing to about half a second. A larger state is listed as text.
+MOST_READ, MOST_PLACES = 16_384, 4_096
+# A part of the page of a long match draws states of at most so many terms together, which takes about as long.
+MOST_OF_PART = 16_384
 # The sizes of the caches of cells and of openings of boards.
 MOST_CELLS, MOST_BOARDS = 16_384, 64
 
@@ -72,7 +78,7 @@ Group = tuple[str, int]
 
 
 def record_of(file: BinaryIO) -> bytes:
-    """Returns the record of a file that has one record. The account that `run --history` writes after it is skipped."""
+    """Returns the record of a file that has one record. The call log that `run --history` writes after it is skipped."""
     first, second = file.readline(LONGEST_RECORD + 2), file.readline(LONGEST_RECORD + 2)
     if ACCOUNT_LINE.fullmatch(second.rstrip(b"\r\n")):
         for number, line in numbered_lines(file):
@@ -140,7 +146,15 @@ class Board:
         self.places = {place[:2] for place in self.known.values()}
         self.lean = lean_of(self.places)
         if self.is_hex and not self.lean:
-            self.lean, self.places = 1, {(x, y) for x in range(1, len(self.across) + 1) for y in range(1, len(self.up) + 1)}
+            self.lean, self.places = 1, self.grid()
+
+    def grid(self) -> set[Place]:
+        """Returns the places of all rows and columns."""
+        return set(itertools.product(range(1, len(self.across) + 1), range(1, len(self.up) + 1)))
+
+    def size(self, is_played: bool) -> int:
+        """Returns how many places, and names of columns and rows, are drawn at most."""
+        return len(self.across) + len(self.up) + (len(self.across) * len(self.up) if is_played else len(self.places))
 
     def place(self, words: tuple[str, ...]) -> tuple[int, int, str]:
         at, labels = self.forms[words[0], len(words)]
@@ -293,12 +307,13 @@ def ground_of(board: Board, places: Places) -> str | None:
 
 
 @functools.lru_cache(MOST_CELLS)
-def cell(place: Place, name: str, labels: tuple[str, ...], marks: tuple[Mark, ...], is_new: bool, is_ground: bool) -> "Markup":
-    """Returns a cell as HTML. If its marks differ from its labels, the labels are its title. Cells are cached, because most are the same in many
-    states."""
-    kinds = ["new"] * is_new + ["ground"] * is_ground + (marks[0].kinds() if len(marks) == 1 else [])
-    is_named = len(labels) > 1 or [mark.text for mark in marks] != [*labels]
-    return macros("boards").cell(*place, " ".join(kinds), f"{name}: {', '.join(labels)}" if labels and is_named else "", is_ground, marks)
+def cell(place: Place, name: str, labels: tuple[str, ...], marks: tuple[Mark, ...], kinds: tuple[str, ...], is_played: bool) -> "Markup":
+    """Returns a cell as HTML, a button if a person plays. If its marks differ from its labels, the labels are its title. Cells are cached, because
+    most are the same in many states."""
+    is_named = is_played or labels and (len(labels) > 1 or marks[0].text != labels[0])
+    words = f"{name}: {', '.join(labels) or 'nothing'}" if is_named else ""
+    kinds = " ".join([*kinds, *(marks[0].kinds() if len(marks) == 1 else [])])
+    return macros("boards").cell(*place, kinds, words, "button" if is_played else "i", marks)
 
 
 @functools.lru_cache(MOST_BOARDS)
@@ -311,23 +326,28 @@ def board_opening(across: tuple[str, ...], up: tuple[str, ...], lean: int, place
     return macros("boards").open_hexagons(across, up, lean, min(halves) - 2, max(halves) - min(halves) + 2, tops)
 
 
-def board_page(board: Board, places: Places, before: Places | None, ground: str | None, marks: dict[str, Mark]) -> "Markup":
-    """Returns a board as HTML, with changed places marked as new."""
-    cells = []
-    for at in sorted({*places, *(before or {}), *(board.places if board.lean else ())}):
+def board_page(
+    board: Board, places: Places, before: Places | None, ground: str | None, marks: dict[str, Mark], is_played: bool = False
+) -> "Markup":
+    """Returns a board as HTML, with changed places marked as new. If a person plays, it has a button for each place."""
+    cells, shown = [], board.places if board.lean else board.grid() if is_played else ()
+    for at in sorted({*places, *(before or {}), *shown}):
         own = places.get(at, [])
         labels, is_new = tuple(map(visible, own)), before is not None and before.get(at, []) != own
-        name = f"{board.across[at[0] - 1]} {board.up[at[1] - 1]}"
-        cells.append(cell(at, name, labels, tuple(marks[label] for label in labels), is_new, own == [ground]))
+        name, kinds = f"{board.across[at[0] - 1]} {board.up[at[1] - 1]}", ("new",) * is_new + ("ground",) * (own == [ground])
+        cells.append(cell(at, name, labels, tuple(marks[label] for label in labels), kinds, is_played))
     opening = board_opening(tuple(board.across), tuple(board.up), board.lean, frozenset(board.places if board.lean else ()))
     return joined([opening, *cells, "</div></div>"])
 
 
-def states_of_page(states: list[list[str]], roles: Sequence[str], named: Named = Named(), since: int = 0) -> Iterator[dict[str, object]]:
-    """Yields each state from a number on: its boards, the terms that no board shows (current, previous and removed ones), and the role whose turn it
-    is, if the state has it."""
+def states_of_page(
+    states: list[list[str]], roles: Sequence[str], named: Named = Named(), since: int = 0, most: float = math.inf, is_played: bool = False
+) -> Iterator[dict[str, Any]]:
+    """Yields each state from a number on: its boards, unless they have more than `most` places together, the terms that no board shows (current,
+    previous and removed ones), and the role whose turn it is, if the state has it."""
     boards = boards_of(states, named)
-    boards = boards if len(boards) * (len(states) - since) <= MOST_DRAWN else []
+    is_drawn = len(boards) * (len(states) - since) <= MOST_DRAWN and sum(board.size(is_played) for board in boards) <= most
+    boards = boards if is_drawn else []
     on_boards = {form for board in boards for form in board.forms}
     marks, places, known, ground = [board.marks(named) for board in boards], None, None, None
     for number, state in enumerate(states):
@@ -340,9 +360,20 @@ def states_of_page(states: list[list[str]], roles: Sequence[str], named: Named =
         terms = [term for term in state if not is_on_board(term, on_boards) and term not in shown_above]
         known, known_before = set(terms), known
         if number >= since:
-            drawn = joined([board_page(*parts) for parts in zip(boards, places, before, ground, marks)])
+            drawn = joined([board_page(*parts, is_played) for parts in zip(boards, places, before, ground, marks)])
             gone = sorted((known_before or set()) - known)
-            yield {"boards": drawn, "terms": terms, "before": known_before, "gone": gone, "is_empty": not state, "mover": mover}
+            more = {"gone": gone, "is_empty": not state, "mover": mover, "drawn": boards}
+            yield {"boards": drawn, "terms": terms, "before": known_before, **more}
+
+
+def last_state(states: list[list[str]], roles: Sequence[str], named: Named, is_played: bool = False) -> dict[str, Any] | None:
+    """Returns the last one of states, if there is one, drawn by as many states before it as may be read."""
+    count = sum(size <= MOST_READ for size in itertools.accumulate(map(len, reversed(states))))
+    if states and not count:
+        return {"boards": "", "terms": states[-1], "before": None, "gone": [], "is_empty": False, "drawn": []}
+    if sum(map(len, named.terms.values())) > MOST_READ:
+        named = Named(is_hex=named.is_hex)
+    return next(states_of_page(states[len(states) - count :], roles, named, count - 1, MOST_PLACES, is_played), None)
 
 
 def named_roles(state: list[str], roles: Sequence[str]) -> list[tuple[str, str]]:
@@ -378,33 +409,55 @@ def turn_of_page(moves: Sequence[str], errors: Sequence[str], mover: int | None,
     return found
 
 
+def parts_of(states: list[list[str]]) -> list[range]:
+    """Returns the parts of a long match: numbers of states, of which each part draws at most so many terms."""
+    starts, size = [0], 0
+    for number, state in enumerate(states):
+        size += len(state)
+        if size > MOST_OF_PART and number > starts[-1]:
+            starts.append(number)
+            size = len(state)
+    return [range(start, end) for start, end in zip(starts, [*starts[1:], len(states)])]
+
+
+@dataclass(frozen=True)
+class Frame:
+    """How the page of a match is made: its head as HTML, the names in the rules, the winner if not the goals determine it, and which one of its parts is
+    shown, or all of them."""
+
+    head: "Markup | str" = ""
+    named: Named = Named()
+    winner: str | None = None
+    part: int | None = None
+
+
 def page_of(
-    record: dict,
-    game: Callable[[], Game] | None = None,
-    answers: dict[tuple[int, int], str] | None = None,
-    head: "Markup | str" = "",
-    named: Named = Named(),
-    winner: str | None = None,
+    record: dict, game: Callable[[], Game] | None = None, answers: dict[tuple[int, int], str] | None = None, frame: Frame = Frame()
 ) -> bytes:
-    """Returns the page in ASCII. `head` is HTML. With the game and the answers, by role and turn counted from 0, the page explains substituted moves.
-    The goals determine the winner, unless it is given."""
-    states, whys = list(states_of_page(record["states"], record["roles"], named)), Whys(record, game, answers or {})
+    """Returns the page in ASCII. With the game and the answers, by role and turn counted from 0, the page explains substituted moves."""
+    all_states, moves, errors, whys = record["states"], record["moves"], record["errors"], Whys(record, game, answers or {})
+    parts = [range(len(all_states))] if frame.part is None else parts_of(all_states)
+    part = parts[frame.part or 0]
+    before = max(0, part.start - 1)
+    states = list(states_of_page(all_states[before : part.stop], record["roles"], frame.named, part.start - before))
     # A record that is too long has only its first states.
-    movers = itertools.chain((state["mover"] for state in states), itertools.repeat(None))
-    turns = [
-        turn_of_page(moves, errors, mover, lambda role, error: why_of(error) + whys.more(role, turn, error))
-        for turn, (moves, errors, mover) in enumerate(zip(record["moves"], record["errors"], movers))
-    ]
+    last = len(moves) if part is parts[-1] else part.stop - 1
+    turns = []
+    for turn in range(max(0, part.start - 1), last):
+        mover = mover_of(all_states[turn], record["roles"]) if turn < len(all_states) else None
+        shown = turn_of_page(moves[turn], errors[turn], mover, lambda role, error: why_of(error) + whys.more(role, turn, error))
+        turns.append((turn + 1, shown))
     return page(
         "record",
-        head=head,
+        head=frame.head,
         record=record,
-        winner=winner_words(record["players"], record["goalValues"]) if winner is None else winner,
+        winner=winner_words(record["players"], record["goalValues"]) if frame.winner is None else frame.winner,
         ending=ending(record),
         roles=list(zip(record["roles"], record["players"])),
-        counts=[sum(bool(turn[role]) for turn in record["errors"]) for role in range(len(record["roles"]))],
-        states=states,
+        counts=[sum(bool(turn[role]) for turn in errors) for role in range(len(record["roles"]))],
+        states=list(zip(part, states)),
         turns=turns,
+        parts=[(part.start, part.stop - 1) for part in parts] if len(parts) > 1 else [],
         has_boards=any(state["boards"] for state in states),
         errors=kinds_of_errors(record),
     )

@@ -11,7 +11,7 @@ import tempfile
 from collections.abc import Iterable, Iterator
 
 from ggp_tools.records.collection import SURROGATE, Judged
-from ggp_tools.records.record import NoRecord, checked_record, record_sum
+from ggp_tools.records.record import record_sum
 
 TABLES = {
     "matches": (
@@ -78,10 +78,7 @@ def all_rows(lines: Iterable[Judged]) -> Iterator[tuple[str, Row]]:
         checksum = record_sum(judged.line.data) if judged.line.data else None
         first = firsts.setdefault(checksum, number) if checksum else number
         marks = int(judged.is_lawful), first if first != number else None
-        try:
-            record = checked_record(dict(judged.line.record or {}))
-        except NoRecord:
-            record = {}
+        record = judged.line.shaped or {}
         yield "matches", stored_row((*match_row(number, judged, record), checksum, *marks))
         if record:
             yield from (("players", stored_row((*row, *marks))) for row in player_rows(number, record))

@@ -26,8 +26,10 @@ import signal
 import subprocess
 import sys
 import threading
-from collections.abc import Callable, Iterator
+from collections.abc import Iterator
 from dataclasses import dataclass
+
+from ggp_tools.streams import whole
 
 LONGEST_LINE = 64 << 30
 PIECE = 4 << 20
@@ -50,8 +52,8 @@ class Fault(Exception):
 
 @dataclass
 class Checked:
-    """The result of a piece: the verdicts, the numbers of lines of accounts and of lines without a lawful record, and the error that ended the check,
-    if any."""
+    """The result of a piece: the verdicts, the numbers of lines of call logs and of lines without a lawful record, and the error that ended
+    the check, if any."""
 
     verdicts: bytes = b""
     skipped: int = 0
@@ -169,24 +171,13 @@ def hold_closed_streams() -> None:
             os.open(os.devnull, mode)
 
 
-def number(most: int) -> Callable[[str], int]:
-    """Returns a parser of numbers from 1 to `most`."""
-
-    def read(text: str) -> int:
-        if not text.isdecimal() or not 1 <= int(text) <= most:
-            raise argparse.ArgumentTypeError(f"expected a number from 1 to {most:,}, found {text}")
-        return int(text)
-
-    return read
-
-
 def arguments(words: list[str]) -> tuple[argparse.Namespace, list[str]]:
     """Returns the arguments before `--`, and those after it, which are for the referee."""
     about, usage, more = __doc__.split("\n\n", 2)
     reader = argparse.ArgumentParser("ggp-verify-records", usage=usage.strip(), description=about, epilog=more)
     jobs = len(os.sched_getaffinity(0))
-    reader.add_argument("--jobs", type=number(MOST_JOBS), default=jobs, metavar="N", help="at most N processes at a time (default: one for each processor)")
-    reader.add_argument("--piece", type=number(MOST_PIECE), default=PIECE, metavar="BYTES", help=f"the size of a piece (default: {PIECE})")
+    reader.add_argument("--jobs", type=whole(1, MOST_JOBS), default=jobs, metavar="N", help="at most N processes at a time (default: one for each processor)")
+    reader.add_argument("--piece", type=whole(1, MOST_PIECE), default=PIECE, metavar="BYTES", help=f"the size of a piece (default: {PIECE})")
     reader.add_argument("program", metavar="PROGRAM", help="ggp_manager")
     end = words.index("--") if "--" in words else len(words)
     parsed = reader.parse_args(words[:end])

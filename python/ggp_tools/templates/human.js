@@ -1,11 +1,11 @@
 "use strict";
 const $ = (id) => document.getElementById(id);
 let view = {}, chosen = [], deadline = null;
+const moves = () => view.legal || [];
 
-function element(name, text, kind) {
+function element(name, text) {
   const made = document.createElement(name);
   made.textContent = text;
-  if (kind) made.className = kind;
   return made;
 }
 
@@ -33,39 +33,22 @@ async function play(move) {
 function choose(board, place) {
   const at = chosen.findIndex((it) => it.board === board && same(it.place, place));
   if (at >= 0) chosen.splice(at); else chosen.push({ board, place });
-  let left = view.legal.filter(fits);
-  if (!left.length) { chosen = [{ board, place }]; left = view.legal.filter(fits); }
+  let left = moves().filter(fits);
+  if (!left.length) { chosen = [{ board, place }]; left = moves().filter(fits); }
   if (left.length === 1 && isWhole(left[0])) play(left[0].text);
   draw();
 }
 
-function placed(it, across, up) {
-  it.style.setProperty("--x", across);
-  it.style.setProperty("--y", up);
-  return it;
-}
+const boards = () => [...document.querySelectorAll(".board")];
+const placeOf = (cell) => ["--x", "--y"].map((name) => Number(cell.style.getPropertyValue(name)));
 
-function drawCell(board, number, place) {
-  const [across, up] = place, labels = board.cells[`${across},${up}`] || [], cell = element("button", "");
-  cell.append(...labels.map((label) => element("span", ...board.signs[label])));
-  cell.title = `${board.across[across - 1]} ${board.up[up - 1]}: ${labels.join(", ") || "nothing"}`;
-  if (view.legal.some((move) => fits(move) && move.places[number].some((it) => same(it, place)))) cell.classList.add("can");
-  if (chosen.some((it) => it.board === number && same(it.place, place))) cell.classList.add("chosen");
-  if (board.changed.some((it) => same(it, place))) cell.classList.add("changed");
-  cell.disabled = !view.legal.length;
-  cell.addEventListener("click", () => choose(number, place));
-  return placed(cell, across, up);
-}
-
-function drawBoard(board, number) {
-  const grid = element("div", "", "board");
-  grid.style.setProperty("--across", board.across.length);
-  grid.style.setProperty("--up", board.up.length);
-  grid.append(element("div", "", "squares"), ...board.across.map((name, at) => placed(element("b", name), at + 1, 0)));
-  for (let up = board.up.length; up >= 1; up--) {
-    grid.append(placed(element("b", board.up[up - 1]), 0, up), ...board.across.map((_, at) => drawCell(board, number, [at + 1, up])));
+function markCells(board, number) {
+  for (const cell of board.querySelectorAll("button")) {
+    const place = placeOf(cell);
+    cell.classList.toggle("can", moves().some((move) => fits(move) && move.places[number].some((it) => same(it, place))));
+    cell.classList.toggle("chosen", chosen.some((it) => it.board === number && same(it.place, place)));
+    cell.disabled = !moves().length;
   }
-  return grid;
 }
 
 function drawPlayer({ role, made, can }) {
@@ -80,18 +63,17 @@ function draw() {
   $("note").textContent = view.note || "";
   $("table").hidden = !view.players;
   $("players").replaceChildren(...(view.players || []).map(drawPlayer));
-  $("boards").replaceChildren(...(view.boards || []).map(drawBoard));
-  $("terms").textContent = (view.terms || []).join("  ");
+  boards().forEach(markCells);
   const word = $("filter").value.toLowerCase();
-  const moves = (view.legal || []).filter((move) => fits(move) && (word ? move.text.includes(word) : isWhole(move)));
-  $("choice").hidden = !(view.legal || []).length;
-  $("moves").replaceChildren(...moves.slice(0, 400).map((move) => {
+  const listed = moves().filter((move) => fits(move) && (word ? move.text.includes(word) : isWhole(move)));
+  $("choice").hidden = !moves().length;
+  $("moves").replaceChildren(...listed.slice(0, 400).map((move) => {
     const item = element("li", ""), button = element("button", move.text);
     button.addEventListener("click", () => play(move.text));
     item.append(button);
     return item;
   }));
-  $("more").textContent = moves.length > 400 ? `and ${moves.length - 400} more` : "";
+  $("more").textContent = listed.length > 400 ? `and ${listed.length - 400} more` : "";
 }
 
 const events = new EventSource("events");
@@ -99,6 +81,8 @@ events.onmessage = (event) => {
   view = JSON.parse(event.data);
   chosen = [];
   $("filter").value = "";
+  // The server has made this HTML by the same templates as all pages. They escape everything that comes from a match.
+  $("shown").innerHTML = view.state || "";
   deadline = view.left === null ? null : Date.now() + 1000 * view.left;
   draw();
 };
@@ -107,6 +91,10 @@ events.onerror = () => {
   $("note").textContent = `${end} The player does not answer: it has ended, or is being started again.`.trim();
 };
 $("filter").addEventListener("input", draw);
+$("shown").addEventListener("click", (event) => {
+  const cell = event.target.closest(".board button");
+  if (cell) choose(boards().indexOf(cell.closest(".board")), placeOf(cell));
+});
 setInterval(() => {
   const left = Math.max(0, Math.ceil((deadline - Date.now()) / 1000));
   $("clock").textContent = deadline === null ? "" : `${left} of ${view.clock} s`;

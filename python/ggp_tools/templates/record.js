@@ -1,16 +1,19 @@
 "use strict";
-const states = [...document.querySelectorAll(".state")];
-const turns = [...document.querySelectorAll(".turn")];
-let shown = 0, playing = null;
+const turnOf = (hash) => Number(hash.slice("#turn=".length));
+const states = [...document.querySelectorAll(".state")], first = turnOf("#" + states[0].id), last = first + states.length - 1;
+const turns = new Map([...document.querySelectorAll(".turn")].map((row) => [turnOf(row.querySelector("a").hash), row]));
+// The pages of the other parts of a long match.
+const parts = [...document.querySelectorAll("#parts a")];
+let shown = first, playing = null;
 
-function show(wanted) {
-  states[shown].classList.remove("shown");
-  turns[shown - 1]?.classList.remove("here");
-  shown = Math.max(0, Math.min(states.length - 1, wanted));
-  states[shown].classList.add("shown");
-  turns[shown - 1]?.classList.add("here");
-  turns[shown - 1]?.scrollIntoView({ block: "nearest" });
-  history.replaceState(null, "", "#" + states[shown].id);
+function show(turn) {
+  states[shown - first].classList.remove("shown");
+  turns.get(shown)?.classList.remove("here");
+  shown = turn;
+  states[shown - first].classList.add("shown");
+  turns.get(shown)?.classList.add("here");
+  turns.get(shown)?.scrollIntoView({ block: "nearest" });
+  history.replaceState(null, "", "#" + states[shown - first].id);
 }
 
 const button = document.querySelector("[data-key=p]");
@@ -23,17 +26,24 @@ function stop() {
 
 function play() {
   if (playing) return stop();
-  if (shown === states.length - 1) show(0);
-  playing = setInterval(() => { show(shown + 1); if (shown === states.length - 1) stop(); }, 1000);
+  if (shown === last) show(first);
+  playing = setInterval(() => { show(shown + 1); if (shown === last) stop(); }, 1000);
   button.textContent = "Pause";
 }
 
-const go = (wanted) => { stop(); show(wanted); };
+// Goes to the state after a turn, or to the page that has it.
+function go(turn) {
+  stop();
+  const part = turn < first || turn > last ? parts.filter((it) => Number(it.dataset.first) <= Math.max(0, turn)).pop() : null;
+  if (part && part.dataset.first !== String(first)) location.href = `${part.href}#turn=${turn}`;
+  else show(Math.max(first, Math.min(last, turn)));
+}
+
 const steps = {
   Home: () => go(0),
   ArrowLeft: () => go(shown - 1),
   ArrowRight: () => go(shown + 1),
-  End: () => go(states.length - 1),
+  End: () => go(Infinity),
   p: play,
   t: () => document.body.classList.toggle("turned"),
   u: () => document.body.classList.toggle("upside"),
@@ -46,10 +56,9 @@ document.addEventListener("keydown", (event) => {
   }
 });
 for (const it of document.querySelectorAll("nav button")) it.addEventListener("click", () => steps[it.dataset.key]());
-turns.forEach((turn, at) => turn.addEventListener("click", () => go(at + 1)));
+turns.forEach((row, turn) => row.addEventListener("click", () => go(turn)));
 // An address such as #turn=12 opens the page on the state after that turn, any other one on the last state.
-const asked = () => states.findIndex((state) => "#" + state.id === location.hash);
-const goToAsked = () => go(asked() >= 0 ? asked() : states.length - 1);
+const goToAsked = () => go(/^#turn=[0-9]+$/.test(location.hash) ? turnOf(location.hash) : last);
 addEventListener("hashchange", goToAsked);
 document.body.classList.add("stepping");
 goToAsked();

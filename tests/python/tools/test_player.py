@@ -123,7 +123,7 @@ class Serving(unittest.TestCase):
         """A game with more bytes than the usual limits allow, and rules that are nested more deeply."""
         count, lists = 4_500, 60
         steps = (f"(<= (c {number}) {'(or ' * lists}(c {number + 1}){')' * lists})" for number in range(count))
-        rules = f"((role red) (legal red go) (<= (legal red deep) (c 0)) {' '.join(steps)} (c {count}) (f {'x' * 4_194_304}))"
+        rules = f"((role red) (legal red go) (<= (legal red deep) (c 0)) {' '.join(steps)} (c {count}) (f {'x' * 16_777_216}))"
         with server() as (port, _):
             self.assertEqual(asked(port, f"(START m red {rules} 1 1)"), (200, "ready"))
             self.assertEqual(asked(port, "(PLAY m NIL)"), (200, "go"))

@@ -1,10 +1,10 @@
--- Which heads the rows of dependence bar.
+-- Which heads are barred, according to the rows of dependence.
 use Rattle.std.specs.Prelude.{ℕ, ◌+◌, Bool, false, ◌||◌, List, [], ◌∷◌}
 use Rattle.rule_sentences.specs.declared.sentence.Derived.{Derived}
 use Rattle.rule_sentences.specs.declared.sentence.Derived.TheVariants.{Role, Init, Next, Legal, Goal, Terminal, Other}
 use Rattle.numbered_rules.specs.Numbered.{bit}
 
--- a head that depends on does sentences, or on given ones, as the two values say
+-- whether the head is barred if it depends on does sentences (first flag), or on any given sentence (second flag)
 abbrev pub barred_by : Derived → Bool → Bool → Bool
 barred_by (Role r) on_moves on_given = false
 barred_by (Init t) on_moves on_given = on_given
@@ -14,7 +14,7 @@ barred_by (Goal r n) on_moves on_given = on_moves
 barred_by Terminal on_moves on_given = on_moves
 barred_by (Other t) on_moves on_given = false
 
--- whether one of the heads, numbered from n on, is barred
+-- whether one of the heads, numbered from n, is barred
 abbrev pub has_barred : List Bool → List Bool → ℕ → List Derived → Bool
 has_barred on_moves on_given n [] = false
 has_barred on_moves on_given n (a ∷ as') = barred_by a (bit on_moves n) (bit on_given n) || has_barred on_moves on_given (n + 1) as'

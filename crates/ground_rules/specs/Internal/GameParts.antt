@@ -1,4 +1,4 @@
--- The parts that the game of a description is made from.
+-- The parts of the game of a description.
 use Rattle.std.specs.Prelude.{ℕ, ◌≡◌, ◌≤◌, Bool, true, false, ◌&&◌, nat_le, List, map, length}
 use Rattle.std.specs.List.{list_all}
 use Rattle.std.specs.List.Sorted.{IsPermutation}
@@ -17,7 +17,6 @@ use Rattle.ground_rules.specs.Internal.Resolved.{NameTable, head_terms, resolved
 use Rattle.ground_rules.specs.Acyclic.{IsAcyclic}
 use Rattle.ground_rules.specs.Loading.{HasRoles}
 
--- the tables are those of the description
 pub record IsTableOf (d : Description) (t : NameTable) : Type 0 where
   pub heads' : t.heads ≡ heads d
   pub roles : t.roles ≡ role_names d
@@ -26,25 +25,24 @@ pub record IsTableOf (d : Description) (t : NameTable) : Type 0 where
   pub states : (u : List ℕ) → is_among t.states u ≡ is_among (head_terms State d) u
   pub moves : (u : List ℕ) → is_among t.moves u ≡ is_among (head_terms Move d) u
 
--- the size without the moves
+-- the description is within the limits, apart from the number of moves
 abbrev pub is_small_so_far : Limits → ℕ → Description → Bool
 is_small_so_far limits n d = nat_le n (max_sentences limits) && nat_le (length (each_once same_atomic (atomics d))) (max_atomic_sentences limits) && nat_le (length (role_names d)) max_roles
 
 abbrev pub have_few_moves_by : List RoleTable → Bool
 have_few_moves_by rs = list_all (λ r. nat_le (length r.legal) max_moves) rs
 
--- the rules are those of the description with numbers, in the order of a ranking
+-- the rules are the description's rules with numbers, in the order of a ranking
 pub record AreRankedOf (d : Description) (t : NameTable) (rules : List (Rule ℕ ℕ)) : Type 0 where
   pub moved : IsPermutation (resolved_rules t d) rules
   pub rank : ℕ → ℕ
   pub ranked : AreRankedFrom rank 0 (length t.heads) rules
 
--- b says whether the fact holds
+-- b is true if and only if P holds
 pub record IsTestOf (b : Bool) (P : Type 0) : Type 0 where
   pub yes : b ≡ true → P
   pub no : b ≡ false → ¬ P
 
--- an acyclic description that has roles, at most 16, with its names and what its roles look up
 pub record AreNamesOf (d : Description) (t : NameTable) (roles : List RoleTable) : Type 0 where
   pub roles' : HasRoles d
   pub few_roles : length (role_names d) ≤ max_roles

@@ -1,4 +1,4 @@
--- Numbers in place of names.
+-- Numbers that replace names.
 use Rattle.std.specs.Prelude.{ℕ, ◌+◌, suc, Bool, not, bytes_eq, if◌then◌else◌, List, [], ◌∷◌, ◌++◌, map, Option, Some, None}
 use Rattle.rule_sentences.specs.declared.sentence.Derived.{Derived}
 use Rattle.rule_sentences.specs.declared.sentence.Derived.TheVariants.{Init, Next, Legal, Goal}
@@ -15,7 +15,7 @@ use Rattle.numbered_rules.specs.Numbered.{known}
 use Rattle.ground_rules.specs.declared.resolve.Names.{Names}
 use Rattle.ground_rules.specs.Roles.{RoleTable}
 
--- the tables of names, each of which is numbered by its place
+-- the tables of names; a name's number is its place
 pub record NameTable : Type 0 where
   pub roles : List (List ℕ)
   pub heads : List Derived
@@ -26,7 +26,7 @@ pub record NameTable : Type 0 where
 abbrev pub table_of : Names → NameTable
 table_of names = record { roles = names.roles.keys; heads = names.heads.keys; states = names.states.keys; moves = names.moves.keys }
 
--- the first place of x, or the length
+-- the first place of x, or the length of the list
 abbrev pub place : {A : Type 0} → (A → A → Bool) → List A → A → ℕ
 place same [] x = 0
 place same (y ∷ ys) x = if same x y then 0 else suc (place same ys x)
@@ -43,7 +43,7 @@ move_number names m = place bytes_eq names.moves m
 abbrev pub role_number : NameTable → List ℕ → ℕ
 role_number names r = place bytes_eq names.roles r
 
--- a literal with numbers for its names
+-- the literal with numbers for its names
 abbrev mutual
   pub resolved : NameTable → TextLiteral → Literal ℕ ℕ
   resolved names (Holds a) = Holds (atom_number names a)
@@ -74,17 +74,17 @@ abbrev pub head_terms : TermKind → Description → List (List ℕ)
 head_terms kind [] = []
 head_terms kind (r ∷ rs) = terms_in kind r.head ++ head_terms kind rs
 
--- the mentions, with one more of the term in the head numbered n before them, if the head has one
+-- adds a mention of the term in the head with number n, if the head has a term
 abbrev pub with_mention : List (List ℕ) → ℕ → Option (List ℕ) → List Mention → List Mention
 with_mention terms n (Some t) ms = record { term = place bytes_eq terms t; atom = n } ∷ ms
 with_mention terms n None ms = ms
 
--- the mentions in the heads, which are numbered from n on; pick gives their terms
+-- the mentions in the heads, which are numbered from n; pick gives their terms
 abbrev pub mentions_by : (Derived → Option (List ℕ)) → List (List ℕ) → ℕ → List Derived → List Mention
 mentions_by pick terms n [] = []
 mentions_by pick terms n (a ∷ as') = with_mention terms n (pick a) (mentions_by pick terms (n + 1) as')
 
--- the term in a head of this kind
+-- the term of a head of this kind
 abbrev pub state_term : StateHead → Derived → Option (List ℕ)
 state_term InitHead (Init t) = Some t
 state_term NextHead (Next t) = Some t
@@ -93,7 +93,7 @@ state_term kind a = None
 abbrev pub state_mentions : StateHead → List (List ℕ) → ℕ → List Derived → List Mention
 state_mentions kind terms n hs = mentions_by (state_term kind) terms n hs
 
--- what the heads, numbered from n on, say of a role
+-- the legal heads of a role, numbered from n
 abbrev pub legal_mentions : List (List ℕ) → List ℕ → ℕ → List Derived → List Mention
 legal_mentions terms role n [] = []
 legal_mentions terms role n (Legal r m ∷ as') = if bytes_eq r role then record { term = place bytes_eq terms m; atom = n } ∷ legal_mentions terms role (n + 1) as' else legal_mentions terms role (n + 1) as'

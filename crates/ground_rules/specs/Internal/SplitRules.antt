@@ -1,4 +1,4 @@
--- Numbered rules in two parts: those with heads that do not depend on moves, and the others.
+-- Numbered rules in two parts: those whose heads do not depend on moves, and the others.
 use Rattle.std.specs.Prelude.{ℕ, ◌≡◌, ◌≢◌, false, List, [], ◌∷◌, ◌++◌, length}
 use Rattle.std.specs.List.Sorted.{IsPermutation}
 use Rattle.rule_sentences.specs.declared.sentence.Derived.{Derived}
@@ -9,12 +9,11 @@ use Rattle.rule_sentences.specs.Descriptions.{Description}
 use Rattle.ground_rules.specs.Internal.Ranked.{AreRankedFrom}
 use Rattle.ground_rules.specs.Internal.Resolved.{NameTable, atom_number, resolved_rules}
 
--- the rules speak of no does sentence
+-- the rules contain no does sentence
 abbrev pub SpeakOfNoMoves : List (Rule ℕ ℕ) → Type 0
 SpeakOfNoMoves [] = Unit {0}
 SpeakOfNoMoves (r ∷ rs) = (any_speaks_of_given false r.body ≡ false) × SpeakOfNoMoves rs
 
--- no rule has this head
 abbrev pub IsNoHead : ℕ → List (Rule ℕ ℕ) → Type 0
 IsNoHead n [] = Unit {0}
 IsNoHead n (r ∷ rs) = (n ≢ r.head) × IsNoHead n rs
@@ -29,7 +28,8 @@ IsAnswer (Init t) = ⊥
 IsAnswer (Next t) = ⊥
 IsAnswer (Other t) = ⊥
 
--- the rules are those of the description with numbers, in the order of a ranking: the first part speaks of no move, and no answer is a head of the second
+-- the two parts are the description's rules with numbers, each in the order of a ranking; the first part contains no does sentence,
+-- and no answer is a head of the second part
 pub record AreSplitOf (d : Description) (t : NameTable) (rest turn : List (Rule ℕ ℕ)) : Type 0 where
   pub moved : IsPermutation (resolved_rules t d) (rest ++ turn)
   pub rank : ℕ → ℕ

@@ -1,4 +1,4 @@
--- What a vocabulary is made from.
+-- The parts of a vocabulary.
 use Rattle.std.specs.Prelude.{◌≡◌, List, length}
 use Rattle.kif_text.specs.declared.expr.Expr.{Expr}
 use Rattle.ground_rules.specs.declared.vocabulary.Vocabulary.{Vocabulary}
@@ -7,7 +7,6 @@ use Rattle.ground_rules.specs.declared.tables.StateHead.TheVariants.{Init as Ini
 use Rattle.ground_rules.specs.Roles.{RoleTable}
 use Rattle.ground_rules.specs.Internal.Resolved.{NameTable, atom_number, state_mentions}
 
--- the vocabulary of these sentences and roles, by the tables of names
 pub record IsVocabularyOf (description : List Expr) (roles : List RoleTable) (t : NameTable) (v : Vocabulary) : Type 0 where
   pub description' : v.description.items ≡ description
   pub roles' : v.roles.items ≡ roles

@@ -99,13 +99,12 @@ goals-only : (hs : List GoalHead) (row : List Bool) (v : ℕ) → are_goals hs �
 goals-only [] row v h is = absurd cc
 goals-only (x ∷ hs) row v h is = goals-by x (filter (λ h. bit row h.atom) hs) (bit row x.atom) v (and-left (nat_le x.value max_goal) _ h) (goals-only hs row v (and-right (nat_le x.value max_goal) _ h)) is
 
--- a text of the list is found
 pub among-at : (xs : List (List ℕ)) (j : ℕ) → j < length xs → is_among xs (slice_index_or xs j []) ≡ true
 among-at [] j lt = absurd (omega (arith, lt))
 among-at (x ∷ xs) zero lt = or-left _ _ (text-same x x refl)
 among-at (x ∷ xs) (suc j) lt = or-right _ _ (among-at xs j (omega (arith, lt)))
 
--- equal texts of a list of different ones stand in one place
+-- in a list of different texts, equal texts have the same index
 pub one-place : (xs : List (List ℕ)) (i j : ℕ) → are_different xs ≡ true → i < length xs → j < length xs → slice_index_or xs i [] ≡ slice_index_or xs j [] → i ≡ j
 one-place [] i j h li lj e = absurd (omega (arith, li))
 one-place (x ∷ xs) zero zero h li lj e = refl
@@ -129,7 +128,7 @@ before-by : (a b : ℕ) (as' bs : List ℕ) (lt : Bool) → nat_lt a b ≡ lt �
 before-by a b as' bs true is rest h = inl (below a b is)
 before-by a b as' bs false is rest h = inr ((Decides-eqb a b).0 (and-left (nat_eq a b) _ h), rest (and-right (nat_eq a b) _ h))
 
--- the test of byte order decides
+-- the test of byte order is correct
 before : (t u : List ℕ) → comes_before t u ≡ true → IsBefore t u
 before [] [] h = absurd cc
 before [] (b ∷ bs) h = tt
@@ -148,7 +147,7 @@ ordered (t ∷ ts) h zero (suc j) d lt within = all-before t ts j d (and-left (c
 ordered (t ∷ ts) h (suc i) zero d lt within = absurd (omega (arith, lt))
 ordered (t ∷ ts) h (suc i) (suc j) d lt within = ordered ts (and-right (comes_before_all t ts) _ h) i j d (omega (arith, lt)) (omega (arith, within))
 
--- a part of a list in order is in order
+-- a part of an ordered list is ordered
 picked-after : (t : List ℕ) (row : List Bool) (ts : List (List ℕ)) → comes_before_all t ts ≡ true → comes_before_all t (picked row ts) ≡ true
 picked-after t [] ts h = refl
 picked-after t (b ∷ bs) [] h = refl
@@ -168,7 +167,7 @@ picked-texts (true ∷ bs) (u ∷ us) each zero d lt = each 0 d (omega arith)
 picked-texts (true ∷ bs) (u ∷ us) each (suc k) d lt = picked-texts bs us (λ j e within. each (suc j) e (omega (arith, within))) k d (omega (arith, lt))
 picked-texts (false ∷ bs) (u ∷ us) each k d lt = picked-texts bs us (λ j e within. each (suc j) e (omega (arith, within))) k d lt
 
--- texts in order differ
+-- ordered texts are different
 order-differs : (t : List ℕ) (ts : List (List ℕ)) → comes_before_all t ts ≡ true → is_among ts t ≡ false
 order-differs t [] h = refl
 order-differs t (u ∷ us) h = neither (and-left (comes_before t u) _ h) (order-differs t us (and-right (comes_before t u) _ h))
@@ -191,7 +190,7 @@ ordered-different (t ∷ ts) h = rw (order-differs t ts (and-left (comes_before_
 folded-is-canonical : (t : List ℕ) → IsFoldedText t → IsCanonicalText t
 folded-is-canonical t is = (is.0, is.1, is.3)
 
--- whatever keeps the tables proves its game lawful by this lemma; `xs` are the sentences of its description
+-- each form of a game proves that it is lawful by this lemma; `xs` are the sentences of the description
 pub loaded_game_laws : (xs : Expressions) (g : GameTables) → 1 ≤ length g.roles → length g.roles ≤ max_roles → IsTrue (are_roles (length g.moves) g.roles) → IsTrue (are_different (names g.roles))
     → IsTrue (are_terms_in_any xs (names g.roles)) → IsTrue (are_in_order g.states) → IsTrue (are_terms_in_any xs g.states) → IsTrue (are_in_order g.moves) → IsTrue (are_terms_in_any xs g.moves) → IsLawful (loaded_game g)
 loaded_game_laws xs g some few tables names_differ names_spelled states_ordered states_spelled moves_ordered moves_spelled = record {

@@ -1,4 +1,4 @@
--- The tests of names decide.
+-- The tests of names are correct.
 use Rattle.std.specs.Prelude.{◌≡◌, ℕ, true, List, refl, nat_eq, bytes_eq}
 use Rattle.std.proofs.Common.{ap}
 use Rattle.std.proofs.lemmas.Slice.Eq.{bytes_eq-Decides}

@@ -1,4 +1,4 @@
--- The tests of a game's tables that its laws rest on: different terms, goals in range, texts in byte order.
+-- The tests of a game's tables from which its laws follow: terms differ, goals are in range, texts are in byte order.
 use Rattle.std.specs.Prelude.{ℕ, Bool, true, false, not, ◌&&◌, ◌||◌, List, [], ◌∷◌, map, nat_lt, nat_le, nat_eq}
 use Rattle.game_core.specs.Play.{max_goal}
 use Rattle.ground_rules.specs.declared.tables.Mention.{Mention}
@@ -9,7 +9,7 @@ abbrev pub has_term : ℕ → List Mention → Bool
 has_term t [] = false
 has_term t (h ∷ hs) = nat_eq t h.term || has_term t hs
 
--- the terms of the heads differ, and are below the number of terms
+-- the terms of the heads are different and below the number of terms
 abbrev pub have_distinct_terms : ℕ → List Mention → Bool
 have_distinct_terms terms [] = true
 have_distinct_terms terms (h ∷ hs) = nat_lt h.term terms && (not (has_term h.term hs) && have_distinct_terms terms hs)
@@ -25,7 +25,6 @@ are_roles terms (r ∷ rs) = have_distinct_terms terms r.legal && (are_goals r.g
 abbrev pub names : List RoleTable → List (List ℕ)
 names rs = map (λ r. r.name) rs
 
--- whether the first text comes before the second in byte order
 abbrev pub comes_before : List ℕ → List ℕ → Bool
 comes_before [] [] = false
 comes_before [] (b ∷ bs) = true
@@ -36,7 +35,6 @@ abbrev pub comes_before_all : List ℕ → List (List ℕ) → Bool
 comes_before_all t [] = true
 comes_before_all t (u ∷ us) = comes_before t u && comes_before_all t us
 
--- whether each text comes before all later ones
 abbrev pub are_in_order : List (List ℕ) → Bool
 are_in_order [] = true
 are_in_order (t ∷ ts) = comes_before_all t ts && are_in_order ts

@@ -1,4 +1,4 @@
--- The texts of the terms in expressions. Each is a folded text, and not that of a variable.
+-- The texts of the terms in expressions. Each is a folded text, and not the text of a variable.
 use Rattle.std.specs.Prelude.{ℕ, zero, suc, ◌<◌, ◌≤◌, ◌≡◌, ◌≢◌, Bool, true, false, not, ◌&&◌, ◌||◌, ◌==◌, nat_le, bytes_eq, codes, List, [], ◌∷◌, map, length, refl, slice_index_or}
 use Rattle.std.proofs.Common.{arith, ap, sym, ◌∙◌}
 use Rattle.std.proofs.lemmas.Bool.Decides.{nat_tests}
@@ -9,7 +9,7 @@ use Rattle.ground_rules.specs.Lawfulness.Bools.{and-left, and-right, not-true}
 use Rattle.ground_rules.specs.Lawfulness.Names.{text-sound, number-sound}
 use Rattle.rule_sentences.specs.Terms.{question_mark, are_small_atom_bytes, is_word, begins_with_atom, is_term, are_terms, is_ground_term}
 
--- whether the text is that of a term without variables in the expression
+-- whether the expression contains a term without variables that has this text
 abbrev mutual
   pub is_term_in : Expression → List ℕ → Bool
   is_term_in (atom w) t = is_ground_term (atom w) && bytes_eq w t
@@ -19,7 +19,7 @@ abbrev mutual
   is_term_in_any none t = false
   is_term_in_any (more x xs) t = is_term_in x t || is_term_in_any xs t
 
--- whether each text is that of a term without variables in the expressions
+-- whether each text is that of some term without variables in the expressions
 abbrev pub are_terms_in_any : Expressions → List (List ℕ) → Bool
 are_terms_in_any xs [] = true
 are_terms_in_any xs (t ∷ ts) = is_term_in_any xs t && are_terms_in_any xs ts
@@ -106,7 +106,6 @@ mutual
   term-in-any none t h = absurd cc
   term-in-any (more x xs) t h = either (is_term_in x t) _ (IsTermText t) (λ here. term-in x t here) (λ later. term-in-any xs t later) h
 
--- each text of the list is a term's text
 pub term-text-at : (xs : Expressions) (ts : List (List ℕ)) (k : ℕ) (d : List ℕ) → are_terms_in_any xs ts ≡ true → k < length ts → IsTermText (slice_index_or ts k d)
 term-text-at xs [] k d h lt = absurd (omega arith)
 term-text-at xs (t ∷ ts) zero d h lt = term-in-any xs t (and-left (is_term_in_any xs t) _ h)

@@ -1,4 +1,4 @@
--- What is known of a message while it is read.
+-- What is known about a message while it is read.
 use Rattle.std.specs.Prelude.{◌≡◌, ℕ, ◌≤◌, ◌⊎◌, Bool, List, Option, Some, None, ⊤}
 use Rattle.std.specs.Str.Parse.{digits_value}
 use Rattle.game_core.specs.Numerals.{are_digits}
@@ -14,17 +14,17 @@ use Rattle.http_exchange.specs.declared.head.HeadPart.TheVariants as parts
 use Rattle.http_exchange.specs.declared.look.Look.{Look}
 use Rattle.http_exchange.specs.declared.look.Look.TheVariants as looks
 
--- the length that digits give, if there are any
+-- the length that the digits give, if there are any
 abbrev pub length_of : Option (List ℕ) → BodyLength
 length_of None = unsaid
 length_of (Some digits) = said (digits_value 10 digits)
 
--- the value is digits, and writes the same number as the value before it, if there is one
+-- the value is digits and, if there is an earlier value, writes the same number
 abbrev pub agrees : Option (List ℕ) → List ℕ → Bool
 agrees None value = are_digits value
 agrees (Some before) value = writes_number (digits_value 10 before) value
 
--- nothing is known of the head yet, or this is what the bytes say of it
+-- nothing is known about the head yet, or this is what the bytes say about it
 abbrev pub IsKnown : HttpKind → List ℕ → Head → Type 0
 IsKnown kind bytes head = (head ≡ Unfinished) ⊎ HeadIs kind bytes head
 
@@ -45,7 +45,7 @@ StartsWithin have (Bad part) = ⊤
 StartsWithin have (Refused refusal) = ⊤
 StartsWithin have (Whole frame) = frame.start ≤ have
 
--- a body that is found lies within this many bytes
+-- a body that is found is within this many bytes
 abbrev pub BodyWithin : ℕ → Look → Type 0
 BodyWithin have looks.More = ⊤
 BodyWithin have (looks.Body start end) = (start ≤ end) × (end ≤ have)

@@ -8,7 +8,7 @@ use Rattle.http_exchange.specs.WireFaults.{HasFailed}
 use Rattle.http_exchange.specs.declared.wire_fault.WireFault.{WireFault}
 use Rattle.http_exchange.specs.declared.wire_fault.WireFault.TheVariants.{ReadFault, Memory}
 
--- the bytes held grew by what one read gave
+-- the stored bytes grew by the bytes of one read
 pub record Grows {S : Type 0} (old new : Option (List ℕ)) (held now : List ℕ) (ended : Bool) (before after : Counting S) : Type 0 where
   pub given : List ℕ
   pub gives : Gives old new given ended

@@ -1,5 +1,4 @@
--- The reader's fields as a state of the machine, and when a function of the reader does what the machine
--- does.
+-- How the fields of the reader correspond to a state of the machine, and a function of the reader to one of the machine.
 use Rattle.std.specs.Prelude.{◌≡◌, ℕ, suc, List, [], ◌∷◌, reverse, map, Result, Ok, Err}
 use Rattle.game_core.specs.Expression.{Expressions}
 use Rattle.kif_text.specs.Machine.{Open, State, with_word, flushed, count_of}
@@ -22,7 +21,7 @@ abbrev pub outermost : Open → List Open → ℕ
 outermost l [] = count_of l.before
 outermost l (m ∷ ms) = outermost m ms
 
--- the number of expressions that have begun outside all lists
+-- how many expressions have begun outside all lists
 abbrev pub total_on : List Open → Expressions → List ℕ → ℕ
 total_on [] here word = count_of (with_word here word)
 total_on (l ∷ ls) here word = suc (outermost l ls)
@@ -30,12 +29,12 @@ total_on (l ∷ ls) here word = suc (outermost l ls)
 abbrev pub total : State → ℕ
 total s = total_on s.levels s.here s.word
 
--- the result is this fault, or out of memory
+-- the result is this error, or out of memory
 abbrev pub Fails : {Y : Type 0} → KifFault → Result Y KifFault → Type 0
 Fails faults.Memory r = Unit {0}
 Fails e r = r ≡ Err e
 
--- a step of the reader leaves the machine's state, or fails as the machine does
+-- a step of the reader gives the machine's state, or fails as the machine does
 abbrev pub Reaches : Result (Unit {0}) KifFault → State → Result State KifFault → Type 0
 Reaches (Ok u) new r = r ≡ Ok new
 Reaches (Err e) new r = Fails e r

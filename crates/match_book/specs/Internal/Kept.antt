@@ -1,4 +1,4 @@
--- What a match keeps beside its value, so that no call goes over all turns.
+-- What a match stores besides its value, so that no call goes over all turns.
 use Rattle.std.specs.Prelude.{◌≡◌, ℕ, ◌<◌, List, Option, Some, length, take, slice_get}
 use Rattle.game_core.specs.Play.{Rules}
 use Rattle.match_book.specs.Roles.{at_role}
@@ -12,13 +12,13 @@ use Rattle.match_book.specs.declared.turn.Turn.{Turn}
 use Rattle.match_book.specs.declared.phase.Stage.{Stage}
 use Rattle.match_book.specs.declared.phase.Stage.TheVariants.{Playing}
 
--- the states before each of these turns, in their order
+-- the states before each of these turns, in order
 pub record ArePast {S M : Type 0} (g : Rules S M) (turns : List (Turn M)) (past : List S) : Type 0 where
   pub one_each : length past ≡ length turns
   pub before : (k : ℕ) → k < length turns → slice_get past k ≡ Some (state_after g (take k turns))
 
--- The match is lawful. These are its past states, its present state, its stage, the number of roles that have answered this
--- round, its number of substitutions, each role's strikes, each role's legal moves in play, and its goals.
+-- The match is lawful. The other arguments are its past states, its present state, its stage, the number of roles that have answered
+-- this round, its number of substitutions, each role's strikes, each role's legal moves in play, and its goals.
 pub record IsKept {S M : Type 0} (g : Rules S M) (m : MatchValue M) (past : List S) (s : S) (at : Stage) (answered substituted : ℕ) (strikes : List RoleStrikes) (legal : List (List M)) (goals : List (Option ℕ)) : Type 0 where
   pub lawful : IsLawfulMatch g m
   pub past_are : ArePast g m.turns past

@@ -5,11 +5,9 @@ use Rattle.match_desk.specs.declared.asked_setup.AskedSetup.{AskedSetup}
 use Rattle.desk_calls.specs.declared.call.Call.{Call}
 use Rattle.desk_calls.specs.declared.call.Call.TheVariants.{Open, Next, Submit, Miss, Query, Abort}
 
--- the setup that is asked for
 abbrev pub asked_setup : AskedSetup → Setup
 asked_setup asked = setup_of asked.id.now asked.start asked.play asked.strikes asked.players.now
 
--- the call is an `Open`
 abbrev pub IsOpen : Call → Type 0
 IsOpen (Open id game start play strikes players) = Unit {0}
 IsOpen (Next id role) = ⊥

@@ -1,8 +1,7 @@
--- What is known of each match of a lawful game.
+-- The laws of each match of a lawful game.
 use Rattle.game_core.specs.Play.{Rules}
 use Rattle.match_book.specs.Laws.{NewMatchIsLawful, AnswersKeepLawful, AbortKeepsLawful, RecordedMovesAreLegal, NoErrorMeansNamed, AnswersInPlay, TakenForTheRound, StartingMeans, PlayingMeans}
 
--- the laws of `match_book` for the matches of a game
 pub record MatchLaws {S M : Type 0} (g : Rules S M) : Type 0 where
   pub new : NewMatchIsLawful g
   pub answers : AnswersKeepLawful g

@@ -7,7 +7,7 @@ use Rattle.kif_text.specs.declared.expr.Expr.{Expr}
 use Rattle.match_messages.specs.declared.messages.MessageFault.{MessageFault}
 use Rattle.match_messages.specs.declared.messages.MessageFault.TheVariants.{Unreadable, BadMessage, BadClock, Memory}
 
--- the result that was found, seen through f, or nothing
+-- the result that was found, with f applied, or nothing
 abbrev pub GivesPart : {A B : Type 0} → (A → B) → Result A MessageFault → Option B → Type 0
 GivesPart f (Ok part) found = found ≡ Some (f part)
 GivesPart f (Err Unreadable) found = ⊥
@@ -15,11 +15,9 @@ GivesPart f (Err BadMessage) found = found ≡ None
 GivesPart f (Err BadClock) found = ⊥
 GivesPart f (Err Memory) found = Unit {0}
 
--- the moves in memory, as expressions
 abbrev pub moves_value : Option (Vec Expr Global) → Option Expressions
 moves_value moves = option_map (λ v. views v.items) moves
 
--- the moves that an expression gives, or no moves
 abbrev pub GivesMoves : Result (Option (Vec Expr Global)) MessageFault → Option (Option Expressions) → Type 0
 GivesMoves = GivesPart moves_value
 

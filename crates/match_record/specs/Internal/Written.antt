@@ -1,4 +1,4 @@
--- What is written of a record, token by token.
+-- What has been written of a record, token by token.
 use Rattle.std.specs.Prelude.{◌≡◌, List, [], ◌∷◌, ◌++◌}
 use Rattle.json.specs.Token.{Token, begin_array, begin_object, key}
 use Rattle.json.specs.Tree.{json_tokens}
@@ -9,20 +9,19 @@ use Rattle.record_reading.specs.RecordTree.{key_text, key_tree}
 use Rattle.record_reading.specs.declared.record_parts.Key.{Key}
 use Rattle.record_reading.specs.declared.record_parts.RecordParts.{RecordParts}
 
--- these tokens were written, and no others
+-- exactly these tokens were written
 pub record HasAdded (old new : Written) (ts : List Token) : Type 0 where
   pub before : new.before ≡ old.before
   pub tokens : new.tokens ≡ old.tokens ++ ts
 
--- the tokens of a value
 abbrev pub tokens_of : Data → List Token
 tokens_of d = json_tokens (outline d)
 
--- the value was written, and nothing else
+-- exactly this value was written
 abbrev pub IsWritten : Written → Written → Data → Type 0
 IsWritten old new d = HasAdded old new (tokens_of d)
 
--- the tokens of values, one after another
+-- the tokens of these values
 abbrev pub each_tokens : List Data → List Token
 each_tokens [] = []
 each_tokens (d ∷ ds) = tokens_of d ++ each_tokens ds
@@ -31,11 +30,10 @@ each_tokens (d ∷ ds) = tokens_of d ++ each_tokens ds
 abbrev pub HasBegun : Written → Written → List Data → Type 0
 HasBegun old new ds = HasAdded old new (begin_array ∷ each_tokens ds)
 
--- the tokens of what these parts say at each key
 abbrev pub member_tokens : List Key → RecordParts → List Token
 member_tokens [] p = []
 member_tokens (at ∷ more) p = key (key_text at) ∷ (tokens_of (key_tree at p) ++ member_tokens more p)
 
--- an object was begun, and says at these keys what the parts say
+-- an object was begun, and has the values of these parts at these keys
 abbrev pub HasMembers : Written → Written → List Key → RecordParts → Type 0
 HasMembers old new keys p = HasAdded old new (begin_object ∷ member_tokens keys p)

@@ -1,4 +1,4 @@
--- The end of a desk that is not closed.
+-- The last rounds of a desk that was not closed.
 use Rattle.std.specs.Prelude.{◌≡◌, List}
 use Rattle.std.specs.List.{All}
 use mathlib.Core.List.{IsPrefix}
@@ -8,7 +8,7 @@ use Rattle.call_history.specs.RingClosing.{SameEnds, IsCauseOf}
 use Rattle.call_history.specs.Rounds.{RingDeskValue, IsIdle}
 
 module _ {O C R : Type 0} where
-  -- The last rounds left each line of the desk idle, but the desk was still not closed, for this cause.
+  -- The last rounds left each line of the desk idle, but the desk was not closed, for this cause.
   pub record WasIdle (desk : RingDeskValue O C R) (ends : List (LineValue C R)) : Type 0 where
     pub last : RingDeskValue O C R
     pub ports : SamePorts desk.ports last.ports

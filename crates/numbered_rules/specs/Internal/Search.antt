@@ -1,4 +1,4 @@
--- What the search for a ranking keeps.
+-- What the search for a ranking keeps true.
 use Rattle.std.specs.Prelude.{ℕ, ◌<◌, ◌≤◌, ◌≡◌, ◌≢◌, ◌+◌, List, length, slice_index, slice_index_or, sum_by}
 use Rattle.numbered_rules.specs.declared.rank.Mark.{Mark}
 use Rattle.numbered_rules.specs.declared.rank.Mark.TheVariants.{New, Open, Done}
@@ -7,23 +7,20 @@ use Rattle.numbered_rules.specs.Order.{needs_at, IsGraph}
 abbrev pub mark : List Mark → ℕ → Mark
 mark marks n = slice_index_or marks n New
 
--- the atom has a place in the order
 abbrev pub IsPlaced : List Mark → ℕ → Type 0
 IsPlaced marks n = (r : ℕ) × (mark marks n ≡ Done r)
 
--- the atom has a place before r
 abbrev pub IsBefore : List Mark → ℕ → ℕ → Type 0
 IsBefore marks r n = (q : ℕ) × (mark marks n ≡ Done q) × (q < r)
 
--- n needs d
 abbrev pub IsNeed : List (List ℕ) → ℕ → ℕ → Type 0
 IsNeed needs n d = (i : ℕ) × (i < length (needs_at needs n)) × (slice_index (needs_at needs n) i ≡ d)
 
--- the last atom of the path, if there is one, needs d
+-- if the path has a last atom, that atom needs d
 abbrev pub IsLinked : List (List ℕ) → List ℕ → ℕ → Type 0
 IsLinked needs path d = (k : ℕ) → k + 1 ≡ length path → IsNeed needs (slice_index path k) d
 
--- what was met stays met
+-- an atom that was met stays met
 abbrev pub AreOnlyOld : List Mark → List Mark → Type 0
 AreOnlyOld old marks = (n : ℕ) → mark old n ≢ New → mark marks n ≢ New
 
@@ -47,6 +44,6 @@ weight New = 2
 weight (Open k) = 0
 weight (Done r) = 0
 
--- what is left to do
+-- how much is left to do: this decreases with each step
 abbrev pub work : List Mark → List ℕ → ℕ
 work marks path = sum_by weight marks + length path

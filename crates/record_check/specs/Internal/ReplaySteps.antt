@@ -1,4 +1,4 @@
--- Facts of a replay that only the contracts of private functions cite.
+-- Facts of a replay that only private functions cite.
 use Rattle.std.specs.Prelude.{◌≡◌, ◌==◌, ◌↔◌, ℕ, ◌<◌, Bool, true, false, IsTrue, if◌then◌else◌, List, length, map, slice_index_or, Result, Ok, Err}
 use Rattle.game_core.specs.Play.{Rules, IsJoint}
 use Rattle.match_book.specs.Roles.{every_role, is_there, blank}
@@ -17,21 +17,21 @@ use Rattle.record_check.specs.declared.recorded_turn.RecordedMove.TheVariants.{R
 use Rattle.record_reading.specs.declared.verify_fault.VerifyFault.{VerifyFault}
 use Rattle.record_reading.specs.declared.verify_fault.VerifyFault.TheVariants.{NotJson, BadShape, Illegal, NotFirst, WrongRetired, WrongState, WrongGoals, WrongEnd, Memory}
 
--- what the move with this text and this error is, for a role with these legal moves that is retired or not
+-- the result for a move with this text and error, for a role with these legal moves that is retired or not
 abbrev pub IsRecorded : {S M : Type 0} → Rules S M → Bool → List M → List ℕ → List ℕ → RecordedMove M → Type 0
 IsRecorded g retired moves text error (Right m) = (g.move_text m ≡ text) × IsPart g retired moves m error
 IsRecorded g retired moves text error NoMove = NamesNone g moves text
 IsRecorded g retired moves text error WrongError = IsWrongError g moves text error
 IsRecorded g retired moves text error AgainstRetirement = IsWrongRetired g retired moves text error
 
--- the joint move has these texts, and these errors may stand beside it, where these roles are retired
+-- the joint move has these texts, and can have these errors, if these roles are retired
 pub record IsRightJoint {S M : Type 0} (g : Rules S M) (retired : ℕ → Bool) (s : S) (moves errors : List (List ℕ)) (played : List M) : Type 0 where
   pub goes_on : GoesOn g retired s
   pub joint : IsJoint g s played
   pub texts : map g.move_text played ≡ moves
   pub parts : (r : ℕ) (d : M) → r < g.roles → IsPart g (retired r) (g.legal s r) (slice_index_or played r d) (text_at errors r)
 
--- the fault of a turn with these moves and errors in the state s, where these roles are retired
+-- the error of a turn with these moves and errors in the state s, if these roles are retired
 abbrev pub IsTurnFault : {S M : Type 0} → Rules S M → (ℕ → Bool) → S → (moves errors : List (List ℕ)) → ℕ → VerifyFault → Type 0
 IsTurnFault g retired s moves errors turn NotJson = ⊥
 IsTurnFault g retired s moves errors turn (BadShape key) = ⊥
@@ -47,21 +47,21 @@ abbrev pub IsJointAnswer : {S M : Type 0} → Rules S M → (ℕ → Bool) → S
 IsJointAnswer g retired s moves errors turn (Ok joint) = IsRightJoint g retired s moves errors joint
 IsJointAnswer g retired s moves errors turn (Err f) = IsTurnFault g retired s moves errors turn f
 
--- the state after a right turn, or the fault of the turn
+-- the state after a right turn, or the error of the turn
 abbrev pub IsTurnAnswer : {S M : Type 0} → Rules S M → (ℕ → Bool) → S → (moves errors : List (List ℕ)) → ℕ → Result S VerifyFault → Type 0
 IsTurnAnswer {S} {M} g retired s moves errors turn (Ok t) = (joint : List M) × IsRightJoint g retired s moves errors joint × (t ≡ g.next s joint)
 IsTurnAnswer g retired s moves errors turn (Err f) = IsTurnFault g retired s moves errors turn f
 
--- this number of retired roles is the number of all roles exactly if these turns retire all
+-- this number of retired roles is the number of all roles if and only if these turns retire all
 abbrev pub AreRetired : {S M : Type 0} → Rules S M → RecordParts → List (Turn M) → ℕ → Type 0
 AreRetired g p turns retired = every_role g.roles (retired_by p.strikes turns) ≡ (retired == g.roles)
 
--- the last state of a record and the number of roles that are retired then, or the first fault of its turns and states
+-- the last state of a record and the number of retired roles in it, or the first error of its turns and states
 abbrev pub IsReplayAnswer : {S M : Type 0} → Rules S M → RecordParts → Result (S × ℕ) VerifyFault → Type 0
 IsReplayAnswer g p (Ok (s, retired)) = (played : IsReplayed g p s) × AreRetired g p played.leads.turns retired × g.IsState s
 IsReplayAnswer g p (Err f) = IsFirstFault g p f
 
--- by whether an abort was asked and all START marks are there, and by what the settling rule says
+-- given whether an abort was asked, whether all START marks are present, and the settling rule
 abbrev pub stage_by : Bool → Bool → Stage → Stage
 stage_by asked started settled = if asked then Aborting Asked else (if started then settled else Starting)
 
@@ -71,7 +71,7 @@ has_started roles p = every_role roles (is_there p.start_marks)
 abbrev pub has_ended : ℕ → RecordParts → Bool
 has_ended roles p = every_role roles (is_there p.end_marks)
 
--- phase, cause and marks are those of a match with this settlement of its last state
+-- the phase, the cause and the marks are those of a match whose last state has this settlement
 pub record AgreesWith (roles : ℕ) (p : RecordParts) (settled : Stage) : Type 0 where
   pub phase_is : phase_in (stage_by (is_asked p.cause) (has_started roles p) settled) (has_ended roles p) ≡ p.phase
   pub cause_is : cause_in (stage_by (is_asked p.cause) (has_started roles p) settled) ≡ p.cause
@@ -79,6 +79,6 @@ pub record AgreesWith (roles : ℕ) (p : RecordParts) (settled : Stage) : Type 0
   pub ends_at_end : is_live (stage_by (is_asked p.cause) (has_started roles p) settled) ≡ true → p.end_marks ≡ blank roles
   pub asked_when_live : is_asked p.cause ≡ true → is_live (stage_by false (has_started roles p) settled) ≡ true
 
--- whether the record's end is right, for any turns that lead to its last state and retire this number of roles
+-- whether the record's end is right, for all turns that lead to its last state and retire this number of roles
 abbrev pub IsEndAnswer : {S M : Type 0} → Rules S M → RecordParts → S → ℕ → Bool → Type 0
 IsEndAnswer {S} {M} g p s retired right = (turns : List (Turn M)) → length turns ≡ length p.moves → s ≡ state_after g turns → AreRetired g p turns retired → IsTrue right ↔ IsRightEnd g p turns

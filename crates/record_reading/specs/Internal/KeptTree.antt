@@ -1,4 +1,4 @@
--- What is kept of the tree of a record's text: what no key of a record can hold is left out.
+-- What is kept of the tree of a record's text: values that no record can have are left out.
 use Rattle.std.specs.Prelude.{◌≡◌, ℕ, zero, suc, ◌&&◌, List, [], ◌∷◌, ◌++◌, Bool, true, false, if◌then◌else◌, Option, Some, None, option_map, ◌⊎◌}
 use Rattle.serde_json.specs.Data.{Data, null, boolean, number, string, array, object, Items, no_items, item, Members, put}
 use Rattle.serde_json.specs.Find.{get, get_member}
@@ -8,12 +8,11 @@ use Rattle.record_reading.specs.declared.record_parts.Key.{Key}
 use Rattle.record_reading.specs.declared.verify_fault.VerifyFault.{VerifyFault}
 use Rattle.record_reading.specs.declared.verify_fault.VerifyFault.TheVariants.{Memory, NotJson}
 
--- each item of a list is kept
 abbrev pub are_kept : (Data → Bool) → Items → Bool
 are_kept is_kept no_items = true
 are_kept is_kept (item d ds) = is_kept d && are_kept is_kept ds
 
--- Whether a value is kept in which lists may nest so deep. Where they may not, only a text is kept.
+-- Whether a value is kept if lists may nest this deep in it. At depth 0, only a text is kept.
 abbrev pub is_kept : ℕ → Data → Bool
 is_kept zero null = false
 is_kept zero (boolean b) = false
@@ -31,35 +30,34 @@ is_kept (suc n) (object ms) = false
 abbrev pub kept_of : ℕ → Data → Option Data
 kept_of n d = if is_kept n d then Some d else None
 
--- the items of a list in which lists may nest so deep, if each is kept
+-- the items of a list, if lists may nest this deep and each item is kept
 abbrev pub kept_list : ℕ → List Data → Option (List Data)
 kept_list zero ds = None
 kept_list (suc n) ds = if are_kept (is_kept n) (items_of ds) then Some ds else None
 
--- the items that are kept and one more, if it is kept too
+-- the kept items and one more, if it is kept too
 abbrev pub with_one : Option (List Data) → Option Data → Option (List Data)
 with_one None o = None
 with_one (Some ds) None = None
 with_one (Some ds) (Some d) = Some (ds ++ d ∷ [])
 
--- a member at a key: a truth value, which no record holds, stands for one that is not kept
+-- a member at a key; if it is not kept, a truth value replaces it, which no record has
 abbrev pub kept_at : Data → Data
 kept_at d = if is_kept 2 d then d else boolean false
 
--- the members with one more, if it stands where lists may nest
+-- the members and one more, if a record has its key
 abbrev pub member_kept : List ℕ → ℕ → Option Data → Members → Members
 member_kept k zero o ms = ms
 member_kept k (suc n) None ms = put k (boolean false) ms
 member_kept k (suc n) (Some d) ms = put k d ms
 
--- at the keys of a record, these are the members as they are kept
+-- at the keys of a record, the members are those that are kept
 abbrev pub AreKeptMembers : Members → Members → Type 0
 AreKeptMembers ms kept = (key : Key) → get_member (key_text key) kept ≡ option_map kept_at (get_member (key_text key) ms)
 
--- the same of trees
 abbrev pub IsKeptTree : Data → Data → Type 0
 IsKeptTree tree kept = (key : Key) → get (key_text key) kept ≡ option_map kept_at (get (key_text key) tree)
 
--- out of memory, or nothing is read
+-- out of memory, or nothing was read
 abbrev pub IsRefused : {A : Type 0} → Option A → VerifyFault → Type 0
 IsRefused read fault = (fault ≡ Memory) ⊎ ((fault ≡ NotJson) × (read ≡ None))

@@ -9,24 +9,23 @@ use Rattle.record_reading.specs.declared.record_parts.Key.{Key}
 use Rattle.record_reading.specs.declared.record_parts.RecordParts.{RecordParts}
 use Rattle.record_reading.specs.declared.record_parts.Version.{Version}
 
--- Whether a value of the key's shape counts as found, in a record of this version. If so, the parts say it.
+-- Whether a value of the key's shape counts as found in a record of this version. If it does, the parts have it.
 abbrev pub IsReadInto : {S M : Type 0} → Rules S M → Key → Option Version → Option Data → RecordParts → Bool → Type 0
 IsReadInto g key version found p read = Shows (row_of key).written ((row_of key).IsOfShape g) ((row_of key).counts version found) (if read then Some ((row_of key).said p) else None)
 
--- it holds of each key of the list
 abbrev pub HoldsForEach : (Key → Type 0) → List Key → Type 0
 HoldsForEach P [] = Unit {0}
 HoldsForEach P (key ∷ more) = P key × HoldsForEach P more
 
--- at these keys, p and q say the same
+-- at these keys, p and q have the same values
 abbrev pub SayTheSame : List Key → RecordParts → RecordParts → Type 0
 SayTheSame ks p q = HoldsForEach (λ key. (row_of key).said p ≡ (row_of key).said q) ks
 
--- the keys of a list that stand before this one
+-- the keys of a list that come before this one
 abbrev pub keys_before : Key → List Key → List Key
 keys_before key [] = []
 keys_before key (k ∷ ks) = if bytes_eq (key_text k) (key_text key) then [] else k ∷ keys_before key ks
 
--- at the key the tree holds what these parts say, and that is of the key's shape
+-- at the key, the tree has the value of these parts, and it has the key's shape
 abbrev pub IsReadAt : {S M : Type 0} → Rules S M → Data → RecordParts → Key → Type 0
 IsReadAt g tree p key = (found_at tree key ≡ Some (key_tree key p)) × IsShapedAt g key p

@@ -12,7 +12,7 @@ use Rattle.role_workers.specs.Steps.{answer_call, asking}
 use Rattle.role_workers.specs.RoleCalls.{due_round}
 use Rattle.role_workers.specs.declared.seats.Unattended.{Unattended}
 
--- if a message of such a round is due to the role, its answer is reported as broken, and this reply comes
+-- if a message for such a round is due, a broken connection is reported, and this reply comes
 abbrev pub answering : BriefValue → ℕ → Option ℕ → Reply → List Event
 answering brief role None reply = []
 answering brief role (Some round) reply = makes (answer_call brief.id role round Broken) ∷ takes reply ∷ []
@@ -24,15 +24,14 @@ pub record GivenUp : Type 0 where
   pub due : Reply
   pub answered : Reply
 
--- its match is aborted, and the desk is asked what is due to the role
+-- the match is aborted, and the desk is asked what it owes to the role
 abbrev pub aborting : GivenUp → List Event
 aborting it = makes (Abort it.of.brief.now.id) ∷ takes it.aborted ∷ asking it.of.brief.now it.of.role it.due
 
--- then a message that is due gets its answer
+-- then a message that is due is answered
 abbrev pub giving_up : GivenUp → List Event
 giving_up it = aborting it ++ answering it.of.brief.now it.of.role (due_round it.due) it.answered
 
--- each of these roles was given up over this wire, in their order
 pub record AreGivenUp {W : Type 0} (w : Wire.Ghosts W Call Reply) (roles : List Unattended) (wire wire' : W) : Type 0 where
   pub given : List GivenUp
   pub in_order : map (λ it. it.of) given ≡ roles

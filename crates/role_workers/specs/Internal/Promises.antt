@@ -1,4 +1,4 @@
--- The promises of the seats' threads.
+-- What the threads of the seats guarantee.
 use Rattle.std.specs.Prelude.{◌≡◌, ℕ, List, Some, slice_get}
 use Rattle.std.specs.declared.thread.PromisedHandle.{PromisedHandle}
 use Rattle.call_history.specs.declared.wire.Wire as Wire
@@ -11,17 +11,17 @@ use Rattle.role_workers.specs.declared.seats.LeftBy.{LeftBy}
 use Rattle.role_workers.specs.Seats.{IsLeftOf}
 use Rattle.role_workers.specs.Places.{EachAt}
 
--- the result of the thread at this place keeps the promise that it was started with
+-- the result of the thread with this index is what the thread guaranteed when it was started
 pub record IsKept {P W : Type 0} (w : Wire.Ghosts W Call Reply) (p : Player.Ghosts P) (handles : List (PromisedHandle (Attended P W) (LeftBy P W))) (k : ℕ) (left : Attended P W) : Type 0 where
   pub handle : PromisedHandle (Attended P W) (LeftBy P W)
   pub is_handle : slice_get handles k ≡ Some handle
   pub left_by : IsLeftOf w p handle.promise.tries handle.promise.seat.value left
 
--- the promise is that of the seat at this place
+-- this is the guarantee for the seat with this index
 pub record IsPromisedFor {P W : Type 0} (tries : ℕ) (seats : List (Seat P W)) (k : ℕ) (promise : LeftBy P W) : Type 0 where
   pub is_seat : slice_get seats k ≡ Some promise.seat.value
   pub tries_are : promise.tries ≡ tries
 
--- the thread at each place was started with the promise of the seat there
+-- each thread was started with the guarantee for the seat with its index
 abbrev pub ArePromisedFor : {P W : Type 0} → ℕ → List (Seat P W) → List (PromisedHandle (Attended P W) (LeftBy P W)) → Type 0
 ArePromisedFor tries seats handles = EachAt (λ k handle. IsPromisedFor tries seats k handle.promise) handles

@@ -2,7 +2,6 @@
 use Rattle.std.specs.Prelude.{ℕ, zero, suc}
 use Rattle.game_core.specs.Expression.{Expressions, none, more}
 
--- the members but the first ones
 abbrev pub without_first : ℕ → Expressions → Expressions
 without_first zero xs = xs
 without_first (suc n) none = none

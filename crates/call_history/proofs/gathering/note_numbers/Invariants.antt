@@ -2,7 +2,7 @@ use Rattle.std.proofs.Common.{◌≡◌, ◌<◌, ◌||◌, ℕ, false, length, 
 use Rattle.call_history.specs.Lines.{has_number}
 use Rattle.call_history.proofs.gathering.note_numbers.Given as goal
 
--- a number is among the lines if it is noted, or is among those to come
+-- a number is among all lines if it is noted, or is among the lines to come
 abbrev pub invariant-loop-line : goal.invariant-loop-line
 invariant-loop-line g l =
     let number = g.N.Numbered.number in

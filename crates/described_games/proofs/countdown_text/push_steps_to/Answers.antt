@@ -4,7 +4,7 @@ use Rattle.std.specs.Prelude.{codes}
 use Rattle.described_games.specs.CountdownText.{step_rule, steps_to}
 use Rattle.described_games.proofs.countdown_text.push_steps_to.Goals as goal
 
--- two can't be taken so that this much is left
+-- if taking two would exceed the size, only the rule for taking one is left
 one_alone : (size left : ℕ) → size ≤ left + 1 → steps_to size left ≡ step_rule left (left + 1) (codes "one")
 one_alone size left few =
     let over : nat_lt (left + 1) size ≡ false = grind (arith, nat_tests) in

@@ -5,7 +5,6 @@ use Rattle.desk_text.specs.Words.{pieces}
 use Rattle.desk_text.specs.AccountLines.{are_account_fields, is_account_line}
 use Rattle.desk_text.proofs.account_lines.is_account_line.Goals as goal
 
--- three fields, and at least one more
 too_many : (line number fields call last reply more : List ℕ) → pieces tab line ≡ number ∷ pieces tab fields → pieces tab fields ≡ call ∷ pieces tab last → pieces tab last ≡ reply ∷ pieces tab more → is_account_line line ≡ false
 too_many line number fields call last reply more first second third =
     ap are_account_fields (first ∙ ap (λ others. number ∷ others) (second ∙ ap (λ others. call ∷ others) third)) ∙ step (pieces tab more) (omega (arith, length-slice_split (λ b. b == tab) more))

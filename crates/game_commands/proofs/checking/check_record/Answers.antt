@@ -13,7 +13,6 @@ use Rattle.game_commands.specs.declared.verdicts.Verdict.TheVariants.{Unlawful}
 use Rattle.game_commands.specs.Checks.{CheckFails, IsNotWritten, IsWritten, TellsFault, max_record}
 use Rattle.game_commands.proofs.checking.check_record.Goals as goal
 
--- the verdict on the record is not written
 not_written : {S M R W : Type 0} (remaining : R → Option (List ℕ)) (contents : W → Option (List ℕ)) (is_json : Bool) (g : Rules S M) (text : List ℕ) (reader reader' : Counting R) (writer writer' : Counting W) (verdict : Verdict) (told : Fault)
     → length text ≤ max_record → reader'.faults ≡ reader.faults → IsAtEnd (remaining reader'.stream) → IsWritten is_json g text verdict → IsNotWritten contents is_json verdict told writer writer'
     → CheckFails remaining contents is_json g told text reader reader' writer writer'
@@ -21,7 +20,6 @@ not_written remaining contents is_json g text reader reader' writer writer' verd
 not_written remaining contents is_json g text reader reader' writer writer' verdict told short read ended written (inr part) =
     rw part.0 (read, part.1, ended, (verdict, part.2.0, written, part.2.1, part.2.2))
 
--- the record is not lawful
 check_fails : {S M R W : Type 0} (remaining : R → Option (List ℕ)) (contents : W → Option (List ℕ)) (is_json : Bool) (g : Rules S M) (text : List ℕ) (reader reader' : Counting R) (writer writer' : Counting W) (fault : VerifyFault) (told : Fault)
     → length text ≤ max_record → reader'.faults ≡ reader.faults → IsAtEnd (remaining reader'.stream) → (¬ IsLawfulRecord g text) → FailsFirst g text fault → TellsFault contents is_json fault told writer writer'
     → CheckFails remaining contents is_json g told text reader reader' writer writer'

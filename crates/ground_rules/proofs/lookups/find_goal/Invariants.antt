@@ -4,7 +4,7 @@ use Rattle.ground_rules.specs.declared.tables.GoalHead.{GoalHead}
 use Rattle.ground_rules.specs.Lookups.{only, only_goal}
 use Rattle.ground_rules.proofs.lookups.find_goal.Given as goal
 
--- the only goal, where a first one was found
+-- the only goal, after a first one was found
 abbrev only_after : Option ℕ → List GoalHead → Option ℕ
 only_after None hs = only hs
 only_after (Some n) [] = Some n

@@ -4,7 +4,7 @@ use Rattle.std.specs.Fmt.{decimal}
 use Rattle.http_exchange.specs.HttpText.{field, described_body}
 use Rattle.http_exchange.proofs.http_text.push_description.Goals as goal
 
--- the text is built part by part, if there is memory for the last one
+-- the text is built part by part, if there is memory for the last part
 joined : {T E : Type 0} (r : Result T E) (t x1 x2 x3 f1 f2 f3 body : List ℕ) → x1 ≡ t ++ f1 → x2 ≡ x1 ++ f2 → OnOk r (x3 ≡ x2 ++ f3) → OnOk r (x3 ++ body ≡ t ++ (f1 ++ f2 ++ f3 ++ body))
 joined (Ok x) t x1 x2 x3 f1 f2 f3 body e1 e2 e3 =
     let parts : x3 ≡ ((t ++ f1) ++ f2) ++ f3 = cc in

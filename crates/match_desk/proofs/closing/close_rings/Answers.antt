@@ -6,7 +6,6 @@ use Rattle.call_history.specs.Rounds.{RingDeskValue}
 use Rattle.match_desk.proofs.FollowedHistories.{closed-headline}
 use Rattle.match_desk.proofs.closing.close_rings.Goals as goal
 
--- a closed desk has a number of calls for each line
 one_each : {O C R X U : Type 0} (desk : RingDeskValue O C R) (ends : List (LineValue C R)) (history : X → List (Entry C R)) (object : X → O) (made : X → List ℕ) (r : Result X U)
     → IfOk r (λ c. IsClosed desk ends (history c) (object c) (made c)) → IfOk r (λ c. length (made c) ≡ length desk.ports)
 one_each desk ends history object made (Ok c) closed = closed.one_each

@@ -6,12 +6,11 @@ use Rattle.match_desk.specs.Open.{open_refusal}
 use Rattle.match_desk.specs.Steps.{reply, refused_or}
 use Rattle.match_workers.proofs.refereeing.accepted_call.Goals as goal
 
--- a reply that refuses has the reason of the refusal
 reason_is : (refusal : Option Refusal) (reason : Refusal) → Refused reason ≡ refused_or refusal Opened → Some reason ≡ refusal
 reason_is None reason is = absurd cc
 reason_is (Some r) reason is = let same : reason ≡ r = cc in ap Some same
 
--- any other reply says that there is none
+-- any other reply shows that there is no refusal
 none_is : (refusal : Option Refusal) (r : Reply) → r ≡ refused_or refusal Opened → ((reason : Refusal) → r ≢ Refused reason) → None ≡ refusal
 none_is None r is other = refl
 none_is (Some reason) r is other = absurd (other reason is)

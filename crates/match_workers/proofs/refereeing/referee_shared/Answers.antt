@@ -36,7 +36,6 @@ attend_match-requires-clause-ports g c κs within = omega (arith, c.in_ok-holder
 pub close_match-requires : goal.close_match-requires
 close_match-requires g c = record { lines = c.in_ok-desk.ensures.lines }
 
--- the desk has a line for each role, and one more
 lines_are : (g : _) (c : In_ok-closed g) → length c.in_ok-desk.field-0.desk.ports ≡ (g.G.Game.rules c.args.game).roles + 1
 lines_are g c = c.in_ok-desk.ensures.ports.count ∙ c.open_match.ensures.ports.count ∙ c.in_ok-holder.ensures.desk
 
@@ -73,7 +72,6 @@ role_lines_are g c =
 lines_within : (g : _) (c : In_ok-closed g) → All (λ e. e.line < (g.G.Game.rules c.args.game).roles + 1) c.in_ok-closed.closed.history.items
 lines_within g c = subst (λ n. All (λ e. e.line < n) c.in_ok-closed.closed.history.items) (lines_are g c) c.in_ok-closed.ensures.lines
 
--- so the closed manager has exactly one match
 one_is : (g : _) (c : In_ok-closed g) → HasOneMatch c.args.game c.args.setup c.in_ok-closed.closed.object
 one_is g c = one_match g.G.Game.rules c.args.game c.args.setup (g.G.Game.rules c.args.game).roles c.in_ok-closed.closed.object c.in_ok-closed.closed.history.items
     (headline_is g c).replay (begins_with g c) (lines_within g c) (first_line_is g c) (role_lines_are g c)

@@ -15,7 +15,7 @@ use Rattle.record_reading.proofs.KeptReading as lemma
 use Rattle.record_reading.proofs.KeptReading.{before, refused, refused_as}
 use Rattle.record_reading.proofs.kept_tree.+kept.Goals as goal
 
--- ---- one value
+-- ---- One value
 
 pub value_of-returns-in_ok-from_str-in-String-clause-ok : goal.value_of-returns-in_ok-from_str-in-String-clause-ok
 value_of-returns-in_ok-from_str-in-String-clause-ok t c =
@@ -110,7 +110,7 @@ value_of-returns-in_ok-pass_members-in-BeginObject-clause-ok t c =
       lemma.kept_object c.args.lists found.0,
     )
 
--- ---- lists
+-- ---- Lists
 
 pub items_of-items-init : goal.items_of-items-init
 items_of-items-init t c =
@@ -170,7 +170,7 @@ items_of-returns-clause-ok t c =
       l.invariant.5,
     )
 
--- ---- objects
+-- ---- Objects
 
 pub pass_members-members-init : goal.pass_members-members-init
 pass_members-members-init t c = (length c.args.reader.now, no_members, omega arith, refl, omega arith)

@@ -14,7 +14,6 @@ use Rattle.record_reading.proofs.JsonData.{data_lent, shown_lent}
 use Rattle.record_reading.proofs.KeyTable.{by_roles}
 use Rattle.record_reading.proofs.reading.read_into.Goals as goal
 
--- what is kept of what was read
 kept_read : {A E : Type 0} (P : Option A → Type 0) (read : Result (Option A) E) (result : Result Bool E) (part : A) → IfOk read P → IfOk result (λ is. read ≡ Ok (if is then Some part else None)) → IfOk result (λ is. P (if is then Some part else None))
 kept_read P read (Ok is) part shows same = subst (λ r. IfOk r P) same shows
 kept_read P read (Err e) part shows same = same
@@ -28,7 +27,7 @@ kept_lent : {A E : Type 0} (written : A → Data) (Fits : ℕ → A → Type 0) 
 kept_lent written Fits lent found is {n} {m} roles read result part shows same =
     kept written Fits (data_of found) roles read result part (subst (λ d. IfOk read (Shows written (Fits n) d)) (data_lent lent found is) shows) same
 
--- the key is found alike in each version
+-- the value at this key is found in the same way in all versions
 any_version : (version other : Option Version) (found : Option Data) (read : Option Version) → Shows version_tree AnyShape (unless_there (version_tree First) other found) read → Shows version_tree AnyShape (unless_there (version_tree First) version found) read
 any_version version other found read shown = shown
 

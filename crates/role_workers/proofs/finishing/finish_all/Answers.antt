@@ -6,7 +6,6 @@ use Rattle.role_workers.specs.RoleLines.{IsFinishedOf, IsFinishedAt}
 use Rattle.role_workers.proofs.Places.{EachAt-push, first_of}
 use Rattle.role_workers.proofs.finishing.finish_all.Goals as goal
 
--- one more of the rest has come
 one_more : {A B : Type 0} (f : A → B) (come come' : List B) (a : A) (rest before : List A) (all : List B) → before ≡ a ∷ rest → come' ≡ come ++ f a ∷ [] → come ++ map f before ≡ all → come' ++ map f rest ≡ all
 one_more f come come' a rest before all is more so = ap (λ l. l ++ map f rest) more ∙ append_assoc come (f a ∷ []) (map f rest) ∙ sym (ap (λ l. come ++ map f l) is) ∙ so
 

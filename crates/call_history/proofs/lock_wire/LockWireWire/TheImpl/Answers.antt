@@ -1,5 +1,4 @@
--- A wire over a lock shows no calls and no replies, so only one thing is to be proved of them: nothing stays
--- nothing.
+-- A wire over a lock shows no calls and no replies, so the only goals about them are that it still shows none.
 use Rattle.std.proofs.Common.{Result, Ok, Err, OnOk, OnErr, refl, inl, rules}
 use Rattle.call_history.proofs.lock_wire.LockWireWire.TheImpl.Goals as goal
 

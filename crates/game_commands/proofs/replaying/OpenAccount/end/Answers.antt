@@ -5,7 +5,6 @@ use Rattle.game_commands.specs.Replays.{is_skipped, IsEnded, IsRefusedAccount}
 use Rattle.game_commands.proofs.replaying.OpenAccount.end.Goals as goal
 use Rattle.game_commands.proofs.replaying.OpenAccount.end.Goals.{else-is_empty-via-then-is_empty+else-not-self, then-is_last, else-is_last, else-is_empty-via-else-is_empty}
 
--- the output is made in either case
 output_of : {T E A : Type 0} (B : E → Type 0) (r : Result T E) → OnOk r A → IfErr r B → A ⊎ ((e : E) × B e)
 output_of B (Ok x) a b = inl a
 output_of B (Err e) a b = inr (e, b)

@@ -1,4 +1,4 @@
--- A player on the network shows no messages, before and after.
+-- A player on the network shows no messages, before or after.
 use Rattle.std.proofs.Common.{Result, Ok, Err, IfOk, OnErr, inr, refl}
 use Rattle.network_players.proofs.socket_player.SocketPlayerPlayer.TheImpl.Goals as goal
 

@@ -16,11 +16,9 @@ use Rattle.whole_streams.proofs.lines.LineBuffer.next_line.Goals as goal
 feedless_append : (xs ys : List ℕ) → HasNoLineFeed xs → HasNoLineFeed ys → HasNoLineFeed (xs ++ ys)
 feedless_append xs ys h k = All-append (λ b. b ≢ line_feed) xs ys h k
 
--- if a read gave nothing, no more was consumed
 consumes_no_more : (a b c : Option (List ℕ)) (given after : List ℕ) → Consumes a b given → Consumes b c after → after ≡ [] → Consumes a c given
 consumes_no_more a b c given after first then none = subst (λ l. Consumes a c l) (ap (λ l. given ++ l) none ∙ append-nil given) (Consumes-trans a b c given after first then)
 
--- the bytes at hand are the line, then a piece of the bytes that were read
 joined : (held given line piece read rest new : List ℕ) → held ++ given ≡ line → new ≡ line ++ piece → read ≡ piece ++ rest → held ++ (given ++ read) ≡ new ++ rest
 joined held given line piece read rest new before grown cut =
     sym (append_assoc held given read) ∙ ap (λ l. l ++ read) before ∙ ap (λ l. line ++ l) cut ∙ sym (append_assoc line piece rest) ∙ ap (λ l. l ++ rest) (sym grown)

@@ -1,0 +1,73 @@
+// A skeleton of a player: the server and the messages. It answers each PLAY with `noop` until you write the parts marked YOURS.
+//
+//     java Player.java PORT
+
+import com.sun.net.httpserver.HttpServer;
+import java.net.InetAddress;
+import java.net.InetSocketAddress;
+import java.nio.charset.StandardCharsets;
+import java.util.Map;
+import java.util.concurrent.ConcurrentHashMap;
+import java.util.concurrent.Executors;
+import java.util.concurrent.atomic.AtomicInteger;
+
+public class Player {
+    /** A role in a match. */
+    static class Match {
+        final InetAddress referee;
+        /** The number of the newest message. */
+        final AtomicInteger newest = new AtomicInteger();
+
+        Match(InetAddress referee, String start) {
+            this.referee = referee;
+            // YOURS: parse the role and the rules, and compute the first state.
+        }
+
+        synchronized String play(String message, int number) {
+            // YOURS: compute the state from the moves in the message. Then search until the time is nearly over, or until
+            // number != newest.get(): the next message has come, and may wait until this method returns.
+            return "noop";
+        }
+    }
+
+    static final Map<String, Match> matches = new ConcurrentHashMap<>();
+
+    /** Returns the answer to a message, or null for a message that does not come from the match's referee. */
+    static String answer(String message, String receiver, InetAddress sender) {
+        String[] words = message.strip().split("[\\s()]+", 4); // an empty text, the keyword, the id, the rest
+        if (words[1].equalsIgnoreCase("INFO")) return "available";
+        String key = words[2] + " " + receiver;
+        Match match = matches.get(key);
+        if (match != null && !match.referee.equals(sender)) return null;
+        int number = match == null ? 0 : match.newest.incrementAndGet();
+        switch (words[1].toUpperCase()) {
+            case "START":
+                matches.put(key, new Match(sender, message));
+                return "ready";
+            case "PLAY":
+                return match == null ? "unknown" : match.play(message, number);
+            default:
+                matches.remove(key);
+                return "done";
+        }
+    }
+
+    public static void main(String[] arguments) throws Exception {
+        HttpServer server = HttpServer.create(new InetSocketAddress(Integer.parseInt(arguments[0])), 0);
+        // A thread for each message, with a stack of 256 MiB for rules that depend on one another in long chains.
+        server.setExecutor(Executors.newCachedThreadPool(task -> new Thread(null, task, "message", 256 << 20)));
+        server.createContext("/", exchange -> {
+            try (exchange) {
+                String message = new String(exchange.getRequestBody().readAllBytes(), StandardCharsets.US_ASCII);
+                String receiver = exchange.getRequestHeaders().getFirst("Receiver");
+                String answer = answer(message, receiver, exchange.getRemoteAddress().getAddress());
+                byte[] body = (answer == null ? "not your match" : answer).getBytes(StandardCharsets.US_ASCII);
+                exchange.sendResponseHeaders(answer == null ? 403 : 200, body.length);
+                exchange.getResponseBody().write(body);
+            } catch (Throwable error) {
+                error.printStackTrace(); // The server would close the connection and print nothing.
+            }
+        });
+        server.start();
+    }
+}

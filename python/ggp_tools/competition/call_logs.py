@@ -1,0 +1,193 @@
+"""Checks call logs ("accounts") and match logs: a call log may only have the calls that the referee of one match makes, since `replay` would
+accept others that change nothing, and the match log must have the messages and answers of the call log. Only the match log has times, hosts and
+reasons."""
+
+import io
+import itertools
+import re
+from collections.abc import Iterator, Sequence
+from typing import TYPE_CHECKING, NamedTuple
+
+from ggp_tools.competition.files import file_bytes
+from ggp_tools.competition.side_by_side import made_side_by_side
+from ggp_tools.match_log import BROKEN, NO_TIME, PLAY, End, Event, Message, last_run, line_of
+from ggp_tools.printable import message_of
+from ggp_tools.records.lengths import LONGEST_ACCOUNT
+
+if TYPE_CHECKING:
+    from ggp_tools.competition.plan import Plan
+    from ggp_tools.competition.results import Result
+    from ggp_tools.competition.schedule import Match
+
+# The first call, and those on behalf of a role: what the role is owed, and what came back.
+OPENING = re.compile(rb"0\t(?:open|strict) ([^ \t]+) [^\t]*\topened")
+NEXT = re.compile(rb"(\d+)\tnext ([^ \t]+) (\d+)\t(?:owe (\d+) ([^ \t]+) ?([^\t]*)|(hold \d+|over))")
+ANSWER = re.compile(rb"(\d+)\t(submit|miss) ([^ \t]+) (\d+) (\d+)(?: ([^\t]*))?\ttaken")
+# The match of any call.
+MATCH = re.compile(rb"\d+\t[a-z]+ ([^ \t]+)[ \t]")
+ESCAPED = re.compile(r"\\x([0-9a-f]{2})")
+# The parts of the referee's reasons for an error (docs/ERRORS.md), with N for numbers. The kind of a failed read is another part, of one word.
+REASONS = {
+    *("the host has no address", "no connection", "no answer in time", "the answers of the match are too long", "a write failed", "a read failed"),
+    *("the head is not of HTTP", "the status is not N", "the status is N, not N", "the status is N, which announces an answer and is none"),
+    *("the length of the body is not given rightly", "the head or the body is too long", "the stream ended too early", "too many reads or writes"),
+    *("out of memory", "no connection was made", "the request was not written whole", "nothing received", "N of the head's bytes received"),
+    *("N of the body's N bytes received", "N of the body's bytes received, and no Content-Length", "N of the reply's bytes received"),
+    *("a Transfer-Encoding, which is not taken", "a Content-Length that is no number", "a Content-Length above N", "two lengths that differ"),
+    *("it does not begin with HTTP/N.N or HTTP/N.N and a blank", "its status is not three digits, or a control byte follows it"),
+    *("its method is not POST, or its target is no text", "a line before the empty one has no name with a colon right behind it"),
+    *("a field's value has a control byte", "a line ends with neither CR LF nor LF", "it has more than N fields"),
+}
+NUMBER, KIND = re.compile("[0-9]+"), re.compile("[A-Z][A-Za-z]+")
+ERRORS = {"silent": NO_TIME, "broken": BROKEN}
+
+
+def lines_of(account: bytes) -> Iterator[bytes]:
+    """Yields the lines of a call log one by one, since there may be many."""
+    return (line.removesuffix(b"\n") for line in io.BytesIO(account))
+
+
+# ---- the calls
+
+
+class Asked:
+    """What the roles of a match were asked so far: for each role the round whose answer is awaited, and whether its part is over."""
+
+    def __init__(self, match: bytes) -> None:
+        self.match = match
+        self.rounds: dict[bytes, bytes] = {}
+        self.over: set[bytes] = set()
+
+    def is_of_role(self, line: bytes, match: bytes, role: bytes) -> bool:
+        """Returns whether a call comes from the line that the role has at the desk, before its part is over."""
+        return match == self.match and int(line) == int(role) + 1 and role not in self.over
+
+    def is_next(self, text: bytes) -> bool:
+        """Returns whether a line of the call log is the next call that a referee makes for its role."""
+        if call := NEXT.fullmatch(text):
+            role = call[3]
+            if not self.is_of_role(call[1], call[2], role) or role in self.rounds:
+                return False
+            if call[4]:
+                self.rounds[role] = call[4]
+            elif call[7] == b"over":
+                self.over.add(role)
+            return True
+        answer = ANSWER.fullmatch(text)
+        return bool(answer) and self.is_of_role(*answer.group(1, 3, 4)) and self.rounds.pop(answer[4], None) == answer[5]
+
+
+def shown(text: bytes) -> str:
+    return message_of(text.decode("ascii", "replace").replace("\t", " "))
+
+
+def fault_of_account(account: bytes) -> str | None:
+    """Returns the first line of a call log that is not a call of a match's referee, or None."""
+    lines = lines_of(account)
+    first = next(lines, b"")
+    opening = OPENING.fullmatch(first)
+    if not opening:
+        return f"line 1 of its account does not open a match: {shown(first)}"
+    asked = Asked(opening[1])
+    for number, text in enumerate(lines, 2):
+        if not asked.is_next(text):
+            named = MATCH.match(text)
+            why = "is of another match" if named and named[1] != opening[1] else "is not a call that a referee makes there"
+            return f"line {number} of its account {why}: {shown(text)}"
+    return None
+
+
+# ---- the match log
+
+
+class Exchange(NamedTuple):
+    """A message and the answer to it, or the error, by a call log, which does not have the description in START."""
+
+    kind: str
+    round: int | None
+    message: str
+    answer: str | None
+    error: str | None
+
+    def is_of(self, message: Message) -> bool:
+        """Returns whether a match log says the same."""
+        return self == (message.kind, message.round, message.message, message.answer, message.error)
+
+
+def unescaped(text: bytes | None) -> str:
+    """Returns a text of a call log, with a character for each byte."""
+    return ESCAPED.sub(lambda escape: chr(int(escape[1], 16)), (text or b"").decode("ascii", "replace"))
+
+
+def message_text(match: "Match", role: str, kind: str, joint: str) -> str:
+    """Returns the message that a role was sent; `joint` is the joint move in it."""
+    if kind == "START":
+        return f"(START {match.id} {role} ... {match.start} {match.play})"
+    return f"({kind} {match.id}{' ' * bool(joint)}{joint})"
+
+
+def exchanges(match: "Match", roles: Sequence[str], account: bytes) -> list[list[Exchange]]:
+    """Returns the messages and answers of each role, in order. The call log may only have the calls of the match."""
+    exchanges_of: list[list[Exchange]] = [[] for _ in roles]
+    owed = [("", 0, "")] * len(roles)
+    for line in lines_of(account):
+        if (call := NEXT.fullmatch(line)) and call[4]:
+            role, kind = int(call[3]), call[5].decode("ascii", "replace").upper()
+            owed[role] = kind, int(call[4]) - 1, message_text(match, roles[role], kind, unescaped(call[6]))
+        elif answer := ANSWER.fullmatch(line):
+            role, text = int(answer[4]), unescaped(answer[6])
+            kind, number, message = owed[role]
+            outcome = (text, None) if answer[2] == b"submit" else (None, ERRORS[text])
+            exchanges_of[role].append(Exchange(kind, number if kind == PLAY else None, message, *outcome))
+    return exchanges_of
+
+
+def unpublished(log: bytes, run: Sequence[Event]) -> str | None:
+    """Returns which line of a match log `publish` leaves out or writes in another way, or None."""
+    lines = itertools.zip_longest(io.BytesIO(log), map(line_of, run), fillvalue=b"")
+    number, line = next(((number, given) for number, (given, kept) in enumerate(lines, 1) if given != kept), (0, b""))
+    text = message_of(line.decode("ascii", "replace").rstrip())
+    return f"line {number} of its log is not a line that is published: {text}" if number else None
+
+
+def has_sound_reason(message: Message) -> bool:
+    """Returns whether only an error has a reason, and only one that the referee gives."""
+    parts = NUMBER.sub("N", message.reason).split(": ") if message.reason is not None else []
+    return not parts or message.error is not None and all(part in REASONS or KIND.fullmatch(part) for part in parts)
+
+
+def is_confirmed(match: "Match", event: Event, asked: list[list[Exchange]], last: list[int]) -> bool:
+    """Returns whether a call log says the same as an event; `last` has the number of the last message of each role, and gets that of this one."""
+    if not isinstance(event, Message):
+        return not isinstance(event, End) or event.kind in {exchange.kind for of_role in asked for exchange in of_role}
+    role = event.role
+    if role >= len(asked) or event.player != match.players[role] or not last[role] < event.number <= len(asked[role]):
+        return False
+    last[role] = event.number
+    return asked[role][event.number - 1].is_of(event) and has_sound_reason(event)
+
+
+def fault_of_run(match: "Match", roles: Sequence[str], run: Sequence[Event], account: bytes) -> str | None:
+    """Returns which line of a match log its call log does not confirm, or None."""
+    asked, last, has_end = exchanges(match, roles, account), [0] * len(roles), False
+    for number, event in enumerate(run, 1):
+        is_second = has_end and isinstance(event, End)
+        if is_second or not is_confirmed(match, event, asked, last):
+            return f"line {number} of its log is not what its account says"
+        has_end = has_end or isinstance(event, End)
+    return None
+
+
+def fault_of_log(plan: "Plan", match: "Match", is_published: bool) -> str | None:
+    """Returns what is wrong with the match log of a match, compared with its call log. A published log may only have lines that are published."""
+    log = plan.folder.whole_log(match.id)
+    run = last_run(io.BytesIO(log), match.id)
+    if is_published and (fault := unpublished(log, run)):
+        return fault
+    return fault_of_run(match, plan.roles(match.game), run, file_bytes(plan.folder.account(match.id), LONGEST_ACCOUNT))
+
+
+def faults_of_logs(plan: "Plan", results: Sequence["Result"], is_published: bool) -> list[str]:
+    """Returns what is wrong with the match logs of matches that count."""
+    faults = made_side_by_side(fault_of_log, [(plan, result.match, is_published) for result in results])
+    return [f"{result.match.id}: {fault}" for result, fault in zip(results, faults) if fault]

@@ -1,0 +1,242 @@
+"""The files of the matches: which matches count, because they have a lawful record and a call log that gives it again, and how their files are
+written."""
+
+import concurrent.futures
+import contextlib
+import itertools
+import json
+import os
+import pathlib
+import threading
+from collections.abc import Iterable, Iterator, Mapping, Sequence
+from dataclasses import replace
+from typing import TYPE_CHECKING, NamedTuple
+
+from ggp_tools.competition.call_logs import fault_of_account
+from ggp_tools.competition.competition_file import Competition
+from ggp_tools.competition.files import Folder, file_bytes, write_whole
+from ggp_tools.competition.known import Known, sum_of_file, sum_of_parts
+from ggp_tools.competition.results import Result, counted_result, fault_of_record, read_record
+from ggp_tools.competition.schedule import Match
+from ggp_tools.competition.side_by_side import PROCESSORS
+from ggp_tools.records.lengths import LONGEST_ACCOUNT, USUAL_RECORD, longest_record, without_states
+from ggp_tools.referee import Referee, Unchecked, is_text_list
+
+if TYPE_CHECKING:
+    from ggp_tools.competition.plan import Plan
+    from ggp_tools.descriptions.loading import Rules
+
+# The matches that are checked together, and the bytes of their files unless one match has more, since all of these are in memory.
+TOGETHER, BYTES_TOGETHER = 250, 1 << 25
+# Only one batch with more bytes is checked at a time.
+LARGE = threading.Lock()
+
+
+class Check(NamedTuple):
+    """What the check of a match's files found: its result, or why it does not count. `fault` says what is wrong with its files, `misfit` how they
+    differ from the match although nothing is wrong with them."""
+
+    match: Match
+    fault: str | None = None
+    misfit: str | None = None
+    result: Result | None = None
+
+
+def size_of(path: pathlib.Path) -> int:
+    return path.stat().st_size if path.exists() else 0
+
+
+def batches(folder: Folder, matches: Iterable[Match]) -> Iterator[list[Match]]:
+    """Yields the matches in order, as many at a time as are checked together."""
+    batch, size = [], 0
+    for match in matches:
+        more = size_of(folder.record(match.id)) + size_of(folder.account(match.id))
+        if batch and (len(batch) == TOGETHER or size + more > BYTES_TOGETHER):
+            yield batch
+            batch, size = [], 0
+        batch.append(match)
+        size += more
+    if batch:
+        yield batch
+
+
+def most_of_record(rules: bytes, size: int) -> int:
+    """Returns how many bytes a record of a game with these rules may have. This is computed only for a record of more than the usual size."""
+    return USUAL_RECORD if size <= USUAL_RECORD else longest_record(rules)
+
+
+def record_bytes(folder: Folder, match: str, rules: bytes) -> bytes:
+    """Returns the record of a match. If the file is too long for its game, this returns just enough of it to show that."""
+    file = folder.record(match)
+    return file_bytes(file, most_of_record(rules, size_of(file)) + 2)
+
+
+def account_bytes(folder: Folder, match: str) -> bytes | None:
+    """Returns the call log of a match, or None if it is missing. Of one that is too long, this returns one byte too many."""
+    try:
+        return file_bytes(folder.account(match), LONGEST_ACCOUNT + 1)
+    except FileNotFoundError:
+        return None
+
+
+def fault_of_files(record: bytes, account: bytes | None, rules: bytes) -> str | None:
+    """Returns why files are not even passed to the referee, or None. This finds everything that the referee would skip, or at which it would stop."""
+    if account is None:
+        return "its account is missing"
+    if len(account) > LONGEST_ACCOUNT:
+        return f"its account has more than {LONGEST_ACCOUNT:,} bytes"
+    if not account.endswith(b"\n"):
+        return "its account is cut off"
+    if len(record) - 1 > (most := most_of_record(rules, len(record) - 1)):
+        return f"its record has more than {most:,} bytes, and no match of its game has so many"
+    if record.count(b"\n") != 1 or not record.endswith(b"\n"):
+        return "its record is not one line"
+    if not record.startswith(b"{"):
+        return "its record does not begin with `{`"
+    return fault_of_account(account)
+
+
+def has_shape(record: object, roles: int) -> bool:
+    """Returns whether a JSON value has what a result needs from a record."""
+    if not isinstance(record, dict):
+        return False
+    goals, errors = record.get("goalValues"), record.get("errors")
+    if not isinstance(goals, list) or not isinstance(errors, list) or not isinstance(record.get("moves"), list):
+        return False
+    if len(goals) not in (0, roles) or not all(type(goal) is int for goal in goals):
+        return False
+    return all(is_text_list(turn) and len(turn) == roles for turn in errors)
+
+
+def unverified_result(folder: Folder, competition: Competition, rules: Mapping[str, "Rules"], match: Match) -> Result | None:
+    """Returns what the record of a match says, or None if it has no record. Whether the match counts is checked later."""
+    try:
+        data = record_bytes(folder, match.id, rules[match.game].text)
+        record = json.loads(without_states(data))
+    except (FileNotFoundError, ValueError, RecursionError):
+        return None
+    if not has_shape(record, len(match.players)) or "phase" not in record or fault_of_record(record, match, competition.strikes):
+        return None
+    return counted_result({"cause": None, **record}, data, match, competition, rules[match.game])
+
+
+def referee_faults(plan: "Plan", referee: Referee, game: str, records: Sequence[bytes], accounts: Sequence[bytes]) -> list[str | None]:
+    """Returns for each record and its call log what the referee finds wrong with them, or None."""
+    rules, referee = plan.folder.rules_of(game), plan.judge(referee, game)
+    verdicts = referee.verdicts(rules, records)
+    lawful = [at for at, verdict in enumerate(verdicts) if verdict == "lawful"]
+    replays = dict(zip(lawful, referee.replays(rules, [accounts[at] for at in lawful], [records[at] for at in lawful])))
+    wrong = "its account does not give its record again"
+    return [None if replays.get(at) else wrong if at in replays else verdict for at, verdict in enumerate(verdicts)]
+
+
+def check_of(plan: "Plan", match: Match, data: bytes, fault: str | None) -> Check:
+    """Returns the check of a match whose record the referee accepts, unless it has this fault."""
+    if fault:
+        return Check(match, fault)
+    record = read_record(data)
+    if misfit := fault_of_record(record, match, plan.competition.strikes):
+        return Check(match, misfit=misfit)
+    return Check(match, result=counted_result(record, data, match, plan.competition, plan.rules[match.game]))
+
+
+def sum_of_rule(plan: "Plan", referee: Referee, game: str) -> bytes | None:
+    """Returns a checksum of everything but its files by which a match of a game is checked: the program, the rules and two numbers of
+    competition.toml. Returns None if a file cannot be read."""
+    competition = plan.competition
+    try:
+        sums = sum_of_file(referee.path), sum_of_file(plan.folder.rules_of(game))
+    except OSError:
+        return None
+    return sum_of_parts(*(str(part).encode() for part in (*sums, competition.strikes, competition.faults.replaced))).encode()
+
+
+def checks(plan: "Plan", referee: Referee, game: str, matches: Sequence[Match], known: Known | None = None) -> list[Check]:
+    """Checks matches of a game that have records, except those whose files are known. Raises `Unchecked` if the referee gives no verdict."""
+    rules, done, left = plan.rules[game].text, {}, []
+    rule = sum_of_rule(plan, referee, game) if known else None
+    for match in matches:
+        record, account = record_bytes(plan.folder, match.id, rules), account_bytes(plan.folder, match.id)
+        key = sum_of_parts(rule, repr(match).encode(), record, account or b"") if rule else ""
+        if rule and (result := known.get("results", key)):
+            done[match.id] = Check(match, result=replace(result, has_forfeits=plan.competition.forfeit))
+        elif fault := fault_of_files(record, account, rules):
+            done[match.id] = Check(match, fault)
+        else:
+            left.append((match, record, account, key))
+    faults = referee_faults(plan, referee, game, [record for _, record, _, _ in left], [account for _, _, account, _ in left]) if left else ()
+    # If the program or the rules have changed meanwhile, it is not known which of them the referee used.
+    is_same = rule and rule == sum_of_rule(plan, referee, game)
+    for (match, record, _, key), fault in zip(left, faults):
+        done[match.id] = check_of(plan, match, record, fault)
+        if is_same and done[match.id].result:
+            known.put("results", key, done[match.id].result)
+    return [done[match.id] for match in matches]
+
+
+def check_records(plan: "Plan", referee: Referee, known: Known | None = None) -> tuple[dict[str, Result], dict[str, str], dict[str, str]]:
+    """Returns by their ids the results of the matches that count, and of the others that have records the faults and the misfits."""
+    by_game: dict[str, list[Match]] = {}
+    for match in plan.matches:
+        if plan.folder.record(match.id).exists():
+            by_game.setdefault(match.game, []).append(match)
+
+    def check_batch(part: tuple[str, list[Match]]) -> list[Check]:
+        sizes = (size_of(file(match.id)) for match in part[1] for file in (plan.folder.record, plan.folder.account))
+        with LARGE if sum(sizes) > BYTES_TOGETHER else contextlib.nullcontext():
+            return checks(plan, referee, *part, known)
+
+    parts = [(game, batch) for game, matches in by_game.items() for batch in batches(plan.folder, matches)]
+    try:
+        # The referee takes most of the time, and each batch has its own process of it.
+        with concurrent.futures.ThreadPoolExecutor(PROCESSORS) as pool:
+            done = list(itertools.chain.from_iterable(pool.map(check_batch, parts)))
+    except MemoryError:
+        raise Unchecked("records and accounts can't be checked: out of memory") from None
+    results = {check.match.id: check.result for check in done if check.result}
+    return results, {check.match.id: check.fault for check in done if check.fault}, {check.match.id: check.misfit for check in done if check.misfit}
+
+
+def unplanned_records(plan: "Plan") -> list[str]:
+    """Returns the files of records that belong to no match of the schedule."""
+    planned = {plan.folder.record(match.id).name for match in plan.matches}
+    return sorted({file.name for file in plan.folder.records.glob("*.json")} - planned)
+
+
+def free_ending(files: tuple[pathlib.Path, ...], word: str) -> str:
+    """Returns the first of the endings `.word`, `.word.2` and so on that none of the files has yet."""
+    endings = itertools.chain([f".{word}"], (f".{word}.{count}" for count in itertools.count(2)))
+    return next(ending for ending in endings if not any(file.with_name(file.name + ending).exists() for file in files))
+
+
+def files_of(folder: Folder, match: str) -> tuple[pathlib.Path, ...]:
+    """Returns the files of a match in the order in which they are written: the record last."""
+    return folder.log(match), folder.account(match), folder.record(match)
+
+
+def set_aside(plan: "Plan", match: str) -> bool:
+    """Renames the files of a match that does not count. Files that were renamed before keep their names. Returns whether there are any."""
+    files = files_of(plan.folder, match)
+    existing = [file for file in files if file.exists()]
+    ending = free_ending(files, "refused") if existing else ""
+    for file in existing:
+        os.replace(file, file.with_name(file.name + ending))
+    return bool(existing)
+
+
+def keep(folder: Folder, match: str, record: bytes, account: bytes, log: bytes, word: str | None = None) -> pathlib.Path:
+    """Writes the files of a match, the record last: a match that has a record has the other files too. With a word, the files get it as an ending
+    that is still free, and the match does not count. Returns the file of the record. If a file cannot be written, those before it are deleted."""
+    files = files_of(folder, match)
+    ending = free_ending(files, word) if word else ""
+    named = [file.with_name(file.name + ending) for file in files]
+    try:
+        for file, data in zip(named, (log, account, record)):
+            write_whole(file, data)
+    except OSError:
+        # Once the record has its name, the match counts.
+        with contextlib.suppress(OSError):
+            for file in named if not named[-1].exists() else ():
+                file.unlink(missing_ok=True)
+        raise
+    return named[-1]

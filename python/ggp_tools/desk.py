@@ -1,0 +1,147 @@
+"""Talks to `ggp_manager desk --interactive`: makes calls on a desk of matches, and returns each reply. `docs/DESK.md` has examples."""
+
+import asyncio
+import re
+import subprocess
+import threading
+from collections.abc import Sequence
+from dataclasses import dataclass
+from typing import Self
+
+from ggp_tools.referee import PROGRAM, find_program
+
+MOST_NUMBER = 1_000_000_000
+# A word of a call, and the last word of `submit`, which may have spaces.
+WORD, TEXT = re.compile(r"[^ \r\n]+"), re.compile(r"[^\r\n]*")
+
+
+@dataclass(frozen=True)
+class Owe:
+    """The role owes an answer to `start`, `play`, `stop` or `abort`. `play` and `stop` have the last joint move, which is NIL before the first turn."""
+
+    round: int
+    message: str
+    joint_move: str | None = None
+
+
+@dataclass(frozen=True)
+class Hold:
+    """The role has answered this round, and waits for other roles."""
+
+    round: int
+
+
+@dataclass(frozen=True)
+class Over:
+    """Nothing more is due in the match."""
+
+
+@dataclass(frozen=True)
+class Status:
+    phase: str
+    round: int
+    turns: int
+    substitutions: int
+
+
+class Refused(Exception):
+    """The desk refuses a call, and nothing has changed. `reason` is a word such as `nomatch`; after `stale` there is also the present round."""
+
+    def __init__(self, call: str, reason: str, round_: int | None) -> None:
+        super().__init__(f"the desk refuses `{call}`: {reason}{'' if round_ is None else f' {round_}'}")
+        self.reason, self.round = reason, round_
+
+
+class DeskEnded(Exception):
+    """The program has ended without a reply, or with an error. It has written the reason to standard error."""
+
+
+def word(value: str | int) -> str:
+    """Returns a word of a call. Refuses a value that would make other words of it."""
+    if isinstance(value, int) and not 0 <= value <= MOST_NUMBER:
+        raise ValueError(f"expected a number from 0 to {MOST_NUMBER}, found {value}")
+    if not WORD.fullmatch(str(value)):
+        raise ValueError(f"expected a word without spaces and line breaks, found {value!r}")
+    return str(value)
+
+
+class Desk:
+    """A desk of one game. `options` are those of the command `desk`, for example `--countdown=3`. At the end of `with`, `records` has the record of
+    each match, in the order of opening.
+
+    The methods block, and threads may share a desk. In asyncio, use `async with` and call `await asyncio.to_thread(desk.next, "m1", 0)`."""
+
+    def __init__(self, *options: str, program: str | None = None) -> None:
+        self.words = [find_program(program), "desk", "--interactive", *options]
+        self.lock, self.records = threading.Lock(), list[str]()
+
+    def __enter__(self) -> Self:
+        self.process = subprocess.Popen(self.words, stdin=subprocess.PIPE, stdout=subprocess.PIPE)
+        return self
+
+    def __exit__(self, *why: object) -> None:
+        with self.lock:
+            output, _ = self.process.communicate()
+        self.records = [record.decode() for record in output.splitlines()]
+        if self.process.returncode and why[0] is None:
+            raise DeskEnded(f"`{PROGRAM} desk` ended with status {self.process.returncode}")
+
+    async def __aenter__(self) -> Self:
+        return await asyncio.to_thread(self.__enter__)
+
+    async def __aexit__(self, *why: object) -> None:
+        await asyncio.to_thread(self.__exit__, *why)
+
+    def reply(self, call: str) -> str:
+        """Makes the call of a row of a script, and returns the row of its reply. An exception that interrupts it ends the desk."""
+        if not TEXT.fullmatch(call):
+            raise ValueError(f"expected a call without line breaks, found {call!r}")
+        with self.lock:
+            try:
+                self.process.stdin.write(call.encode("utf-8", "surrogateescape") + b"\n")
+                self.process.stdin.flush()
+                reply = self.process.stdout.readline().decode("utf-8", "surrogateescape")
+            except BaseException as why:
+                self.process.kill()
+                if isinstance(why, BrokenPipeError):
+                    raise DeskEnded(f"`{PROGRAM} desk` ended before `{call}`") from None
+                raise
+        match reply.split():
+            case []:
+                raise DeskEnded(f"`{PROGRAM} desk` ended before it replied to `{call}`")
+            case ["badline"]:
+                raise ValueError(f"`{call}` is not a call")
+            case ["refused", reason, *round_]:
+                raise Refused(call, reason, int(round_[0]) if round_ else None)
+        return reply.rstrip("\n")
+
+    def make(self, *words: str | int) -> str:
+        return self.reply(" ".join(map(word, words)))
+
+    def open(self, id_: str, players: Sequence[str], *, start: int = 10, play: int = 10, strikes: int = 0) -> None:
+        """Opens a match of these players, one for each role. The clocks, in seconds, only go into the record: you measure the time."""
+        self.make("strict", id_, 0, start, play, strikes, *players)
+
+    def next(self, id_: str, role: int) -> Owe | Hold | Over:
+        """Returns what is due to a role."""
+        match self.make("next", id_, role).split(" ", 3):
+            case ["owe", round_, message, *joint_move]:
+                return Owe(int(round_), message, *joint_move)
+            case ["hold", round_]:
+                return Hold(int(round_))
+        return Over()
+
+    def submit(self, id_: str, role: int, round_: int, answer: str) -> None:
+        """Answers a round for a role. The desk judges the answer."""
+        self.reply(f"submit {word(id_)} {word(role)} {word(round_)} {answer}")
+
+    def miss(self, id_: str, role: int, round_: int, *, is_broken: bool = False) -> None:
+        """Says that a role did not answer a round in time, or that its connection broke."""
+        self.make("miss", id_, role, round_, "broken" if is_broken else "silent")
+
+    def query(self, id_: str) -> Status:
+        _, phase, _, round_, _, turns, _, substitutions = self.make("query", id_).split()
+        return Status(phase, int(round_), int(turns), int(substitutions))
+
+    def abort(self, id_: str) -> None:
+        self.make("abort", id_)

@@ -1,0 +1,25 @@
+"""Limits the processor time of a part of a command."""
+
+import contextlib
+import signal
+from collections.abc import Iterator
+
+
+class Late(Exception):
+    """The processor time is used up."""
+
+
+def late(signal_number: int, frame: object) -> None:
+    raise Late
+
+
+@contextlib.contextmanager
+def limited(seconds: float) -> Iterator[None]:
+    """Raises `Late` in a block that takes more than this much processor time."""
+    signal.signal(signal.SIGPROF, late)
+    try:
+        signal.setitimer(signal.ITIMER_PROF, seconds)
+        yield
+    finally:
+        # The timer may fire here too.
+        signal.setitimer(signal.ITIMER_PROF, 0)

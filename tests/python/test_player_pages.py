@@ -1,0 +1,84 @@
+"""The facts about a player in a match: its goal, its times and its errors, from record and log."""
+
+import unittest
+from dataclasses import replace
+
+from ggp_tools.competition.player_pages import MOST_OF_MATCH, MoveError, appearances_of
+from ggp_tools.competition.plots import BARS, bar_of
+from ggp_tools.competition.results import result_of
+from ggp_tools.competition.schedule import Match
+from ggp_tools.match_log import Event, Open, event_of
+from live_support import Missed, line
+
+MATCH = Match("cup-001", "nim", 10, 5, ("ann", "bob"))
+
+
+def record(*errors: list[str]) -> dict:
+    """Returns the record of a match with these errors. Each turn has different moves."""
+    moves = [[f"a{turn}", f"b{turn}"] for turn in range(1, len(errors) + 1)]
+    return {"roles": ["x", "o"], "goalValues": [100, 0], "moves": moves, "errors": list(errors), "strikes": 2, "phase": "finished", "cause": None}
+
+
+def lines(*messages: tuple) -> list[Event]:
+    """Returns messages of the match: role, number, text, answer and milliseconds of each."""
+    return [event_of(line(MATCH, *message).encode()) for message in messages]
+
+
+LOG = lines(
+    (0, 1, "(START cup-001 x ... 10 5)", "ready", 40), (1, 1, "(START cup-001 o ... 10 5)", "ready", 50),
+    (0, 2, "(PLAY cup-001 NIL)", "a1", 7), (1, 2, "(PLAY cup-001 NIL)", Missed("TO (no answer in time)"), 5_001),
+    (0, 3, "(PLAY cup-001 (a1 b1))", "wrong", 300), (1, 3, "(PLAY cup-001 (a1 b1))", Missed("CE (no connection)"), 2),
+    (0, 4, "(PLAY cup-001 (a2 b2))", "a3", 9), (0, 5, "(STOP cup-001 (a3 b3))", "done", 9_999),
+)
+RECORD = record(["", "TO"], ["IL wrong", "CE"], ["", "RT"])
+
+
+class Appearances(unittest.TestCase):
+    def appearances(self, said=RECORD, log=LOG, ended="2026-01-01T00:00:09.000Z"):
+        return appearances_of(result_of(said, MATCH), said, log, ended)
+
+    def test_each_role_has_its_own(self):
+        ann, bob = self.appearances()
+        self.assertEqual([(appearance.role, appearance.role_name, appearance.ended, appearance.goal()) for appearance in (ann, bob)],
+                         [(0, "x", "2026-01-01T00:00:09.000Z", 100), (1, "o", "2026-01-01T00:00:09.000Z", 0)])
+
+    def test_times_are_those_of_play_and_of_start_alone(self):
+        ann, bob = self.appearances()
+        self.assertEqual([(appearance.start, appearance.longest, sum(appearance.times)) for appearance in (ann, bob)], [(40, 300, 3), (50, 5_001, 2)])
+        wanted = [0] * BARS
+        for milliseconds in (7, 300, 9):
+            wanted[bar_of(milliseconds)] += 1
+        self.assertEqual(ann.times, tuple(wanted))
+
+    def test_an_error_has_its_message_and_the_answer_where_the_player_was_asked(self):
+        ann, bob = self.appearances()
+        self.assertEqual(ann.errors, (MoveError(2, "IL wrong", "a2", "(PLAY cup-001 (a1 b1))", "wrong"),))
+        self.assertEqual(bob.errors, (
+            MoveError(1, "TO", "b1", "(PLAY cup-001 NIL)", "TO (no answer in time)"), MoveError(2, "CE", "b2", "(PLAY cup-001 (a1 b1))", "CE (no connection)"), MoveError(3, "RT", "b3"),
+        ))
+
+    def test_a_retired_role_was_asked_for_nothing_whatever_a_log_says(self):
+        log = LOG + lines((1, 4, "(PLAY cup-001 (a2 b2))", "b3", 1))
+        self.assertEqual(self.appearances(log=log)[1].errors[-1], MoveError(3, "RT", "b3"))
+
+    def test_without_lines_there_are_no_times(self):
+        ann, bob = self.appearances(log=[], ended=None)
+        self.assertEqual((ann.start, ann.longest, ann.times, ann.ended), (None, None, (0,) * BARS, ""))
+        self.assertEqual(bob.errors[0], MoveError(1, "TO", "b1"))
+
+    def test_lines_of_no_role_are_left_out(self):
+        three = replace(MATCH, players=("ann", "bob", "eve"))
+        log = [*LOG, event_of(line(three, 2, 2, "(PLAY cup-001 NIL)", "x", 1).encode()), Open("cup-001", 1)]
+        self.assertEqual(self.appearances(log=log), self.appearances())
+
+    def test_of_many_errors_the_last_ten_are_shown(self):
+        self.assertEqual(MOST_OF_MATCH, 10)
+        for count, before in ((10, 0), (12, 2)):
+            said = record(["", ""], *[["TO", ""]] * count)
+            ann, bob = self.appearances({**said, "strikes": 0}, [])
+            self.assertEqual(([error.turn for error in ann.errors], bob.errors), (list(range(2 + before, 2 + count)), ()))
+
+    def test_a_match_in_whose_place_another_was_ordered_has_no_goal(self):
+        ann, _ = self.appearances()
+        again = replace(ann.result, match=replace(MATCH, again="cup-002"))
+        self.assertIsNone(replace(ann, result=again).goal())
