@@ -12,6 +12,8 @@ from dataclasses import dataclass, field
 
 from crates import spell
 
+# How many lines of a failed command are printed again at the end.
+LAST_LINES = 20
 COUNTED = re.compile(r"\b(\d+) (passed|failed|errors?|skipped)\b")
 
 
@@ -53,11 +55,11 @@ def counts_in(last_line: str, is_well: bool) -> Counts:
 @dataclass
 class Jobs:
     """The running commands. Each leads a session, so that it can be ended with everything that it started. With `ends_early` all end when
-    one has failed."""
+    one has failed. `failed` has the last lines of each command that failed."""
 
     ends_early: bool = False
     counts: Counts = field(default_factory=Counts)
-    failed: list[str] = field(default_factory=list)
+    failed: dict[str, list[str]] = field(default_factory=dict)
     last_lines: dict[str, str] = field(default_factory=dict)
     running: set[int] = field(default_factory=set)
     lock: threading.Lock = field(default_factory=threading.Lock)
@@ -105,7 +107,7 @@ class Jobs:
         self.counts.add(counts)
         self.last_lines[job.name] = last_line
         if not is_well:
-            self.failed.append(job.name)
+            self.failed[job.name] = lines[-LAST_LINES:]
         print(f"== {job.name}: {'done' if job.is_needed and is_well else counts}, in {spell(time.monotonic() - began)}", flush=True)
 
     def run_all(self, chain: Sequence[Job]) -> bool:

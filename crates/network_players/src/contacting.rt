@@ -4,7 +4,7 @@ ghost use Rattle.std.specs.Duration.{as_nanos};
 ghost use Rattle.std.specs.IoError.{error_kind, raw_os_error};
 ghost use Rattle.network_players.specs.Contacts.{address_fault, after_try, connect_fault, fault_at_end, fault_at_refusal, fault_so_far, fault_after, fault_after_stall, is_of_network, outcome_of};
 
-use crate::deadline::{Deadline, LATE, TimedStream, first_limit, is_time_out};
+use crate::deadline::{Deadline, LATE, TimedStream, first_limit};
 use crate::lookup::{Lookup, Resolves};
 use crate::routes::{Routes, any_address, lacks_family, outside};
 use crate::shortage::{is_of_either, shortage_of};
@@ -308,8 +308,10 @@ fn connect_to<N: Routes + Clock>(
         let _ = deadline.after(net, limit);
         match tried {
             Ok(stream) => return Ok(stream),
-            Err(error) if is_time_out(&error) => {}
-            Err(error) => return Err(fault_of(net, address, &error)),
+            Err(error) => match fault_of(net, address, &error) {
+                ContactFault::Late(_) => {}
+                fault => return Err(fault),
+            },
         }
         limit = deadline.after(net, Duration::ZERO)?;
     }

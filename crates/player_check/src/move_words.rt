@@ -28,7 +28,7 @@ fn is_legal<G: Game>(
 fn push_legal<G: Game>(game: &G, moves: &[G::Move], words: &mut String) -> Result<(), AllocError>
     requires { All (λ m. (G.rules game.now).IsMove m) moves.now }
 {
-    write!(words, "legal were {}:", moves.len())?;
+    write!(words, "legal moves ({}):", moves.len())?;
     let mut gap = " ";
     for taken in moves {
         let text = game.move_text(taken);

@@ -81,9 +81,9 @@ class Ended(NamedTuple):
         return [*record["startMarks"], *(turn[0] for turn in record["errors"]), *record["endMarks"]]
 
 
-def played(namespace: str, program: str, address: str, start: int) -> Ended:
-    """Plays a match in a namespace against the player at this address, which has this many seconds for START and one for PLAY."""
-    words = ["run", "--why", "--rules", RULES, "--id", "m", "--start", f"{start}", "--play", "1", address]
+def played(namespace: str, program: str, address: str, seconds: int) -> Ended:
+    """Plays a match in a namespace against the player at this address, with START and PLAY clocks of this many seconds."""
+    words = ["run", "--why", "--rules", RULES, "--id", "m", "--start", f"{seconds}", "--play", f"{seconds}", address]
     ran = subprocess.run(["ip", "netns", "exec", namespace, program, *words], capture_output=True, text=True, timeout=PATIENCE)
     return Ended(ran.returncode, ran.stdout, ran.stderr)
 
