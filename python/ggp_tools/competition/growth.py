@@ -1,9 +1,8 @@
-"""The schedule of a competition that grows: after its first match rounds, players, games and lines may be added, and matches be ordered
-again. What was planned before stays as it is, and what is new stands behind it.
+"""The schedule of a competition that grows: after the first match you may add rounds, players, games and pairings, and order rematches. The planned
+matches stay as they are, and the new ones follow them.
 
-The schedule follows from the files by which the competition was planned one after the other, and from the matches that were ordered again.
-What a file adds is what it asks for beyond the one before it. A game of more than two roles, whose seats are shared out among all players,
-gets with new players those matches in which one of them sits."""
+The schedule follows from all versions of competition.toml, and from the rematches. Each version adds the matches that it asks for and the version
+before it did not. If players are added, a game of more than two roles gets the matches in which one of them plays."""
 
 import itertools
 from collections import Counter
@@ -16,29 +15,29 @@ from ggp_tools.competition.results import Result
 from ggp_tools.competition.rounds import Round, Rounds, is_by_rounds, meetings, rounds_of, withdrawn_by, withdrawn_words
 from ggp_tools.competition.schedule import Match, asked, id_of, refuse_numbers, refuse_too_many
 
-# The number of matches that were planned when a file was replaced; none of the present one.
+# The number of planned matches when a version of competition.toml was replaced; None for the present one.
 Until = int | None
 # A game and its players in the order of the roles.
 Seated = tuple[str, tuple[str, ...]]
-# Looks up what came of a match; none where nothing is known.
+# Looks up the result of a match, or None if it is unknown.
 ResultOf = Callable[[Match], Result | None]
 
 
 class Misfit(Exception):
-    """Why a schedule can't grow so, and the line of competition.toml that says it, if there is one."""
+    """Why a schedule can't grow like this, and the line of competition.toml with the error, if there is one."""
 
     def __init__(self, words: str, line: int = 0) -> None:
         super().__init__(words)
         self.line = line
 
     def at(self, path: Path) -> str:
-        """Returns why, after the path of competition.toml."""
+        """Returns the message, after the path of competition.toml."""
         return f"{path}:{self.line}: {self}" if self.line else f"{path}: {self}"
 
 
 @dataclass(frozen=True)
 class Again:
-    """A match that was ordered in the place of another one, and the reason."""
+    """A rematch, the match that it replaces, and the reason."""
 
     match: str
     instead_of: str
@@ -47,8 +46,8 @@ class Again:
 
 @dataclass(frozen=True)
 class History:
-    """The files by which a competition was planned before, each with the number of matches that were planned when the next one replaced
-    it, the matches that were ordered again, and the key that the ids of the matches follow from, if they are not to be guessed."""
+    """The earlier versions of competition.toml, each with the number of planned matches when the next one replaced it. Then the rematches, and the
+    key from which random ids of matches are computed."""
 
     earlier: tuple[tuple[int, Competition], ...] = ()
     again: tuple[Again, ...] = ()
@@ -56,7 +55,7 @@ class History:
 
 
 def shape(competition: Competition) -> tuple[object, ...]:
-    """Returns all of a competition that its schedule follows from."""
+    """Returns everything that the schedule of a competition follows from."""
     form, games = competition.form, [(game.name, game.start, game.play) for game in competition.games]
     names = [(player.name, player.withdrawn is None) for player in competition.players]
     rules = competition.name, competition.ids, competition.withdrawn_results, competition.absent_rounds
@@ -64,19 +63,19 @@ def shape(competition: Competition) -> tuple[object, ...]:
 
 
 def refuse_unchanged(history: History, competition: Competition) -> None:
-    """Refuses a file of the history after which nothing else was asked for, so that no other file has replaced it."""
+    """Refuses an earlier version that asks for the same matches as the version after it."""
     for (until, before), (_, after) in itertools.pairwise((*history.earlier, (None, competition))):
         if shape(before) == shape(after):
             raise Misfit(f"earlier/{until}.toml asks for the same matches as the file after it, so it was not replaced; take it away")
 
 
 def fixed(competition: Competition) -> dict[str, object]:
-    """Returns what can't change any more once matches were played, by keys: by these the matches count, and the table is made."""
+    """Returns the values that must not change once matches were played, by key: how matches count and the table is computed."""
     form = competition.form
     found = {"form.kind": form.kind, "faults.replaced": competition.faults.replaced}
     found |= {key: getattr(competition, key) for key in ("name", "ids", "seeds", "strikes", "forfeit", "order", "anchor")}
     if is_by_rounds(competition):
-        # Who meets whom in later rounds follows from these too.
+        # The pairs of later rounds follow from these too.
         found |= {"form.final": form.final, "the number of games": len(competition.games)}
         found |= {"form.rounds": form.rounds} if form.final else {}
         found |= {"the number of players": len(competition.players)} if form.kind == KNOCKOUT else {}
@@ -90,7 +89,7 @@ def spelled(value: object) -> str:
 
 
 def refuse_changes(before: Competition, after: Competition) -> None:
-    """Refuses what can't change any more once matches were played, by its name."""
+    """Refuses changes of what must not change once matches were played."""
     now = fixed(after) | {"withdrawn_results": after.withdrawn_results}
     for key, old in fixed(before).items():
         if old != now.get(key, old):
@@ -117,7 +116,7 @@ def new_players(before: Competition, after: Competition) -> list[str]:
 
 
 def added(before: Competition, after: Competition, roles: Mapping[str, int], planned: Sequence[Match]) -> list[Seated]:
-    """Returns the matches that a file asks for beyond the one before it. Refuses one that does not ask for all that was planned."""
+    """Returns the matches that a version adds. Refuses a version that lacks a planned match."""
     wanted, new = asked(after, roles), set(new_players(before, after))
     shared = {game.name for game in before.games if new and roles[game.name] > 2 and after.form.lines == ()}
     if shared and before.form.rounds != after.form.rounds:
@@ -138,7 +137,7 @@ def added(before: Competition, after: Competition, roles: Mapping[str, int], pla
 
 
 class Growing:
-    """A schedule as it grows, where results are looked up by their matches."""
+    """A schedule that grows."""
 
     def __init__(self, history: History, roles: Mapping[str, int], result_of: ResultOf) -> None:
         self.roles, self.result_of, self.width, self.key = roles, result_of, 0, history.key
@@ -148,7 +147,7 @@ class Growing:
         self.rounds = Rounds()
 
     def take(self, before: Competition | None, competition: Competition, until: Until, most: Until) -> None:
-        """Plans what a file adds, and what was ordered again up to so many matches. No round begins after the most matches."""
+        """Plans the matches that a version adds, and its rematches, up to `until` matches. No round begins after `most` matches."""
         if is_by_rounds(competition):
             refuse_numbers(competition, self.roles)
             self.add_again(competition, until)
@@ -159,12 +158,12 @@ class Growing:
             return
         found = asked(competition, self.roles) if before is None else added(before, competition, self.roles, self.matches)
         self.width = self.width or len(str(len(found)))
-        # Who has withdrawn sits in no further match.
+        # A player that has withdrawn plays no further match.
         self.add_all(competition, [(game, players) for game, players in found if not competition.withdrawn().keys() & players])
         self.add_again(competition, until)
 
     def next_round(self, competition: Competition, most: Until = None) -> Round | None:
-        """Returns the next round, where there is one and the last one is over. After the most matches it is one without a match, as where all
+        """Returns the next round if the last one is over, or None. After `most` matches it returns only a round without matches, for example if all
         but one player have withdrawn."""
         number, withdrawn, is_full = len(self.rounds.found), competition.withdrawn(), most is not None and len(self.matches) >= most
         if number == rounds_of(competition) or is_full and not withdrawn and not competition.absent_rounds:
@@ -198,7 +197,7 @@ class Growing:
         return id_of(competition, len(self.matches) + 1, self.width, self.key)
 
     def leave_out(self, competition: Competition) -> None:
-        """Has the matches not count, or not be played, of the players that have withdrawn."""
+        """Marks the matches of withdrawn players that do not count or are not played."""
         withdrawn = withdrawn_by(competition, self.rounds.found)
         for at, match in enumerate(self.matches) if withdrawn else ():
             name = next((player for player in match.players if player in withdrawn), None)
@@ -206,7 +205,7 @@ class Growing:
                 self.matches[at] = replace(match, withdrawn=withdrawn_words(name, withdrawn[name]))
 
     def add_again(self, competition: Competition, until: Until) -> None:
-        """Adds the matches that were ordered again at this point."""
+        """Adds the rematches that were ordered at this point."""
         while (until is None or len(self.matches) < until) and (order := self.again.pop(self.next_id(competition), None)):
             refuse_too_many(competition, len(self.matches) + 1)
             at = self.places.get(order.instead_of)
@@ -220,8 +219,7 @@ class Growing:
 
 
 def grown(history: History, competition: Competition, roles: Mapping[str, int], result_of: ResultOf, most: Until = None) -> Growing:
-    """Returns the schedule that follows from a competition, its history and its results; of one by rounds no round that begins after so
-    many matches."""
+    """Returns the schedule that follows from a competition, its history and its results. No round begins after `most` matches."""
     growing, before = Growing(history, roles, result_of), None
     for until, version in (*history.earlier, (None, competition)):
         if before is not None:

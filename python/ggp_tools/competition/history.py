@@ -1,5 +1,5 @@
-"""The history of a competition that grew, in its folder: `earlier` has the files by which it was planned before, each under the number of
-matches that were planned when the next one replaced it, and `again.tsv` the matches that were ordered again, with the reasons."""
+"""The history of a competition, in its directory. `earlier` has the earlier versions of competition.toml, each named by the number of matches that
+were planned when the next version replaced it. `again.tsv` has the rematches, with the reasons."""
 
 import csv
 import io
@@ -19,7 +19,7 @@ EARLIER = re.compile(r"([1-9][0-9]{0,5})\.toml")
 
 
 def again_text(orders: tuple[Again, ...]) -> bytes:
-    """Returns the file of the matches that were ordered again."""
+    """Returns the contents of `again.tsv`."""
     lines = [f"{order.match}\t{order.instead_of}\t{order.reason}\n".encode("ascii") for order in orders]
     return HEAD + b"".join(lines)
 
@@ -36,7 +36,7 @@ def read_again(folder: Folder) -> tuple[Again, ...]:
 
 
 def competition_of_file(path: Path, text: bytes, seeds: Path | None = None) -> Competition:
-    """Returns the competition that the bytes of a file say, with its seeds from another file if it asks for that and one is given."""
+    """Returns the competition of a competition.toml. If it has `seeds` and a table is given, the players are in the order of that table."""
     try:
         found = read_competition(text)
     except Mistaken as why:
@@ -45,7 +45,7 @@ def competition_of_file(path: Path, text: bytes, seeds: Path | None = None) -> C
 
 
 def seeded(competition: Competition, path: Path) -> Competition:
-    """Returns a competition with its players in the order of another competition's table; those that it does not have come last."""
+    """Returns a competition with its players in the order of another competition's table. Players that the table lacks come last."""
     try:
         rows = list(csv.DictReader(io.StringIO(file_bytes(path).decode("ascii"))))
         seeds = {row["player"]: at for at, row in enumerate(rows) if row["game"] == ALL}
@@ -57,7 +57,7 @@ def seeded(competition: Competition, path: Path) -> Competition:
 
 
 def earlier_files(folder: Folder) -> list[Path]:
-    """Returns the files by which a competition was planned before, the oldest first."""
+    """Returns the earlier versions of competition.toml, the oldest first."""
     found = [file for file in folder.earlier.iterdir() if not file.name.startswith(UNFINISHED)] if folder.earlier.is_dir() else []
     for file in found:
         if not EARLIER.fullmatch(file.name):
@@ -66,13 +66,13 @@ def earlier_files(folder: Folder) -> list[Path]:
 
 
 def read_history(folder: Folder) -> History:
-    """Returns how a competition came to its schedule."""
+    """Reads the history."""
     earlier = tuple((int(file.stem), competition_of_file(file, file_bytes(file), folder.seeds)) for file in earlier_files(folder))
     return History(earlier, read_again(folder))
 
 
 def read_key(folder: Folder, competition: Competition) -> bytes | None:
-    """Returns the key that the ids of the matches follow from: an empty one if they are counted, none if its file is not there."""
+    """Returns the key from which the ids of the matches are computed: empty if they are counted, None if its file is missing."""
     if competition.ids != RANDOM_IDS:
         return b""
     if not folder.key.exists():
@@ -84,5 +84,5 @@ def read_key(folder: Folder, competition: Competition) -> bytes | None:
 
 
 def history_files(folder: Folder) -> list[Path]:
-    """Returns the files that say it."""
+    """Returns the files of the history."""
     return [*earlier_files(folder), *([folder.again] if folder.again.exists() else [])]

@@ -1,4 +1,4 @@
-"""Writes a first competition.toml, with comments, by options or by questions."""
+"""Writes a first competition.toml with comments, from options or from answers to questions."""
 
 import argparse
 import os
@@ -8,10 +8,10 @@ import sys
 from ggp_tools.competition.competition_file import Mistaken, mistake_lines, read_competition
 from ggp_tools.competition.files import Folder, Refused, write_whole
 
-# In the repository, and in an archive of the program.
+# This directory exists in the repository and in an archive of the program.
 PARENTS = pathlib.Path(__file__).resolve().parents
 EXAMPLES = next((place for parent in PARENTS if (place := parent / "examples/games").is_dir()), pathlib.Path("examples/games"))
-# The forms, with what follows the word of each option.
+# The forms, each with the argument of its option.
 FORMS = {"round-robin": "ROUNDS", "swiss": "ROUNDS", "gauntlet": "PLAYER", "knockout": None}
 TEMPLATE = """# docs/COMPETITION.md explains all keys.
 name = "{name}"
@@ -50,7 +50,7 @@ NO_PLAYER = """
 
 
 def add_init(command: argparse.ArgumentParser) -> None:
-    """Adds what the command takes."""
+    """Adds the arguments of the command."""
     command.add_argument("folder", metavar="FOLDER", help="the folder of the competition, which is made if it is not there")
     command.add_argument("--name", metavar="NAME", help="the name of the competition (that of the folder)")
     command.add_argument("--games", metavar="A,B,..", help="names of games in examples/games, or paths of descriptions")
@@ -78,7 +78,7 @@ def chosen(asked: argparse.Namespace) -> str | None:
 
 
 def game_entry(word: str, folder: pathlib.Path) -> str:
-    """Returns the entry of a game, whose file is found from the folder of the competition."""
+    """Returns the entry of a game, with the path of its file from the competition's directory."""
     places = [pathlib.Path(word), EXAMPLES / f"{word}.kif", EXAMPLES / f"general/{word}.kif"]
     path = next((place for place in places if place.is_file()), None)
     if path is None:
@@ -104,7 +104,7 @@ def words(text: str | None) -> list[str]:
 
 
 def write_first_file(asked: argparse.Namespace) -> pathlib.Path:
-    """Writes the file, and returns its path. Refuses what `plan` would refuse in it, but not that it has no players yet."""
+    """Writes the file, and returns its path. Refuses what `plan` would refuse in it, except that players are missing."""
     folder = Folder(asked.folder)
     if folder.competition.exists():
         raise Refused(f"{folder.competition} is there already")

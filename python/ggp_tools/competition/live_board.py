@@ -1,5 +1,5 @@
-"""Follows a match that is open, as the referee judges it: the answers of its log go to a desk of the program, which says what was played,
-what was replaced, and whose answers are due."""
+"""Follows an open match: sends the answers in its log to a desk of the program, which replies which moves were played or replaced, and which roles
+must answer."""
 
 import itertools
 import re
@@ -12,22 +12,22 @@ from ggp_tools.match_log import ERRORS, NO_TIME, SHORTAGE, START, Message
 from ggp_tools.records.show import mover_of
 from ggp_tools.referee import MOST_OF_MOVE, MOST_OF_SCRIPT, Referee, Unchecked
 
-# Boards are formed from so many of the last states, and so many of the last turns are listed.
+# Boards are formed from at most this many of the last states, and at most this many of the last turns are listed.
 MOST_STATES, MOST_TURNS = 30, 50
 ENDING = "stopping", "aborting", "finished", "aborted"
 NO_LINE = "the log lacks a line, so the state is not known from here on"
 TOO_LONG = "the answers are too long for a script of the referee, so the state is not known from here on"
 NO_VERDICT = "the referee came to no verdict, so the state may be an earlier one"
 COMMENT = re.compile(rb";[^\n]*")
-# An answer that is too long to be a move goes to the desk as one that is not an expression.
+# Sent to the desk instead of an answer that is too long to be a move.
 NO_MOVE = b")"
-# What the roles of a round have answered.
+# The answers of the roles in a round.
 Answers = dict[int, Message]
 
 
 @dataclass(frozen=True)
 class Turn:
-    """A turn, counted from 1: the moves by roles, the errors beside them, and the role whose turn it was, if the state said it."""
+    """A turn, counted from 1: each role's move and error, and the role whose turn it was, if the state has it."""
 
     number: int
     moves: tuple[str, ...]
@@ -47,8 +47,8 @@ def round_of(phase: str, moves: list) -> int:
 
 @dataclass(frozen=True)
 class Position:
-    """How far a match is: the phase, the roles that owe an answer in the round that is open, and what is recorded. Of the states it has the
-    first and the last ones, and of all of them the roles whose turn it is."""
+    """How far a match is: the phase, the roles that owe an answer in the open round, and what is recorded. It keeps only the first state and the last
+    ones, but for every state the role whose turn it is."""
 
     phase: str = "starting"
     owing: frozenset[int] = frozenset()
@@ -58,7 +58,7 @@ class Position:
     movers: list[int | None] = field(default_factory=list)
 
     def mover(self) -> int | None:
-        """Returns the role that alone has a choice in the open round, if the state says it."""
+        """Returns the role whose turn it is in the open round, if the state has it."""
         mover = self.movers[-1] if self.movers else None
         return mover if mover in self.owing and self.phase == "playing" else None
 
@@ -70,14 +70,14 @@ class Position:
 
 
 def text_in_line(answer: str) -> bytes:
-    """Returns an answer as one line of a script: the same expressions, without comments and line ends."""
+    """Returns an answer for one row of a script: the same expressions, without comments and line ends."""
     data = answer.encode("latin-1")
     return COMMENT.sub(b"", data).replace(b"\n", b" ") if len(data) <= MOST_OF_MOVE else NO_MOVE
 
 
 class LiveBoard:
-    """The turns of a match, as far as its log has whole rounds. What an open round is answered with is only held: the referee is asked of
-    finished rounds alone, so all that is shown follows from these. `version` counts how often the position or the trouble has changed."""
+    """The turns of a match, as far as its log has whole rounds. Answers in an open round are only stored: the referee is asked only about finished
+    rounds, so everything shown follows from these. `version` counts the changes of the position and the trouble."""
 
     def __init__(self, match: Match, strikes: int, rules: Path) -> None:
         self.match, self.strikes, self.rules = match, strikes, rules
@@ -87,7 +87,7 @@ class LiveBoard:
     def begin(self) -> None:
         """Begins with the first state, also when the match begins again on another host."""
         self.position, self.trouble, self.is_stuck = Position(owing=frozenset(range(len(self.match.players)))), "", False
-        # The answers that are not recorded yet, by rounds and roles; and why players did not answer, by turns and roles.
+        # The answers that are not recorded yet, by round and role. Then why players did not answer, by turn and role.
         self.answers: dict[int, Answers] = {}
         self.reasons: dict[tuple[int, int], str] = {}
         self.version += 1
@@ -97,11 +97,11 @@ class LiveBoard:
         self.answers.setdefault(message.turn(), {})[message.role] = message
 
     def is_finished(self, at: int) -> bool:
-        """Returns whether all roles whose answers are due now have answered a round."""
+        """Returns whether all roles that owe an answer now have answered in a round."""
         return at in self.answers and self.position.owing <= self.answers[at].keys()
 
     def lacks_line(self) -> bool:
-        """Returns whether lines of the log are lost: a round is finished, and the one that is open here is not."""
+        """Returns whether lines of the log are lost: a round is finished although an earlier one is open here."""
         now = self.position.round()
         return not self.is_finished(now) and any(at > now and self.is_finished(at) for at in self.answers)
 
@@ -110,13 +110,13 @@ class LiveBoard:
         return not self.is_stuck and (not self.position.states or self.is_finished(self.position.round()))
 
     def is_due(self) -> bool:
-        """Returns whether there is something new to say."""
+        """Returns whether `judge` would change something."""
         return self.is_known_further() or not self.trouble and self.lacks_line()
 
     def judge(self, referee: Referee) -> dict[int, Answers]:
-        """Asks the referee what came of the finished rounds. Returns what they were answered with."""
+        """Asks the referee for the moves of the finished rounds. Returns the answers in these rounds."""
         done, before = {}, (self.position, self.trouble)
-        # Once a round is recorded it is known who is retired, and so which further ones are finished.
+        # A recorded round shows which roles are retired, and therefore which later rounds are finished.
         while self.is_known_further() and (found := self.ask(referee)) is not None:
             done |= found
         if self.lacks_line():
@@ -125,7 +125,7 @@ class LiveBoard:
         return done
 
     def ask(self, referee: Referee) -> dict[int, Answers] | None:
-        """Asks the referee what came of the rounds that are known to be finished. Returns those that are recorded now; None if there is no
+        """Asks the referee for the moves of the rounds that are known to be finished. Returns those that are recorded now, or None without a
         verdict."""
         now = self.position.round()
         rounds = {at: self.answers[at] for at in itertools.takewhile(self.is_finished, itertools.count(now))}
@@ -143,14 +143,14 @@ class LiveBoard:
         return {at: answers for at, answers in rounds.items() if at < self.position.round()}
 
     def take_verdict(self, replies: list[str], record: dict) -> None:
-        """Takes what the desk has replied to a script, and the record of the match so far."""
+        """Takes the desk's replies to a script, and the record of the match so far."""
         roles, known = len(self.match.players), self.position.errors
         calls, due = replies[:-roles], replies[-roles:]
         self.trouble = "" if set(calls) <= {"opened", "taken"} else NO_LINE
         for turn, recorded in enumerate(record["errors"][len(known) :], len(known) + 1):
             said = self.answers.get(turn, {})
             self.reasons |= {(turn, role): message.came() for role, message in said.items() if message.error}
-            # The referee's own shortage is recorded as a broken connection.
+            # If the referee lacks a resource, the record has a broken connection.
             known = [*known, [SHORTAGE if role in said and said[role].error == SHORTAGE else error for role, error in enumerate(recorded)]]
         now = round_of(record["phase"], record["moves"])
         self.answers = {at: found for at, found in self.answers.items() if at >= now}
@@ -159,7 +159,8 @@ class LiveBoard:
         self.position = Position(record["phase"], owing, last_states(record["states"]), record["moves"], known, movers)
 
     def script(self, rounds: dict[int, Answers]) -> bytes:
-        """Returns the calls up to the end of these rounds: of a recorded turn the moves that were played, and whose were replaced."""
+        """Returns the calls up to the end of these rounds. A recorded turn has the moves that were played, and a missing answer for each replaced
+        move."""
         match, position = self.match, self.position
         found = [f"strict {match.id} 0 {match.start} {match.play} {self.strikes} {' '.join(match.players)}".encode()]
         if position.round():
@@ -176,12 +177,12 @@ class LiveBoard:
         return b"".join(line + b"\n" for line in found)
 
     def call(self, role: int, at: int, answer: str | None, missed: str) -> bytes:
-        """Returns the line by which a role answers a round, or does not."""
+        """Returns the row of a script in which a role answers in a round, or misses its answer."""
         where = f"{self.match.id} {role} {at} ".encode()
         return b"miss " + where + missed.encode() if answer is None else b"submit " + where + text_in_line(answer)
 
     def turns(self) -> list[Turn]:
-        """Returns the last turns, with the reasons of missed answers as the log has them."""
+        """Returns the last turns, with the log's reasons for missed answers."""
         recorded = list(enumerate(zip(self.position.moves, self.position.errors, self.position.movers), 1))[-MOST_TURNS:]
         return [Turn(turn, tuple(moves), tuple(self.said_errors(turn, errors)), mover) for turn, (moves, errors, mover) in recorded]
 

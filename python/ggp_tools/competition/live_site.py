@@ -1,5 +1,4 @@
-"""The live pages of a competition, as they are at this moment: each is made when somebody opens it, and again if its data has changed. One
-thread does all that changes something here."""
+"""The live pages of a competition. A page is made when somebody opens it, and again when its data changes. Only one thread changes data here."""
 
 import contextlib
 import itertools
@@ -31,11 +30,11 @@ from ggp_tools.templating import page
 if typing.TYPE_CHECKING:
     from markupsafe import Markup
 
-# The tables are computed anew for at most so small a part of the time, and boards are followed for at most so many seconds in a look.
+# The tables are computed for at most a tenth of the time, and each look follows boards for at most FOLLOW seconds.
 SHARE, FOLLOW = 10, 0.25
-# A page that nobody looks at any more is kept for a while, and of all pages so many at most; of a page so many changes.
+# For how long a page without viewers is kept, how many pages are kept, and how many changes of a page.
 IDLE, MOST_PAGES, MOST_EVENTS = 30.0, 200, 60
-# Of the pages of matches that are over so many bytes are kept. A browser without a script loads a page again after so many seconds.
+# How many bytes of pages of finished matches are kept. A browser without JavaScript reloads a page after this many seconds.
 MOST_KEPT, RELOAD = 64 << 20, 10
 FIRST, MATCH = "/index.html", re.compile(r"/matches/([A-Za-z0-9_.-]+)\.html")
 # The page of a match that is over, or a part of it if the match is long.
@@ -43,7 +42,7 @@ OVER = re.compile(r"/matches/([A-Za-z0-9_.-]+)(?:~([1-9][0-9]{0,4}))?\.html")
 
 
 def plan_stamp(folder: Folder) -> tuple:
-    """Returns what tells whether the plan was written anew."""
+    """Returns a value that changes when the plan is written again."""
     found = []
     for file in (folder.competition, folder.schedule, folder.rule_sums()):
         try:
@@ -55,7 +54,7 @@ def plan_stamp(folder: Folder) -> tuple:
 
 
 def without_new_rounds(plan: Plan, seconds: float) -> Plan:
-    """Returns a plan without the rounds that were paired by records that are younger than so many seconds, by the times of their files."""
+    """Returns a plan without the rounds whose pairings follow from record files that are younger than this."""
     for number in [found.number for found in plan.rounds[1:]] if seconds else ():
         files = [plan.folder.record(match.id) for match in plan.matches if match.round == number - 1]
         if any(file.stat().st_mtime > time.time() - seconds for file in files if file.exists()):
@@ -65,7 +64,7 @@ def without_new_rounds(plan: Plan, seconds: float) -> Plan:
 
 
 def reason_for_visitors(folder: Folder, why: Exception) -> str:
-    """Returns why a plan can't be read, without a path of this computer: of a file only its name in the folder."""
+    """Returns why a plan can't be read, without paths of this computer."""
     if isinstance(why, OSError):
         words = f"{why.filename or 'a file'}: {why.strerror}"
     else:
@@ -75,9 +74,8 @@ def reason_for_visitors(folder: Folder, why: Exception) -> str:
 
 @dataclass
 class OpenPage:
-    """A page that somebody has open, or had a moment ago; or what programs have of matches that get events. `stamp` is what it was made of. The
-    last changes are in `events`, each with the version of the page that it leads to; they are replaced as a whole, so that another thread may
-    read them."""
+    """A page that somebody has open, or had open a moment ago, or the data of the event stream. It was made from the data in `stamp`. `events` has
+    the last changes, each with the version of the page that it leads to. It is replaced as a whole, so that another thread may read it."""
 
     title: str
     parts: PageParts | live_api.Keys
@@ -92,8 +90,8 @@ class OpenPage:
         return self.events[-1][0]
 
     def news(self, version: int) -> tuple[list[bytes], int, bool]:
-        """Returns the changes since a version, the version that they lead to, and whether nothing more will change. If these changes are
-        not known any more, the page must be loaded again."""
+        """Returns the changes since a version, the version that they lead to, and whether nothing more will change. If these changes are no longer
+        kept, the page must be reloaded."""
         is_final, events = self.is_final, self.events
         if is_final or not events[0][0] <= version <= events[-1][0]:
             return [event_text(events[-1][0], {"reload": True})], events[-1][0], True
@@ -101,7 +99,7 @@ class OpenPage:
 
 
 class SiteOfShown(Site):
-    """What pages say of the results that are shown, while other files may take the place of those that they are from."""
+    """The pages of the results that are shown, although other files may replace those of the results at any time."""
 
     def __init__(self, plan: Plan, reader: Reader) -> None:
         super().__init__(plan, written=lambda result: reader.identities[result.match.id][0][2])
@@ -126,10 +124,11 @@ class LiveSite:
 
     def __init__(self, plan: Plan, referee: Referee, read_plan: Callable[[], Plan], stamp: tuple | None = None, delay: float = 0.0) -> None:
         self.referee, self.read_plan, self.delay = referee, read_plan, Delay(delay)
-        # No two versions of pages are the same, also of another run.
+        # No two versions of pages are equal, not even in two runs.
         self.versions = itertools.count(time.time_ns())
         self.pages: OrderedDict[str, OpenPage] = OrderedDict()
-        # The stamp of the plan's files before they were read last; and the plans that are not shown yet, or why they can't be read, each with its moment.
+        # The stamp of the plan's files before they were read last. Then the plans that are not shown yet, or why they can't be read, each with its
+        # time.
         self.plan_stamp, shown = plan_stamp(plan.folder) if stamp is None else stamp, without_new_rounds(plan, delay)
         self.plans: list[tuple[float, Plan | str]] = [] if shown is plan else [(live.clock(), plan)]
         self.begin(shown)
@@ -141,17 +140,17 @@ class LiveSite:
         self.site = SiteOfShown(plan, self.reader)
         # The states of open matches as HTML, each with the version of its board.
         self.states: dict[str, tuple[int, "Markup"]] = {}
-        # What was made of matches and tables, by paths, each with what it was made of.
+        # What was made of matches and tables, by path, each with the data that it was made from.
         self.kept: OrderedDict[str, tuple[object, bytes]] = OrderedDict()
         self.tables: list[Table] = []
         # The pages of results.
         self.made: dict[str, PageOf] = {}
         self.tables_version, self.next_tables = None, 0.0
 
-    # ---- looking at the folder
+    # ---- reading the directory
 
     def look(self) -> None:
-        """Reads what has come, and renews the pages that somebody has open."""
+        """Reads new files, and renews the pages that somebody has open."""
         self.look_at_plan()
         self.reader.look()
         self.count_results()
@@ -163,14 +162,14 @@ class LiveSite:
             self.renew_pages()
 
     def fail(self, why: Exception) -> None:
-        """Says on the pages that a look has failed. The next look may do better; what is there already stays as it is."""
+        """Shows on the pages that a look has failed. The next one may succeed; until then the pages stay as they are."""
         self.fault = f"these pages have a fault, and may be behind: {why!r}"
         self.reader.version += 1
         with contextlib.suppress(Exception):
             self.renew_pages()
 
     def renew_pages(self) -> None:
-        """Renews the pages that somebody has open. One that can't be made holds up no other."""
+        """Renews the pages that somebody has open. If one can't be made, the others still are."""
         faults = []
         for path, found in self.pages.items():
             try:
@@ -183,7 +182,7 @@ class LiveSite:
             raise faults[0]
 
     def look_at_plan(self) -> None:
-        """Reads the plan if it has changed, and begins again with the one of the moment that is shown."""
+        """Reads the plan if it has changed. Starts again if the plan of the moment that is shown is another one."""
         stamp = plan_stamp(self.plan.folder)
         if stamp != self.plan_stamp:
             self.plan_stamp = stamp
@@ -206,9 +205,9 @@ class LiveSite:
             self.begin(plan)
 
     def count_results(self) -> None:
-        """Computes the tables where results have come, if that was not done just before."""
+        """Computes the tables if results have changed, unless it has just done so."""
         began = time.monotonic()
-        # As long as records are still to be read, ratings would be of some of them.
+        # While records are still to be read, ratings would follow from only some of them.
         version = self.reader.results_version, not self.reader.unread
         if self.tables_version == version or began < self.next_tables:
             return
@@ -220,7 +219,7 @@ class LiveSite:
         self.next_tables = ended + SHARE * (ended - began)
 
     def follow(self) -> None:
-        """Follows the open matches for a while, first those that somebody looks at."""
+        """Follows the open matches for a while, first those that somebody watches."""
         now = time.monotonic()
         looked = {path for path, found in self.pages.items() if found.viewers or now - found.touched < IDLE}
         shown = self.reader.open_matches()[: live_pages.BOARDS] if "/index.html" in looked else []
@@ -229,7 +228,7 @@ class LiveSite:
         self.states = {name: found for name, found in self.states.items() if name in self.reader.open or name in self.reader.ended}
 
     def state(self, match: Match, version: int, states: Callable[[], list], notes: list[str]) -> "Markup":
-        """Returns the last one of the states of a match. It is drawn again only if its version has changed."""
+        """Returns the last state of a match. It is drawn again only if its version has changed."""
         if self.states.get(match.id, (None,))[0] != version:
             self.states[match.id] = version, live_pages.state_html(states(), self.plan.roles(match.game), self.site.named(match.game), notes)
         return self.states[match.id][1]
@@ -241,16 +240,16 @@ class LiveSite:
     # ---- pages
 
     def shown_trouble(self) -> str:
-        """Returns why what is shown may not be what is so now."""
+        """Returns why the pages may be out of date."""
         return self.trouble or self.fault or self.reader.trouble()
 
     def stamp(self, path: str) -> tuple | None:
-        """Returns what a page is made of: none where there is no such page. Where this is the same the page is the same."""
+        """Returns the data that a page is made from, or None without such a page. If it is the same, the page is the same."""
         own = self.own_stamp(path)
         return None if own is None else (*own, self.shown_trouble())
 
     def own_stamp(self, path: str) -> tuple | None:
-        """Returns what a page is made of beside what each of them has."""
+        """Returns the data that only this page is made from."""
         if path == live_api.FEED:
             return self.reader.version, self.reader.results_version, self.tables_version
         if path == FIRST:
@@ -267,7 +266,7 @@ class LiveSite:
         return (seen.version,) if seen else ("waits", self.reader.faults.get(name), self.reader.given_up.get(name))
 
     def make(self, path: str) -> tuple[str, PageParts | live_api.Keys]:
-        """Returns the title and the parts of a page that is there, or what the events for programs are about."""
+        """Returns the title and the parts of a page that exists, or the data of the event stream."""
         if path == live_api.FEED:
             return "", live_api.snapshot(self.reader, self.tables_version)
         found = self.made.get(path[1:])
@@ -301,13 +300,13 @@ class LiveSite:
         return [found[name] for name in sorted(found, key=self.reader.place.__getitem__)]
 
     def renew(self, path: str, found: OpenPage) -> None:
-        """Makes a page again if its data has changed, and keeps what has changed of it."""
+        """Makes a page again if its data has changed, and keeps the changes."""
         stamp = self.stamp(path)
         if stamp == found.stamp or found.is_final:
             return
         found.stamp = stamp
         if stamp is None:
-            # The match is over, and its page another one.
+            # The match is over, so it has another page now.
             found.is_final = True
             return
         found.title, parts = self.make(path)
@@ -318,7 +317,7 @@ class LiveSite:
             found.events = (*found.events[1 - MOST_EVENTS :], (version, event_text(version, {**told, "now": self.delay.now()})))
 
     def opened(self, path: str) -> OpenPage | None:
-        """Returns a page as it is now, none where there is no such page, or it is that of a match that is over."""
+        """Returns a page as it is now. None if there is no such page, or its match is over."""
         found = self.pages.get(path)
         if found:
             self.renew(path, found)
@@ -332,9 +331,9 @@ class LiveSite:
         return found
 
     def page(self, path: str) -> bytes | None:
-        """Returns the page at a path, none where there is none."""
+        """Returns the page at a path, or None."""
         if found := self.opened(path):
-            # It gets the changes from its version on.
+            # It gets the changes after its version.
             events = f"{'../' * (path.count('/') - 1)}events{path}?after={found.version}"
             live = {"now": self.delay.now(), "events": events, "reload": RELOAD}
             return page("parts", title=found.title, script="live.js", live=live, parts=found.parts)
@@ -345,7 +344,7 @@ class LiveSite:
         return data and data.replace(b"<body>", b"<body>" + trouble, 1)
 
     def data(self, path: str) -> bytes | None:
-        """Returns what is at a path for other programs, none where there is nothing."""
+        """Returns the data for other programs at a path, or None."""
         if path == live_api.METRICS:
             return live_api.metrics(self.reader, self.tables[0]) if self.tables else None
         found = live_api.API.fullmatch(path)
@@ -359,7 +358,7 @@ class LiveSite:
         return said and live_api.json_bytes({**said, "now": self.delay.now(), "trouble": self.shown_trouble()})
 
     def data_of_match(self, path: str, match: Match, make: Callable[[], bytes]) -> bytes | None:
-        """Returns what is made of a match, none if other files have taken the place of those that are shown of it."""
+        """Returns the data that `make` makes of a match, or None if other files have replaced those that are shown."""
         if (stamp := self.match_stamp(match.id)) is not None:
             return self.kept_data(path, stamp, make)
 
@@ -374,7 +373,7 @@ class LiveSite:
             return None
 
     def kept_data(self, path: str, made_of: object, make: Callable[[], bytes]) -> bytes:
-        """Returns what is made of this, and keeps it for a while."""
+        """Returns the data that `make` makes, and keeps it for a while."""
         if path in self.kept and self.kept[path][0] == made_of:
             self.kept.move_to_end(path)
             return self.kept[path][1]

@@ -1,15 +1,15 @@
-"""The rounds of a Swiss competition and of a knockout: who meets whom next, by what came of the rounds before.
+"""The rounds of a Swiss competition and of a knockout: pairs the players of a round by the results of the earlier rounds.
 
-A meeting of two players is a match in each game in both orders of seats. In a Swiss competition the players stand in the order of their
-points, then of Buchholz's number (the points of all opponents together), then of their seeds, the order of competition.toml. From the top
-down each one meets the next that it has met least often. Then, from the bottom up, two that met before exchange with the nearest pair above
-so that nobody meets again, if that can be. If the number of players is odd, the last one of those with the fewest byes has a bye, which
-counts as if it had won all matches of a meeting. In a knockout the winners of the meetings go on: who has more points, then more goals,
-then the better seed. The seeds stand in the usual bracket, in which the first two can meet only at the end, and byes go to the best. A
-knockout may follow the rounds of a Swiss competition: then the seeds are its standings.
+A pairing of two players has a match in each game for each order of the roles. A Swiss competition orders the players by points, then by Buchholz's
+number (the points of all their opponents), then by seed, which is the order of competition.toml. From the top down, each player meets the next one
+that it has met least often. Then, from the bottom up, a pair that has met before swaps a player with the nearest pair above or else below, if that
+makes two pairs that have not met. If the number of players is odd, the last player with the fewest byes has a bye, which counts as if it had won all
+matches of a pairing. In a knockout the winner of each pairing advances: the player with more points, then with more goals, then with the better seed.
+The bracket is the usual one: the two best seeds can meet only in the final, and the best players get the byes. A knockout may follow the rounds of a
+Swiss competition: then the seeds are its standings.
 
-A player that has withdrawn meets nobody any more. A match against it that does not count, or is not played, gives its opponent a point, as
-those of a bye do. In a knockout its opponent goes on unless the meeting was played to its end."""
+A player that has withdrawn is not paired any more. A match against it that does not count, or is not played, gives its opponent a point, as a bye
+does. In a knockout its opponent advances unless all matches of the pairing were played."""
 
 import itertools
 from collections import Counter, defaultdict
@@ -19,13 +19,13 @@ from dataclasses import dataclass, replace
 from ggp_tools.competition.competition_file import KNOCKOUT, ROUND_KINDS, SWISS, Competition
 from ggp_tools.competition.results import DRAWN, WON, Result
 
-# The round and the two players of a meeting.
+# The round and the two players of a pairing.
 Meeting = tuple[int, frozenset[str]]
 
 
 @dataclass(frozen=True)
 class Round:
-    """A round: its number, from 1 on, who meets whom, and who has a bye; and who was withdrawn before it since it was absent, with the
+    """A round: its number, counted from 1, its pairs, its byes, and the players that were withdrawn before it because they were absent, with the
     reason."""
 
     number: int
@@ -41,7 +41,7 @@ class Round:
 
 
 class Scores:
-    """What rounds came to: by players points, goals, opponents and byes."""
+    """The points, goals, opponents and byes of the players in some rounds."""
 
     def __init__(self, competition: Competition) -> None:
         self.meeting = 2 * len(competition.games)
@@ -52,7 +52,7 @@ class Scores:
         self.met: Counter[frozenset[str]] = Counter()
 
     def count_round(self, found: Round, withdrawn: Mapping[str, str], of_meeting: Mapping[Meeting, list[Result]]) -> None:
-        """Counts who meets whom, and the byes; and as points of byes what was not played, or does not count, since a player has withdrawn."""
+        """Counts the pairs and the byes. Matches that are not played or do not count, because a player has withdrawn, give points like byes."""
         for bye in found.byes:
             self.byes[bye] += 1
             self.points[bye] += self.meeting
@@ -72,7 +72,7 @@ class Scores:
             self.goals[player] += result.counted()[role] or 0
 
     def buchholz(self, player: str) -> float:
-        """Returns the points of all opponents together, of each as often as it was met."""
+        """Returns the sum of the points of all opponents. An opponent counts as often as it was met."""
         return sum(self.points[opponent] for opponent in self.opponents[player])
 
     def swiss_order(self, player: str) -> tuple[float, float]:
@@ -80,7 +80,7 @@ class Scores:
 
 
 def rounds_of(competition: Competition) -> int:
-    """Returns how many rounds a competition has; none where it is not played by rounds."""
+    """Returns how many rounds a competition has; 0 if it is not planned by rounds."""
     form = competition.form
     if form.kind == KNOCKOUT:
         return (len(competition.players) - 1).bit_length()
@@ -88,15 +88,15 @@ def rounds_of(competition: Competition) -> int:
 
 
 def swiss_rounds(competition: Competition) -> int:
-    """Returns how many rounds are not of a knockout."""
+    """Returns how many rounds do not belong to a knockout."""
     return competition.form.rounds if competition.form.kind == SWISS else 0
 
 
 def matches_to_come(competition: Competition, rounds: Sequence[Round]) -> int:
-    """Returns how many matches the rounds have that are not planned yet, with the players that there are now."""
+    """Returns how many matches the rounds have that are not planned yet, with the current players."""
     swiss = swiss_rounds(competition) - len(rounds)
     if swiss < 0 or competition.form.kind == KNOCKOUT:
-        # Each meeting has one player leave.
+        # Each pairing eliminates one player.
         left = len(rounds[-1].pairs) + len(rounds[-1].byes) - 1
     else:
         left = swiss * ((len(competition.players) - len(withdrawn_by(competition, rounds))) // 2) + max(0, competition.form.final - 1)
@@ -104,7 +104,7 @@ def matches_to_come(competition: Competition, rounds: Sequence[Round]) -> int:
 
 
 def withdrawn_by(competition: Competition, rounds: Iterable[Round]) -> dict[str, str]:
-    """Returns the players that have withdrawn, or were withdrawn before one of these rounds, with the reasons."""
+    """Returns the players that have withdrawn, or were withdrawn before one of these rounds, each with the reason."""
     return {name: why for found in rounds for name, why in found.absent} | competition.withdrawn()
 
 
@@ -117,7 +117,7 @@ def is_by_rounds(competition: Competition) -> bool:
 
 
 def paired(order: Sequence[str], met: Counter[frozenset[str]]) -> list[tuple[str, str]]:
-    """Returns the pairs of players that stand in this order, of an even number."""
+    """Returns the pairs of an even number of players in this order."""
     rest, pairs = list(order), []
     while rest:
         first = rest.pop(0)
@@ -131,8 +131,7 @@ def paired(order: Sequence[str], met: Counter[frozenset[str]]) -> list[tuple[str
 
 
 def exchange(pairs: list[tuple[str, str]], at: int, met: Counter[frozenset[str]]) -> None:
-    """Has a pair exchange with the nearest one above, or else below, with which both new pairs have not met. Where there is none the pair
-    stays."""
+    """Swaps a player of a pair with the nearest pair above, or else below, that makes two pairs that have not met. Without one the pair stays."""
     first, other = pairs[at]
     for beside in (*range(at - 1, -1, -1), *range(at + 1, len(pairs))):
         high, low = pairs[beside]
@@ -147,14 +146,14 @@ def swiss_round(competition: Competition, number: int, scores: Scores, withdrawn
     order = sorted((player.name for player in competition.players if player.name not in withdrawn), key=scores.swiss_order)
     byes: tuple[str, ...] = ()
     if len(order) % 2:
-        # The last one of those with the fewest: the order is that of the standings, which is kept.
+        # The lowest player in the standings with the fewest byes.
         byes = (min(reversed(order), key=lambda player: scores.byes[player]),)
         order.remove(byes[0])
     return Round(number, tuple(paired(order, scores.met)), byes)
 
 
 def bracket(count: int) -> list[int]:
-    """Returns the seeds, from 0 on, in the order of the bracket, filled up to a power of two."""
+    """Returns the seeds, counted from 0, in the order of the bracket, filled up to a power of two."""
     seeds = [0]
     while len(seeds) < count:
         seeds = [seat for seed in seeds for seat in (seed, 2 * len(seeds) - 1 - seed)]
@@ -162,8 +161,7 @@ def bracket(count: int) -> list[int]:
 
 
 def winner(pair: tuple[str, str], results: Collection[Result], scores: Scores, withdrawn: Mapping[str, str], seeds: Sequence[str]) -> str | None:
-    """Returns who goes on from a meeting that is over, in scores that have nothing yet; none if it was not played to its end and both have
-    withdrawn."""
+    """Returns the winner of a pairing that is over, or None if both players have withdrawn before all its matches were played. `scores` are empty."""
     left = [name for name in pair if name not in withdrawn]
     for result in results:
         scores.count_result(result)
@@ -173,7 +171,7 @@ def winner(pair: tuple[str, str], results: Collection[Result], scores: Scores, w
 
 
 def knockout_round(size: int, names: Sequence[str], before: Sequence[Round], winners: Collection[str | None], withdrawn: Mapping[str, str]) -> Round:
-    """Returns the next round of a knockout of this size and these seeds, where those before it are over, by the winners of the last one."""
+    """Returns the next round of a knockout of this size and these seeds, whose earlier rounds are over, by the winners of the last one."""
     places: list[str | None] = [names[seed] if seed < len(names) else None for seed in bracket(size)]
     for going_on in [*(found.players() for found in before[1:]), {*winners, *before[-1].byes}] if before else ():
         places = [next((name for name in pair if name and name in going_on), None) for pair in zip(places[::2], places[1::2])]
@@ -184,12 +182,12 @@ def knockout_round(size: int, names: Sequence[str], before: Sequence[Round], win
 
 
 class Rounds:
-    """The rounds that were planned one after the other."""
+    """The planned rounds."""
 
     def __init__(self) -> None:
         self.found: list[Round] = []
         self.scores: Scores | None = None
-        # The results of the rounds so far, in how many whole rounds each player was absent, and of how many rounds all this is.
+        # The results so far, in how many whole rounds each player was absent, and how many rounds have been counted.
         self.results: list[Result] = []
         self.absences: Counter[str] = Counter()
         self.counted = 0
@@ -198,7 +196,7 @@ class Rounds:
         self.seeds: list[str] = []
 
     def next(self, competition: Competition, results: Sequence[Result]) -> Round:
-        """Returns the next round, by the results of the last one that count."""
+        """Returns the next round. `results` are those of the last round that count."""
         self.scores = self.scores or Scores(competition)
         if self.counted < len(self.found):
             self.count(results)
@@ -215,7 +213,7 @@ class Rounds:
         return replace(found, number=len(self.found) + 1, absent=tuple(new.items()))
 
     def next_of_knockout(self, competition: Competition, of_meeting: Mapping[Meeting, list[Result]]) -> Round:
-        """Returns the next round of a knockout of all players, or of the best ones of the rounds before it."""
+        """Returns the next round of a knockout between all players, or between the best ones of the rounds before it."""
         before, final = self.found[swiss_rounds(competition) :], competition.form.final
         if not before:
             names = [player.name for player in competition.players if not final or player.name not in self.withdrawn]
@@ -241,7 +239,7 @@ class Rounds:
 
 
 def scores_and_seeds(competition: Competition, rounds: Sequence[Round], results: Iterable[Result]) -> tuple[Scores, list[str]]:
-    """Returns what the rounds before a knockout came to, and the players in the order of its seeds, with the results that count."""
+    """Returns the scores of the rounds before a knockout, by the results that count, and the players in the order of its seeds."""
     swiss = swiss_rounds(competition)
     of_swiss = [result for result in results if result.match.round <= swiss]
     scores = scores_of(competition, rounds[:swiss], of_swiss, withdrawn_by(competition, rounds))
@@ -249,7 +247,7 @@ def scores_and_seeds(competition: Competition, rounds: Sequence[Round], results:
 
 
 def by_meeting(results: Iterable[Result]) -> dict[Meeting, list[Result]]:
-    """Returns the results of each meeting."""
+    """Returns the results of each pairing."""
     found: dict[Meeting, list[Result]] = defaultdict(list)
     for result in results:
         found[result.match.round, frozenset(result.match.players)].append(result)
@@ -257,7 +255,7 @@ def by_meeting(results: Iterable[Result]) -> dict[Meeting, list[Result]]:
 
 
 def rounds_won(competition: Competition, rounds: Sequence[Round], results: Iterable[Result], seeds: Sequence[str]) -> Counter[str]:
-    """Returns how many rounds of the knockout each player has come through that is in it, by meetings that are over and byes."""
+    """Returns how many rounds of the knockout each of its players has won, by a bye or a pairing that is over."""
     of_meeting, withdrawn, rounds_of_it = by_meeting(results), withdrawn_by(competition, rounds), rounds[swiss_rounds(competition) :]
     won = Counter(dict.fromkeys(rounds_of_it[0].players(), 0) if rounds_of_it else {})
     for found, following in itertools.zip_longest(rounds_of_it, rounds_of_it[1:]):
@@ -271,12 +269,12 @@ def rounds_won(competition: Competition, rounds: Sequence[Round], results: Itera
 
 
 def meetings(competition: Competition, found: Round) -> list[tuple[str, tuple[str, str]]]:
-    """Returns the matches of a round: of each game the pairs in one order of seats, and then in the other."""
+    """Returns the matches of a round: for each game all pairs in one order of the roles, and then in the other."""
     return [(game.name, pair[::turn]) for game in competition.games for turn in (1, -1) for pair in found.pairs]
 
 
 def scores_of(competition: Competition, rounds: Sequence[Round], results: Iterable[Result], withdrawn: Mapping[str, str] | None = None) -> Scores:
-    """Returns what rounds came to, with the results that count, where these players have withdrawn: else those of the rounds."""
+    """Returns the scores of these rounds, by the results that count if these players have withdrawn; without them, those that the rounds name."""
     withdrawn = withdrawn_by(competition, rounds) if withdrawn is None else withdrawn
     scores, counted = Scores(competition), [result for result in results if not competition.is_void(result.match.players, withdrawn)]
     of_meeting = by_meeting(counted)
