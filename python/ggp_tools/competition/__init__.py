@@ -1,1 +1,1 @@
-"""A competition in one folder: planned, played, counted, shown and published, over the referee `ggp_manager`, which judges alone."""
+"""Competitions, each in one directory: plans them, plays them with the referee `ggp_manager`, counts, shows and publishes them."""

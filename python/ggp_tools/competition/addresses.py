@@ -9,7 +9,7 @@ from collections.abc import Iterable, Iterator
 
 from ggp_tools.competition.competition_file import Competition, Mistake, Player
 
-# Names are looked up at the same time, for at most so many seconds, because a resolver may not answer.
+# All names together are looked up within this many seconds, because a resolver may not answer.
 SECONDS = 10
 LOOPBACK = {4: "127.0.0.1", 6: "::1"}
 # An address, with the interface if it needs one, and a port.
@@ -17,8 +17,8 @@ Place = tuple[str, int]
 
 
 def address_of(resolved: tuple) -> str:
-    """Returns an address from `getaddrinfo` in one form: an IPv4 address that is written as one of IPv6 becomes IPv4, and the unspecified address becomes
-    that of this computer."""
+    """Returns an address from `getaddrinfo` in one form: an IPv4 address in IPv6 notation becomes IPv4, and the unspecified address becomes this
+    computer's."""
     address = ipaddress.ip_address(resolved[0].partition("%")[0])
     address = getattr(address, "ipv4_mapped", None) or address
     text = LOOPBACK[address.version] if address.is_unspecified else str(address)
@@ -51,7 +51,7 @@ def looked_up(hosts: Iterable[str]) -> dict[str, list[str]]:
 
 
 def refusal(place: Place) -> str:
-    """Returns why the system refuses connections to a place, or an empty text. It sends nothing."""
+    """Returns why the system refuses connections to a place, or an empty text. Nothing is sent."""
     address = ipaddress.ip_address(place[0])
     if address.is_multicast:
         return "a multicast address takes no connection"
@@ -85,13 +85,13 @@ def takes_connections(place: Place) -> bool:
 
 
 def written(name: str, places: list[Place]) -> str:
-    """Returns a player for the command of the referee, with the first of its places that accepts a connection now, or else the first one."""
+    """Returns a player for the command of the referee, with the first of its addresses that accepts a connection now, or else with the first one."""
     host, port = next(filter(takes_connections, places), places[0]) if len(places) > 1 else places[0]
     return f"{name}@[{host}]:{port}" if ":" in host else f"{name}@{host}:{port}"
 
 
 def mistakes_of_addresses(competition: Competition, places_of: dict[str, list[Place]]) -> Iterator[Mistake]:
-    """Yields a mistake for each player that cannot be reached at its addresses, and for each one that has an address of another."""
+    """Yields a mistake for each player that cannot be reached at its addresses, and for each one that shares an address with another."""
     known: dict[Place, Player] = {}
     for player in competition.players:
         places, port = places_of.get(player.name, []), player.address.rpartition(":")[2]

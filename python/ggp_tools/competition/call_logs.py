@@ -1,6 +1,5 @@
-"""Checks call logs ("accounts") and match logs: a call log may only have the calls that the referee of one match makes, since `replay` would
-accept others that change nothing, and the match log must have the messages and answers of the call log. Only the match log has times, hosts and
-reasons."""
+"""Checks call logs ("accounts") and match logs. A call log may only have the calls that the referee of one match makes, because `replay` would accept
+others that change nothing. The match log must have the messages and answers of the call log. Only the match log has times, hosts and reasons."""
 
 import io
 import itertools
@@ -19,7 +18,7 @@ if TYPE_CHECKING:
     from ggp_tools.competition.results import Result
     from ggp_tools.competition.schedule import Match
 
-# The first call, and those on behalf of a role: what the role is owed, and what came back.
+# The first call, and those for a role: which message it is owed, and its answer.
 OPENING = re.compile(rb"0\t(?:open|strict) ([^ \t]+) [^\t]*\topened")
 NEXT = re.compile(rb"(\d+)\tnext ([^ \t]+) (\d+)\t(?:owe (\d+) ([^ \t]+) ?([^\t]*)|(hold \d+|over))")
 ANSWER = re.compile(rb"(\d+)\t(submit|miss) ([^ \t]+) (\d+) (\d+)(?: ([^\t]*))?\ttaken")
@@ -51,7 +50,7 @@ def lines_of(account: bytes) -> Iterator[bytes]:
 
 
 class Asked:
-    """What the roles of a match were asked so far: for each role the round whose answer is awaited, and whether its part is over."""
+    """The state of the roles' calls: for each role the round whose answer is awaited, and whether its part is over."""
 
     def __init__(self, match: bytes) -> None:
         self.match = match
@@ -157,7 +156,7 @@ def has_sound_reason(message: Message) -> bool:
 
 
 def is_confirmed(match: "Match", event: Event, asked: list[list[Exchange]], last: list[int]) -> bool:
-    """Returns whether a call log says the same as an event; `last` has the number of the last message of each role, and gets that of this one."""
+    """Returns whether a call log agrees with an event. `last` has the number of each role's last message, and gets the number of this one."""
     if not isinstance(event, Message):
         return not isinstance(event, End) or event.kind in {exchange.kind for of_role in asked for exchange in of_role}
     role = event.role

@@ -15,43 +15,43 @@ PLAYER_NAME = re.compile(r"[A-Za-z0-9_.-]{1,64}")
 ADDRESS = re.compile(r"(\[[0-9A-Fa-f:.]+(?:%[A-Za-z0-9_.-]+)?\]|[A-Za-z0-9_.-]+):([0-9]{1,5})")
 MARK = b"\xef\xbb\xbf"
 CONTROL = re.compile(r"[\x00-\x1f\x7f-\x9f]")
-# A message has so many characters of a key or a value, and so many mistakes of a file are reported.
+# A message has at most this many characters of a key or a value, and at most this many mistakes of a file are reported.
 MOST_SHOWN, MOST_MISTAKES = 200, 100
-# Of matches at a time: of a player, of a launcher, and of all.
+# The most matches at the same time: for a player, for a launcher, and for all together.
 MOST_AT_A_TIME = 1_024
 MOST_SECONDS, MOST_STRIKES, MOST_PLAYERS, MOST_ROUNDS, MOST_PORT = 86_400, 255, 1_000, 1_000, 65_535
-# When a player is started again that the competition starts: if it is dead, for each match, or never.
+# When a player with a command is restarted: if it is dead, for each match, or never.
 RESTARTS = WHEN_DEAD, EACH_MATCH, NEVER = "when_dead", "each_match", "never"
 PORT = "{port}"
 RUNS_ELSEWHERE = "a program that runs its arguments on another machine"
 MEMORY = re.compile(r"([1-9][0-9]{0,5})([KMGT])")
 MOST_PROCESSORS, MOST_START_SECONDS, MOST_RATING = 4_096, 3_600, 10_000
-# The seconds in which a description is instantiated, where no others are given, and the most of them.
+# The default time limit for making a description ground, in seconds, and the greatest one.
 INSTANTIATING, MOST_INSTANTIATING = 60, 1_000_000
-# Those that plan each round by the results of the one before.
+# The forms that plan each round by the results of the round before.
 ROUND_KINDS = SWISS, KNOCKOUT = "swiss", "knockout"
 ROUND_KEYS = ("absent_rounds", "pause")
-# The keys of each kind beside `kind`.
+# The keys of each kind besides `kind`.
 KINDS = {"round_robin": ("rounds",), "gauntlet": ("rounds", "one"), "schedule": ("lines",), SWISS: ("rounds", "final"), KNOCKOUT: ()}
 ABSENT = ("leave", "play")
-# Whether the played matches count of a player that has withdrawn.
+# Whether the finished matches of a withdrawn player count.
 WITHDRAWN_RESULTS = KEEP, VOID = "keep", "void"
 REASON = re.compile(r"(?! )[\x20-\x7e]{1,200}(?<! )")
 # How the ids of the matches are made.
 IDS = COUNTED_IDS, RANDOM_IDS = "counted", "random"
-# What the standings are ordered by.
+# How the standings are ordered.
 ORDERS = BY_GOALS, BY_POINTS = "goals", "points"
 # What START carries: the rules that the referee plays, or the description that they were made from.
 PLAYER_RULES = ("ground", "variables")
 # How pages draw the boards of a game: by the shape of the places, or with hexagons.
 BOARDS = "shape", "hex"
-# Keys that had another name before, by that name.
+# Renamed keys: the old name, then the new one.
 RENAMED = {"told": "player_rules", "hosts": "launcher", "seconds": "instantiate"}
 
 
 @dataclass(frozen=True)
 class Mistake:
-    """What is wrong in the file, with the line and the key."""
+    """A mistake in the file, with its line and key."""
 
     line: int
     key: str
@@ -82,7 +82,7 @@ class Text:
 
 
 def spelled(value: object) -> str:
-    """Returns a value of the file as messages have it."""
+    """Returns a value of the file in the form for messages."""
     if isinstance(value, dict | list):
         return "a table" if isinstance(value, dict) else "an array"
     if isinstance(value, bool):
@@ -103,7 +103,7 @@ class Section:
         self.first = lines.get(path, 1)
 
     def line(self, key: str, *members: int) -> int:
-        """Returns the line of the key, or of a member of its array; that of the table if it is missing."""
+        """Returns the line of the key or of a member of its array. If the key is missing, returns the line of the table."""
         own = self.lines.get((*self.path, key), self.first)
         return self.lines.get((*self.path, key, *members), own)
 
@@ -131,7 +131,7 @@ class Section:
                 self.mistake(key, f"this key is now {RENAMED[key]}" if RENAMED.get(key) in keys else f"no such key; there are {', '.join(keys)}")
 
     def value(self, key: str, kind: type, what: str, default: Any) -> Any:
-        """Returns the value of the key, or the default if it is missing or of another kind. Without a default the key must be there."""
+        """Returns the value of the key, or the default if it is missing or of another kind. Without a default the key must exist."""
         if key not in self.table:
             if default is None:
                 self.mistake(key, "the key is missing")
@@ -174,7 +174,7 @@ class Section:
         return found
 
     def reason(self, key: str) -> str | None:
-        """Returns a reason, an empty one for `true`, or none without the key or for `false`."""
+        """Returns a reason: an empty one for `true`, None for `false` or without the key."""
         found = self.table.get(key, False)
         if type(found) is bool:
             return "" if found else None
@@ -194,7 +194,7 @@ class Section:
         return found
 
     def words(self, key: str, what: str, is_needed: bool = True) -> tuple[str, ...]:
-        """Returns the words of a command, none if it is not one, or if it is missing and not needed."""
+        """Returns the words of a command: none if they are invalid, or if the key is missing and not needed."""
         if key not in self.table and not is_needed:
             return ()
         words = tuple(word.text for word in self.texts(key))
@@ -226,7 +226,7 @@ class Section:
         return tuple(found.items())
 
     def anchors(self, key: str) -> dict[str, int]:
-        """Returns ratings by the names of players."""
+        """Returns ratings by player name."""
         found, players = self.value(key, dict, "a table of ratings", {}), self.names("players")
         for name, rating in found.items():
             line = self.lines.get((*self.path, key, name))
@@ -237,7 +237,7 @@ class Section:
         return found
 
     def names(self, key: str) -> set[str]:
-        """Returns the names in an array of tables, whatever else is wrong with it."""
+        """Returns the names in an array of tables, even if the rest of it is invalid."""
         tables = self.table.get(key)
         return {str(table.get("name")) for table in tables if isinstance(table, dict)} if isinstance(tables, list) else set()
 
@@ -258,7 +258,7 @@ class Section:
 
 
 def read_by(read: Callable, *limits: object, key: str = "", **more: object) -> Any:
-    """Returns a field that a method of a section reads within these limits, from the key of this name or of the field's own."""
+    """Returns a field that a method of a section reads, within these limits, from the given key or from the key with the field's name."""
     return field(metadata={"read": lambda section, name: read(section, key or name, *limits), "key": key}, **more)
 
 
@@ -274,8 +274,8 @@ def keys_of(kind: type) -> list[str]:
 
 @dataclass(frozen=True)
 class Game:
-    """A game: its description, and that with variables if the first one is ground; the clocks, and the time for making it ground, in seconds; the
-    rules that its players get; whether its random matches may be aborted; whether it may be large; and how its boards are drawn."""
+    """A game. `described` is the description with variables if `file` is ground. `instantiate` is the time limit for making it ground, in seconds.
+    With `aborts` its random matches may be aborted. `board` says how pages draw its boards."""
 
     name: str = read_by(Section.name, NAME, 40, FIRST)
     file: str = read_by(Section.path_of_file)
@@ -336,15 +336,15 @@ class Launcher:
 
 @dataclass(frozen=True)
 class Faults:
-    """A player with so many replaced moves, in turns in which it had a choice, has lost a match. With 0 none has."""
+    """A player with `replaced` replaced moves, in turns in which it had a choice, has lost the match. With 0 there is no such limit."""
 
     replaced: int = read_by(Section.number, 1, MOST_TURNS)
 
 
 @dataclass(frozen=True)
 class Form:
-    """The pairing: a round robin, a gauntlet of one against all, the lines of a schedule, each with a game and its players, or rounds. After the
-    rounds of a Swiss competition, so many of the best players may play a knockout."""
+    """The pairing: a round robin, a gauntlet of one player against all, a schedule whose lines have a game and its players, or rounds. After the
+    rounds of a Swiss competition, the `final` best players may play a knockout."""
 
     kind: str
     rounds: int
@@ -356,7 +356,7 @@ class Form:
 
 @dataclass(frozen=True)
 class Competition:
-    """All that competition.toml says."""
+    """The contents of competition.toml."""
 
     name: str = read_by(Section.name, NAME, 40, FIRST)
     start: int
@@ -389,11 +389,11 @@ class Competition:
         return next(player for player in self.players if player.name == name)
 
     def withdrawn(self) -> dict[str, str]:
-        """Returns the players that have withdrawn, with the reasons."""
+        """Returns the players that have withdrawn, each with the reason."""
         return {player.name: player.withdrawn for player in self.players if player.withdrawn is not None}
 
     def is_void(self, players: Iterable[str], withdrawn: Mapping[str, str]) -> bool:
-        """Returns whether a match of these players does not count because one of these has withdrawn."""
+        """Returns whether a match of these players does not count because one of them has withdrawn."""
         return self.withdrawn_results == VOID and any(player in withdrawn for player in players)
 
 
@@ -424,7 +424,7 @@ def is_place(text: str) -> bool:
 
 
 def command_of(section: Section) -> Command | None:
-    """Returns the command that starts a player, or none if the player has an address."""
+    """Returns the command that starts a player, or None if the player has an address."""
     if "command" not in section.table:
         for key in keys_of(Command):
             if key in section.table:
@@ -500,7 +500,7 @@ def refuse_line(section: Section, line: Text, games: set[str], players: set[str]
 
 
 def root_of(data: bytes, mistakes: list[Mistake]) -> Section:
-    """Returns the table of a whole file, or raises why it is not TOML."""
+    """Returns the table of a whole file. If it is not TOML, raises the reason."""
     if data.startswith(MARK):
         raise Mistaken([Mistake(1, "", "the file begins with a byte order mark, the bytes EF BB BF: remove them")])
     try:
@@ -513,7 +513,7 @@ def root_of(data: bytes, mistakes: list[Mistake]) -> Section:
 
 
 def read_competition(data: bytes) -> Competition:
-    """Returns the competition of a file, or raises all of its mistakes."""
+    """Returns the competition of a file, or raises all its mistakes."""
     mistakes: list[Mistake] = []
     root = root_of(data, mistakes)
     root.refuse_others(keys_of(Competition))

@@ -1,4 +1,4 @@
-"""Compares matches with the published descriptions of their games, by `ggp-hold-against`: so nobody needs to trust how the rules were grounded."""
+"""Compares matches with the published descriptions of their games by `ggp-hold-against`, so you need not trust how the rules were grounded."""
 
 import pathlib
 from collections.abc import Sequence
@@ -20,7 +20,7 @@ REPORT = "report-{}.tar.gz"
 
 
 def description_of(plan: Plan, game: Game) -> tuple[bytes | None, str | None]:
-    """Returns the description of a game, if it has variables and is the one that `plan` has read; and why it cannot be used, or None."""
+    """Returns the description of a game if it has variables and `plan` has read this version, and why it cannot be used, or None."""
     file = plan.folder.description(game)
     try:
         sums, text = sums_of(plan.folder.description_sums()), file.read_bytes()
@@ -34,7 +34,7 @@ def description_of(plan: Plan, game: Game) -> tuple[bytes | None, str | None]:
 
 
 def comparisons(path: pathlib.Path, records: Sequence[bytes]) -> list[str]:
-    """Returns what the comparison of each record, a line of bytes, with a description says."""
+    """Compares each record, a line of bytes, with a description, and returns the results."""
     run = run_module("holding", f"--seconds={SECONDS}", "--", str(path), data=b"".join(records))
     lines = run.stdout.decode("ascii", "replace").splitlines()
     if run.returncode not in (SAME, DIFFERENT, NOT_FOLLOWED) or len(lines) != len(records):

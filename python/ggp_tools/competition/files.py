@@ -17,7 +17,7 @@ if TYPE_CHECKING:
     from ggp_tools.competition.competition_file import Game
 
 UNFINISHED = ".unfinished-"
-# In the directory of an open match, the file that names the players that must be sent ABORT if no referee plays the match any more.
+# The file in the directory of an open match that names its players. They must be sent ABORT if no referee plays the match any more.
 PLAYERS = "players"
 # The stages of an open match. An empty file in its directory has the name of the stage.
 STAGES = ASKING, PLAYING, CHECKING = "asking", "playing", "checking"
@@ -28,7 +28,7 @@ PRIVATE = 0o600
 
 
 class Refused(Exception):
-    """Why a command ends, in lines, and advice that helps in the directory of a competition, but not in an archive."""
+    """Why a command ends, in lines, and advice that applies to the directory of a competition but not to an archive."""
 
     def __init__(self, words: str, advice: str | None = None) -> None:
         super().__init__(f"{words}: {advice}" if advice else words)
@@ -111,7 +111,7 @@ def written_whole(path: pathlib.Path, is_lasting: bool = True, is_private: bool 
         with contextlib.suppress(OSError):
             other.unlink()
         if isinstance(why, OSError) and why.filename in (None, str(other)):
-            # Errors of writes do not name the file, and nobody knows the temporary name.
+            # Errors of writes do not name the file, and the temporary name would mean nothing to a reader.
             raise OSError(why.errno, why.strerror, str(path)) from None
         raise
     if is_lasting:
@@ -154,7 +154,7 @@ def opened_file(path: str | pathlib.Path) -> BinaryIO:
 
 
 def file_bytes(path: str | pathlib.Path, most: int = -1) -> bytes:
-    """Returns the bytes of a regular file, or at most so many of them."""
+    """Returns the bytes of a regular file, or only the first `most` of them."""
     with opened_file(path) as file:
         return file.read(most)
 
@@ -233,7 +233,7 @@ class Folder:
         return last_run(io.BytesIO(self.whole_log(match)), match)
 
     def part_of_log(self, match: str, most: int) -> tuple[bytes, bool]:
-        """Returns whole lines of a match's log with at most so many bytes, besides its last line, and whether there are more."""
+        """Returns whole lines of a match's log with at most this many bytes, not counting the last line, and whether there are more."""
         data = self.whole_log(match)
         if len(data) > most:
             data = published(data, match)

@@ -31,7 +31,7 @@ example because the referee or the grounder was killed or is out of memory, or n
 MOST_MATCHES, MOST_SEED = 10_000, 10**18
 # The greatest number of listed seeds, and of bytes of a state.
 LISTED, MOST_STATE = 10, 500
-# `plan` tries at most so many matches, until one ends, and begins no turn after so many seconds.
+# `plan` tries at most this many matches until one ends, and begins no turn after this many seconds.
 TRIAL_MATCHES, TRIAL_SECONDS = 5, 10
 INTERPRETER = "the interpreter of ggp_competition"
 # The last line of `ggp-instantiate` if its error says nothing about the description.
@@ -194,7 +194,7 @@ def report_figures(reporter: Reporter, roles: Sequence[str], ended: list) -> Non
 
 
 def trial(rules: bytes, referee: Referee, name: str) -> tuple[str | None, str | None]:
-    """Plays random matches of a game before it is planned, since a game of which none ends is most likely described wrongly. Returns what is wrong, and
+    """Plays random matches of a game before it is planned: if none of them ends, the description is most likely wrong. Returns what is wrong, and
     a note if there is no verdict. Both are None if a match ends."""
     reporter = Reporter()
     try:

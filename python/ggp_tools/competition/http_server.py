@@ -1,4 +1,4 @@
-"""The server of live pages: it sends only these, read only, and to so many visitors at a time."""
+"""The server of the live pages: it only sends data, and limits the number of connections."""
 
 import asyncio
 import concurrent.futures
@@ -22,10 +22,9 @@ from ggp_tools.human.server import is_own_name
 from ggp_tools.visitors import THIS_COMPUTER, Visitors, client_of
 
 Value = TypeVar("Value")
-# The folder is read once in so many seconds, and a page without changes gets a row after so many, by which a connection that is gone is
-# noticed.
+# The directory is read every INTERVAL seconds. A page without changes gets a row every ALIVE seconds, which shows whether the visitor is still there.
 INTERVAL, ALIVE = 1.0, 10.0
-# The head of a request must be there after so many seconds and have at most so many bytes, and what is sent must be taken after so many.
+# The head of a request must arrive within HEAD seconds and have at most LONGEST_HEAD bytes. The visitor must accept data within PATIENCE seconds.
 HEAD, LONGEST_HEAD, PATIENCE = 5, 16_384, 20
 BUSY = b"HTTP/1.1 503 Service Unavailable\r\nRetry-After: 10\r\nContent-Length: 0\r\nConnection: close\r\n\r\n"
 HEADERS = {
@@ -34,11 +33,11 @@ HEADERS = {
     "Referrer-Policy": "no-referrer",
     "Server": "ggp_competition",
 }
-# What is sent, by its path: pages, and what is for programs.
+# The content types of pages, and of data for programs.
 PAGE, JSON, NUMBERS = "text/html", "application/json", "text/plain; version=0.0.4"
 NOBODY = ("'none'",)
 VERSION, METHODS = re.compile("[0-9]{1,20}"), ("GET", "HEAD")
-# What is wrong with a request that cannot be read is for its sender, so nobody else gets a row about it.
+# Errors of requests that cannot be read concern only their senders, so they are not logged.
 SILENT = logging.Logger("requests")
 SILENT.addHandler(logging.NullHandler())
 
@@ -48,7 +47,7 @@ def kind_of(path: str) -> str:
 
 
 class Connection(web.RequestHandler):
-    """A connection, which has one request. `is_idle` is whether its head is still to come. What it has asked for ends with it."""
+    """A connection with one request. `is_idle` is set until the head has arrived. The task that answers the request ends with the connection."""
 
     __slots__ = ("visitors", "client", "is_idle", "left", "clock", "asking")
 
@@ -66,14 +65,14 @@ class Connection(web.RequestHandler):
             transport.close()
             return
         self.visitors.come(self)
-        # The kernel ends a connection whose visitor takes nothing.
+        # The kernel ends a connection whose visitor accepts no data.
         transport.get_extra_info("socket").setsockopt(socket.IPPROTO_TCP, socket.TCP_USER_TIMEOUT, round(PATIENCE * 1_000))
         transport.set_write_buffer_limits(0)
         self.clock = asyncio.get_running_loop().call_later(HEAD, self.end)
         super().connection_made(transport)
 
     def data_received(self, data: bytes) -> None:
-        """Takes a part of the request. What follows it, or is too long, is not read."""
+        """Takes a part of the request. Bytes after the request or beyond the limit are ignored."""
         self.left -= len(data)
         if self.left >= 0:
             super().data_received(data)
@@ -87,7 +86,7 @@ class Connection(web.RequestHandler):
         super().connection_lost(why)
 
     def has_asked(self) -> None:
-        """Notes that the head is there. The task that calls it answers, as long as there is a connection."""
+        """Notes that the head has arrived. The calling task answers as long as the connection is open."""
         self.is_idle, self.asking = False, asyncio.current_task()
         self.clock.cancel()
 
@@ -98,15 +97,15 @@ class Connection(web.RequestHandler):
 
 
 class Server:
-    """The server of a competition's live pages, below a path. One thread reads the folder and makes the pages; the event loop does all else.
-    Browsers may use these names for it, and pages of these origins may show its pages and read its data."""
+    """The server of a competition's live pages, below a path. One thread reads the directory and makes the pages; the event loop does everything
+    else. Browsers may use `names` for the server. Pages of `origins` may show its pages and read its data."""
 
     def __init__(self, site: LiveSite, most: int, base: str = "", names: Sequence[str] = (), origins: Sequence[str] = ()) -> None:
         self.site, self.visitors, self.address, self.told = site, Visitors(most), "", ""
         self.base, self.names, self.origins = base, ["localhost", *names], origins
         self.headers = {**HEADERS, "Content-Security-Policy": f"frame-ancestors {' '.join(origins or NOBODY)}"}
         self.thread = concurrent.futures.ThreadPoolExecutor(1, initializer=lambda: sys.setrecursionlimit(MOST_CALLS))
-        # By clients, as long as they wait for something.
+        # A lock for each client that waits for the thread.
         self.turns: weakref.WeakValueDictionary[str, asyncio.Lock] = weakref.WeakValueDictionary()
         self.looked = asyncio.Event()
 
@@ -125,17 +124,17 @@ class Server:
         self.thread.shutdown(wait=False, cancel_futures=True)
 
     async def on_site(self, function: Callable[..., Value], *values: object) -> Value:
-        """Has the thread of the site do something."""
+        """Calls a function in the site's thread."""
         return await asyncio.get_running_loop().run_in_executor(self.thread, function, *values)
 
     async def for_client(self, client: str, function: Callable[..., Value], *values: object) -> Value:
-        """Has the thread of the site do something for a client. Of each client one thing at a time waits for the thread."""
+        """Calls a function for a client in the site's thread. Only one call of each client waits for the thread."""
         turn = self.turns.setdefault(client, asyncio.Lock())
         async with turn:
             return await self.on_site(function, *values)
 
     async def look(self) -> None:
-        """Reads what has come, and wakes those whose page has changed."""
+        """Reads the directory, and wakes the connections whose page has changed."""
         try:
             await self.on_site(self.site.look)
         except Exception as why:
@@ -154,7 +153,7 @@ class Server:
     # ---- requests
 
     def is_open_to(self, host: str) -> bool:
-        """Returns whether a browser may ask under this name: at a loopback address no other site may give it a name of its own."""
+        """Returns whether a browser may use this name: at a loopback address only known names count, because another site's name may lead there."""
         return not host or client_of(self.address) != THIS_COMPUTER or any(is_own_name(host, name) for name in self.names)
 
     async def answer(self, request: web.BaseRequest) -> web.StreamResponse:
@@ -187,13 +186,13 @@ class Server:
             return await self.send(request, HTTPStatus.INTERNAL_SERVER_ERROR)
 
     def headers_of(self, request: web.BaseRequest, kind: str) -> dict[str, str]:
-        """Returns the headers of an answer. Of other origins only these may read it."""
+        """Returns the headers of an answer. Only pages of `origins` may read it, besides its own."""
         origin = request.headers.get("Origin")
         known = {"Access-Control-Allow-Origin": origin} if origin in self.origins else {}
         return {**self.headers, **known, "Vary": "Origin", "Content-Type": f"{kind}; charset=utf-8"}
 
     async def send(self, request: web.BaseRequest, status: HTTPStatus, data: bytes | None = None) -> web.StreamResponse:
-        """Sends what was asked for, or only what a status means."""
+        """Sends the data, or the text of the status without data."""
         path = request.raw_path.removeprefix(self.base)
         kind = kind_of(path)
         if data is None:
@@ -209,7 +208,7 @@ class Server:
         return response
 
     async def send_events(self, request: web.BaseRequest, path: str, known: str) -> web.StreamResponse:
-        """Sends what changes, since a version or from now on, as long as the visitor takes it."""
+        """Sends the changes since a version, or from now on, as long as the visitor accepts them."""
         client = request.protocol.client
         with self.visitors.viewing(client) as has_room:
             found = await self.for_client(client, self.site.opened, path) if has_room else None
@@ -219,7 +218,7 @@ class Server:
             response.force_close()
             writer = await response.prepare(request)
             if request.method == "HEAD":
-                # Its answer has no body, and so no last chunk either.
+                # An answer to HEAD has no body, so it must have no last chunk either.
                 writer.chunked = False
                 return response
             found.viewers += 1
@@ -230,7 +229,7 @@ class Server:
             return response
 
     async def send_changes(self, response: web.StreamResponse, found: OpenPage, version: int) -> None:
-        """Sends the changes of a page since a version, until nothing more changes; sending fails once the visitor is gone."""
+        """Sends the changes of a page since a version, until the page is final. Sending fails once the visitor is gone."""
         is_last = False
         while not is_last:
             with contextlib.suppress(TimeoutError):

@@ -22,15 +22,15 @@ OURS, PORT = b"ggp_competition: ", "{port}"
 BEAT, ENDED = 2, 254
 MOST = 1 << 16
 END_WITH_PARENT, ADOPT_ORPHANS = 1, 36
-# A player may have so many open files, so that it cannot use up the ports of this computer.
+# A player may have at most this many open files, so that it cannot use up the ports of this computer.
 MOST_FILES = 1_024
-# A player must end within so many seconds after SIGTERM.
+# A player must end within this many seconds after SIGTERM.
 END_SECONDS = 2
 LIBRARY = ctypes.CDLL(None)
 
 
 def free_port(before: int) -> int:
-    """Returns a free port: the one of before, if it is free."""
+    """Returns a free port: the earlier one, if it is free."""
     for port in (before, 0):
         with contextlib.suppress(OSError), socket.socket() as probe:
             probe.setsockopt(socket.SOL_SOCKET, socket.SO_REUSEADDR, 1)
@@ -51,7 +51,7 @@ def bounded(memory: int) -> list[str]:
 
 
 def limit(memory: int, processors: int, number: int) -> None:
-    """Limits the memory of each process, and the processors of all of them, for this process and those that it starts. Different players get different
+    """Limits the memory of each process and the processors of all, for this process and those that it starts. Different players get different
     processors, as far as there are enough."""
     if memory:
         resource.setrlimit(resource.RLIMIT_DATA, (memory, memory))

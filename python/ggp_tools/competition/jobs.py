@@ -13,11 +13,11 @@ from ggp_tools.match_log import LONGEST_LINE
 from ggp_tools.printable import printable
 
 SILENT, LONG = "nothing was heard of it for {:.0f} s", "a line that it said has more than {:,} bytes"
-# The output of a job is read for at most so many seconds after its end, because a process that it has left may have the pipe open.
+# The output of a job is read for at most this many seconds after its end, because a process that it has left may have the pipe open.
 MOST_UNREAD = 2
-# A job has the first number of seconds to end its processes. It counts as lost if it sends nothing for the second one.
+# A job has END_SECONDS to end its processes. It counts as lost if it sends nothing for LOST_SECONDS.
 END_SECONDS, LOST_SECONDS = 3, 10
-# A job ends its processes if this program sends nothing for so many seconds, so that they can begin elsewhere. On this computer it notices at once
+# A job ends its processes if this program sends nothing for this many seconds, so that they can begin elsewhere. On this computer it notices at once
 # that this program has ended, and a program that was stopped by Ctrl-Z may be silent.
 SILENCE, HERE_SILENCE = 20, 10**9
 # The greatest length of the name of a node, and of a process with its address.

@@ -1,5 +1,5 @@
-"""Facts about the files of a competition that earlier commands have found, by the checksums of everything that they follow from: a changed file has
-another checksum. They are stored in the cache directory of the user, so a directory that comes from elsewhere cannot bring false ones."""
+"""A cache of facts about the files of a competition, by the checksums of everything that they follow from: a changed file has another checksum. It is
+in the user's cache directory, so a competition's directory that comes from elsewhere cannot bring false facts."""
 
 import contextlib
 import dataclasses
@@ -71,7 +71,7 @@ class Known:
         return cache() / "known" / self.name
 
     def read(self) -> dict[str, dict[str, typing.Any]]:
-        """Returns the stored facts: none if the file has changed since it was written, or if another user can have written it."""
+        """Returns the stored facts: none if the file has changed since it was written, or if another user may have written it."""
         try:
             with opened_file(self.path()) as file:
                 status = os.fstat(file.fileno())
@@ -95,7 +95,8 @@ class Known:
         self.used.setdefault(kind, {})[key] = value
 
     def write(self) -> None:
-        """Stores the facts. Of each kind that was used, it drops those that were not. Facts that cannot be stored are found again the next time."""
+        """Stores the facts. If facts of a kind were used, it drops the unused ones of that kind. Facts that cannot be stored are found again the next
+        time."""
         facts = {**self.before, **self.used}
         data = pickle.dumps(facts) if facts != self.before else b""
         if not data or len(data) > MOST_BYTES:

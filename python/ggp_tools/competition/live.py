@@ -29,12 +29,12 @@ from ggp_tools.records.match_logs import logged
 from ggp_tools.records.show import NoRecord, read_record
 from ggp_tools.referee import Referee
 
-# Listing all records takes at most this fraction of the time, and one look reads them for so many seconds. The record of a match that was open is read
-# at once.
+# Listing all records takes at most a tenth of the time, and one look reads them for READING seconds. The record of a match that was open is read at
+# once.
 SHARE, READING = 10, 1.0
-# The system lists many locks in pieces, and may leave one out while others go. So a lock must be missing in so many lists.
+# The system lists many locks in pieces, and may leave one out while others go. So a lock must be missing in this many lists.
 LOOKS = 5
-# The board of a match stays for so many seconds after its end.
+# The board of a match stays for this many seconds after its end.
 STAYS = 60
 # The stage of a match whose directory has only the names of its players: they get ABORT for a run that was ended.
 WAITING = "waiting"
@@ -85,7 +85,7 @@ class Sight(NamedTuple):
 
 
 class Delay:
-    """Returns the directory as it was so many seconds ago, by the clock of this computer: the times of files may be wrong."""
+    """Returns the directory as it was this many seconds ago, by the clock of this computer: the times of files may be wrong."""
 
     def __init__(self, seconds: float = 0.0) -> None:
         self.seconds = seconds
@@ -108,7 +108,7 @@ class Delay:
         return first if first.moment <= now - self.seconds else Sight(now, {}, Extent(0), first.is_held)
 
     def has_passed(self, name: str, value: object, age: float = 0.0) -> bool:
-        """Returns whether a value is the same as at the moment that is shown. A value that is seen first is so many seconds old."""
+        """Returns whether a value is the same as at the moment that is shown. A value that is seen for the first time is this many seconds old."""
         if self.seconds and self.things.get(name, (None,))[0] != value:
             self.things[name] = value, clock() - age
         return not self.seconds or clock() - self.things[name][1] >= self.seconds
@@ -329,7 +329,7 @@ def is_held(folder: pathlib.Path) -> bool:
 
 
 class Reader:
-    """The matches as the directory of a competition has them, or had them so many seconds ago. `version` counts the changes of open matches, and
+    """The matches as the directory of a competition has them, or had them a delay ago. `version` counts the changes of open matches, and
     `results_version` those of results."""
 
     def __init__(self, plan: Plan, referee: Referee, delay: Delay | None = None) -> None:
@@ -445,7 +445,7 @@ class Reader:
         self.version += before != self.given_up
 
     def show_restarts(self) -> None:
-        """Shows which players were restarted, once the rounds that were open then are finished: in these a player that has died did not answer."""
+        """Shows which players were restarted, once the rounds that were open then are finished: in these a dead player did not answer."""
         for restart in self.restarts:
             found = ((self.open[name], name, at) for name, at in restart.rounds.items() if name in self.open)
             restart.rounds = {name: seen.open_round() if at is None else at for seen, name, at in found if at is None or seen.turn() <= at}

@@ -15,7 +15,7 @@ from ggp_tools.records.match_logs import logged
 # The paths: the events, and the others.
 FEED, METRICS = "/api/events", "/metrics"
 API = re.compile(r"/api/(?:(table)|matches(?:\?page=([1-9][0-9]{0,5}))?|matches/([A-Za-z0-9_.-]+))")
-# A page of the list, and an event, has at most so many matches.
+# A page of the list and an event each have at most this many matches.
 MOST_LISTED = 500
 TABLE = ""
 Keys = dict[str, object]
@@ -40,7 +40,7 @@ def state_keys(reader: Reader, match: Match) -> Keys:
 
 
 def match_keys(reader: Reader, match: Match) -> Keys:
-    """Returns what the list says of a match."""
+    """Returns the entry of a match in the list."""
     return {"id": match.id, "game": match.game, "players": match.players, **state_keys(reader, match)}
 
 
@@ -76,7 +76,7 @@ def own_keys(reader: Reader, match: Match) -> Keys:
 
 
 def snapshot(reader: Reader, table: object) -> Keys:
-    """Returns what the events are about: the keys or the results of matches that do not wait, and under an empty name the table's version."""
+    """Returns the data of the event stream: the keys or results of the matches that do not wait, and the table's version under an empty name."""
     named = [*reader.open, *reader.given_up, *reader.faults]
     return {TABLE: table, **{name: match_keys(reader, reader.known[name]) for name in named if name in reader.known}, **reader.results}
 

@@ -1,4 +1,4 @@
-"""What the live pages say of matches that are open: their boards, whose answer is awaited, what was replaced, and what waits."""
+"""The parts of the live pages about open matches: boards, awaited answers, replaced moves, and waiting matches."""
 
 import dataclasses
 import datetime
@@ -20,9 +20,9 @@ from ggp_tools.records.show import Named, last_state, turn_of_page
 if typing.TYPE_CHECKING:
     from markupsafe import Markup
 
-# The first page has boards of so many open matches, and of so many that are just over, and lists so many that wait.
+# The first page has boards of at most BOARDS open matches and BOARDS_OVER matches that have just ended, and lists at most QUEUE waiting ones.
 BOARDS, BOARDS_OVER, QUEUE = 12, 6, 20
-# Of what no board shows so many terms are listed.
+# At most this many of the terms that no board shows are listed.
 MOST_TERMS = 60
 STAGES = {"asking": "its players are asked whether they are free", "checking": "its record is being checked"}
 OPEN_HEADS = ["match", "game", "players", "turn", "awaited", "for", "no answer"]
@@ -31,8 +31,8 @@ REPLACED = f"The last {MOST_REPLACED}, and of a match the last {MOST_OF_MATCH}."
 
 @dataclasses.dataclass(frozen=True)
 class Status:
-    """What an open match waits for, and since when: for a role that is to move, or for answers. Before half of the clock is over it names no
-    other player: how fast a player answers may tell what."""
+    """What an open match waits for, and since when: for the role whose turn it is, or for answers. In the first half of the clock it names no other
+    player, because the speed of an answer may reveal it."""
 
     text: str
     since: float
@@ -46,7 +46,7 @@ class Status:
 
 
 def live_part(name: str, macro: str = "", /, **values: object) -> Part:
-    """Returns a part that a macro of live.html makes; the macro has its name, if no other is given."""
+    """Returns a part that a macro of live.html makes: the one with the part's name, unless another is given."""
     return Part(name, html_of("live", macro or name, **values))
 
 
@@ -71,7 +71,7 @@ def open_row(seen: Seen, roles: tuple[str, ...]) -> Item:
 
 
 def state_html(states: list[list[str]], roles: tuple[str, ...], named: Named, notes: list[str]) -> "Markup":
-    """Returns the last one of states, where there is one."""
+    """Returns the last state as HTML, if there is one."""
     found = last_state(states, roles, named)
     more = max(0, len(found["terms"]) - MOST_TERMS) if found else 0
     shown = found and {**found, "terms": found["terms"][:MOST_TERMS], "gone": found["gone"][:MOST_TERMS]}
@@ -85,24 +85,24 @@ def board_item(seen: Seen, state: "Markup", roles: tuple[str, ...]) -> Item:
 
 
 def last_board_item(result: Result, state: "Markup", roles: tuple[str, ...]) -> Item:
-    """Returns the last state of a match that is over, with what came of it."""
+    """Returns the last state of a finished match, with its result."""
     name, said = f"board-{result.match.id}", winner_words(result) or "It is over."
     return name, html_of("live", "board", name=name, match=result.match, roles=roles, turn=result.turns, seen=None, said=said, state=state)
 
 
 def trouble_part(trouble: str) -> Part:
-    """Returns what each page says at its head if the plan can't be read as it is now."""
+    """Returns the message at the head of each page if the plan can't be read."""
     return live_part("trouble", text=trouble) if trouble else Part("trouble", "")
 
 
 def restart_words(player: str, restarts: tuple[int, str]) -> str:
-    """Returns how often a player that `play` starts was started again, and for which match last."""
+    """Says how often `play` restarted a player, and for which match the last time."""
     count, match = restarts
     return f"{player} was restarted {'once' if count == 1 else f'{count} times, the last time'}, for {match}"
 
 
 def now_part(reader: Reader, waiting: int, given_up: int) -> Part:
-    """Returns how many matches are open, and whether they are played at all."""
+    """Returns how many matches are open, and whether `play` is running."""
     faults = [f"{name} does not count: {why}" for name, why in list(reader.faults.items())[:QUEUE]]
     lines = [*faults, *reader.troubles_of_matches()[:QUEUE]]
     if reader.restarted:
@@ -112,14 +112,13 @@ def now_part(reader: Reader, waiting: int, given_up: int) -> Part:
 
 
 def replaced_part(replaced: list[tuple[Replaced, int]]) -> Part:
-    """Returns the last moves that were replaced, the newest first, each with the number of those before it in its match that are not
-    listed."""
+    """Returns the last replaced moves, the newest first, each with the number of earlier ones of its match that are not listed."""
     rows = [(entry, before, reason_of(entry.error), entry.error.partition(" ")[2]) for entry, before in replaced]
     return live_part("replaced", rows=rows, said=REPLACED)
 
 
 def live_parts(reader: Reader, boards: list[Item]) -> PageParts:
-    """Returns what the first page says of the matches that are not over."""
+    """Returns the parts of the first page about the matches that are not over."""
     left, why = reader.waiting(), reader.given_up
     given_up = [(match, why[match.id]) for match in left if match.id in why] if why else []
     waiting = ((match, "") for match in left if match.id not in why)
@@ -143,13 +142,13 @@ def match_head(match: Match, competition: Competition, roles: tuple[str, ...]) -
 
 
 def turn_row(turn: Turn) -> Item:
-    """Returns the row of a turn: the moves, and why one was replaced."""
+    """Returns the row of a turn: the moves, with the reasons for replaced ones."""
     moves = turn_of_page(turn.moves, turn.errors, turn.mover, lambda _, error: reason_of(error))
     return f"turn-{turn.number}", html_of("live", "turn_row", number=turn.number, moves=moves)
 
 
 def answers_part(seen: Seen) -> Part:
-    """Returns the last answer of each role in a round that is over."""
+    """Returns the last answer of each role in a finished round."""
     rows = [(seen.match.players[role], shown(said.message), shown(said.came()), said.ms) for role, said in sorted(seen.last.items())]
     return live_part("answers", rows=rows) if rows else Part("answers", "")
 

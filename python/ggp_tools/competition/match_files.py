@@ -1,5 +1,4 @@
-"""The files of the matches: which matches count, because they have a lawful record and a call log that gives it again, and how their files are
-written."""
+"""The files of the matches. A match counts if it has a lawful record and a call log that replays to this record."""
 
 import concurrent.futures
 import contextlib
@@ -26,15 +25,15 @@ if TYPE_CHECKING:
     from ggp_tools.competition.plan import Plan
     from ggp_tools.descriptions.loading import Rules
 
-# The matches that are checked together, and the bytes of their files unless one match has more, since all of these are in memory.
+# At most this many matches are checked together, and their files have at most this many bytes unless one match has more, since all are in memory.
 TOGETHER, BYTES_TOGETHER = 250, 1 << 25
 # Only one batch with more bytes is checked at a time.
 LARGE = threading.Lock()
 
 
 class Check(NamedTuple):
-    """What the check of a match's files found: its result, or why it does not count. `fault` says what is wrong with its files, `misfit` how they
-    differ from the match although nothing is wrong with them."""
+    """The check of a match's files: its result, or why it does not count. `fault` says what is wrong with its files, `misfit` how valid files differ
+    from the match."""
 
     match: Match
     fault: str | None = None
@@ -72,7 +71,7 @@ def record_bytes(folder: Folder, match: str, rules: bytes) -> bytes:
 
 
 def account_bytes(folder: Folder, match: str) -> bytes | None:
-    """Returns the call log of a match, or None if it is missing. Of one that is too long, this returns one byte too many."""
+    """Returns the call log of a match, or None if it is missing. If it is too long, this returns one byte too many."""
     try:
         return file_bytes(folder.account(match), LONGEST_ACCOUNT + 1)
     except FileNotFoundError:
@@ -109,7 +108,7 @@ def has_shape(record: object, roles: int) -> bool:
 
 
 def unverified_result(folder: Folder, competition: Competition, rules: Mapping[str, "Rules"], match: Match) -> Result | None:
-    """Returns what the record of a match says, or None if it has no record. Whether the match counts is checked later."""
+    """Returns the result of a match by its record, which is not checked yet, or None without a record."""
     try:
         data = record_bytes(folder, match.id, rules[match.game].text)
         record = json.loads(without_states(data))
@@ -175,7 +174,7 @@ def checks(plan: "Plan", referee: Referee, game: str, matches: Sequence[Match], 
 
 
 def check_records(plan: "Plan", referee: Referee, known: Known | None = None) -> tuple[dict[str, Result], dict[str, str], dict[str, str]]:
-    """Returns by their ids the results of the matches that count, and of the others that have records the faults and the misfits."""
+    """Returns, by match id, the results of the matches that count, and the faults and misfits of the others with records."""
     by_game: dict[str, list[Match]] = {}
     for match in plan.matches:
         if plan.folder.record(match.id).exists():

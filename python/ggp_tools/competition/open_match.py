@@ -30,7 +30,7 @@ FREE = ("available", "ready", "unknown")
 # At most this many bytes come from a launcher before a match, and this many are in the log for each message besides its texts.
 MOST_BEFORE, MOST_OF_MESSAGE = 1 << 20, 1 << 10
 TOO_MUCH = "it sent more than {:,} bytes, which no match has"
-# The players of a match that was lost with its node must answer ABORT within so many seconds.
+# The players of a match that was lost with its node must answer ABORT within this many seconds.
 ABORT_SECONDS = 5
 EVENT = b'{"event":'
 

@@ -68,13 +68,13 @@ def rows_part(name: str, title: str, heads: list[str], rows: list[Item], nothing
 
 
 def frame(parts: PageParts) -> list[tuple]:
-    """Returns what cannot change while a browser shows the page: the parts, and what is around their items."""
+    """Returns what cannot change while a browser shows the page: the parts, and the HTML around their items."""
     return [(part.name,) if isinstance(part, Part) else (part.name, part.opening, part.closing) for part in parts]
 
 
 def item_changes(old: Items, new: Items) -> tuple[list, list, list]:
-    """Returns the names of dropped items, the replaced items with their HTML, and the added ones, the last one first, each with the part, the item
-    before which it is inserted, and its HTML. An item that moves is dropped and added."""
+    """Returns the names of dropped items, the replaced items with their HTML, and the added ones, the last one first. An added item has its part, the
+    item before which it is inserted, and its HTML. An item that moves is dropped and added."""
     before, after = dict(old.items), dict(new.items)
     kept = [name for name, _ in old.items if name in after]
     if kept != [name for name, _ in new.items if name in before]:

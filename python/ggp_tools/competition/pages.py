@@ -33,11 +33,11 @@ from ggp_tools.templating import environment, page
 if typing.TYPE_CHECKING:
     from markupsafe import Markup
 
-# While matches are played, the pages are written again after at least so many seconds, and for at most a tenth of the time.
+# While matches are played, at least this many seconds pass before the pages are written again, which takes at most a tenth of the time.
 SECONDS, SHARE = 2, 10
-# The first page lists so many matches, and a crosstable has at most so many players.
+# The first page lists at most this many matches, and a crosstable has at most this many players.
 LAST, MOST_CROSSED = 20, 100
-# A page lists at most so many matches. The list of all matches has several pages.
+# A page lists at most this many matches. The list of all matches has several pages.
 MOST_LISTED = 500
 # The bytes of the records whose pages are made together.
 TOGETHER = 64 << 20
@@ -112,7 +112,7 @@ def pages_of_all(results: list[Result]) -> dict[str, list[Result]]:
 
 
 def rules_part(rules: Rules) -> Part:
-    """Returns the rules of a game, after the rules that its players get if these are others."""
+    """Returns the rules of a game, after the rules that its players get if they differ."""
     player_text = rules.player_rules
     player_sum = sum_of(player_text) if player_text is not None else ""
     return part("rules", text=rules.text, sum=sum_of(rules.text), player_text=player_text, player_sum=player_sum)
@@ -125,7 +125,7 @@ def match_page(head: "Markup", data: bytes, rules: bytes, answers: dict[tuple[in
 
 @dataclass(frozen=True)
 class Ended:
-    """What the pages show of a match that is over: when it began and ended, its row on the first page and on a page below it, and what its players did.
+    """What the pages show of a finished match: when it began and ended, its rows on the first page and on pages below it, and what its players did.
     If its log is too long, only its first lines were read for that."""
 
     result: Result
@@ -138,8 +138,8 @@ class Ended:
 
 
 class Site:
-    """The contents of a competition's pages by its results. What is shown of a match is made once. With gaps the first page lists the matches without a
-    record. `written`, if it is given, says when a record was written, so that no log needs to be read to find the last matches."""
+    """The contents of a competition's pages by its results. The part about a match is made once. With gaps, the first page lists the matches without
+    a record. `written` returns when a record was written, so that no log needs to be read to find the last matches."""
 
     def __init__(self, plan: Plan, shows_gaps: bool = False, written: Callable[[Result], float] | None = None) -> None:
         # If a module is missing, the command ends at once.

@@ -79,7 +79,7 @@ def read_file(path: Path) -> bytes:
 
 
 def read_planned(path: Path) -> bytes:
-    """Returns the bytes of a file that `plan` has written."""
+    """Returns the bytes of a file that `plan` wrote."""
     if not path.exists():
         raise Refused(f"{path} is not there", WRITES)
     return read_file(path)
@@ -243,8 +243,8 @@ def make_plan(path: str, referee: Referee, is_preview: bool = False) -> Plan:
 
 
 def history_of(folder: Folder, competition: Competition, rules: Mapping[str, Rules], key: bytes) -> tuple[History, dict[Path, bytes]]:
-    """Returns the history of a competition that was played, which ends with the planned file if competition.toml asks for other matches now; and that
-    file, if it must be stored."""
+    """Returns the history of a competition that was played, and the planned file if it must be stored. If competition.toml asks for other matches
+    now, the history ends with that file."""
     history, before = replace(read_history(folder), key=key), planned_before(folder, competition)
     if before is None or shape(before) == shape(competition):
         return history, {}

@@ -25,7 +25,7 @@ from ggp_tools.competition.started_players import StartedPlayers
 from ggp_tools.referee import Referee
 from ggp_tools.reporting import REDRAWN, Reporter
 
-# The players of matches that are ended must answer ABORT within so many seconds.
+# The players of matches that are ended must answer ABORT within this many seconds.
 ABORT_SECONDS = 3
 NOT_BEGUN, ENDED = "it was not begun", "it was ended before its end"
 # How many interrupts a signal counts as: after the first no more matches begin, the second ends the open ones.
@@ -44,9 +44,9 @@ class Playing:
         # `news` is set when matches may begin that could not before, or after an interrupt; `ends` when there is another result.
         self.news, self.ends = asyncio.Event(), asyncio.Event()
         self.players = StartedPlayers(plan.folder, plan.competition, referee, reporter)
-        # By the ids of matches, the results, and why there is none; by games, why their matches do not begin any more.
+        # By match id: the results, and why there is none. By game: why its matches do not begin any more.
         self.results, self.left, self.stopped = {}, {}, {}
-        # By games, how many seconds the finished matches took, from their INFO.
+        # By game: how many seconds the finished matches took, from their INFO.
         self.took: dict[str, list[float]] = {}
         self.open: dict[OpenMatch, asyncio.Task] = {}
         self.waiting: deque[Match] = deque()
@@ -181,8 +181,8 @@ class Playing:
         await self.abort(places, ABORT_SECONDS, going_on)
 
     async def abort(self, places: dict[str, list[str]], seconds: float | None = None, going_on: Container[str] = ()) -> None:
-        """Sends the players of these matches ABORT, within so many seconds if they are given. If a player does not answer, or the match may go on at a
-        node, the directory of the match stays, so that the next `play` sends it again."""
+        """Sends the players of these matches ABORT, within a number of seconds if it is given. If a player does not answer, or the match may go on at
+        a node, the directory of the match stays, so that the next `play` sends it again."""
         folder = self.plan.folder
         for match in places:
             leave_players(folder.open / match)

@@ -28,8 +28,8 @@ GAMES = threading.Lock()
 
 @dataclass(frozen=True)
 class Retirement:
-    """Why a role was retired, or has forfeited its match: the kinds of its errors in the turns that led to this, the last of these turns, and the first
-    one if they are not in a row."""
+    """Why a role was retired or has forfeited its match: the kinds of its errors, the last turn with one, and the first such turn if they are not in
+    a row."""
 
     errors: tuple[str, ...]
     turn: int
@@ -44,8 +44,8 @@ class Retirement:
 
 @dataclass(frozen=True)
 class Result:
-    """What a record says about its match: by roles the goals (none if the match has none), the number of errors of each kind, and why roles were retired.
-    `has_forfeits` says whether retired players forfeit, and `lapses` who forfeits because of too many replaced moves."""
+    """The result in a record: for each role the goal (none if the match has none), the number of errors of each kind, and why it was retired.
+    `has_forfeits` says whether retired players forfeit, and `lapses` which players forfeit because of too many replaced moves."""
 
     match: Match
     goals: tuple[int, ...]
@@ -70,8 +70,8 @@ class Result:
         return {role: why for whys in (self.lapses, retired) for role, why in enumerate(whys) if why}
 
     def counted(self) -> tuple[int | None, ...]:
-        """Returns the goals that count, by roles, or None without goals. A player that forfeits gets 0. A single opponent gets the full goal, because
-        moves that no player made have led to its own goal. Several opponents keep their goals, or share the full goal without any."""
+        """Returns the goals that count, by role, each None without goals. A player that forfeits gets 0. A single opponent gets the full goal,
+        because moves that no player chose have led to its own goal. Several opponents keep their goals, or share the full goal without any."""
         lost, roles = self.forfeits(), range(len(self.retirements))
         if not lost:
             return self.goals or (None,) * len(roles)
@@ -80,7 +80,7 @@ class Result:
         return tuple(0 if role in lost else kept[role] for role in roles)
 
     def worths(self) -> tuple[int, ...] | None:
-        """Returns numbers that order the players of the match, by roles: the goals that count, and -1 for a forfeit. Returns None without goals."""
+        """Returns numbers that order the players of the match, by role: the goals that count, and -1 for a forfeit. Returns None without goals."""
         lost, goals = self.forfeits(), self.counted()
         return None if None in goals else tuple(-1 if role in lost else goal for role, goal in enumerate(goals))
 
@@ -151,7 +151,7 @@ def kind_of(error: str) -> str:
 
 
 def retirement_of(record: dict, role: int) -> Retirement | None:
-    """Returns why a role was retired, after replaced moves in as many turns in a row as the strikes say, or None."""
+    """Returns why a role was retired: it had replaced moves in `strikes` turns in a row. None if it was not."""
     row: list[str] = []
     for number, turn in enumerate(record["errors"] if record["strikes"] else (), 1):
         if not turn[role]:
@@ -173,7 +173,7 @@ def result_of(record: dict, match: Match, has_forfeits: bool = False, lapses: tu
 
 
 def lapse_of(record: dict, data: bytes, rules: "Rules", role: int, most: int) -> Retirement | None:
-    """Returns why a role has lost a match by so many replaced moves, or None. A turn in which the ground game has one legal move for it does not
+    """Returns why a role has lost a match by this many replaced moves, or None. A turn in which the ground game has one legal move for it does not
     count."""
     errors, lapses = [turn[role] for turn in record["errors"]], []
     if len(errors) - errors.count("") < most:

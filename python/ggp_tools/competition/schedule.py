@@ -20,8 +20,8 @@ ROW = re.compile(rb"([A-Za-z0-9_.-]{1,60})\t([A-Za-z0-9_.-]{1,40})\t([0-9]{1,5})
 @dataclass(frozen=True)
 class Match:
     """A match: its id, its game, its clocks, its players' names in the order of the roles, and its round, if there are rounds. `again` is the match that
-    replaces it, with the reason, and `instead_of` the match that it replaces. `withdrawn` says who has withdrawn, so that it does not count, or is
-    not played."""
+    replaces it, with the reason, and `instead_of` the match that it replaces. `withdrawn` says which player has withdrawn, so that the match does not
+    count or is not played."""
 
     id: str
     game: str
@@ -43,8 +43,8 @@ class Match:
 
 def circle_steps(count: int, roles: int, rounds: int) -> Iterator[tuple[int, ...]]:
     """Yields for each block of matches how far the player of each role is from that of the first role, in a circle of all players. A block has a match
-    for each place in the circle, so each player has each role once. With two roles, each distance occurs once in a round. With more, the distance
-    is chosen at which players have met least."""
+    for each place in the circle, so each player has each role once. With two roles, each distance occurs once in a round. With more roles, the
+    distance is the one at which players have met least often."""
     if roles == 1:
         yield from [(0,)] * rounds
         return

@@ -16,7 +16,7 @@ from ggp_tools.streams import address, say, whole
 from ggp_tools.templating import end_without
 
 MOST_CONNECTIONS, MOST_DELAY = 4_096, 3_600
-# So many files may be open beside the connections.
+# At most this many files are open besides the connections.
 OTHER_FILES = 64
 NAME = "[A-Za-z0-9]([A-Za-z0-9.-]{0,251}[A-Za-z0-9])?"
 ORIGIN = re.compile(f"(https?)://({NAME})(?::([0-9]{{1,5}}))?", re.IGNORECASE)
@@ -24,7 +24,7 @@ DEFAULT_PORTS = {"http": 80, "https": 443}
 
 
 def matching(form: str, wanted: str) -> Callable[[str], str]:
-    """Returns what reads a text of this form."""
+    """Returns a function that accepts texts of this form."""
 
     def text(found: str) -> str:
         if not re.fullmatch(form, found):
@@ -39,7 +39,7 @@ BASE = matching("(/[A-Za-z0-9_~-][A-Za-z0-9._~-]*)*", "a path that begins with /
 
 
 def origin(text: str) -> str:
-    """Returns an origin as browsers write it: in small letters, and without the usual port of its scheme."""
+    """Returns an origin as browsers write it: in lower case, and without the usual port of its scheme."""
     found = ORIGIN.fullmatch(text)
     if not found or not 1 <= int(found[4] or 1) <= MOST_PORT:
         raise argparse.ArgumentTypeError(f"expected an origin, such as https://club.example, found {text!r}")
@@ -80,7 +80,7 @@ async def serve(site: LiveSite, asked: argparse.Namespace) -> None:
     except ImportError as why:
         end_without(why)
     server, stopped = Server(site, asked.connections, asked.base_path, asked.host, asked.embed), asyncio.Event()
-    # A shell that runs this in the background has interrupts ignored.
+    # A shell that runs this in the background makes it ignore interrupts.
     for number in (signal.SIGINT, signal.SIGTERM):
         asyncio.get_running_loop().add_signal_handler(number, stopped.set)
     try:

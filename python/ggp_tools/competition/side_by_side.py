@@ -12,14 +12,14 @@ from collections.abc import Callable, Iterator, Sequence
 from ggp_tools.referee import Unchecked
 
 PROCESSORS = min(8, len(os.sched_getaffinity(0)))
-# The calls that are worth several processes, and how many of them a process gets at a time.
+# From this many calls on, several processes share them, each this many at a time.
 MANY, CHUNK = 100, 16
-# In such a process: the function and the arguments of each call. They are inherited, and not sent.
+# In such a process: the function and the arguments of each call, which it inherits.
 WORK: list[typing.Any] = []
 
 
 def begin(function: Callable[..., object], calls: Sequence[tuple]) -> None:
-    """Begins such a process. An interrupt is meant for the process that waits for it."""
+    """Prepares such a process. It ignores interrupts, which the process that waits for it handles."""
     signal.signal(signal.SIGINT, signal.SIG_IGN)
     WORK[:] = function, calls
 

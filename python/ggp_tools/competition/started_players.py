@@ -18,15 +18,15 @@ from ggp_tools.reporting import Reporter
 
 # The address of a player that does not run. Nothing listens at this port.
 HERE, NOWHERE = "127.0.0.1", "127.0.0.1:1"
-# A player must end within so many seconds.
+# A player must end within this many seconds.
 END_SECONDS = 15
-# The pause between two INFO to a player that is starting. Each is twice the one before, up to a second.
+# The first pause between two INFO to a player that is starting. Each pause is twice the one before, up to a second.
 FIRST_PAUSE, LONGEST_PAUSE = 0.05, 1.0
 # A larger log is renamed, and replaces the one that was renamed before.
 MOST_BYTES = 1 << 20
-# If so many bytes come at once, the next ones are read after a pause, so that a player cannot slow down matches.
+# If this many bytes come at once, the next ones are read after a pause, so that a player cannot slow down matches.
 CHUNK, CHUNK_PAUSE = 1 << 16, 0.02
-# If a player does not start, so many of its last lines are reported.
+# If a player does not start, at most this many of its last lines are reported.
 LAST_LINES = 5
 
 
@@ -154,7 +154,7 @@ def ended_words(job: Job) -> str:
 
 
 class StartedPlayers:
-    """All players of a competition that have a command. Each is started before its first match, and ended when `play` ends."""
+    """The players of a competition that have a command. Each is started before its first match, and ended when `play` ends."""
 
     def __init__(self, folder: Folder, competition: Competition, referee: Referee, reporter: Reporter) -> None:
         self.competition = competition

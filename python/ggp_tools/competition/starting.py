@@ -1,4 +1,4 @@
-"""The start of `ggp_competition`: Ctrl-C before anything is begun ends it without a word."""
+"""Starts `ggp_competition`. Ctrl-C before that ends it silently."""
 
 import signal
 

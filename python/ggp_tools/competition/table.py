@@ -52,13 +52,13 @@ class Line:
         return round(self.goals / self.scored, 2) if self.scored else None
 
     def points(self) -> float:
-        """Returns a point for each win and half of one for each draw, in a Swiss competition also the points of byes."""
+        """Returns a point for each win and half a point for each draw. A Swiss competition adds the points of byes."""
         return self.won + self.drawn / 2 if self.round_points is None else self.round_points
 
     def order(self, by: str) -> tuple[float, ...]:
-        """Returns a key that orders lines: the mean goals as they are printed, or 0 without any, then wins, then fewer losses; before that the points, if
-        the order is by points. In a Swiss competition these are the points and Buchholz's number, in a knockout the rounds, and in a Swiss competition
-        with a final first the rounds of the final."""
+        """Returns a key that orders lines: by points if the order is by points, then by the printed mean goal (0 without goals), by wins, and by
+        fewer losses. A knockout is ordered by rounds won; a Swiss competition by points and Buchholz's number, with a final first by rounds won in
+        it."""
         if by in (SWISS, FINAL):
             final = -1 if self.rounds_won is None else self.rounds_won
             return *((-final,) if by == FINAL else ()), -self.points(), -(self.buchholz or 0)
@@ -70,8 +70,9 @@ class Line:
 
 @dataclass
 class Table:
-    """The lines of a game, or of all games, by players; by pairs of players the points of the first against the second, and how often they met; the
-    order of the lines; the matches that others replace; and, if it is of all games, the rounds, and remarks about players that have withdrawn."""
+    """The table of a game, or of all games: the lines by player; for each pair of players the points of the first against the second, and how often
+    they met; the order of the lines; and the matches that rematches replace. That of all games also has the rounds, and remarks about withdrawn
+    players."""
 
     game: str
     lines: dict[str, Line]
@@ -88,7 +89,7 @@ class Table:
         return sorted((line for line in self.lines.values() if line.matches or line.byes), key=lambda line: line.order(self.by))
 
     def ranks(self) -> list[int]:
-        """Returns the ranks of the standings. Equal lines share a rank, and the ranks after it stay free."""
+        """Returns the ranks of the standings. Equal lines share a rank, and the next ranks stay free."""
         orders, first = [line.order(self.by) for line in self.standings()], {}
         for at, order in enumerate(orders, 1):
             first.setdefault(order, at)

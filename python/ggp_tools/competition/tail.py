@@ -1,4 +1,4 @@
-"""Reads a file that grows: each time what was added to it."""
+"""Reads the new lines of a file that grows."""
 
 import os
 from collections.abc import Callable
@@ -7,26 +7,26 @@ from typing import BinaryIO, Generic, TypeVar
 from ggp_tools.competition.files import opened_file
 from ggp_tools.match_log import whole_lines
 
-# At a time so much of a log is read, so that one of many matches holds up no other.
+# At most this many bytes are read at a time, so that a long log does not delay the others.
 MOST_READ = 1 << 20
-# By its first bytes a file is known that has another one's place. The log of a match has there when it began.
+# The first bytes show whether another file has replaced this one: the log of a match has the time of its begin there.
 HEAD = 256
 T = TypeVar("T")
 
 
 class Tail(Generic[T]):
-    """What the lines of a growing file say. The file is read on from where it was; if it was replaced or cut, from its beginning. Once it is
-    gone, its lines are read from a later file, which has them too."""
+    """The parsed lines of a growing file. Each read continues where the last one ended, or at the beginning if the file was replaced or cut. Once the
+    file is gone, a later file that has its lines too is read instead."""
 
     def __init__(self, path: str, parse: Callable[[bytes], T | None], later: str = "") -> None:
         self.path, self.parse, self.later = path, parse, later
         self.place, self.number, self.head = 0, None, b""
-        # Whether lines up to the last size that was asked for are still to be read.
+        # Whether some lines up to the requested size are still unread.
         self.is_behind = False
 
     def added(self, until: int, number: int = 0, head: bytes = b"") -> tuple[list[T], bool]:
-        """Returns what was added until the file had so many bytes, and whether it is another one than before. Nothing is added to a file that
-        can't be read, or is not the one with this number and these first bytes."""
+        """Returns the new lines up to a size of the file, and whether it is another file than before. There are none if the file can't be read, or
+        has another number or other first bytes than these."""
         if self.later and not os.path.exists(self.path):
             self.path, self.later, self.number = self.later, "", None
         try:
@@ -46,7 +46,7 @@ class Tail(Generic[T]):
         return is_file and os.pread(file.fileno(), HEAD, 0).startswith(head)
 
     def begin(self, file: BinaryIO) -> bool:
-        """Returns whether a file is another one than before. Then it is read from its beginning."""
+        """Returns whether a file is another one than before, which is then read from its beginning."""
         found, head = os.fstat(file.fileno()), file.read(HEAD)
         is_other = self.number not in (None, found.st_ino) or found.st_size < self.place or not head.startswith(self.head)
         if is_other:

@@ -41,7 +41,7 @@ def read_toml(text: str) -> tuple[dict, dict[Path, int]]:
     except RecursionError:
         raise TomlFault(1, "", "its arrays or tables stand too deep in one another") from None
     except ValueError:
-        # Python does not convert a number with so many digits.
+        # Python does not convert a number with that many digits.
         raise TomlFault(1, "", "a number in it has too many digits") from None
 
 

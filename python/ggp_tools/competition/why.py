@@ -67,8 +67,8 @@ def parts_at(notes: list[Entry], beginning: str) -> list[list[Entry]]:
 
 
 def in_order(notes: list[Entry], runs: list[list[Entry]], match_id: str) -> list[Entry]:
-    """Returns the notes of the journal and the runs of the log, both in the order of their lines, because a clock may be set back. A run follows the note
-    of its beginning. The log may lack the first runs."""
+    """Merges the notes of the journal and the runs of the log, both in the order of their lines, because a clock may be set back. A run follows the
+    note of its beginning. The log may lack the first runs."""
     before, *begun = parts_at(notes, f"begin {match_id} ")
     if not begun:
         return marked([*notes, *sum(runs, [])])
