@@ -86,7 +86,7 @@ class Illegal:
 
 
 class Whys:
-    """Returns what a page adds to a substituted move: the legal moves, or why the answer is not an expression. `answers` are by role and turn.
+    """Returns the text that a page adds to a replaced move: the legal moves, or why the answer is not an expression. `answers` are by role and turn.
     Without a game there is nothing about legal moves."""
 
     def __init__(self, record: dict, game: Callable[[], Game] | None, answers: dict[tuple[int, int], str]) -> None:

@@ -101,7 +101,7 @@ class Reporter:
         self.line(f"begin {match.id} {match.game} {' '.join(match.players)}{on_host}")
 
     def ends(self, result: Result, seconds: float) -> None:
-        """Reports the goal of each player, the number of its substituted moves, and forfeits with their reason."""
+        """Reports the goal of each player, the number of its replaced moves, and forfeits with their reason."""
         match = result.match
         goals = result.goals or ["none"] * len(match.players)
         parts = [", ".join(f"{player} {goal}" for player, goal in zip(match.players, goals))]

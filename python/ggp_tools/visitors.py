@@ -12,8 +12,8 @@ THIS_COMPUTER = "this computer"
 
 
 def client_of(address: str) -> str:
-    """Returns the client of an address. A host with an IPv6 address mostly has all addresses with the same 64 bits, and an IPv4 address may be
-    written as one of IPv6."""
+    """Returns the client of an address. A host with IPv6 usually has all addresses with the same first 64 bits. An IPv4 address may be in IPv6
+    notation."""
     found = ipaddress.ip_address(address.partition("%")[0])
     found = getattr(found, "ipv4_mapped", None) or found
     if found.is_loopback:
@@ -22,7 +22,7 @@ def client_of(address: str) -> str:
 
 
 class Connection(Protocol):
-    """A connection of a client. It is idle until its whole request is there. `end` closes it, and calls `go` of its visitors."""
+    """A connection of a client. It is idle until its whole request has arrived. `end` closes it, and calls `go` of its visitors."""
 
     client: str
     is_idle: bool
@@ -31,7 +31,7 @@ class Connection(Protocol):
 
 
 class Visitors:
-    """The connections, at most so many at once. One client has at most half of them, except this computer, which may be a proxy. Threads may
+    """The connections, at most `most` at once. One client has at most half of them, except this computer, which may be a proxy. Threads may
     share this object."""
 
     def __init__(self, most: int) -> None:
@@ -45,8 +45,8 @@ class Visitors:
         return self.most if client == THIS_COMPUTER else max(1, self.most // 2)
 
     def has_room_for(self, client: str) -> bool:
-        """Returns whether one more connection of a client is served, if necessary after the oldest idle one has given way: one of this client if it
-        has its share, else one of the client that has most idle ones."""
+        """Returns whether one more connection of a client is served. If necessary, the oldest idle connection gives way: this client's if it has used
+        up its share, else that of the client with the most idle connections."""
         with self.lock:
             is_own = self.counts[client] >= self.most_of(client)
             if not is_own and len(self.connections) < self.most:
@@ -72,7 +72,7 @@ class Visitors:
 
     @contextlib.contextmanager
     def viewing(self, client: str) -> Iterator[bool]:
-        """Yields whether a client may have one more page open that gets changes. The last eighth of all connections, and of those of a client, is for
+        """Yields whether a client may open one more page that gets changes. The last eighth of all connections, and of those of a client, is for
         loading pages."""
         counts = (self.viewers.total(), self.most), (self.viewers[client], self.most_of(client))
         is_served = all(count < most - most // 8 for count, most in counts)

@@ -36,9 +36,8 @@ class Stopped(NoDescription):
 
 @dataclass(frozen=True)
 class Rules:
-    """The ground description of a game: its text, its checksum and its roles; the description with variables for players, if they do not get the
-    rules themselves; the checksum of the file that all of this was made from, if known; notes of `ggp-instantiate`; and whether the large limits
-    apply."""
+    """The ground description of a game: its text, checksum and roles. `player_rules` is the description for players, if it is not this text.
+    `description_sum` is the checksum of the file that all this was made from, if known."""
 
     text: bytes
     sum: str

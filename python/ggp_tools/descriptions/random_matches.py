@@ -23,7 +23,7 @@ BESIDE_TURNS = 10_000
 
 
 def sum_of(texts: list[str]) -> bytes:
-    """Returns a checksum of the terms of a state. Of most states only this is kept."""
+    """Returns a checksum of the terms of a state. For most states only this is kept."""
     return hashlib.sha256("\n".join(texts).encode()).digest()
 
 
@@ -59,8 +59,8 @@ class Played(Match):
 
 @dataclass
 class Ended:
-    """A finished match: its seed, its number of turns, the goals, the cause if it was aborted, with the role's name, the last state if it is the
-    first one with that cause, and the maximum number of legal moves of each role."""
+    """A finished match: its seed, number of turns and goals, and the maximum number of legal moves of each role. An aborted match has a cause with
+    the role's name, and its last state if it is the first match with that cause."""
 
     seed: int
     turns: int

@@ -110,7 +110,7 @@ class Following:
         return after
 
     def look_at_move(self, when: str, position: Position, role: str, move: Term, error: str) -> None:
-        """Checks that a move is legal. If it was substituted, it must be the first legal move, and the answer must be illegal."""
+        """Checks that a move is legal. A replaced move must be the first legal one, and the answer must be illegal."""
         if not self.game.is_legal(position, role, move):
             raise Differs(f"{when}: the record plays {quoted(move)}, which is not legal by the description")
         if error.startswith(ILLEGAL) and error != UNREADABLE:
@@ -122,8 +122,8 @@ class Following:
             self.look_at_first(when, position, role, move)
 
     def look_at_first(self, when: str, position: Position, role: str, first: Term) -> None:
-        """Checks that no legal move must come before the substituted one. Moves are ordered by the sentence that derives them, then by head. If
-        several sentences derive a move, its place may be unknown."""
+        """Checks that no legal move must come before the one that replaces an answer. Moves are ordered by the sentence that derives them, then by
+        head. If several sentences derive a move, its place may be unknown."""
         least = self.least_place(role, first)
         for move in self.game.moves(position, role):
             greatest = self.greatest_place(position, role, move)

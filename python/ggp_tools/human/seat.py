@@ -83,7 +83,7 @@ class Seat:
         self.deadline = 0.0
         self.play_clock = 0
 
-    # ---- what the referee says
+    # ---- the referee's messages
 
     def answer(self, text: str, receiver: str = "") -> str | None:
         """Answers a message to a receiver. Returns None if the person made no move in time, or if a later message came."""
@@ -191,7 +191,7 @@ class Seat:
         own = spelled(moves[self.roles.index(spelled(self.role))])
         return f"Your move was replaced by {own}." if own != self.sent else ""
 
-    # ---- what the person sees and does
+    # ---- the page
 
     def show(self, phase: str, legal: list[str], note: str) -> None:
         """Shows the current state."""

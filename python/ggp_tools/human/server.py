@@ -1,5 +1,5 @@
 """Serves the referee and the person's browser on one port: POST / is a message of the referee, GET /TOKEN/ is the page. Only the person has the
-token, so other users of this computer and pages of other sites cannot see the page or the chosen move."""
+token, so other users of this computer and pages of other sites cannot see the page or the move."""
 
 import contextlib
 import io
@@ -24,7 +24,7 @@ MOST_BYTES, MOST_MOVE = 33_554_432, 65_536
 INTRODUCES = re.compile(r"[\s(]*(?:info|start)\b", re.IGNORECASE)
 # After this many seconds without a change the page gets a line, which also detects that the page was closed.
 ALIVE = 1.0
-# A request must be there after so many seconds, and one more for each MiB of its body. A reader must take the answer in PATIENCE seconds.
+# A request must arrive within this many seconds, and one more for each MiB of its body. The client must accept the answer within PATIENCE seconds.
 REQUEST_SECONDS, PATIENCE = 5, 30
 # The maximum number of connections.
 MOST_CONNECTIONS = 128
@@ -59,7 +59,7 @@ class Request(io.RawIOBase):
         return self.connection.recv_into(data)
 
     def is_whole(self) -> None:
-        """Notes that the request is there: the connection gives way to no other, and its answer has another deadline."""
+        """Notes that the request has arrived: the connection does not give way any more, and its answer has another deadline."""
         self.is_idle = False
         self.connection.settimeout(PATIENCE)
 
@@ -113,7 +113,7 @@ class Handler(BaseHTTPRequestHandler):
             # Browsers send one of these headers when a page posts; referees send neither.
             self.send_error(HTTPStatus.FORBIDDEN)
         elif not is_trusted:
-            # Long messages of strangers are not read, because parsing them could take minutes.
+            # Long messages from unknown senders are not read, because parsing them could take minutes.
             self.reply(HTTPStatus.OK, "text/acl", b"busy")
         elif body is None:
             self.send_error(HTTPStatus.BAD_REQUEST)

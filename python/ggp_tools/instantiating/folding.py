@@ -1,8 +1,8 @@
 """Factors ground rules into fewer and shorter sentences for the same game.
 
-Rules with one head that differ in one literal are repeatedly merged into one with an `or`. A sentence that is used once, or that only renames
-another, is inlined, and a formula that many sentences share becomes a sentence, if this makes the text smaller. If there are still too many
-sentences, those of one head are joined, and more sentences are inlined, those first that cost the fewest bytes.
+Rules with one head that differ in one literal are repeatedly merged into one with an `or`. If this makes the text smaller, a sentence that is used
+once, or that only renames another, is inlined, and a formula that many sentences share becomes a sentence. If there are still too many sentences,
+those of one head are joined and more are inlined, the cheapest in bytes first.
 
 The meaning of sentences never changes, so states, moves, goals and ends stay the same. The first sentence of a head keeps its place, so the
 order of roles and of legal moves stays the same too.
@@ -26,8 +26,8 @@ ROUNDS = 30
 LEAST_BYTES = 24
 
 
-# In all games that were tried, factoring takes at least MORE_WORK times the work of the first estimate, and if sentences must be inlined, the text
-# does not become shorter than by the factor SHORTER.
+# In all tried games, factoring takes at least MORE_WORK times the work of the first estimate. If sentences must be inlined, the text shrinks by at
+# most the factor SHORTER.
 MORE_WORK, SHORTER = 1.5, 2
 
 

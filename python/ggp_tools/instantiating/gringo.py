@@ -40,7 +40,7 @@ class LogicProgram:
         return literal.same or relation(literal.atom) not in self.unsettled
 
     def lines_of(self, rule: Rule) -> list[str]:
-        """Returns the lines of a rule. A relation that the grounder can evaluate is derived exactly. Of the others everything that can be true is
+        """Returns the lines of a rule. A relation that the grounder can evaluate is derived exactly. For the others everything that can be true is
         derived, so negations are dropped."""
         names = {name: f"V{k}" for k, name in enumerate(variables((rule.head, *(literal.atom for literal in rule.body))))}
         body = [self.literal(literal, names) for literal in rule.body if literal.positive or self.is_settled(literal)]

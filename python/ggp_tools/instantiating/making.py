@@ -48,8 +48,8 @@ def forms(rules: list[Rule], is_whole: bool, is_split: bool) -> list[Form]:
 
 
 class Written(NamedTuple):
-    """A ground description: its sentences, each with the number of the sentence that it comes from, its text, the limited quantities, the notes at
-    its top, the factored game if it was factored, and whether the large limits apply."""
+    """A ground description: its sentences, each with the number of the sentence that it comes from, its text, the limited quantities, and the notes
+    at its top; the factored game, if any; and whether the large limits apply."""
 
     sentences: list
     text: str

@@ -1,6 +1,6 @@
-"""Writes facts about a match that its record does not have, as a line of JSON: the checksums of the record and of the rules, the referee, and, from
-a log, when the match was played, how long each message took, and why an answer was broken. examples/records/README.md describes the keys. They
-mean the same as in `matches.jsonl` of a competition."""
+"""Writes facts about a match that its record does not have, as a line of JSON: the checksums of the record and of the rules, and the referee. A log
+adds the time of the match, how long each message took, and why an answer was broken. examples/records/README.md describes the keys. They mean the
+same as in `matches.jsonl` of a competition."""
 
 import errno
 import json
@@ -21,8 +21,8 @@ TWO_RECORDS, TWO_LOGS = "several matches have this id", "several matches of the 
 
 
 def description_sums(rules: str, descriptions: str | None) -> dict[str, str]:
-    """Returns the checksums of the descriptions that were grounded, by game: those of the files in a directory, else those that are stored next to
-    the rules, as in a competition."""
+    """Returns the checksums of the descriptions that were grounded, by game: from the files in a directory, or else from the file next to the rules
+    that a competition has."""
     if descriptions is not None:
         return {file.stem: sum_of_file(file) for file in sorted(pathlib.Path(descriptions).iterdir()) if file.suffix == ".kif" and file.is_file()}
     path = pathlib.Path(rules, DESCRIPTIONS)
@@ -33,7 +33,7 @@ def description_sums(rules: str, descriptions: str | None) -> dict[str, str]:
 
 
 def version_beside(rules: str) -> str | None:
-    """Returns the version of the referee that is stored next to a directory of rules, as in the archive of a competition, or None."""
+    """Returns the version of the referee from the file VERSION next to a directory of rules, or None. The archive of a competition has that file."""
     path = pathlib.Path(rules).absolute().parent / VERSION
     data = path.read_bytes() if path.is_file() else b""
     return data.decode("ascii").strip() if VERSION_LINE.fullmatch(data) else None
@@ -85,8 +85,8 @@ class Exchanges:
 
 
 def messages_of(exchanges: Exchanges, logged: Beginning) -> list[list[list | None]] | str:
-    """Returns the messages of each role as kind and milliseconds, None where the log lacks a line, or else a reason why the log does not belong to
-    the record."""
+    """Returns the messages of each role as kind and milliseconds, or None for a missing line. If the log does not belong to the record, returns the
+    reason."""
     messages: list[list[list | None]] = [[None] * exchanges.last(role) for role in range(len(exchanges.players))]
     for role, number, kind, milliseconds, known in logged.messages():
         if not exchanges.has(role, number, KINDS[kind], known):

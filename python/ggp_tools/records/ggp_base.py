@@ -1,5 +1,5 @@
-"""Writes records in the format of ggp-base: each match is a JSON object in its own file. examples/records/README.md says what becomes of each
-key. Times come from logs."""
+"""Writes records in the format of ggp-base: each match is a JSON object in its own file. examples/records/README.md describes each key. Times come
+from logs."""
 
 import hashlib
 import json

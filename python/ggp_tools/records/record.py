@@ -17,7 +17,7 @@ COMPLETED, ABORTED = ("stopping", "finished"), ("aborting", "aborted")
 PHASES = ("starting", "playing", *COMPLETED, *ABORTED)
 ERRORS = ("", "TO", "CE", "RT", "IL ?")
 CAUSE = re.compile(r"(asked|toolong|allretired)|(nolegal|nogoal) (0|[1-9][0-9]?)")
-# The referee uses the same format. A reply never ends as a record does, so a record that was joined to a cut line does not match.
+# The referee uses the same format. A reply never ends like a record, so a record that was appended to a cut line does not match.
 ACCOUNT_LINE = re.compile(rb"[0-9]+\t(?:open|strict|next|submit|miss|query|abort)(?: [^\t]*)?\t[^\t]*[0-9A-Za-z)]")
 LONGEST_EXPRESSION, MOST_OF_VALUE, MOST_OF_ROLES = 8_192, 80, 1_000
 # The JSON parser is recursive, and more than ROOM calls overflow its stack. Records are nested three lists deep. The limit applies to all
@@ -91,7 +91,7 @@ def cut_lines(doc: str, why: json.JSONDecodeError) -> list[str]:
     return []
 
 
-# ---- what a record holds
+# ---- the keys of a record
 
 # Checks the type of a value.
 Kind = Callable[[object], bool]

@@ -33,10 +33,10 @@ ONE_RECORD = "Pass one record, or make a page of each with `ggp-records pages`"
 LONGEST_AXIS = 32
 # A page that would have more boards lists terms instead, because a board is about a hundred times as long as its terms.
 MOST_DRAWN = 32_768
-# A single state is drawn from at most so many terms of it, of the states before it, and of the rules, and its boards have at most so many places and
-# names together. This bounds the processor time of a drawing to about half a second. A larger state is listed as text.
+# A single state is drawn from at most this many terms: its own, those of earlier states, and those of the rules. Its boards have at most this many
+# places and names together. This bounds the processor time of a drawing to about half a second. A larger state is listed as text.
 MOST_READ, MOST_PLACES = 16_384, 4_096
-# A part of the page of a long match draws states of at most so many terms together, which takes about as long.
+# A part of the page of a long match draws states with at most this many terms together, which takes about as long.
 MOST_OF_PART = 16_384
 # The sizes of the caches of cells and of openings of boards.
 MOST_CELLS, MOST_BOARDS = 16_384, 64
@@ -210,8 +210,8 @@ def form_of(words_by_state: list[list[list[str]]], members: list[set[str]]) -> t
 
 
 class Named:
-    """The terms and moves in rules: for each relation the words of each term of a state, with or without variables, and the legal moves; and whether
-    the places of boards are hexagons, if this does not follow from their shape."""
+    """The terms and moves in rules, with or without variables: for each relation the words of each term of a state, and the legal moves. `is_hex`
+    says that boards have hexagons, if their shape does not show it."""
 
     def __init__(self, sentences: Iterable[Expression] = (), is_hex: bool = False) -> None:
         heads = [head for head in map(head_of, sentences) if head[0] in ("init", "next", "legal") and len(head) > 1]
@@ -343,8 +343,8 @@ def board_page(
 def states_of_page(
     states: list[list[str]], roles: Sequence[str], named: Named = Named(), since: int = 0, most: float = math.inf, is_played: bool = False
 ) -> Iterator[dict[str, Any]]:
-    """Yields each state from a number on: its boards, unless they have more than `most` places together, the terms that no board shows (current,
-    previous and removed ones), and the role whose turn it is, if the state has it."""
+    """Yields each state from a number on: its boards, unless they have more than `most` places together; the terms that no board shows (current,
+    previous and removed ones); and the role whose turn it is, if the state has it."""
     boards = boards_of(states, named)
     is_drawn = len(boards) * (len(states) - since) <= MOST_DRAWN and sum(board.size(is_played) for board in boards) <= most
     boards = boards if is_drawn else []
@@ -367,7 +367,7 @@ def states_of_page(
 
 
 def last_state(states: list[list[str]], roles: Sequence[str], named: Named, is_played: bool = False) -> dict[str, Any] | None:
-    """Returns the last one of states, if there is one, drawn by as many states before it as may be read."""
+    """Returns the drawing of the last state, if there is one, with as many states before it as may be read."""
     count = sum(size <= MOST_READ for size in itertools.accumulate(map(len, reversed(states))))
     if states and not count:
         return {"boards": "", "terms": states[-1], "before": None, "gone": [], "is_empty": False, "drawn": []}
@@ -400,7 +400,7 @@ def is_on_board(term: str, forms: set[tuple[str, int]]) -> bool:
 
 
 def turn_of_page(moves: Sequence[str], errors: Sequence[str], mover: int | None, why: Callable[[int, str], str]) -> list[dict[str, object]]:
-    """Returns the moves of a turn by role, with the reasons for substitutions."""
+    """Returns the moves of a turn by role, with the reasons for replaced moves."""
     found = []
     for role, (move, error) in enumerate(zip(moves, errors)):
         # The only legal move of a role whose turn it is not is one word, such as `noop`.
@@ -410,7 +410,7 @@ def turn_of_page(moves: Sequence[str], errors: Sequence[str], mover: int | None,
 
 
 def parts_of(states: list[list[str]]) -> list[range]:
-    """Returns the parts of a long match: numbers of states, of which each part draws at most so many terms."""
+    """Returns the parts of a long match: for each part the numbers of its states, which have at most this many terms."""
     starts, size = [0], 0
     for number, state in enumerate(states):
         size += len(state)
@@ -422,8 +422,8 @@ def parts_of(states: list[list[str]]) -> list[range]:
 
 @dataclass(frozen=True)
 class Frame:
-    """How the page of a match is made: its head as HTML, the names in the rules, the winner if not the goals determine it, and which one of its parts is
-    shown, or all of them."""
+    """How the page of a match is made: its head as HTML, the names in the rules, the winner if the goals do not determine it, and the part that is
+    shown, or all parts."""
 
     head: "Markup | str" = ""
     named: Named = Named()
@@ -434,7 +434,7 @@ class Frame:
 def page_of(
     record: dict, game: Callable[[], Game] | None = None, answers: dict[tuple[int, int], str] | None = None, frame: Frame = Frame()
 ) -> bytes:
-    """Returns the page in ASCII. With the game and the answers, by role and turn counted from 0, the page explains substituted moves."""
+    """Returns the page in ASCII. With the game and the answers, by role and turn counted from 0, the page explains replaced moves."""
     all_states, moves, errors, whys = record["states"], record["moves"], record["errors"], Whys(record, game, answers or {})
     parts = [range(len(all_states))] if frame.part is None else parts_of(all_states)
     part = parts[frame.part or 0]

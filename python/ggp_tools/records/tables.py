@@ -1,5 +1,5 @@
-"""Writes tables of matches, players and moves as an SQLite database or as CSV. Each row has whether its record is lawful and which earlier record
-it is a copy of. The views have only lawful records, each once."""
+"""Writes tables of matches, players and moves as an SQLite database or as CSV. Each row says whether its record is lawful, and whether it is a copy
+of an earlier record. The views have only lawful records, each once."""
 
 import contextlib
 import csv
