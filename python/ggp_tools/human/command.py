@@ -4,7 +4,7 @@
 
 The referee reaches it at `NAME@HOST:P`, like any other player. It prints the address of its page. Open this address in a browser. It
 contains a token: without the token nobody can see the page or move. Until the page is open, INFO is answered `busy` and START waits. The page
-shows the board, the clock, the last moves and substituted moves. To move, click on the places or the column of the move, or on its button. If
+shows the board, the clock, the last moves and replaced moves. To move, click on the places or the column of the move, or on its button. If
 only one move is legal, it is made without asking while the page is open. The rules may have variables (`--player-rules` of the referee).
 """
 

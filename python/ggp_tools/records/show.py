@@ -22,7 +22,7 @@ if TYPE_CHECKING:
     from markupsafe import Markup
 
 ABOUT = (
-    "Makes a page of a match record for a browser. The page shows the players and how the match ended, a table of all turns with substituted "
+    "Makes a page of a match record for a browser. The page shows the players and how the match ended, a table of all turns with replaced "
     "moves, and each state with its changes. A state is shown as a board if its terms name places, unless the page would have more than 32,768 "
     "boards. The page is one file, loads nothing, and runs only its own script. If the file is not a record, the command says why. It does not "
     "check whether the match is lawful: use `ggp_manager verify` for this."
