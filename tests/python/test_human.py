@@ -107,9 +107,10 @@ class Seats(unittest.TestCase):
 
     def test_time_that_is_over_is_no_answer(self):
         self.begin()
-        self.seat.play_clock = 0
+        self.seat.play_clock, began = 1, time.monotonic()
         self.assertIsNone(self.seat.answer("(PLAY M NIL)"))
         self.assertEqual(self.seat.view["phase"], "late")
+        self.assertGreater(time.monotonic(), began + 1)
 
     def test_a_move_that_comes_late_is_not_taken(self):
         self.begin()

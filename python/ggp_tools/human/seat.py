@@ -168,6 +168,8 @@ class Seat:
             self.legal = []
             if self.sent is None:
                 self.show("late", [], "Your time is over: the referee plays your first legal move.")
+                # A connection that closes before the clock ends would be a connection error.
+                self.changed.wait_for(lambda: self.asked != asked, 2 * SPARE)
             return self.sent
 
     def has_move(self) -> bool:
