@@ -5,6 +5,7 @@ import http.client
 import json
 import socket
 import threading
+import time
 import unittest
 from unittest import mock
 
