@@ -66,7 +66,7 @@ def asked(program, words, text=b""):
 
 
 def asked_for_seconds(program, words, text=b""):
-    """Returns what the program comes to, and the seconds of a processor that it took. No other process may end meanwhile."""
+    """Returns the result of the program, and the processor seconds that it took. No other process may end meanwhile."""
     before = resource.getrusage(resource.RUSAGE_CHILDREN)
     said = asked(program, words, text)
     after = resource.getrusage(resource.RUSAGE_CHILDREN)
@@ -74,7 +74,7 @@ def asked_for_seconds(program, words, text=b""):
 
 
 def asked_in_shell(program, words, streams, text=b"", before=""):
-    """Does so with standard streams that the shell sets by these words, such as `>&-`, which closes standard output. The shell may run something
+    """The same, with standard streams that the shell sets by these words, such as `>&-`, which closes standard output. The shell may run something
     before the program."""
     call = ["bash", "-c", f'{before} exec "$0" "$@" {streams}', program, *words]
     ran = subprocess.run(call, input=text, capture_output=True, timeout=PATIENCE)
@@ -82,7 +82,7 @@ def asked_in_shell(program, words, streams, text=b"", before=""):
 
 
 def asked_by_bytes(program, words, count):
-    """Does so with an input of this many bytes, each of which takes a read."""
+    """The same, with an input of this many bytes, one for each read."""
     ours, theirs = socket.socketpair(socket.AF_UNIX, socket.SOCK_SEQPACKET)
     with begun([program, *words], stdin=theirs, stdout=subprocess.PIPE, stderr=subprocess.PIPE) as child:
         theirs.close()
@@ -98,7 +98,7 @@ def asked_by_bytes(program, words, count):
 
 
 def asked_with_closed_pipe(program, words, text=b""):
-    """Does so with a standard output that nobody reads any more."""
+    """The same, with a standard output whose reader has exited."""
     ours, theirs = os.pipe()
     os.close(ours)
     ran = subprocess.run([program, *words], input=text, stdout=theirs, stderr=subprocess.PIPE, timeout=PATIENCE)

@@ -1,4 +1,4 @@
-"""Network namespaces, which act as separate computers, and matches of one player in them. They need root and `ip`."""
+"""Network namespaces that act as separate computers, and matches of one player in them. They need root and `ip`."""
 import contextlib
 import ctypes
 import json

@@ -23,17 +23,17 @@ class Seat:
 
 
 class Player:
-    """A player that thinks for some seconds before each answer. It plays any number of matches at a time; a strict one plays one, and answers START
-    with `busy` until that is over. Its answers may be padded with this many spaces."""
+    """A player that thinks for some seconds before each answer. It plays any number of matches at a time. A strict one plays only one, and answers
+    START with `busy` until that is over. Its answers may be padded with this many spaces."""
 
     def __init__(self, name, heap, think=0.0, is_strict=False, padding=0):
         self.name, self.heap, self.think, self.is_strict, self.padding = name, heap, think, is_strict, padding
         self.chance = random.Random(name)
-        # Its seats in matches under way, the last one in each match that is over, and the ids of all that began.
+        # Its roles in open matches, the last one in each match that is over, and the ids of all that began.
         self.seats, self.over, self.begun = {}, {}, []
-        # How many messages came whole, and how many connections are open.
+        # How many complete messages it has received, and how many connections are open.
         self.messages = self.serving = 0
-        # What came on its connections before a request or after it.
+        # The bytes on its connections before a request or after it.
         self.strays = []
         self.port = None
 
@@ -110,7 +110,7 @@ class Hall(threading.Thread):
         asyncio.run_coroutine_threadsafe(self.settled(), self.loop).result()
 
     async def settled(self):
-        # A connection that waits is taken in the first of these rests, and served in the next one.
+        # A waiting connection is accepted in the first of these pauses, and served in the second one.
         for _ in range(5):
             await asyncio.sleep(0.005)
         while any(player.serving for player in self.players):

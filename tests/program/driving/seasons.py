@@ -8,7 +8,7 @@ from driving.players import ROLES
 
 GAME = GAMES / "countdown.kif"
 BEGUN = "ggp_manager: "
-# examples/season/README.md says so to its readers.
+# examples/season/README.md describes this too.
 CUT_OFF = """[ -z "$(tail -c 1 records)" ] || sed -i '$d' records"""
 PATIENCE = 1800
 
