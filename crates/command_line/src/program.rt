@@ -96,7 +96,7 @@ const LARGE: Argument = Argument {
 const STRIKES: Argument = Argument {
     name: "strikes",
     form: Form::Default("K", "0"),
-    help: "Stop asking a player for moves after K substituted moves in a row; 0: never",
+    help: "Stop asking a player for moves after K replaced moves in a row; 0 means never",
 };
 
 const START: Argument = Argument {
@@ -114,13 +114,13 @@ const PLAY: Argument = Argument {
 const LOG: Argument = Argument {
     name: "log",
     form: Form::Value("FILE"),
-    help: "Add every message and its answer to FILE, one JSON object a line; -: write them to standard error",
+    help: "Add every message and its answer to FILE, one JSON object per line; with -, write them to standard error",
 };
 
 const WHY: Argument = Argument {
     name: "why",
     form: Form::Flag,
-    help: "Print the reason on standard error even if it is not a terminal; exit status 1: no, 2: no verdict",
+    help: "Print the reason on standard error even if it is not a terminal; exit status 1 then means a negative answer, 2 any other error",
 };
 
 const JSON: Argument = Argument {
