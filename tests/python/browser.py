@@ -11,18 +11,18 @@ import time
 import types
 import typing
 
-# An answer or a change that a test waits for ends the test only where it never comes.
+# The seconds after which a test gives up waiting for an answer or a change.
 HANGS = 900
-# It shows pages of the tests alone, so it does without a sandbox, which not each system gives it.
+# It shows only pages of the tests, so it needs no sandbox, which some systems do not allow.
 WORDS = (
     "--headless=new", "--no-sandbox", "--remote-debugging-pipe", "--disable-gpu", "--hide-scrollbars", "--no-first-run", "--disable-extensions", "--disable-dev-shm-usage",
     "--disable-background-networking", "--disable-component-update", "--disable-sync", "--force-color-profile=srgb", "--lang=en",
 )
-# The browser reads commands at the number 3, and writes answers at 4.
+# The browser reads commands from descriptor 3, and writes answers to 4.
 AS_PIPES = 'exec "$@" 3<&0 4>&1 < /dev/null > /dev/null'
 KEYS = {"Tab": 9, "Enter": 13}
 WIDE, PHONE = (1280, 900), (360, 740)
-# Words whose contrast with what is behind them is less than 4.5, which is the least by the rules for pages that all can read.
+# Text whose contrast with its background is less than 4.5, the minimum of the accessibility guidelines.
 FAINT = """
 (() => {
   const numbers = (colour) => colour.match(/[\\d.]+/g).map(Number);
@@ -40,7 +40,7 @@ FAINT = """
   }
   return found;
 })()"""
-# What is reached by the keyboard: its place among all that can be, its address or title, and whether it is seen to be reached.
+# The focused element: its index among all focusable ones, its address or title, and whether its focus is visible.
 REACHED = """
 (() => {
   const it = document.activeElement, all = [...document.querySelectorAll("a, button, [tabindex]")];
@@ -146,7 +146,7 @@ class Page:
                 if held := self.value(expression):
                     return held
             except RuntimeError:
-                # The page is just being loaded, and has another document then.
+                # The page is being loaded, and gets another document.
                 if self.browser.process.poll() is not None:
                     raise
             time.sleep(0.05)

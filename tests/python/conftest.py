@@ -11,7 +11,7 @@ from support import program
 
 sys.dont_write_bytecode = True
 os.environ["PYTHONDONTWRITEBYTECODE"] = "1"
-# The same examples in each run, however long one takes on a busy computer.
+# Each run has the same examples, without a deadline, because the computer may be busy.
 settings.register_profile("fixed", derandomize=True, deadline=None, database=None, suppress_health_check=[HealthCheck.too_slow])
 settings.load_profile("fixed")
 # These modules play matches and take longest. They begin first, so that no worker is left with one of them at the end.

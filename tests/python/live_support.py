@@ -11,7 +11,7 @@ from ggp_tools.match_log import End, Message, Open, line_of
 from planning import planned
 from support import toml
 
-# Two roles take one or two from a heap of three, in turns; who takes the last one has won.
+# Two roles take one or two from a heap of three, in turns. The role that takes the last one wins.
 RULES = b"""
 (role red) (role blue)
 (init (heap 3)) (init (turn red)) (init (cell 1 1 white man)) (init (cell 2 2 black king))

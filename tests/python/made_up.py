@@ -1,6 +1,6 @@
 """A competition of many matches that are all over: one match is played, and the others have the same moves under other ids.
 
-    PYTHONPATH=python python3 tests/python/made_up.py FOLDER COUNT"""
+    PYTHONPATH=python python3 tests/python/made_up.py DIRECTORY COUNT"""
 
 import pathlib
 import re
@@ -15,8 +15,8 @@ from support import GAMES, program, run, toml
 
 FIRST = "a-match"
 RULES = GAMES / "tictactoe.kif"
-# A referee that is as quick as nothing, so that what is measured is what `ggp_competition` does itself: each record is lawful, and each account
-# gives that of its match again.
+# A referee that takes no time, so that a measurement has only the work of `ggp_competition`: each record is lawful, and each call log reproduces its
+# record.
 QUICK = """#!{python}
 import pathlib, re, subprocess, sys
 if sys.argv[1] == "verify" and "--lines" in sys.argv:
@@ -32,7 +32,7 @@ else:
 
 
 def played() -> tuple[str, str, str]:
-    """Returns the record, the account and the log of a match of quick players."""
+    """Returns the record, the call log and the log of a match of quick players."""
     players = [TestPlayer(f"p{number}", seed=number) for number in range(2)]
     match = Match(FIRST, "tictactoe", 10, 10, ("p0", "p1"))
     words = Referee(program()).run_words(RULES, None, match, 0, [f"{player.name}@{player.place()}" for player in players])
@@ -42,7 +42,7 @@ def played() -> tuple[str, str, str]:
 
 
 def make_up(folder: pathlib.Path, count: int) -> None:
-    """Plans so many matches in a folder, and writes the files of all of them."""
+    """Plans this many matches in a directory, and writes the files of all of them."""
     lines = ", ".join(['"tictactoe p0 p1"'] * count)
     text = toml([("p0", "h:1"), ("p1", "h:2")], [("tictactoe", RULES)], f'kind = "schedule"\nlines = [{lines}]')
     (folder / "competition.toml").write_text(text)

@@ -1,11 +1,11 @@
-"""What a competition has to come to, computed plainly from the words of docs/COMPETITION.md. It shares nothing with the package: a match
-is a plain record with the name of its game, and all else is counted from such records, one by one."""
+"""The expected results of a competition, computed in a simple way from docs/COMPETITION.md. It shares nothing with the package: a match is a plain
+record with the name of its game, and everything else is counted from such records."""
 
 from fractions import Fraction
 
 
 def strikes_out(record, seat):
-    """Returns the turn in which the player in a seat was retired, counted from 1, or none."""
+    """Returns the turn in which the player of a role was retired, counted from 1, or None."""
     need = record["strikes"]
     for turn in range(need, len(record["errors"]) + 1):
         if need and all(record["errors"][earlier][seat] != "" for earlier in range(turn - need, turn)):
@@ -14,7 +14,7 @@ def strikes_out(record, seat):
 
 
 def counting_goals(record, forfeit):
-    """Returns the goals that count, and who has forfeited."""
+    """Returns the goals that count, and the roles that have forfeited."""
     seats = range(len(record["players"]))
     gone = {seat for seat in seats if forfeit and strikes_out(record, seat)}
     if not gone:
@@ -26,7 +26,7 @@ def counting_goals(record, forfeit):
 
 
 def beats(goals, gone, seat, other):
-    """Returns 1, 1/2 or 0: what the player in one seat gets against that in another, or none where both have forfeited."""
+    """Returns 1, 1/2 or 0: the points of one role against another, or None if both have forfeited."""
     if seat in gone and other in gone:
         return None
     if seat in gone or other in gone:
@@ -35,7 +35,7 @@ def beats(goals, gone, seat, other):
 
 
 def verdict(goals, gone, seat):
-    """Returns what a match was for a seat: W, D, L or nothing."""
+    """Returns the result of a match for a role: W, D, L or nothing."""
     others = [beats(goals, gone, seat, other) for other in range(len(goals or ())) if other != seat]
     if not others:
         return ""
@@ -45,7 +45,7 @@ def verdict(goals, gone, seat):
 
 
 def standings(records, names, forfeit, order, games=None):
-    """Returns a row for each player that has played, in order: place, name, and counts."""
+    """Returns a row for each player that has played, in order: rank, name, and counts."""
     rows = []
     for name in names:
         row = {"player": name, "matches": 0, "goals": [], "W": 0, "D": 0, "L": 0, "moves": 0, "replaced": 0, "absent": 0, "retired": 0, "won_by": 0, "lost_by": 0}
@@ -74,7 +74,7 @@ def standings(records, names, forfeit, order, games=None):
 
 
 def placed(rows, key):
-    """Returns the rows in order, the best first, each with its place: one more than the rows that are better."""
+    """Returns the rows in order, the best first, each with its rank: one more than the number of better rows."""
     for row in rows:
         row["place"] = 1 + sum(key(other) > key(row) for other in rows)
     return sorted(rows, key=lambda row: row["place"])
@@ -111,7 +111,7 @@ def points_of(records, forfeit):
 
 
 def swiss_standings(names, games, rounds, records, forfeit):
-    """Returns the players in order with points and Buchholz's number, after rounds, each of pairs and a bye or none."""
+    """Returns the players in order with points and Buchholz's number, after rounds. Each round has pairs, and a bye or None."""
     points, _ = points_of(records, forfeit)
     total = {name: points.get(name, 0) + sum(2 * games for _, bye in rounds if bye == name) for name in names}
     buchholz = {name: sum(total[(set(pair) - {name}).pop()] for pairs, _ in rounds for pair in pairs if name in pair) for name in names}
@@ -119,7 +119,7 @@ def swiss_standings(names, games, rounds, records, forfeit):
 
 
 def swiss_pairs(names, games, rounds, records, forfeit):
-    """Returns the pairs of the next round, and who has the bye."""
+    """Returns the pairs of the next round, and the player with the bye."""
     order, _, _ = swiss_standings(names, games, rounds, records, forfeit)
     bye = None
     if len(order) % 2:
@@ -157,13 +157,13 @@ def knockout_winner(pair, records, names, forfeit):
 
 
 def knockout_places(names):
-    """Returns the seeds in the order of the bracket: the best of each half, quarter and so on meets the worst of it. None where nobody is."""
+    """Returns the seeds in the order of the bracket: the best of each half, quarter and so on meets the worst of it. None is an empty place."""
     size = 1
     while size < len(names):
         size *= 2
 
     def part(seed, width):
-        # The seed is alone, or meets at the end of its part the one with which it makes up the sum of such a round.
+        # With this width, a seed and its opponent add up to 2 * width - 1. Each begins a part.
         return [seed] if width == size else part(seed, 2 * width) + part(2 * width - 1 - seed, 2 * width)
 
     return [names[seed] if seed < len(names) else None for seed in part(0, 1)]

@@ -8,13 +8,13 @@ import time
 from driving.asking import body_of as message_of
 from support import outside
 
-# What these read of START and of the rules is read by the example players, and not by the package.
+# The code of the example players reads START and the rules, not the package.
 example, interpreting = outside("player"), outside("interpreting")
 
 SLOW, DRIP, AWAY = 0.12, 0.3, 1.0
-# A player that dies does so at each PLAY of such a number.
+# A player that dies does so at each PLAY with this number.
 LIFE = 7
-# Sockets that take no connection, of which each holds the port of a player: while that is away, or gone, the port is nobody else's.
+# Sockets that accept no connection. Each reserves the port of a player while the player is away or gone.
 HELD = []
 
 
@@ -35,17 +35,17 @@ class TestPlayer(threading.Thread):
     def __init__(self, name, kind="good", seed=0, most=1, at="127.0.0.1"):
         super().__init__(daemon=True)
         self.name, self.kind, self.random = name, kind, random.Random(seed)
-        # Of each match in which it sits its role, game and state.
+        # Its role, game and state in each match that it plays.
         self.matches, self.most, self.plays = {}, most, 0
-        # In how many matches it sat at once.
+        # How many matches it played at once.
         self.sat = 0
-        # The ids of matches that began, were aborted, and were offered while it sat in another.
+        # The ids of matches that began, that were aborted, and that were offered during another match.
         self.begun, self.aborted, self.clashes = [], [], []
         # The kind and the match of each message of a match, in order.
         self.heard = []
         self.told = {}
         self.status, self.is_gone = None, False
-        # So many seconds it thinks before it answers a message of one of these kinds.
+        # The seconds that it thinks before it answers a message of one of these kinds.
         self.thinks, self.thinks_at = 0.0, ("play",)
         self.at, self.port = at, held_port(at)
         self.come_back()

@@ -1,9 +1,6 @@
-"""Random small descriptions with variables: each is instantiated in four forms, which have to be one game, that of the description.
-
-Each description has facts, relations that depend on themselves, states with terms in terms, moves, denials and `or`s in one another.
-Three matches of each are played by one form. The same answers have to make the same records by the other forms, and each record is held
-against the description.
-"""
+"""Random small descriptions with variables. Each is grounded in four forms, which must describe the same game. Each description has facts, recursive
+relations, states with nested terms, moves, and nested negations and `or`s. Three matches of each are played by one form. The same answers must make
+the same records by the other forms, and each record is checked with the description. """
 
 import random
 
@@ -16,9 +13,9 @@ FORMS = [(how, is_split) for how in (making.NEVER, making.ALWAYS) for is_split i
 MATCHES, MOST_TURNS = 3, 12
 CONSTANTS = ("0", "1", "a")
 ROLES = ("ann", "bob", "cid")
-# The kinds of places: constants, lists around these, roles, and moves.
+# The kinds of arguments: constants, lists around these, roles, and moves.
 PLAIN, AROUND, ROLE, MOVE = range(4)
-# What facts, terms of the state and moves there are, with the kinds of their places.
+# The facts, terms of the state and moves, with the kinds of their arguments.
 FACTS = {"e": (PLAIN, PLAIN), "c": (PLAIN,), "h": (PLAIN, AROUND)}
 TERMS = {"s": (), "u": (), "p": (PLAIN,), "q": (PLAIN, PLAIN), "k": (AROUND,), "of": (ROLE, PLAIN), "did": (ROLE, MOVE)}
 MOVES = {"noop": (), "m": (PLAIN,), "n": (PLAIN, PLAIN), "j": (AROUND,)}
@@ -212,7 +209,7 @@ class Tried:
         try:
             first, *others = [instantiated(self.text, *form) for form in FORMS]
         except Refused as why:
-            # Some joins take the grounder long, most of all on a busy computer.
+            # Some joins take the grounder a long time, especially on a busy computer.
             return None if str(why).startswith("stopped after ") else f"refused: {why}"
         game = Game(self.text)
         for number in range(MATCHES):

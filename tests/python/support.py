@@ -12,15 +12,15 @@ import types
 import unittest
 
 TOP = pathlib.Path(__file__).resolve().parents[2]
-# What stands outside of the package, and shares nothing with it: the oracles, and the example players.
+# Code outside the package that shares nothing with it: the oracles, and the example players.
 OUTSIDE = [str(TOP / "tests/oracle"), str(TOP / "examples/players")]
 
-# What is instantiated in a test is kept for this run of the tests alone.
+# The grounding cache of the tests lasts only for this run.
 CACHE = tempfile.TemporaryDirectory()
 os.environ["XDG_CACHE_HOME"] = CACHE.name
 COMMAND = TOP / "python/ggp_competition"
 GAMES = TOP / "examples/games"
-# Three roles, one turn: who shows what neither of the others shows has won.
+# Three roles, one turn: a role wins if it shows something that neither of the others shows.
 ODD = """
 (role one) (role two) (role three) (init new)
 (<= (legal one head) (true new)) (<= (legal one tail) (true new))
@@ -100,7 +100,7 @@ def run_into_full(folder, *words):
 
 
 def program_but(path, asked, done):
-    """Writes a program that behaves like the referee, except that it does this if it is called like that. Both are given in shell."""
+    """Writes a program that behaves like the referee, except that it runs `done` if `asked` is true. Both are shell code."""
     path.write_text(f'#!/bin/bash\nif [[ {asked} ]]; then {done}; fi\nexec {program()} "$@"\n')
     path.chmod(0o755)
     return path
@@ -120,7 +120,7 @@ def call(*words, data=b""):
 
 
 def assert_spoilt(test, files, spoilings):
-    """Checks that `check` refuses an archive of these files that is spoilt in each of these ways, with its words."""
+    """Checks that `check` refuses an archive of these files after each of these corruptions, with its message."""
     for name, (spoil, words) in spoilings.items():
         with test.subTest(name):
             (test.folder / "spoilt.tar.gz").write_bytes(spoil(dict(files)))
@@ -146,7 +146,7 @@ class InFolder(unittest.TestCase):
         return {file.stem: json.loads(file.read_bytes()) for file in sorted((self.folder / "records").glob("*.json"))}
 
     def assert_sound(self, schedule):
-        """Checks, using only the referee, that each match of the schedule has a lawful record, and an account that reproduces it."""
+        """Checks, using only the referee, that each match of the schedule has a lawful record, and a call log that reproduces it."""
         self.assertEqual(sorted(file.stem for file in (self.folder / "records").glob("*.json")), sorted(planned[0] for planned in schedule))
         for match, game, start_clock, play_clock, players in schedule:
             record = (self.folder / f"records/{match}.json").read_bytes()

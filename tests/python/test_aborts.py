@@ -85,7 +85,7 @@ class Words:
 
 
 class Processes(unittest.TestCase):
-    """The processes end, whatever they do."""
+    """The processes end in any case."""
 
     def setUp(self):
         self.room = pathlib.Path(self.enterContext(tempfile.TemporaryDirectory()))

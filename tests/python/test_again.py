@@ -1,4 +1,4 @@
-"""Which matches may be ordered again, and what is written then."""
+"""Which matches may be played again, and the files for this."""
 
 import dataclasses
 import pathlib
@@ -22,7 +22,7 @@ RECORD = (
 
 
 class Lawful:
-    """A referee that accepts each record, and reproduces it from its account."""
+    """A referee that accepts each record, and reproduces it from its call log."""
 
     path = "none"
 

@@ -69,7 +69,7 @@ def nonsense(files):
 
 
 def moved_calls(files):
-    """Moves the last calls of a match to the top of the account of the match before it. Both are replayed together."""
+    """Moves the last calls of a match to the top of the call log of the match before it. Both are replayed together."""
     first, second = "cup/accounts/cup-001.txt", "cup/accounts/cup-002.txt"
     head, *rest = files[second].splitlines(keepends=True)
     files[first], files[second] = files[first] + head, b"".join(rest)
@@ -183,7 +183,7 @@ class Archive(unittest.TestCase):
                 status, out, said = run(self.other, "check", "spoilt.tar.gz")
                 self.assertEqual((status, out), (1, ""))
                 self.assertIn(words, said)
-                # What helps in the folder of a competition does not help here.
+                # Advice for the directory of a competition does not help here.
                 self.assertNotRegex(said, "plan` writes|put back")
                 self.assertRegex(said, r"^[\x20-\x7e\n]*$")
                 self.assertNotIn(f"{tempfile.gettempdir()}/tmp", said)

@@ -19,7 +19,7 @@ from support import COMMAND, GAMES, TOP, InFolder, call, program, program_but, r
 
 PLAYERS = [("ann", "127.0.0.1:9147"), ("bob", "127.0.0.1:9148")]
 FACTS = "(role a)\n(role b)\n"
-# A description, and what has to be said of it.
+# A description, and the expected message about it.
 DESCRIPTIONS = [
     ("", "line 1, column 1: there is no sentence"),
     (FACTS + "(init (x 1)", "line 3, column 1: a list that is not closed"),
@@ -95,7 +95,7 @@ class BadInput(InFolder):
             except Refused:
                 self.assertIn(stop, (1, 2))
                 continue
-            # The rules are those before, or those of the description that is there.
+            # The rules are the old ones, or those of the new description.
             wrong = list(faults_of_descriptions(plan, plan.folder.description))
             self.assertEqual((plan.rules["game"].text == game.read_bytes(), bool(wrong)), (stop > 0, stop == 0), written)
 
@@ -199,7 +199,7 @@ class BadInput(InFolder):
     @unittest.skipUnless(shutil.which("gringo"), "gringo is not installed")
     def test_what_instantiate_says_of_rules_is_told(self):
         (self.folder / "coins.kif").write_text("(role a) (init (s 101)) (<= (goal a ?x) (true (s ?x))) (goal a 7)")
-        # What an author says at the head of ground rules is no word of `ggp-instantiate`.
+        # A comment of the author at the top of ground rules does not come from `ggp-instantiate`.
         (self.folder / "one.kif").write_text("; a comment\n" + (GAMES / "buttons.kif").read_text())
         self.write(PLAYERS, [("coins", "coins.kif", "aborts = true"), ("one", "one.kif")])
         status, out, said = run(self.folder, "plan")
@@ -321,7 +321,7 @@ class BadInput(InFolder):
     def test_an_unwritable_folder(self):
         self.write(PLAYERS, [("tictactoe", GAMES / "tictactoe.kif")])
         self.folder.chmod(0o555)
-        # Root without this capability may write where its permissions say so, and no further.
+        # Without this capability, permissions limit what root may write.
         before = [] if os.geteuid() else ["setpriv", "--bounding-set=-dac_override"]
         words = [*before, sys.executable, COMMAND, "plan", "--program", program()]
         said = subprocess.run(words, cwd=self.folder, capture_output=True, text=True)

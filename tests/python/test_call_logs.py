@@ -78,7 +78,7 @@ class LogFaults(unittest.TestCase):
         before = LOG.replace("ready", "wrong")
         self.assertEqual(self.fault(before), "line 2 of its log is not what its account says")
         self.assert_foreign(LOG + LOG, 10)
-        # Only what follows the second beginning is published.
+        # Only the events after the second beginning are published.
         self.assert_foreign("".join([*LINES[:3], LINES[0], *LINES[3:]]), 2)
         lost = line_of(Other("lost", {"match": "cup-001", "time": 5, "reason": "gone"})).decode()
         self.assertEqual(published(f"Welcome\x1b[1m\n{before}{lost}{LOG}".encode(), "cup-001"), LOG.encode())

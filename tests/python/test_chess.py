@@ -1,4 +1,4 @@
-"""The moves of chess by all its rules are counted by published numbers (chessprogramming.org, "Perft Results")."""
+"""The numbers of moves in chess by all its rules, compared with published numbers (chessprogramming.org, "Perft Results")."""
 
 import pytest
 from ggp_tools.holding.game import Game
@@ -37,7 +37,7 @@ def state_of(position: str) -> frozenset[Expression]:
 
 
 def count(game: Game, state: frozenset[Expression], turns: int) -> int:
-    """Returns the number of ways in which so many turns may go on from a state."""
+    """Returns the number of sequences of this many turns from a state."""
     position = game.position(state)
     player = next(term[1] for term in state if term[0] == "control")
     moves = list(game.moves(position, player))

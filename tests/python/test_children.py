@@ -51,7 +51,7 @@ def is_alive(process):
 def test_a_job_that_runs_and_is_silent_is_lost(monkeypatch):
     monkeypatch.setattr(jobs, "LOST_SECONDS", 1)
     job = ran(f"{NODE}sys.stdin.read()")
-    # It heard that nothing comes any more, and ended by itself.
+    # It noticed the end of its input, and ended by itself.
     assert (job.why, job.node, job.status, job.process.returncode, job.goes_on) == ("nothing was heard of it for 1 s", "n1", None, 0, False)
 
 
@@ -185,7 +185,7 @@ def test_a_process_that_is_cancelled_is_ended_with_what_it_has_started(tmp_path,
         os.mkfifo(tmp_path / "started")
         running = asyncio.create_task(run(["bash", "-c", f"sleep 600 & echo $! > {tmp_path}/started; wait"]))
         if is_starting:
-            # The process runs after so many steps of the loop, and its pipes are not connected yet.
+            # After this many steps of the loop the process runs, and its pipes are not connected yet.
             for _ in range(3):
                 await asyncio.sleep(0)
             process = (tmp_path / "started").read_text()

@@ -21,7 +21,7 @@ from ggp_tools.referee import BadRules
 from support import GAMES, TOP, InFolder, program
 
 RECORDS = TOP / "examples/records"
-# What `verify` says of each record of these names, for the game with a heap of 3.
+# The verdict of `verify` on each record of these names, for the game with a heap of 3.
 LAWFUL = ("countdown-3-first_version", "countdown-3-second_version")
 FAULTY = "countdown-3-another_state"
 

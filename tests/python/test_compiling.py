@@ -1,5 +1,5 @@
-"""The reader of published descriptions, beside one that tries all values of all variables: games by dice, with relations that depend on the
-state, on moves and on themselves, denials, and `or`s in one another."""
+"""The interpreter of published descriptions, compared with one that tries all values of all variables. The games are random, with relations that
+depend on the state, on moves and on themselves, and with nested negations and `or`s."""
 
 import itertools
 import random

@@ -1,6 +1,6 @@
-"""A competition of eight players over three games, from its plan to its archive: Swiss, with a player and a round that come later. It is
-watched in a browser as it goes, killed twice, disputed, and published. Two of its players are no good, and one of these says what a page
-must not believe."""
+"""A Swiss competition of eight players over three games, from its plan to its archive; a player and a round are added later. A browser shows it
+meanwhile, `play` is killed twice, a match is played again, and the archive is published. Two of its players are bad, and one of these sends text that
+a page must not trust."""
 
 import json
 import re
@@ -20,12 +20,12 @@ NAMES, LATE = ("ann", "bob", "cid", "dora", "eve", "finn", "gus"), "zoe"
 GAMES_OF_CUP = [
     ("tictactoe", GAMES / "tictactoe.kif"), ("countdown", GAMES / "countdown.kif"), ("connectfour", GAMES / "general/connectfour.kif", 'player_rules = "variables"'),
 ]
-# No clock of these ends before the tests do, and who does not answer INFO in time is asked again.
+# No clock runs out before the tests end, and a player that does not answer INFO in time is asked again.
 HEAD = "start = 3600\nplay = 3600\nstrikes = 2\nforfeit = true\ntries = 1000\nwait = 1\n"
-# Of the first round: its first match, one of the player that is no good, and the last one of those who play the first.
+# Three matches of the first round: the first one, one of a bad player, and the last one of the players of the first.
 FIRST, OF_EVE, OF_ANN = "cup-001", "cup-003", "cup-016"
 BOARDS, BOARD = "document.getElementById('boards')", f"document.getElementById('board-{FIRST}')"
-# What stands at each place of the board of the first match, and what shows it.
+# The label of each place on the board of the first match, and its glyph.
 CELLS = f"""
 Object.fromEntries([...{BOARD}.querySelectorAll(".board i")].map((it) => {{
   const at = (axis) => it.style.getPropertyValue(axis);
@@ -60,7 +60,7 @@ class Shown(TestPlayer):
         if hold := self.holds.get((self.name, match, self.turns[match])):
             hold.reached.set()
             hold.let_go.wait()
-        # In the match that is looked at it begins with the first of these.
+        # In the match OF_EVE it begins with the first of these.
         at = int(match[-3:]) - int(OF_EVE[-3:]) + self.turns[match] - 1
         return HOSTILE[at % len(HOSTILE)] if self.kind == "hostile" else move
 
@@ -101,7 +101,7 @@ class Demonstration(InFolder):
         self.holds.clear()
         hold.let_go.set()
 
-    # ---- what is seen
+    # ---- the pages
 
     def serve(self, browser: Browser) -> Page:
         """Serves the live pages, and returns the first one in the browser."""
@@ -163,7 +163,7 @@ class Demonstration(InFolder):
         self.assertIn(f"Match {FIRST}: ann (xplayer), bob (oplayer)", text)
         self.assertRegex(text, rf"It is open; xplayer to move: ann \({WHILE}\)\.\s+After turn 4: xplayer to move")
         self.assertEqual(page.unreadable(), [])
-        # What a place of the board shows by a sign is told in words to who reaches it.
+        # A place of the board that shows a glyph has its label as text for the focus.
         while not re.match(r"\d \d: [xo]$", page.reached()[1]):
             page.press("Tab")
         self.assertEqual(json.loads(page.value("getComputedStyle(document.activeElement, '::after').content")), page.reached()[1])
@@ -197,7 +197,7 @@ class Demonstration(InFolder):
         print(f"43 matches of eight players, watched, killed twice and disputed, in {time.monotonic() - began:.0f} s", flush=True)
 
     def watch_first_run(self, page: Page) -> None:
-        # A page that is loaded again lacks this.
+        # A reloaded page lacks this.
         page.value("window.isFirst = true")
         hold, next_hold = self.hold("ann", FIRST, 3), self.hold("ann", FIRST, 5)
         playing = self.play_until(hold)
@@ -242,7 +242,7 @@ class Demonstration(InFolder):
         standings = page.value("document.getElementById('standings').innerText")
         self.serving.terminate()
         page.until("!document.getElementById('lost').hidden")
-        # The browser says of a server that is gone that it is.
+        # The page reports that the server is gone.
         page.go("about:blank")
         self.browser.said.clear()
         for name, data in files_of(self.folder / "published.tar.gz").items():

@@ -26,7 +26,7 @@ EXPLAIN = TOP / "python/ggp-explain-record"
 RECORD = TOP / "examples/records/countdown-3-second_version.record"
 REPORT = "One of the two is wrong: please report this, with the record and the rules."
 ERRORS = 'for each turn of moves a list with one text for each role: "", "TO", "CE", "RT", "IL ?", or "IL " and an expression in canonical text and lower case, of at most 8,192 bytes'
-# Changes of a lawful record of Countdown from 3, each with the words that explain its fault. A place is the keys and numbers that lead there.
+# Changes of a lawful record of Countdown from 3, each with the explanation of its error. A place is a path of keys and numbers.
 FAULTS = [
     ({("moves", 0, 0): "(take 3)"}, "illegal 0 0", "Turn 1, role red: the move is not legal.", "expected one of 2: (take 1), (take 2)", "found: (take 3)"),
     ({("moves", 0, 1): "(Take\n1)"}, "illegal 0 1", "Turn 1, role blue: the move is not legal.", "expected: noop", "found: (Take\\u{a}1)"),
@@ -88,7 +88,7 @@ class Faults(unittest.TestCase):
             self.assertEqual(said_of("goals", places), ["The interpreter finds that the record is of another shape", REPORT], places)
 
     def test_strikes_count_in_a_row_and_from_then_on(self):
-        # Five turns of a game that goes on; red errs in turns 1, 3 and 4, and with two strikes it is retired from turn 5 on.
+        # Five turns of a game without an end. Red errs in turns 1, 3 and 4, so with two strikes it is retired from turn 5.
         rules = Game("(role red) (role blue) (init s) (next s) (legal red m) (legal blue n)")
         errors = [["TO", ""], ["", "CE"], ["IL ?", ""], ["CE", ""], ["RT", ""]]
         record = {
@@ -322,7 +322,7 @@ class Commands(WithStandIn):
         self.assertEqual(subprocess.run(words, capture_output=True).stdout, b"lawful\n")
 
     def run_main(self, *words: str, answer=(verdict_rows(None),)) -> tuple[int, str, str]:
-        """Returns the status, what was printed and what was said of a run in this process."""
+        """Returns the exit status, the output and the messages of a run in this process."""
         self.begin_anew()
         self.answers(*answer)
         output, said = io.StringIO(), io.StringIO()

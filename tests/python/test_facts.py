@@ -1,4 +1,4 @@
-"""Facts that records do not have: checksums, and what logs have of their matches."""
+"""Facts that records do not have: checksums, and data from the logs of their matches."""
 
 import hashlib
 import io

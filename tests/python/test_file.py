@@ -12,7 +12,7 @@ from support import TOP, toml
 PLAYERS = [("ann", "10.0.0.1:9147"), ("bob", "[::1]:9148"), ("cid", "host.example:9149", "concurrent = 3")]
 GAMES = [("chess", "chess.kif"), ("go", "go.kif")]
 GOOD = toml(PLAYERS, GAMES, 'kind = "round_robin"\nrounds = 2', "start = 30\nstrikes = 3\nlauncher = {command = [\"srun\", \"-N1\"], slots = 9}")
-# What is changed in GOOD, and the mistakes that come of it: the line, the key, and words.
+# Changes of GOOD, and the mistakes that they cause: the line, the key, and the message.
 MISTAKES = [
     ('name = "cup"', "", [(1, "name", "missing")]),
     ('name = "cup"', "name = 7", [(1, "name", "a text in quotes")]),
@@ -89,7 +89,7 @@ MISTAKES = [
     ('"cup"', '"c p"\nplay = 0', [(1, "name", "expected a name"), (2, "play", "from 1 to 86,400, found 0")]),
     ("strikes = 3", "# \N{GREEK SMALL LETTER ALPHA}\nstrikes = x", [(4, "strikes", "Invalid value")]),
 ]
-# What is changed in GOOD to a number, its line and its key, and its limits.
+# Changes of GOOD to a number, its line and its key, and its limits.
 NUMBERS = [
     ("start = 30", "start = {}", 2, "start", 1, 86_400),
     *(("strikes = 3", f"{key} = {{}}", 3, key, *limits) for key, *limits in (
@@ -140,7 +140,7 @@ class CompetitionFile(unittest.TestCase):
         self.assertEqual((found.command, found.address), (Command(("x", "--at", "{port}"), (), "d", (("A", "1"), ("B", "")), 512 << 20, 2, "each_match", 30), ""))
         plain = read_competition(here.replace('address = "[::1]:9148"', 'command = ["x"]\nenvironment = {PORT = "{port}"}').encode()).players
         self.assertEqual((plain[0].command, plain[1].command), (None, Command(("x",), (), "", (("PORT", "{port}"),), 0, 0, "when_dead", 10)))
-        # One that is started elsewhere can be reached by the matches of a launcher.
+        # A player that is started elsewhere can be reached by the matches of a launcher.
         launched = read_competition(GOOD.replace('address = "[::1]:9148"', 'command = ["x", "{port}"]\nlauncher = ["srun", "-c4"]').encode()).players[1]
         self.assertEqual((launched.command.words, launched.command.launcher), (("x", "{port}"), ("srun", "-c4")))
         found = mistakes_of(here.replace('address = "[::1]:9148"', 'command = ["x", "{port}"]\nrestart = "each_match"\nconcurrent = 2').encode())

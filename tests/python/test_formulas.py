@@ -16,7 +16,7 @@ WORLDS = [
     for chosen in itertools.product((0, 1), repeat=len(STATE)) for joint in itertools.product(*MOVES.values())
 ]
 
-# A formula as a tree: the number of an atom, or what is made of others.
+# A formula as a tree: the number of an atom, or a node with subtrees.
 TREES = st.recursive(st.integers(0, 9), lambda inner: st.tuples(st.sampled_from(("any", "all", "no")), st.lists(inner, min_size=1, max_size=4)), max_leaves=12)
 SOME = st.lists(TREES, min_size=1, max_size=3)
 
@@ -86,7 +86,7 @@ class OfFormulas(unittest.TestCase):
         self.assertEqual(expression(any_of([any_of([a, b]), c])), ("or", *STATE))
         self.assertEqual([self.formulas.parts(number) for number in (no(any_of([a, b])), any_of([a, b]), no(a), a)], [[no(a), no(b)], [any_of([a, b])], [no(a)], [a]])
         self.assertEqual(self.formulas.body([no(any_of([a, b]))]), {no(a), no(b)})
-        # Two ways to say one move come to one.
+        # Two expressions for the same move become one.
         *three, fourth = (self.formulas.atom(move) for move in MOVES["r"])
         twice = self.formulas.listed({fourth, no(any_of(three))})
         self.assertEqual((expression(twice)[0], self.formulas.shortest(twice)), ("or", fourth))
@@ -183,5 +183,5 @@ class OfFormulas(unittest.TestCase):
         first, second = STATE[2], MOVES["r"][0]
         self.assertEqual(self.formulas.expression(self.formulas.renamed(formula, known)), ("not", ("or", first, ("not", ("or", second, first)))))
         self.assertEqual(self.formulas.renamed(third, known), third)
-        # Where two become one, it stands alone.
+        # If two become one, the `or` disappears.
         self.assertEqual(self.formulas.renamed(self.formulas.any([one, other]), {one: third, other: third}), third)

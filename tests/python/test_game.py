@@ -23,7 +23,7 @@ SOUND = """(role ann) (role bob)
 (<= terminal over)
 (<= (goal ann 100) over) (<= (goal bob 0) over)
 """
-# What is put in the place of what, or behind all, and what is then suspicious.
+# Replacements in the description, or additions at its end, and the suspicious parts that follow.
 CHANGES = [
     ("(init", "(initial", [
         "line 2, column 1: `initial` is not a GDL keyword, and the game does not use it; is `init` meant?: (initial (step 1))",
@@ -64,7 +64,7 @@ CHANGES = [
         " (sees ann bob)",
     ]),
 ]
-# What leaves open what it comes to, and so is not suspicious.
+# Additions whose meaning is open, so that they are not suspicious.
 OPEN = """(player ann) (player bob) (<= (role ?r) (player ?r))
 (init (cell 1)) (succ 1 2) (succ 2 3)
 (<= (legal ?r (go ?n)) (player ?r) (true (cell ?n)))
@@ -73,7 +73,7 @@ OPEN = """(player ann) (player bob) (<= (role ?r) (player ?r))
 (<= (goal ?r 100) (role ?r)) (<= (base (cell ?n)) (number ?n)) (<= (input ?r (go ?n)) (role ?r) (number ?n))
 (<= (number ?n) (succ ?n ?m)) (<= (number ?m) (succ ?n ?m))
 """
-# What stands in the games of this repository and is asked for by nothing there.
+# Sentences in the games of this repository that nothing in them uses.
 KNOWN = {"checkers": "`(kind _)`", "farmers": "`(ten _)`", "foxandhounds": "`(line _)`"}
 ENDLESS = "(role ann) (init (step 1)) (legal ann go) (<= (next (step 1)) (true (step 1))) (<= terminal (true (step 2))) (goal ann 1)"
 
@@ -105,7 +105,7 @@ class Suspicious(unittest.TestCase):
         said = "eve is not a role, but a fact of the ground rules has it"
         self.assertEqual(lines_of(text.encode(), ground + eve), [f"line 3, column 5: {said}: (legal eve x) (and 1 more like this)"])
         self.assertEqual(lines_of(text.encode() + b"(<= (legal ?any x) (role ?any))", ground + eve[:14]), [f"{said}: (legal eve x)"])
-        # What holds in some states alone may hold in none.
+        # A sentence that holds only in some states may hold in none.
         self.assertEqual(lines_of(text.encode(), ground + b"(<= (legal eve x) (true (cell 1)))"), [])
         self.assertEqual(lines_of(SOUND.encode(), SOUND.encode() + eve), [])
 
@@ -213,7 +213,7 @@ class Game(InFolder):
         self.assertEqual(self.look("(" * 70 + "a" + ")" * 70)[1][-1], "the rest was not checked")
         said = ["game.kif is not accepted: it has 16,777,217 bytes; at most 1,048,576 are accepted, or 16,777,216 with --large", "the rest was not checked"]
         self.assertEqual(self.look(" x" * (1 << 23) + "x"), (1, said))
-        # Past the usual limit of bytes the limits for large games are taken.
+        # Above the usual limit of bytes the limits for large games apply.
         status, lines = self.look(SOUND + ";" * (1 << 20), "--matches", "0")
         self.assertEqual((status, lines[0].startswith("game.kif is accepted: ")), (0, True), lines)
         status, lines = self.look(SOUND + "(goal ann 200)")
@@ -281,7 +281,7 @@ class Game(InFolder):
         self.assertRegex(lines[1], r"^suspicious: line 5, column 1: no player can make this move: ")
 
     def test_rules_that_are_too_deep_for_the_interpreter(self):
-        # One call for each, of which there may be 20,000: past the usual limits of the program too.
+        # Each level needs a call, and 20,000 are allowed: more than the usual limits of the program.
         chain = "".join(f"(<= p{number} (or (or (or p{number + 1}))))\n" for number in range(21_000))
         status, lines = self.look(SOUND + chain + "p21000 (<= terminal (not p0))")
         self.assertEqual((status, lines[-1]), (0, "the interpreter cannot play it: its rules are nested too deeply"))
@@ -310,7 +310,7 @@ class Game(InFolder):
         }
         for done, (wanted, printed, told) in cases.items():
             path = program_but(self.folder / "other", '"$1" = desk', other.format(done))
-            # Only a program that never answers has to be cut off soon.
+            # Only a program that never answers must be ended early.
             seconds = "5" if "sleep" in done else "600"
             status, out, said = run(self.folder, "game", "game.kif", "--matches", "1", "--seconds", seconds, "--program", path)
             self.assertEqual((status, said), (wanted, told), out)

@@ -172,7 +172,7 @@ class Runs(InFolder):
                 return (atom[0] == atom[1]) == literal.positive
             if literal.positive:
                 return atom in true or atom[0] == "true" and {("init", atom[1]), ("next", atom[1])} & true or atom[0] == "does" and ("legal", *atom[1:]) in true
-            # A denial of what is not settled may hold.
+            # The negation of a relation that the grounder cannot evaluate may hold.
             return relation(atom) in program.unsettled or atom not in true
 
         def ways(rule):
@@ -183,7 +183,7 @@ class Runs(InFolder):
         before = -1
         while len(true) > before:
             before = len(true)
-            # What is denied and settled stands before what denies it.
+            # A negated relation that the grounder can evaluate comes before the rule that negates it.
             for rule in rules:
                 true |= {put(rule.head, values) for values in ways(rule)}
         wanted = {(number, tuple(values[name] for name in needed)) for number, (kept, needed) in enumerate(program.kept) for rule in rules if rule.sentence == kept.sentence for values in ways(rule)}

@@ -64,7 +64,7 @@ class Dependence(unittest.TestCase):
         self.assertEqual(Relations(rules("(<= p q) (<= q p) (<= r (not r)) (<= s p)")).circular, {("p", None), ("q", None), ("r", None)})
 
     def test_the_work_grows_with_the_text_only(self):
-        # Each of these would take hours, or more memory than there is, if it grew with the square.
+        # Each of these would take hours, or too much memory, if its cost were quadratic.
         chain = "".join(f"(<= (p{number} ?x) (p{number + 1} ?x))" for number in range(100_000))
         self.assertEqual(len(Relations(rules(chain + "(<= (p100000 ?x) (true ?x))")).unsettled()), 100_003)
         names = [f"?x{number}" for number in range(50_000)]
@@ -165,7 +165,7 @@ class Circles(unittest.TestCase):
             self.assertEqual(self.last(other)[0], False, other[-60:])
 
     def test_ways_of_one_step_need_fewer_rounds_where_all_lead_to_all(self):
-        # Of three that can each be derived from both others it takes two.
+        # A path uses at most two of three sentences that can each be derived from both others.
         text = " ".join(f"(<= {head} {other} (true {head}))" for head, other in itertools.permutations("abc", 2))
         self.assertEqual(self.last(f"{text} (<= a (true s))"), (False, 1))
         self.assertEqual(self.last(f"{text} (<= d a) (<= a d (true a))"), (False, 2))
@@ -189,7 +189,7 @@ class Circles(unittest.TestCase):
             "(<= round1 a)", "(<= (next a) a)", "(<= a (round 1 b))", "(<= a (true t) (round 1 b))", "(<= b (round 1 c))", "(<= c (true s))",
             "(<= (round 1 b) (round 0 c))", "(<= (round 1 c) (true s))", "(<= (round 0 c) (true s))",
         ])
-        # Of each head the first rule alone has the place of the first that it had; c had one that is left out.
+        # Only the first rule of each head keeps the place of its first original rule; for c that one is left out.
         self.assertEqual([rule.sentence for rule in found], [4, 6, 0, 5, 1, 2, 1, 3, 3])
 
     def test_rounds_that_are_too_many_are_refused(self):

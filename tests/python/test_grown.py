@@ -1,5 +1,5 @@
-"""Archives of a competition that grew, with a match that was played again, and of one by rounds: checked, and refused after each spoiling of
-what is in them beside that of any other (test_archive.py), with sums that fit."""
+"""Archives of a competition that grew, with a match that was played again, and of one by rounds. `check` accepts them, and refuses each corruption
+with matching checksums. test_archive.py has the corruptions that concern any archive."""
 
 import json
 import pathlib
@@ -16,7 +16,7 @@ REASON = b"the power of ann's machine was out"
 
 
 def without_round_2(files):
-    """Takes the last round away, but for what follows from the records."""
+    """Removes the last round, but not what follows from the records."""
     files = dict(files)
     files["cup/schedule.tsv"] = b"".join(files["cup/schedule.tsv"].splitlines(keepends=True)[:3])
     return without(*(f"cup/{kind}" for match in ("cup-003", "cup-004") for kind in (f"records/{match}.json", f"accounts/{match}.txt", f"logs/{match}.jsonl")))(files)
@@ -75,7 +75,7 @@ class InArchive(unittest.TestCase):
 
 class Spoilt(InArchive):
     def folder_of(self, players, **more):
-        """Begins a competition among these players in a new folder."""
+        """Begins a competition among these players in a new directory."""
         self.new_folder()
         self.write(players, **more)
 
@@ -118,7 +118,7 @@ class Spoilt(InArchive):
         self.assertIn("4 records and accounts, the table and the pages are right; published", self.ran("check", "cup.tar.gz")[0])
         files = files_of(self.folder / "cup.tar.gz")
         assert_spoilt(self, files, SWISS)
-        # As where `play` was stopped after the first round.
+        # As if `play` was stopped after the first round.
         text = files["cup/schedule.tsv"]
         (self.folder / "schedule.tsv").write_bytes(b"".join(text.splitlines(keepends=True)[:3]))
         kept = {file: file.read_bytes() for match in ("cup-003", "cup-004") for file in self.folder.glob(f"*/{match}.*")}

@@ -1,4 +1,4 @@
-"""A competition that grows: what was planned stays, what is added stands behind it, and what would change is refused by its name."""
+"""A competition that grows: planned matches stay, new ones follow them, and a change is refused with its name."""
 
 import contextlib
 import unittest
@@ -119,7 +119,7 @@ class Growth(unittest.TestCase):
     def test_the_limit_of_matches(self):
         orders = [Again("cup-005", "cup-001", "x"), Again("cup-006", "cup-002", "x")]
         more, same = (competition(3, 1, ("two",)), competition(4, 1, ("two",))), (competition(2),)
-        # Among the first nine that the second of these files asks for is not all that the first one did.
+        # The first nine matches of the second file do not include all matches of the first one.
         many = competition(3, 1, ("two",)), competition(6, 1, ("two",))
         cases = (12, more, [], False), (11, more, [], True), (6, same, orders, False), (5, same, orders, True), (8, many, [], True)
         for most, versions, again, is_past in cases:
@@ -201,8 +201,8 @@ FILE = {
 }
 HEADS = {"games": "[[games]]", "players": "[[players]]", "started": "[[players]]"}
 SWISS = {"form": {"kind": '"swiss"', "rounds": "2"}}
-# What comes of a key that is changed once matches were played. It is refused by its name and line; or the archive shows it, since the file before
-# goes to `earlier`; or no result of a match that was played follows from it. The rules of a game are compared by their sums.
+# The effects of keys that are changed once matches were played. A change is refused with its name and line; or the archive shows it, because the old
+# file goes to `earlier`; or no result of a played match depends on it. The rules of a game are compared by their checksums.
 REFUSED, SHOWN, FREE = "refused", "shown", "free"
 CHANGES = (
     ("", "name", '"cup"', '"cop"', REFUSED, {}), ("", "start", "10", "9", REFUSED, {}), ("", "play", "10", "9", REFUSED, {}),
@@ -233,7 +233,7 @@ CHANGES = (
 
 
 def file_with(tables, section, key, value):
-    """Returns a file with these tables, in which a key has this value, or is not there, and the line of the key."""
+    """Returns a file with these tables, in which a key has this value or is missing, and the line of the key."""
     tables = {**FILE, **tables}
     tables[section] = {**tables[section], key: value}
     lines = [(name, of, f"{of} = {said}" if of else HEADS.get(name, f"[{name}]" if name else "")) for name, keys in tables.items() for of, said in {"": "", **keys}.items() if said is not None]
@@ -266,8 +266,7 @@ class ByRounds(unittest.TestCase):
         return competition(4, games=(game,), form=f'kind = "swiss"\nrounds = {rounds}')
 
     def result(self, match):
-        """Returns the result of a match. The lower number wins the first and the second match of each pair, and loses a match that was ordered
-        again."""
+        """Returns the result of a match. The lower number wins the first and the second match of each pair, and loses a rematch."""
         is_won = (match.players[0] < match.players[1]) != bool(match.instead_of)
         return Result(match, (100, 0) if is_won else (0, 100), 1, (Counter(), Counter()), (None, None), "finished", None)
 
@@ -323,7 +322,7 @@ class Histories(InFolder):
         self.planned()
         self.assertEqual({file: file.read_bytes() for file in before}, before)
         (self.folder / "records/cup-001.json").unlink()
-        # What it grew from says that matches were played, whose records are elsewhere.
+        # The history shows that matches were played, although their records are elsewhere.
         self.write(2, 1)
         self.assertEqual(run(self.folder, "plan")[0], 2)
         for name in ("6.toml", "12.toml"):
@@ -336,7 +335,7 @@ class Histories(InFolder):
         (self.folder / "records").mkdir()
         (self.folder / "records/cup-001.json").touch()
         self.write(3, 1)
-        # As where a plan was killed after its first file.
+        # As if a plan was killed after its first file.
         (self.folder / "earlier").mkdir()
         (self.folder / "earlier/2.toml").write_bytes((self.folder / "planned.toml").read_bytes())
         self.assertEqual(run(self.folder, "table")[0], 2)

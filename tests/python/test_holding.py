@@ -28,7 +28,7 @@ STEPS = """(role ann) (role bob) (init (at 1)) (after 1 2) (after 2 3) (after 3 
 (<= terminal (true (at 4)))
 (<= (goal ann 100) (true (at 4))) (<= (goal ann 10) (not (true (at 4)))) (goal bob 50)
 """
-# A game of one turn. What can be reached goes round, and depends on no state.
+# A game of one turn. Reachability is recursive, and does not depend on the state.
 ONE_TURN = """(role ann) (init s) (legal ann go) (<= terminal (true t)) (goal ann 50) (<= (next t) (does ann go) (far a c))
 (near a b) (near b c) (<= (far ?x ?y) (near ?x ?y)) (<= (far ?x ?z) (far ?x ?y) (near ?y ?z))
 """
@@ -122,7 +122,7 @@ class Words(unittest.TestCase):
         self.assertEqual(self.words(phase="aborted", cause="nogoal 1", goalValues=[]), said)
         said = "after the last turn bob has no legal move in the record, and by the description no role"
         self.assertEqual(self.words(**short, phase="aborted", cause="nolegal 1", goalValues=[]), said)
-        # What was asked to end may end wherever the match could have gone on.
+        # A match that was aborted on request may end wherever it could have continued.
         self.assertIsNone(self.words(**short, phase="aborted", cause="asked", goalValues=[]))
         stuck = Game(STEPS.replace("(legal bob wait)", "(<= (legal bob wait) (true (at 1)))"))
         first = {"moves": [["(go 2)", "wait"]], "errors": [["", ""]], "states": [["(at 1)"], ["(at 2)"]]}
@@ -196,14 +196,14 @@ class Followed(unittest.TestCase):
     def test_a_move_that_several_sentences_give_stands_by_the_first_that_was_seen_to(self):
         rules = "(role ann) (init s) (<= (legal ann go) (true t)) (legal ann stay) (<= (legal ann go) (true s)) (<= (next t) (true s)) (<= (next s) (true t))"
         turns = {"moves": [("go",)] * 3, "states": [["s"], ["t"], ["s"], ["t"]], "roles": ("ann",)}
-        # The sentence of the game that is the first for `go` may not give it here: then its place is open.
+        # The first sentence of the game for `go` may not derive it here: then its place is unknown.
         self.assertIsNone(self.words(rules, **turns, errors=[["TO"], [""], ["TO"]]))
         turns["moves"] = [("stay",), ("go",), ("stay",)]
         self.assertIsNone(self.words(rules, **turns, errors=[["TO"], [""], [""]]))
         turns = {"moves": [("go",), ("stay",)], "states": [["s"], ["t"], ["s"]], "roles": ("ann",)}
         said = "turn 2, ann: the record plays stay instead of an answer, but go comes before it, by sentence 2, line 1: (<= (legal ann go) (true t))"
         self.assertEqual(self.words(rules, **turns, errors=[[""], ["TO"]]), said)
-        # What a sentence was seen to give in one state has its place by it in the others.
+        # A move that a sentence was seen to derive in one state has its place by this sentence in the others.
         turns = {"moves": [("stay",), ("stay",), ("stay",)], "states": [["s"], ["t"], ["s"], ["t"]], "roles": ("ann",)}
         following = Following(Game(rules))
         following.seen["ann", "go"] = 2
@@ -382,7 +382,7 @@ class Described(unittest.TestCase):
         self.assertEqual(game.goals(position, "a"), [5])
 
     def test_many_ways(self):
-        # Each `or` names other variables than all others. Those that bind the same in each way are relations of their own.
+        # Each `or` has its own variables. If all its ways bind the same variables, it becomes a relation.
         facts = "(role a) (init s) (p 1) (q 2)"
         ors = " ".join(f"(or (p ?v{at}) (q ?v{at}))" for at in range(30))
         game = Game(f"{facts} (<= (legal a (m ?v0 ?v1)) {ors})")

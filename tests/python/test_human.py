@@ -19,13 +19,13 @@ from html_pages import parsed, text_of
 from support import GAMES
 
 RULES = (GAMES / "tictactoe.kif").read_text(encoding="ascii")
-# Rules with variables: who says the other number wins.
+# Rules with variables: the role that says the other number wins.
 OPEN = """
 (role a) (role b) (number 1) (number 2) (init new) (<= (legal ?r (say ?n)) (role ?r) (number ?n) (true new))
 (<= (next (said ?r ?n)) (does ?r (say ?n))) (<= terminal (true (said a ?n))) (<= (goal a 100) (true (said a 1))) (<= (goal a 0) (true (said a 2)))
 (<= (goal b 50) (role b))
 """
-# A thread that waits for a person in a test may take so long on a busy computer.
+# The seconds that a thread that waits for a person may take on a busy computer.
 SECONDS = 60
 
 
@@ -53,7 +53,7 @@ class Boards(unittest.TestCase):
             board, found = parsed(picture["state"]), {move["text"]: move["places"][0] for move in picture["legal"]}
             titles = [button["title"] for button in board.select(".board button")]
             self.assertEqual((sorted(title[:3] for title in titles), [title for title in titles if "nothing" not in title]), (["1 1", "1 2", "2 1", "2 2", "3 1", "3 2"], stones))
-            # (push 0 1) names no place, so (push 1 1) is none either; (drop 1) to (drop 3) name columns.
+            # (push 0 1) names no place, so (push 1 1) does not either; (drop 1) to (drop 3) name columns.
             wanted = {"(put 3 2)": [(3, 2)], "(push 1 1)": [], "(push 0 1)": [], "(drop 2)": [(2, 0)], "pass": []}
             self.assertEqual({move: found[move] for move in wanted}, wanted)
             shown.advance(("pass",))
@@ -275,7 +275,7 @@ class Pages(unittest.TestCase):
         self.assertEqual(self.request("POST", "/", "(").status, 400)
 
     def test_a_name_that_another_site_has_given_to_this_address(self):
-        # A browser sends no more than this with a page's request to where the page is from.
+        # A browser sends only these headers with a page's request to the page's own server.
         named = {"Host": "example.org:1"}
         for path in (self.of_page(), self.of_page("events")):
             self.assertEqual(self.request("GET", path, headers=named).status, 403)
@@ -317,7 +317,7 @@ class Pages(unittest.TestCase):
         many = [socket.create_connection(self.server.server_address[:2], SECONDS, ("127.0.0.2", 0)) for _ in range(200)]
         for line in many:
             self.addCleanup(line.close)
-        # Those above the limit are closed.
+        # The connections above the limit are closed.
         self.assertEqual(many[-1].recv(1), b"")
         self.seat.page_opens(1)
         self.assertEqual(self.request("POST", "/", "(INFO)").read(), b"available")

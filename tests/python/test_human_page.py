@@ -79,13 +79,13 @@ class InBrowser(unittest.TestCase):
         page.click(MOVE)
         self.assertEqual(self.answered(asked), "(mark 1 1)")
         self.assertEqual(self.answered(self.ask("(STOP M ((mark 1 1) noop))")), "done")
-        # The end stays to be read where the player ends at once, as that of a single match does.
+        # The page keeps showing the end if the player exits at once, as after a single match.
         page.until("document.getElementById('note').textContent.includes('The match is over')")
         page.value("events.onerror()")
         self.assertRegex(page.text(), r"The match is over: xplayer .*, oplayer .*\. The player does not answer")
 
     def go_to(self, page: Page, place: str) -> None:
-        """Goes by the keyboard, place by place, to one of the board; each is seen to be reached."""
+        """Moves by the keyboard, place by place, to one of the board. Each place must show its focus."""
         reached = ""
         while reached != place:
             page.press("Tab")

@@ -15,7 +15,7 @@ from support import GAMES, TOP, InFolder, run, toml
 
 NIM = GAMES / "general/nim.kif"
 PLAYERS = [("ann", "127.0.0.1:9"), ("bob", "127.0.0.1:10")]
-# It has 810,000 instances that no splitting makes fewer, and takes some seconds.
+# It has 810,000 instances, which splitting cannot reduce, and takes some seconds.
 LONG = "(role a) (init s) " + " ".join(f"(n {at})" for at in range(30)) + "(<= (legal a (m ?a ?b ?c ?d)) (n ?a) (n ?b) (n ?c) (n ?d) (true s))"
 LONG += "(<= terminal (true t)) (goal a 1)"
 

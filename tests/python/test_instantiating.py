@@ -94,14 +94,14 @@ class Folding(unittest.TestCase):
         rules = dice_game(random.Random(0))
         small, large = folding.Target(20, 1 << 20), folding.Target(10_000, 1 << 20)
         self.assertEqual([folding.folded(rules, targets).sentences() for targets in ([small], [large], [small, large])], [20, 42, 20])
-        # What takes too much work at first or later, or has no room, has the next one.
+        # If a target takes too much work, early or late, or is impossible, the next one is tried.
         too_short = small._replace(bytes=folding.begun(rules).bytes() // 2 - 1, work=1_000_000)
         for target in (too_short, small._replace(work=1), small._replace(work=folding.begun(rules).formulas.work * folding.MORE_WORK), folding.Target(3, 10)):
             self.assertEqual(folding.folded(rules, [target, large]).sentences(), 42, target)
         with self.assertRaises(folding.Hopeless) as why:
             folding.folded(rules, [folding.Target(3, 10), small._replace(work=1)])
         self.assertEqual(str(why.exception), "factoring takes more than 1 steps")
-        # What only the last could take is given, past the limit as it is.
+        # Without a further target the result is returned although it exceeds this one.
         self.assertEqual(folding.folded(rules, [folding.Target(20, 100)]).sentences(), 20)
 
     def test_what_is_refused_early_has_its_figures(self):
@@ -120,7 +120,7 @@ class Folding(unittest.TestCase):
             self.assertEqual(refused(rules, 12, 1 << 20), "sentences (at least 18 of 12)")
 
     def test_what_games_by_dice_come_to(self):
-        # Sentences, bytes and the beginning of the sum of the text: whatever folds otherwise shows here.
+        # Sentences, bytes and the beginning of the checksum of the text: any change of factoring shows here.
         for seed, most, most_bytes, *figures in (
             (0, 10_000, 1 << 20, 42, 1_441, "0978b570"), (0, 20, 1 << 20, 20, 1_471, "d823b622"), (0, 0, 0, 12, 8_518, "0193cc32"), (0, 14, 1 << 20, 14, 2_405, "67a8290d"),
             (1, 10_000, 1 << 20, 44, 1_510, "dc99034a"), (1, 20, 1 << 20, 20, 1_575, "f6e8ec2f"), (1, 0, 0, 12, 7_326, "75f1bb39"),
@@ -206,7 +206,7 @@ class Folding(unittest.TestCase):
         self.assertGreater(costs[3], costs[2])
 
     def test_what_is_put_into_others_costs_whose_it_is(self):
-        # The long relation is asked for once, and stands in the rule that asks: what it costs there is its own.
+        # The long relation is used once, and is inlined in that rule: its cost there counts for the relation.
         long = " ".join(f"(true (a-long-name {k}))" for k in range(20))
         text = f"(role r) (legal r m) (<= (next s) w (true s)) (<= w {long})"
         game = folded(all_rules(expressions(text)), 3, 1 << 20)
@@ -283,7 +283,7 @@ class Rounds(unittest.TestCase):
                 self.compare(rules, found, edges)
 
     def test_ways_that_grow_by_one_edge_are_not_halved(self):
-        # Two ways make a longer one only where the second is an edge of the game: a round then adds one edge, and does not double the way.
+        # Two paths make a longer one only if the second is an edge of the game: then a round adds one edge, and does not double the path.
         places = range(6)
         rules = [Rule(1, ("w", str(a), str(b)), (Literal(True, ("true", (str(a), str(b)))),)) for a, b in itertools.product(places, repeat=2)]
         for start, middle, end in itertools.product(places, repeat=3):
@@ -296,7 +296,7 @@ class Rounds(unittest.TestCase):
             self.compare(rules, found, [(str(a), str(b)) for a, b in itertools.product(places, repeat=2) if dice.random() < 0.2])
 
     def test_ways_that_go_over_others_outside_are_not_halved(self):
-        # Any two ways make a longer one, but some of these are part of no other: the way from 0 to 0 over 4, 1 and 2 is not made of halves.
+        # Any two paths make a longer one, but some of these are part of no other: the path from 0 to 0 over 4, 1 and 2 is not made of halves.
         ends = ["00", "02", "04", "10", "11", "12", "14", "20", "24", "40", "41", "44"]
         rules = [Rule(1, ("w", *way), (Literal(True, ("true", way)),)) for way in ends]
         for way, onward in itertools.product(ends, repeat=2):
@@ -306,7 +306,7 @@ class Rounds(unittest.TestCase):
         self.compare(rules, self.unrolled(rules, 11), ["04", "41", "12", "20"])
 
     def test_sentences_keep_their_places(self):
-        # The first rules of a and b derive nothing that is not derived before: the sentences stand where these stood.
+        # The first rules of a and b derive nothing new: the sentences keep the places of these rules.
         asked = [(1, "a", "b"), (2, "b", "b"), (3, "c", "d"), (4, "b", "c"), (5, "d", "a"), (6, "c", "s")]
         rules = [Rule(number, head, (Literal(True, ("true", asked_for) if asked_for == "s" else asked_for),)) for number, head, asked_for in asked]
         found, _ = rounds.unrolled(rules)
@@ -329,7 +329,7 @@ class Rounds(unittest.TestCase):
             self.compare(rules, found, [name for name in named.values() if dice.random() < 0.6])
 
     def test_what_goes_one_way_alone_saves_no_round(self):
-        # 1 can be derived from 2, 3 and 4, 2 from 3 and 4, 3 from 4, and 4 from 1: from 1 on it takes two rounds to 2 and 3.
+        # 1 can be derived from 2, 3 and 4, 2 from 3 and 4, 3 from 4, and 4 from 1: from 1 it takes two rounds to 2 and 3.
         steps = {"1": "234", "2": "34", "3": "4", "4": "1"}
         for order in itertools.permutations(steps):
             rules = [Rule(1, ("w", start), (Literal(True, ("true", start)),)) for start in order]
@@ -379,7 +379,7 @@ class Texts(unittest.TestCase):
         said = "nothing is written, because this exceeds the limit however it is factored: sentences (at least "
         self.assertEqual(str(why.exception)[: len(said)], said)
         self.assertIn(" ground sentences, because 2 cycles of sentences are unrolled, the largest, of 25 sentences with (joined ", str(why.exception))
-        # What is unrolled is more than any sentence's instances.
+        # There are more unrolled sentences than instances of any sentence.
         self.assertNotIn("the most instances", str(why.exception))
 
     def test_few_instances_are_tried_first(self):

@@ -141,7 +141,7 @@ class Values(InCache):
         before, again = file.stat().st_ino, Known(self.folder)
         self.assertEqual(again.get("lines", "a"), 1)
         again.write()
-        # It was looked at now, so it does not go first.
+        # It was used now, so it is not deleted first.
         self.assertEqual((file.stat().st_ino, file.stat().st_mtime > 1000, Known(self.folder).get("lines", "a")), (before, True, 1))
 
     def test_what_was_not_looked_at_lately_goes_first(self):
@@ -184,7 +184,7 @@ class Files(InCache):
         self.assertEqual([self.written(), self.written()], [1, 0])
         page.unlink()
         self.assertEqual([self.written(), self.written()], [1, 0])
-        # What stands at its head has changed.
+        # The head of the page has changed.
         self.plan.matches[0] = replace(self.plan.matches[0], again="cup-009", reason="x")
         self.assertEqual(self.written(), 1)
 

@@ -15,7 +15,7 @@ from players import TestPlayer
 from support import GAMES, TOP, InFolder, command_of, program, program_but, run, start
 
 HEAD = "start = 60\nplay = 60\nstrikes = 1\nwait = 0\ninfo = 10\ntries = 2\n"
-# The command with other seconds, after which a job is lost, or its match has ended for sure.
+# The command with other numbers of seconds after which a job is lost, or its match has certainly ended.
 OTHER = f"import sys; sys.path.insert(0, {str(TOP / 'python')!r})\nfrom ggp_tools.competition import command, jobs, open_match\n%s\nsys.exit(command.main())"
 NODE = socket.gethostname()
 

@@ -30,7 +30,7 @@ ROLES = "red", "blue"
 
 
 def shown(seen):
-    """Returns what the row of an open match says of whom it waits for."""
+    """Returns the players that the row of an open match shows as awaited."""
     return text_of(parsed(open_row(seen, ROLES)[1])("td")[4])
 
 
@@ -74,11 +74,11 @@ class Lines(InRoom):
         self.assertFalse(live.is_held(folder))
         with held(folder):
             self.assertTrue(live.is_held(folder))
-            # Where other locks go while the list is read, a lock may be missing in it.
+            # If other locks go while the list is read, a lock may be missing in it.
             for missed, is_held in ((4, True), (5, False)):
                 with patch.object(live, "locks", side_effect=[*[[]] * missed, live.locks()]):
                     self.assertEqual(live.is_held(folder), is_held)
-            # A folder of another disk may have the same number.
+            # A directory on another disk may have the same number.
             with patch.object(live, "lock_place", lambda found: f"ff:fff:{os.stat(found).st_ino}"):
                 self.assertFalse(live.is_held(folder))
 
@@ -103,13 +103,13 @@ class Lines(InRoom):
         self.assertEqual(shown(seen), "the answers to START")
         self.say(log, started(self.match))
         self.look(reader)
-        # The state says whose turn it is, and that is shown until the turn is over.
+        # The state has the role whose turn it is, which is shown until the turn is over.
         self.assertEqual((seen.turn(), seen.awaited(), shown(seen)), (1, [0], f"red to move: {self.match.players[0]}"))
         before = reader.version, seen.since
         self.say(log, self.play(2, "NIL", ["(take 1)"], [0]))
         os.utime(log, (1_000.0, 1_000.0))
         self.look(reader)
-        # That one has answered is known here, and changes no page.
+        # The reader knows that one has answered, but no page changes.
         self.assertEqual((seen.turn(), seen.awaited(), reader.version, seen.since), (1, [1], *before))
         self.assertEqual(shown(seen), f"red to move: {self.match.players[0]}")
         with patch.object(seen, "is_late", True):
@@ -139,7 +139,7 @@ class Lines(InRoom):
             self.assertEqual((seen.turn(), seen.awaited()), (3, [1]))
             seen = self.seen_after(*turns, self.play(4, "(noop (take 1))", ["", "noop"], [1]), strikes=2)
             self.assertEqual((seen.turn(), seen.is_ending(), seen.replaced[-1].error), (4, True, "RT"))
-        # A move of its own ends the row.
+        # A move of the player ends the series.
         own = self.play(3, "((take 1) noop)", ["noop", "(take 1)"]) + self.play(4, "(noop (take 1))", ["a b", "noop"])
         self.assertEqual(self.seen_after(self.play(2, "NIL", ["(bad)", "noop"]), own, strikes=2).awaited(), [0, 1])
 
@@ -157,7 +157,7 @@ class Lines(InRoom):
         # The match goes on, also if that retires the player.
         seen = self.seen_after(log, self.play(3, "((take 1) noop)", ["noop"], [0]), strikes=1)
         self.assertEqual((seen.turn(), seen.awaited()), (3, [0]))
-        # The player may answer with these words.
+        # The player may answer with this text.
         seen = self.seen_after(self.play(2, "NIL", ["(take 1)", "lost (out of ports)"]), strikes=1)
         self.assertEqual([(move.turn, move.error, move.move) for move in seen.replaced], [(1, "IL ?", "noop")])
 
@@ -205,7 +205,7 @@ class Lines(InRoom):
 
     def test_how_many_moves_were_replaced_is_said(self):
         log = self.play(2, "NIL", [SILENT, SILENT]) + self.play(3, "((take 1) noop)", [SILENT, SILENT])
-        # Its answers were there long after the other match.
+        # Its answers arrived long after the other match.
         os.utime(begin(self.plan, self.match, started(self.match) + log), (2e9, 2e9))
         over = self.plan.matches[1]
         moves = [["(take 1)", "noop"]] * 5
@@ -266,7 +266,7 @@ class Lines(InRoom):
         file = self.plan.folder.record(first.id)
         file.rename(f"{file}.refused")
         end(self.plan, first, record_of(first, *turns, [100, 0]))
-        # It is written in its place, so the folder does not change.
+        # It is written in place, so the directory does not change.
         self.plan.folder.record(second.id).write_text("no record")
         reader.look()
         reader.look()
@@ -304,7 +304,7 @@ class Lines(InRoom):
         for minute, match in enumerate(reversed(self.plan.matches)):
             self.plan.folder.record(match.id).write_text(json.dumps(record_of(match, [["noop", "noop"]], [["CE", ""]], [0, 100])))
             times = [minute * 60_000, (59 - minute if minute % 2 == 0 else 59) * 60_000]
-            # One log tells of the turn, another one of the end alone.
+            # One log has the turn, another one only the end.
             said = line(match, 0, 2, f"(PLAY {match.id} NIL)", Missed("CE (no connection)"), 0, times[0]) if minute % 2 else ""
             stop = line(match, 0, 3, f"(STOP {match.id} NIL)", "done", 0, times[1])
             self.plan.folder.log(match.id).write_text(opened(match, times[0]) + said + stop)
@@ -380,7 +380,7 @@ class States(InRoom):
         return next(term for term in board.position.states[-1] if term.startswith("(heap"))
 
     def test_what_is_replaced(self):
-        # An answer that is no legal move, in whatever letters, and one that did not come.
+        # An answer that is not a legal move, in upper or lower case, and a missing one.
         board = self.board(self.play(2, "NIL", ["(TAKE  2)", "<script>"]) + self.play(3, "((take 2) noop)", [SILENT, "(take 2)"]))
         self.assertEqual([turn.errors for turn in board.turns()], [("", "IL <script>"), (SILENT, "IL (take 2)")])
         self.assertEqual((board.turns()[-1].moves, self.heap(board), board.trouble), (("noop", "(take 1)"), "(heap 0)", ""))
@@ -395,13 +395,13 @@ class States(InRoom):
     def test_a_log_that_lacks_a_line(self):
         log = self.play(2, "NIL", ["(take 1)", "noop"]) + self.play(3, "((take 1) noop)", ["noop"], [0]) + self.play(4, "(noop (take 1))", ["noop"], [0])
         board = self.board(log)
-        # The answer may yet come, so far as is known, and who has answered the next turn is not shown.
+        # The answer may still come, and the pages do not show who has answered the next turn.
         self.assertEqual((len(board.position.moves), board.trouble), (1, ""))
         self.follow(board, self.play(4, "(noop (take 1))", ["", "(take 1)"], [1]))
         self.assertEqual((len(board.position.moves), board.trouble), (1, NO_LINE))
         self.assertIn(html.escape(NO_LINE), str(drawn(board)))
         self.assertFalse(board.is_due())
-        # It goes on once the line is there.
+        # It continues once the line is there.
         self.follow(board, self.play(3, "((take 1) noop)", ["", "(take 1)"], [1]) + self.play(5, "(noop (take 1))", ["noop"], [0]))
         self.assertEqual((len(board.position.moves), board.trouble), (3, ""))
 
@@ -436,7 +436,7 @@ class States(InRoom):
         self.assertEqual(self.heap(board), "(heap 1)")
 
     def test_a_label_looks_the_same_in_each_state(self):
-        # At first there is one kind of label, which alone might mean anything.
+        # At first there is only one kind of label, which might mean anything.
         board = self.board(rules=(GAMES / "tictactoe.kif").read_bytes())
         self.assertEqual(re.findall("<i class=\"ground\"[^>]*>(.*?)</i>", drawn(board)), ["\u00b7"] * 9)
 
@@ -450,7 +450,7 @@ class States(InRoom):
             return [[f"({name} {x} {y} {(x + y + at) % 5} w)" for name in relations for x in range(1, size + 1) for y in range(1, size + 1)] for at in range(count)]
 
         rules = expressions(" ".join(f"(next (cell {x} {y} {label} w))" for x in range(1, 33) for y in range(1, 33) for label in range(17)))
-        # The number of terms that are read, how many places are drawn, and how many terms are listed.
+        # The number of terms that are read, of places that are drawn, and of terms that are listed.
         cases = (
             (states(["cell"], 32, 31), Named(), 16 * 1_024, 1_024, 0), (states(["cell"], 32, 2), Named(rules), 2 * 1_024, 1_024, 0),
             (states(["cell"], 127, 3), Named(), 16_129, 0, 60), (states(["cell"], 129, 3), Named(), 0, 0, 60),

@@ -1,4 +1,4 @@
-"""What the live pages know of a match while it is open, compared with its record, for players that answer anything, line by line of the log."""
+"""The live pages of an open match, compared with its record after each line of the log, for players that answer anything."""
 
 import json
 import math

@@ -71,7 +71,7 @@ class Made(unittest.TestCase):
         self.assertTrue(str(found).startswith("nothing is written, because this exceeds the limit however it is factored: sentences (at least "), found)
 
     def test_what_is_past_the_usual_limits_says_that_it_is_large(self):
-        # It can't be folded to within them, or that would take too much, or is not wanted.
+        # It can't be factored to within them, or that would take too much work, or was not requested.
         for most, work, options in ((8, 400_000, {}), (11, 1, {}), (11, 400_000, {"is_large": True}), (11, 400_000, {"wanted": NEVER})):
             with mock.patch.dict(limits.MOST, {"sentences": most}), mock.patch.object(making, "MOST_WORK", work):
                 found, said = made(GAME, **options)

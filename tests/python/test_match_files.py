@@ -69,7 +69,7 @@ class Kept(unittest.TestCase):
         self.plan = types.SimpleNamespace(folder=self.folder, competition=competition, rules={"one": RULES}, matches=[], judge=lambda referee, _: referee)
 
     def matches(self, *sizes):
-        """Writes the files of matches of one game, with records and accounts of these sizes."""
+        """Writes the files of matches of one game, with records and call logs of these sizes."""
         for size in sizes:
             match = types.SimpleNamespace(id=f"cup-{len(self.plan.matches)}", game="one")
             self.plan.matches.append(match)
@@ -177,8 +177,8 @@ class Kept(unittest.TestCase):
 
 
 class Said(Counting):
-    """A referee whose verdict on each record is in the record, and that reproduces an account if `right` is in it. It keeps the accounts and records
-    that it got."""
+    """A referee whose verdict on each record is in the record. It reproduces a call log if `right` is in it, and keeps the call logs and records that
+    it got."""
 
     def __init__(self, path):
         super().__init__()
@@ -233,7 +233,7 @@ class Looked(unittest.TestCase):
         found = results["cup-0"]
         self.assertEqual((found.match, found.goals, found.turns, found.errors, found.retirements, found.phase, found.cause, found.counted()),
                          (first, (40, 60), 2, (Counter({"TO": 1}), Counter()), (None, None), "finished", None, (40, 60)))
-        # What is not lawful is not replayed.
+        # An unlawful record is not replayed.
         self.assertEqual(sorted(json.loads(record)["matchId"] for _, record in self.referee.replayed), ["cup-0", "cup-2", "cup-3"])
         self.folder.account(other.id).unlink()
         self.write(first, account="wrong")
@@ -282,7 +282,7 @@ class Looked(unittest.TestCase):
         known = Known(self.folder.path)
         found = self.look(known)
         self.assertEqual((sorted(found[0]), list(found[1]), list(found[2]), sum(self.referee.counts)), (["cup-2", "cup-3"], ["cup-0"], ["cup-1"], 2))
-        # Where the rules change while records are looked at, or are gone, nothing is kept.
+        # If the rules change or disappear during the check, nothing is stored.
         for match in self.plan.matches:
             self.write(match, phase="aborted")
         rules, plain = self.folder.rules_of("one"), self.referee.verdicts
@@ -476,7 +476,7 @@ class Files(InFolder):
         with mock.patch("os.fsync", syncing), mock.patch("os.replace", renaming):
             keep(folder, "m", b"record", b"account", b"log")
         wanted = []
-        # Where the machine is lost at any moment, what has a record has the others.
+        # If the machine fails at any moment, a match with a record has the other files.
         for place, name, data in (("logs", "m.jsonl", b"log"), ("accounts", "m.txt", b"account"), ("records", "m.json", b"record")):
             wanted += [("on the disk", name, data), ("renamed", name), ("on the disk", place, None)]
         self.assertEqual(steps, wanted)

@@ -1,11 +1,11 @@
-"""Matches by ground descriptions, in a game with all of its states written down here, and the phases of its matches."""
+"""Matches by ground descriptions, in a game whose states are all written here, and the phases of its matches."""
 
 import unittest
 
 from ggp_tools.holding.game import Game
 from ggp_tools.holding.match import MOST_TURNS, Match, texts_of
 
-# Each role shows a side once. Red goes on from 2 as well, but blue has no move there.
+# Each role shows a side once. Red can move in state 2 too, but blue has no move there.
 SHOW = """
 (role red) (role blue)
 (init 1) (init (side none))
@@ -40,7 +40,7 @@ class Rules(unittest.TestCase):
         for term, moves in (("1", [["head", "tail"], ["tail", "head"], []]), ("2", [["wait"], [], []])):
             found, position = self.position(term)
             self.assertEqual([found.moves(position, role) for role in ("red", "blue", "green")], moves)
-        # A move has its place by the first sentence that can give it, whether that does so here or not.
+        # The place of a move is that of the first sentence that can derive it, even if another one derives it here.
         found = Game("(role r) (<= (legal r b) (true t)) (legal r a) (<= (legal r b) (true s)) (<= (legal r c) (true s)) (init s)")
         self.assertEqual(found.moves(found.position(found.initial), "r"), ["b", "a", "c"])
 
@@ -66,7 +66,7 @@ class Rules(unittest.TestCase):
         self.assertEqual((found.moves(position, "r"), found.goals(position, "r"), found.is_over(position)), (["a", "b"], [1], True))
 
     def test_ors_in_one_another_are_tested_as_they_stand(self):
-        # As rules without `or` these would be 2 ** 40.
+        # Without `or` this would be 2 ** 40 rules.
         ors = " ".join(f"(or (and (true a{at}) (not (or (true b{at}) (true c{at})))) (true d{at}))" for at in range(40))
         found = Game(f"(role r) (<= terminal {ors})")
         state = {f"a{at}" for at in range(40)}

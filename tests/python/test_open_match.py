@@ -22,7 +22,7 @@ from live_support import plan_in, record_of
 
 
 def info_of(verdict, status=0, text="", **more):
-    """Returns what comes of a process of `info` that prints this verdict."""
+    """Returns the result of a process of `info` that prints this verdict."""
     return status, json.dumps({"player": "x", "verdict": verdict} | more).encode() + b"\n", text
 
 
@@ -70,7 +70,7 @@ class WithMatch(unittest.TestCase):
 
     def setUp(self):
         self.folder = pathlib.Path(self.enterContext(tempfile.TemporaryDirectory()))
-        # What comes of each process: status, output, message, and the seconds that it takes if a number follows them.
+        # The result of each process: exit status, output, message, and the seconds that it takes, if given.
         self.laid_down = {"ann@h:1": READY, "bob@h:2": READY}
         self.meanwhile = lambda name: None
         self.enterContext(mock.patch.object(open_match, "run", self.run_process))
@@ -246,7 +246,7 @@ class Asking(WithMatch):
         self.slots.failed.update(ann=1, bob=1)
         self.asked(READY, NO_ANSWER)
         self.assertEqual((self.slots.failed, self.open.why), ({"ann": 0, "bob": 2}, "bob is silent"))
-        # Also where nobody is missed, and where it is played without who is.
+        # Also if no player is missing, and if the match is played without the missing ones.
         for bob, failed in ((READY, 0), (NO_ANSWER, 2)):
             self.begin('tries = 2\nabsent = "play"\n')
             self.slots.failed.update(ann=1, bob=1)
@@ -256,7 +256,7 @@ class Asking(WithMatch):
     def test_without_who_is_absent_it_is_played_where_that_is_wanted(self):
         head = 'tries = 1\nabsent = "play"\n'
         self.assertEqual(self.asked(READY, NO_ANSWER, head=head), (True, None, [f"absent {self.match.id}: bob is silent, and the match is played"]))
-        # Who is busy is there.
+        # A busy player is not missing.
         self.assertEqual(self.asked(info_of("busy"), NO_ANSWER, head=head), (False, "ann is busy", []))
         self.assertEqual(self.asked(READY, NO_ANSWER, head='tries = 2\nabsent = "play"\n'), (False, None, [f"back {self.match.id}: bob is silent"]))
 
@@ -367,7 +367,7 @@ class Checking(WithMatch):
         self.assertEqual((files, self.open.stops_game), (self.kept(".differs"), True))
         self.assert_whole()
         self.assertEqual(reports, [("cup-001", {"description.kif": b"(p ?x)", "record.json": self.record, "account.txt": self.account, "words.txt": b"differs: turn 1\n"})])
-        # What is not lawful is no match of the rules either, and says nothing of them.
+        # An unlawful record does not follow the rules either, and says nothing about them.
         self.begin(self.HEAD)
         self.checked(verdict="not lawful: goals")
         self.assertFalse(self.open.stops_game)

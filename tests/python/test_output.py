@@ -1,4 +1,4 @@
-"""Descriptions, records and logs of strangers: no command prints a long line of their text, or a control character."""
+"""Descriptions, records and logs from others: no command prints a long line of their text, or a control character."""
 
 import json
 import os

@@ -12,7 +12,7 @@ from support import GAMES, TOP, InFolder, program
 
 PYTHON = TOP / "python"
 LAUNCHED = re.compile(r"^from (ggp_tools\S*) import main$", re.MULTILINE)
-# What has a path edited, or loads a module by its path.
+# Scripts that edit the path of modules, or load a module by its path.
 BY_PATH = re.compile(r"sys\.path|importlib|SourceFileLoader|runpy")
 
 

@@ -79,7 +79,7 @@ def long_name(name):
     return block("././@LongLink", tarfile.GNUTYPE_LONGNAME, name.encode() + b"\0")
 
 
-# What the files of FIRST take of a tar file.
+# The bytes of the files of FIRST in a tar file.
 HEAD = tar_of(FIRST)[: 2 * 512 + sum(len(data) + -len(data) % 512 for data in FIRST.values())]
 
 
@@ -178,7 +178,7 @@ class Packing(InFolder):
         with mock.patch.object(packing, "OTHER_FILES", 10), self.assertRaisesRegex(Spoilt, "it has more than 15 files, "):
             unpack(path, self.folder)
         self.assertEqual(len([*(self.folder / "cup").iterdir()]), 15)
-        # Only rows of matches count, whatever else is there.
+        # Only rows of matches count.
         for text, count in ((b"", 0), (b"\n" * 40_000, 0), (b"\t\t\t\t\n" * 40_000, 0), (b"id\tgame\tstart\tplay\tplayers\n", 0), (ROW * 2_000, 2_000), (ROW * 100_001, 100_000)):
             schedule.write_bytes(text)
             self.assertEqual(most_files(schedule), 5 * count + 10_000)

@@ -84,8 +84,8 @@ class SideBySide(unittest.TestCase):
 
 class Knockout(unittest.TestCase):
     def seen(self, form, *goals_by_round):
-        """Returns what the first page shows of a competition of three players before each round and at the end: the pairs of the bracket, who has
-        come through, and who is first. And the last page, and the last match."""
+        """Returns what the first page shows of a competition of three players before each round and at the end: the pairs of the bracket, the players
+        that advanced, and the first one. Also returns the last page and the last match."""
         folder = Folder(pathlib.Path(self.enterContext(tempfile.TemporaryDirectory())))
         players = [(name, f"h:{at}") for at, name in enumerate(("ann", "bob", "cid"), 1)]
         competition = read_competition(toml(players, [("one", "f", 'board = "hex"')], form).encode())
@@ -106,7 +106,7 @@ class Knockout(unittest.TestCase):
         first = [["ann", ""], ["(bye)", ""]]
         self.assertEqual(found[0], ([first, [["bob", ""], ["cid", ""]], [["ann", ""], ["?", ""]]], ["ann"], []))
         self.assertEqual(found[1], ([first, [["bob", "0"], ["cid", "2"]], [["ann", ""], ["cid", ""]]], ["ann", "cid"], []))
-        # With the same points and goals the better seed goes on.
+        # With the same points and goals the better seed advances.
         self.assertEqual(found[2][1:], (["ann", "cid", "ann"], ["Winner: ann", "Second: cid", "Third: bob"]))
         row = next(row for row in rows_of(page.find(id="matches")) if row[0] == last.id)
         self.assertEqual((row[2], row[3]), (" and ".join(last.players) + " drew", ", ".join(f"{name} 50" for name in last.players)))
@@ -193,7 +193,7 @@ class PagesOfMany(unittest.TestCase):
 
     def test_the_page_of_a_player(self):
         match, player = self.plan.matches[0], self.plan.matches[0].players[1]
-        # What was said before the match began anew on another host does not count.
+        # Events before the match began again on another host do not count.
         before, said = (line(match, 1, 2, f"(PLAY {match.id} NIL)", answer, ms) for answer, ms in (("lost", 9_000), ("<script>", 1_500)))
         self.plan.folder.log(match.id).write_text(before + log_of(match, said))
         pages = Pages(self.plan)
@@ -259,7 +259,7 @@ class PagesOfMany(unittest.TestCase):
             page = self.page(pages, name)
             self.assertEqual(rows_of(page.find(id="seats"))[1][-1], longest)
             self.assertEqual(f"Of the logs of {match.id} the first 16 MiB are read" in text_of(page), is_cut)
-            # When it began and ended is known all the same.
+            # Its begin and end are known anyway.
             self.assertEqual(self.last_match(pages)[-2:], ["2026-01-02 03:04:05", "2.5"])
 
     def test_a_match_that_was_ordered_again_counts_nowhere(self):
@@ -279,7 +279,7 @@ class PagesOfMany(unittest.TestCase):
         self.assertEqual([row[0] for row in rows_of(page.find(id="errors"))[1:]], [new.id])
         self.assertEqual(text_of(page).count(f"{old.id} does not count: {new.id} was ordered in its place"), 2)
         self.assertIn("1 of 299 matches are over.", text_of(self.page(pages, "index.html")))
-        # As long as the new one is not played there is nothing that counts.
+        # Until the rematch is played, nothing counts.
         pages = Pages(self.plan)
         pages.write(results[:1])
         page = self.page(pages, f"players/player-{player}.html")
@@ -295,7 +295,7 @@ class PagesOfMany(unittest.TestCase):
         before = untouched.stat().st_ino, changed.stat().st_ino
         pages.write(self.results[:3])
         self.assertEqual((untouched.stat().st_ino == before[0], changed.stat().st_ino == before[1]), (True, False))
-        # What another run has deleted in the meantime is made again.
+        # Pages that another run has deleted meanwhile are made again.
         text = untouched.read_text()
         untouched.unlink()
         pages.write(self.results[:3])

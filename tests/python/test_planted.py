@@ -1,13 +1,10 @@
-"""Ground rules that are instantiated wrongly are found by the match that shows it, and by nothing before that.
+"""Wrong ground rules are found by a match that shows the error, and by nothing before it.
 
-Ten games of different kinds get a fault each: a rule that is dropped, two moves in each other's place, a goal that is off by one, and a
-rule without its last literal, or, in the game with a cycle, a cycle that is unrolled in half its rounds. Dice choose the place, and
-matches by the wrong rules are played until one reaches it: its answers make another record by the right rules. No random match needs
-so many rounds of a cycle, so there red's stones are given, which wind from side to side.
-
-The program loads such rules, plays the match by them, finds its record lawful, and its account gives the record again: what is wrong
-with the rules does not show there. `ggp-hold-against` has to find it, and nothing in the record by the right rules.
-"""
+Ten games of different kinds get an error each: a missing rule, two swapped moves, a goal that is off by one, or a rule without its last literal. In
+the game with a cycle, the cycle is unrolled in half of its rounds. The place of the error is random, and matches by the wrong rules are played until
+one reaches it: its answers make another record by the right rules. No random match needs that many rounds of a cycle, so there red's stones are
+given, which wind from side to side. The program loads the wrong rules, plays the match by them, finds its record lawful, and reproduces it from its
+call log, so it does not notice the error. `ggp-hold-against` must find the error, and none in the record by the right rules. """
 
 import functools
 import json
@@ -28,14 +25,14 @@ from support import program
 PLANTED_IN = "tictactoe", "nim", "connectfour", "auction", "minority", "hanoi", "river", "prisoners", "foxandhounds", "hex"
 WITH_A_CYCLE = "hex"
 TRIES = 60
-# Of these stones the last one is ten steps from the side, and no other way is shorter; blue's are where red does not go.
+# The last of these stones is ten steps from the side, and no path is shorter. Blue's stones are where red does not go.
 WINDING = "11 21 22 23 24 25 35 44 43 42 51".split()
 Plant = Callable[[str, random.Random], Sentences]
 
 
 @functools.cache
 def right_rules(name: str) -> Sentences:
-    # The cycle is the same in fewer sentences, which the referee reads sooner.
+    # The same cycle in fewer sentences, which the referee reads faster.
     return instantiated(description(name), making.ALWAYS if name == WITH_A_CYCLE else making.WHERE_NEEDED)
 
 

@@ -185,7 +185,7 @@ class Play(InFolder):
         out = ""
         for number in signals[:-1]:
             playing.send_signal(number)
-            # Of two signals that come at the same time the system may pass on one.
+            # If two signals come at the same time, the system may pass on only one.
             while not out.endswith("ended by one more Ctrl-C\n"):
                 out += playing.stdout.readline()
         playing.send_signal(signals[-1])
@@ -210,7 +210,7 @@ class Play(InFolder):
         playing.kill()
         playing.communicate()
         self.let_think(0)
-        # It comes before anything is looked at or sent.
+        # The error comes before anything is read or sent.
         waiting = program_but(self.folder / "waiting", '"$1" = abort', "sleep 60")
         playing = start(self.folder, "play", "--program", waiting)
         self.assertEqual(playing.stdout.readline(), "open 1 matches, when a play before this one was ended; their players are sent ABORT\n")
@@ -229,7 +229,7 @@ class Play(InFolder):
         self.look_at_ended_ones(self.interrupted(signal.SIGHUP))
 
     def hung_up(self, *outputs):
-        """Plays with these outputs on a terminal that goes away while the first match is open, and ignores the hang-up. Returns the exit status and
+        """Plays with these outputs on a terminal that closes while the first match is open, and ignores the hang-up. Returns the exit status and
         the other outputs."""
         self.planned(["slow"] * 3)
         ours, theirs = pty.openpty()

@@ -203,7 +203,7 @@ class Going(WithMatches):
 
     def test_a_game_whose_rules_are_wrong_is_not_played_on(self):
         why = "heap is not played on, since cup-001 is no match of its description"
-        # The second match was open by then: it differs too, and says nothing more, or it has asked its players and does not begin.
+        # The second match was already open: it differs too, without another report, or it has asked its players and does not begin.
         for end, left, lines in ((over(why="differs too", stops_game=True), "differs too", ["no record cup-003: differs too"]), (over(), why, [])):
             self.begin()
             games, once = self.plan.competition.games, iter([end])
@@ -373,7 +373,7 @@ class Before(WithMatches):
         with self.assertRaises(Refused) as why:
             playing.prepare(self.playing)
         self.assertEqual(str(why.exception), f"{records}/cup-001.json is lawful, and of another match: its matchId is 'x'")
-        # Until that is put right nothing is set aside.
+        # Until this is corrected, no file is renamed.
         self.assertEqual([file.name for file in records.iterdir()], ["cup-002.json"])
 
     def test_a_record_by_which_a_later_round_was_paired_ends_it(self):
@@ -388,7 +388,7 @@ class Before(WithMatches):
         with self.assertRaises(Refused) as why:
             playing.prepare(self.playing)
         self.assertIn("cup-001 has no record that counts, and a later round was paired by it", str(why.exception))
-        # Until that is put right nothing is set aside, nobody is told anything, and nothing waits.
+        # Until this is corrected, no file is renamed, no message is sent, and no match waits.
         self.assertEqual([file.name for kind in (folder.records, folder.accounts) for file in kind.iterdir()], ["cup-001.json", "cup-002.txt"])
         self.assertEqual((room.exists(), self.aborted, list(self.playing.waiting)), (True, [], []))
 
@@ -508,7 +508,7 @@ class Signals(WithMatches):
 # ---- the time left, compared with the actual time by a fake clock
 
 ROUND_ROBIN = 'kind = "round_robin"\nrounds = {}'
-# Players, form, matches at a time of a player and of all, and by games the least and the greatest seconds of a match.
+# Players, form, the matches at a time of a player and of all, and for each game the least and the greatest seconds of a match.
 SHAPES = {
     "one match at a time": (8, ROUND_ROBIN.format(5), 1, 4, {"one": (20, 40)}),
     "two at once": (8, ROUND_ROBIN.format(5), 1, 2, {"one": (20, 40)}),
@@ -551,5 +551,5 @@ class Left(unittest.TestCase):
         self.assertIsNone(seconds_left([], [(matches[0], 1.0)], {}, concurrent, 4))
         found = [seconds_left(matches[1:], [], {"one": [8.0]}, concurrent, 4), seconds_left(matches[1:], [(matches[0], 5.0)], {"one": [8.0]}, concurrent, 4)]
         self.assertEqual((found, seconds_left([], [], {"one": [8.0]}, concurrent, 4)), ([8.0, 11.0], 0.0))
-        # One that takes longer than others is about to end.
+        # A match that takes longer than the others counts as about to end.
         self.assertEqual(seconds_left([], [(matches[1], 20.0)], {"one": [8.0]}, concurrent, 1), 0.0)

@@ -1,4 +1,4 @@
-"""The plots of pages depend only on the figures, and are the same on each computer."""
+"""The plots of pages depend only on the numbers, and are the same on each computer."""
 
 import re
 import unittest

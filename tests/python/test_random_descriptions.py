@@ -1,4 +1,4 @@
-"""Random descriptions are grounded in four forms of the same game, and errors in that are detected."""
+"""Random descriptions are grounded in four forms of the same game, and wrong forms are detected."""
 
 import shutil
 import unittest
@@ -8,7 +8,7 @@ from ggp_tools.instantiating import rounds
 from random_descriptions import Tried
 
 FEW = range(12)
-# Among these is one whose cycle needs more than one round in its first match.
+# One of these has a cycle that needs more than one round in its first match.
 WITH_A_CYCLE = range(12, 18)
 
 

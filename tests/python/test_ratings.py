@@ -1,4 +1,4 @@
-"""Ratings, compared with closed forms, with slow computations by other methods, and with players of known strengths, and cases without ratings."""
+"""Ratings, compared with closed forms, with slow computations by other methods, and with players of known strengths. Also cases without ratings."""
 
 import math
 import random
@@ -30,7 +30,7 @@ def expected(player, points, logs):
 
 
 def reached(players, points):
-    """Returns for each player those that a chain of points leads to."""
+    """Returns for each player those to which a chain of points leads."""
     found = {player: {player} for player in players}
     for _ in players:
         for (player, opponent), got in points.items():
@@ -40,8 +40,8 @@ def reached(players, points):
 
 
 def iterated(players, points):
-    """Returns the logarithms of the strengths of a group by another way, the iteration of Hunter ("MM algorithms for generalized Bradley-Terry
-    models", The Annals of Statistics 32, 2004), or None where that is too slow."""
+    """Returns the logarithms of the strengths of a group by the iteration of Hunter ("MM algorithms for generalized Bradley-Terry models", The Annals
+    of Statistics 32, 2004), or None if that is too slow."""
     found = dict.fromkeys(players, 0.0)
     won = {player: sum(points.get((player, other), 0) for other in players) for player in players}
     for _ in range(5_000):
@@ -131,7 +131,7 @@ class Ratings(unittest.TestCase):
             logs = {player: found[player].rating / SCALE for player in group}
             own = {pair: got for pair, got in points.items() if {*pair} <= {*group}}
             self.assertAlmostEqual(sum(logs.values()), 0, 9)
-            # Where the likelihood is greatest each has got what is expected of it.
+            # At the maximum of the likelihood each player has its expected points.
             for player in group:
                 self.assertAlmostEqual(expected(player, own, logs), sum(got for (winner, _), got in own.items() if winner == player), 6)
             for player, half in zip(group, halves(group, own, logs)):
@@ -151,7 +151,7 @@ class Ratings(unittest.TestCase):
                     inside, total = inside + (away <= found[name].half), total + 1
                     nearest.append(away)
         self.assertEqual(total, 800)
-        # Of 800 intervals of 95% some 760 hold the strength; a group's ratings are not independent.
+        # About 760 of 800 intervals of 95% contain the strength; a group's ratings are not independent.
         self.assertGreater(inside, 736)
         self.assertLess(inside, 784)
         self.assertLess(sum(nearest) / total, 45)
@@ -172,7 +172,7 @@ class Ratings(unittest.TestCase):
             self.assertAlmostEqual(found[first].rating - found[second].rating, 400 * math.log10(9), 5)
 
     def test_strengths_that_the_results_hardly_limit_are_not_shown(self):
-        # Two chains, of which the first of each has beaten the last of the other: that limits how the chains compare by next to nothing.
+        # Two chains. The first player of each has beaten the last of the other, which hardly limits how the chains compare.
         points = {}
         for chain in ("abcdefghijklmno", "ABCDEFGHIJKLMNO"):
             points |= {way: got for pair in zip(chain, chain[1:]) for way, got in ((pair, 999), (pair[::-1], 1))}

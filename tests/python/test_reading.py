@@ -107,10 +107,10 @@ class Conditions(unittest.TestCase):
         self.assertEqual(found, Rule(0, ("h", 1), ("?x",), (asked("p", "?x"), Either(((asked("q", "?x"),), (asked("r", "?x", positive=False),))))))
         found = rules("(<= (h ?x) (or (p ?x) (q ?x)))")
         self.assertEqual([rule.body for rule in found], [(asked("p", "?x"),), (asked("q", "?x"),)])
-        # It may have any number of ways, then.
+        # Then it may have any number of ways.
         ors = " ".join("(or (q ?x) (r ?x))" for _ in range(40))
         self.assertEqual(len(rules(f"(<= (h ?x) (p ?x) {ors})")), 1)
-        # A denial, or that two are the same, binds nothing.
+        # A negation or an equality binds nothing.
         for body, count in (("(not (p ?x)) (or (q ?x) (r ?x))", 2), ("(p ?x) (or (q ?x ?y) (s ?x ?y)) (not (t ?x))", 2), ("(distinct ?x a) (or (q ?x) (r ?x))", 2)):
             self.assertEqual(len(rules(f"(<= (h ?x) {body})")), count, body)
         with self.assertRaises(Refused):
@@ -123,7 +123,7 @@ class Tied(unittest.TestCase):
         self.assertEqual(found.timely, {("true", 1), ("does", 2), ("t", 1), ("u", 1), ("m", None)})
         self.assertEqual((set(found.circles), found.denying), ({("w", 2)}, {("n", None)}))
         self.assertEqual(found.facts, {("e", 2): {("a", "b"): None}})
-        # No `or` asks for a relation of its own circle any more.
+        # No `or` uses a relation of its own cycle any more.
         self.assertFalse([condition for rule in found.rules["w", 2] for condition in rule.body if isinstance(condition, Either)])
 
     def test_an_or_is_left_where_it_asks_for_nothing_of_its_circle(self):
@@ -249,7 +249,7 @@ class Games(unittest.TestCase):
         before = self.game.position(frozenset({"s"}))
         self.game.position(frozenset(("p", str(at)) for at in range(9)))
         self.assertEqual(answers(), [10, 2])
-        # A position that was made before it is asked as before.
+        # An earlier position is queried as before.
         self.assertEqual((self.game.moves(before, "a"), self.game.is_over(before)), (["go", "stay"], False))
 
     def test_what_follows_the_moves(self):
@@ -333,7 +333,7 @@ class Compiled(unittest.TestCase):
         links = " ".join(f"(e ?v{at} ?v{at + 1})" for at in range(15))
         lines = self.sources(f"(role r) (e a a) (<= (legal r ?v15) {links})").splitlines()
         self.assertEqual(max((len(line) - len(line.lstrip())) // 4 for line in lines if line.lstrip().startswith("for")), 13)
-        # Of what is bound only the last variable is handed over.
+        # Only the last bound variable is passed.
         self.assertEqual({line.count(",") for line in lines if line.startswith("def h")}, {2})
 
     def test_what_depends_on_no_state_is_found_once(self):
@@ -347,7 +347,7 @@ class Compiled(unittest.TestCase):
             game.moves(position, "r")
         kept = [table for number, table in first.tables.items() if table is second.tables[number] and any(isinstance(value, compiling.positions.Whole) for value in table.values())]
         self.assertEqual(len(kept), 1)
-        # What is planned again keeps it too.
+        # A rule that is planned again keeps it too.
         third = game.position(frozenset(("e", str(at), "b") for at in range(9)))
         game.moves(third, "r")
         self.assertTrue(any(table is kept[0] for table in third.tables.values()))

@@ -15,7 +15,7 @@ from planning import nothing_known, planned
 from support import toml
 
 ROLES = {"solo": 1, "duel": 2, "pair": 2, "three": 3, "four": 4}
-# So many competitions of each kind.
+# This many competitions of each kind.
 MANY = 120
 
 
@@ -166,7 +166,7 @@ class Rounds(unittest.TestCase):
             self.assertEqual([(of.player, of.points(), of.buchholz) for of in table.standings()], [(name, total[name], buchholz[name]) for name in order])
             self.assertEqual(table.ranks(), [1 + sum((total[other], buchholz[other]) > (total[name], buchholz[name]) for other in order) for name in order])
             meetings = Counter(frozenset(pair) for pairs, _ in said for pair in pairs)
-            # Where there are players enough nobody meets again.
+            # With enough players no pairing is repeated.
             again += sum(times > 1 for times in meetings.values()) if count >= 2 * rounds + 2 else 0
             met += len(meetings)
             byes = Counter(bye for _, bye in said if bye)

@@ -40,7 +40,7 @@ def test_each_command_says_the_same(text: str, words: str | None, tmp_path: path
     with pytest.raises(Refused) as sorted_out:
         game_of(file)
     held = Holding(text, str(file)).held(json.dumps({}))[1]
-    # The sentence by which a goal depends on moves is another one where each atomic sentence is looked up by itself.
+    # If each atomic sentence is looked up by itself, another sentence makes a goal depend on moves.
     if words:
         assert (str(sorted_out.value), held) == (words, f"not followed: {file}: {words}")
     assert held.startswith(f"not followed: {file}: line ")

@@ -1,4 +1,4 @@
-"""Substituted moves: the latest ones and their times; and reading a growing file."""
+"""Replaced moves: the latest ones and their times. Also how a growing file is read."""
 
 import os
 import pathlib

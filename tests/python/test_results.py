@@ -123,7 +123,7 @@ class Forfeits(unittest.TestCase):
 
 class Outcomes(unittest.TestCase):
     def outcomes(self, *words):
-        """Returns what a match was for each role."""
+        """Returns the outcome of a match for each role."""
         found = self.result(*words)
         return [found.outcome(role) for role in range(len(found.match.players))]
 

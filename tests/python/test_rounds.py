@@ -1,5 +1,5 @@
-"""Competitions by rounds, in a folder: each round follows from the records of the one before, and a schedule that does not is refused. The
-referee is a stand-in here, and the records are only what results are read from."""
+"""Competitions by rounds, in a directory: each round follows from the records of the one before, and any other schedule is refused. The referee is
+fake, and the records have only what results need."""
 
 import json
 import pathlib
@@ -105,7 +105,7 @@ class ByRounds(unittest.TestCase):
         self.write(6, 'kind = "knockout"')
         plan = self.make()
         self.assertEqual(self.pairs(plan), [((("p3", "p4"), ("p2", "p5")), ("p0", "p1"))])
-        # All draws: the better seed goes on.
+        # All draws: the better seed advances.
         plan_next_round(plan, self.play(plan, lambda _: [50, 50]))
         self.assertEqual(self.pairs(plan)[1], ((("p0", "p3"), ("p1", "p2")), ()))
         # One win each: the goals decide.
@@ -149,11 +149,11 @@ class ByRounds(unittest.TestCase):
         self.read()
         first = self.folder.record("cup-001")
         before = first.read_text()
-        # p1 has won against p0 by now, so they stand otherwise.
+        # Now p1 has won against p0, so the order is another one.
         for number in (1, 3):
             self.folder.record(f"cup-00{number}").write_text(json.dumps(record(plan.matches[number - 1], [0, 100] if number == 1 else [100, 0])) + "\n")
         self.assert_refused("schedule.tsv is not what")
-        # A record that does not count is named as what it is.
+        # The message says why a record does not count.
         right = first.read_text()
         for text, why in ((right.replace('"matchId"', '"wrong": 1, "matchId"'), "not lawful: goals"), (right.replace('"strikes": 0', '"strikes": 1'), "its strikes is 1, and competition.toml has 0")):
             first.write_text(text)
@@ -163,7 +163,7 @@ class ByRounds(unittest.TestCase):
         first.unlink()
         lost = "schedule.tsv has round 2, which was paired by cup-001, and that has no record of this match"
         self.assert_refused(lost)
-        # As long as none of its matches has a record the round may be planned anew.
+        # As long as none of its matches has a record, the round may be planned again.
         self.make()
         self.assertEqual(len(self.read().matches), 4)
         first.write_text(before)
@@ -227,7 +227,7 @@ class ByRounds(unittest.TestCase):
         self.assertEqual([match.withdrawn for match in plan.matches], ["", "", "p3 has withdrawn", ""])
         plan_next_round(plan, self.play(plan, lambda _: [50, 50]))
         self.assertEqual(self.pairs(plan)[1], ((("p0", "p1"),), ()))
-        # Before the last round is begun its winner is known.
+        # The winner is known before the last round begins.
         for match in plan.matches[4:]:
             self.folder.record(match.id).unlink(missing_ok=True)
         plan = self.withdraw(1)
@@ -277,8 +277,8 @@ class ByRounds(unittest.TestCase):
         self.assertEqual(self.read().matches, plan.matches)
 
     def broken_off(self, form):
-        """Begins a competition in a folder of its own, in which an order to play a match again was broken off before the schedule was
-        written. Returns its plan from before, and the id of the match that was ordered."""
+        """Begins a competition in its own directory, in which `again` was interrupted before it wrote the schedule. Returns the plan before that, and
+        the id of the rematch."""
         self.setUp()
         self.write(4, form)
         self.play(plan := self.make())
@@ -326,7 +326,7 @@ class ByRounds(unittest.TestCase):
             results = {match.id: found for match in plan.matches if (found := unverified_result(self.folder, plan.competition, plan.rules, match))}
             self.assertEqual((sorted(results), plan_next_round(plan, results)), (["cup-001", "cup-002", "cup-003", "cup-004"], []))
             results = self.play(plan, lambda match: [0, 100])
-            # What was ordered again does not count, so nothing waits for it.
+            # The replaced match does not count, so nothing waits for it.
             del results["cup-001"]
             self.assertEqual([match.id for match in plan_next_round(plan, results)], ["cup-006", "cup-007", "cup-008", "cup-009"])
             refuse_lost_results(plan, results)
@@ -340,7 +340,7 @@ class ByRounds(unittest.TestCase):
         self.assertEqual((len(set(ids)), [found[:8] for found in ids]), (4, [f"cup-00{at}-" for at in range(1, 5)]))
         for found in ids:
             self.assertRegex(found, r"\Acup-00\d-[a-z2-7]{12}\Z")
-        # The same key gives the same ids, when the schedule was lost, grows, or a match is ordered again.
+        # The same key gives the same ids if the schedule was lost, if it grows, or if there is a rematch.
         self.folder.schedule.unlink()
         self.assertEqual([match.id for match in self.make().matches], ids)
         self.play(plan)
@@ -361,7 +361,7 @@ class ByRounds(unittest.TestCase):
         self.folder.key.write_bytes(key)
         self.write(4, SWISS.format(3))
         self.assert_refused("ids was 'random' and is 'counted'", self.make)
-        # So is the other way round.
+        # The opposite change is refused too.
         self.folder.planned.write_bytes(self.folder.competition.read_bytes())
         self.folder.key.unlink()
         self.write(4, SWISS.format(3), 'ids = "random"')
@@ -410,11 +410,11 @@ class Refusals(unittest.TestCase):
 
     def test_pairs_that_have_met_exchange_with_the_nearest_ones(self):
         for order, met, wanted in (
-            # c has met all that stand below it: its pair is the second of three.
+            # c has met all players below it: its pair is the second of three.
             ("abcdef", "cd ce cf", "ac bd ef"),
-            # From e and f both new pairs of c come; only then can c and d exchange, with the pair just below.
+            # Both new pairs of c come from e and f. Only then can c and d swap with the next pair below.
             ("abcdef", "ac cd ce cf ef", "ae fd bc"),
-            # g and h exchange with c and d. Then e and f could with the pair just below, and do so with the one far above.
+            # g and h swap with c and d. Then e and f could swap with the next pair below, but do so with one far above.
             ("abcdefgh", "ce ef eg eh gh", "ae cg bf dh"),
         ):
             found = paired(order, Counter(map(frozenset, met.split())))
@@ -426,7 +426,7 @@ class Refusals(unittest.TestCase):
     def test_how_many_rounds_and_matches_are_to_come(self):
         players, games = [(f"p{at}", f"h:{at + 1}") for at in range(7)], [("one", "f"), ("two", "f")]
         first = [Round(1, (("p0", "p1"), ("p2", "p3"), ("p4", "p5")), ("p6",))]
-        # Of 7 players, in 2 games: 3 meetings of 4 matches in each of 4 further rounds; in a knockout 6 meetings in all.
+        # With 7 players and 2 games: 3 pairings of 4 matches in each of 4 further rounds; in a knockout 6 pairings in all.
         for form, rounds, left in ((SWISS.format(5), 5, 48), ('kind = "knockout"', 3, 12), ('kind = "round_robin"', 0, None)):
             found = read_competition(toml(players, games, form).encode())
             self.assertEqual(rounds_of(found), rounds)

@@ -1,4 +1,5 @@
-"""The rules of a competition, each from the first command to an archive that `check` accepts and, spoilt with sums that fit, refuses."""
+"""The rules of a competition, each from the first command to an archive. `check` accepts the archive, and refuses it after a corruption with matching
+checksums."""
 
 import json
 import re
@@ -16,7 +17,7 @@ COUNTDOWN = [("countdown", GAMES / "countdown.kif")]
 
 
 def turns(*goals):
-    """Returns a game in which each role in turn has two moves, the others wait, and all is over after two turns of each. The goals are known."""
+    """Returns a game in which each role in turn has two moves while the others wait, and which ends after two turns of each. The goals are known."""
     roles, last = [f"r{at}" for at in range(len(goals))], 2 * len(goals)
     lines = [f"(role {role}) (goal {role} {goal})" for role, goal in zip(roles, goals)] + ["(init (step 0))", f"(<= terminal (true (step {last})))"]
     for step in range(last):
@@ -29,7 +30,7 @@ def turns(*goals):
 
 class Rules(InArchive):
     def write(self, players, games, **more):
-        """Writes competition.toml: players with what else their entries have, and these games."""
+        """Writes competition.toml with these players, the other keys of their entries, and these games."""
         (self.folder / "competition.toml").write_text(toml([(player.name, player.place(), *words) for player, *words in players], games, **more))
 
     def test_too_many_replaced_moves_and_a_forfeit_among_three(self):

@@ -69,14 +69,14 @@ class Schedule(unittest.TestCase):
             for count in range(roles, 17):
                 for rounds in (1, 2):
                     found = matches(count, roles, f'kind = "round_robin"\nrounds = {rounds}')
-                    # As many blocks of matches as give each two players one meeting, if they could be shared out without a rest.
+                    # As many blocks of matches as would let each two players meet once, if they could be distributed evenly.
                     blocks = math.ceil(2 * (count - 1) / (roles * (roles - 1)))
                     self.assertEqual(len(found), count * blocks * rounds, (roles, count))
                     met = meetings(found)
                     self.assertLessEqual(max(met.values()) - min(met.values()), 3, (roles, count))
 
     def test_where_all_can_meet_equally_often_they_do(self):
-        # So many players and roles, and how often each two meet: as many pairs as the matches seat, by the pairs that there are.
+        # The numbers of players and roles, and how often each two meet: the pairs in all matches, divided by all pairs of players.
         for count, roles, wanted in ((7, 3, 2), (9, 4, 3), (5, 2, 2)):
             self.assertEqual(set(meetings(matches(count, roles)).values()), {wanted})
 
@@ -113,7 +113,7 @@ class Schedule(unittest.TestCase):
         self.assertEqual({(match.round, match.again, match.reason, match.instead_of) for match in found}, {(0, "", "", "")})
 
     def test_a_schedule_stays_what_it_was(self):
-        # What was planned by another version has to be planned again just so.
+        # This version must plan a schedule exactly like another version did.
         def seated(*words):
             return [" ".join(match.players) for match in matches(*words)]
 

@@ -133,7 +133,7 @@ class Pages(Served):
         self.assertIn('title="1 2: black king"', first)
         self.assertEqual(rows_of(parsed(first).find(id="open"))[0][3:5], ["2", f"blue to move: {match.players[1]}"])
         self.assertIn("After turn 1: blue to move", own)
-        # The other role had one legal move.
+        # The other role had only one legal move.
         turn = parsed(own).find(id="turn-1")
         self.assertEqual((rows_of(parsed(own).find(id="turns")), text_of(turn.select_one(".idle"))), ([["1", "(take 2)", "noop"]], "noop"))
         self.say(log, self.play(match, 3, "((take 2) noop)", [SILENT]))
@@ -167,7 +167,7 @@ class Pages(Served):
         log = begin(self.plan, match, started(match))
         self.look()
         self.assertIn("before turn 1", self.page("/index.html"))
-        # The site has no moment to look between the last answer of a turn and the first one of the next.
+        # The site cannot look between the last answer of a turn and the first one of the next.
         self.say(log, self.play(match, 2, "NIL", ["(take 2)", "noop"]) + self.play(match, 3, "((take 2) noop)", ["noop"]))
         self.assertIn(f"after turn 1; blue to move: {match.players[1]} (", text_of(parsed(self.page("/index.html"))))
         self.assertIn("After turn 1: blue to move", self.page(f"/matches/{match.id}.html"))
@@ -349,7 +349,7 @@ class Pages(Served):
             self.assertIn("0 matches are open, 6 wait.", self.page("/"))
 
     def test_players_that_were_restarted_are_named_once_that_says_nothing_of_a_turn(self):
-        """A player that has died does not answer. Others of the same turn must not learn that."""
+        """A dead player does not answer. The other players of the turn must not learn that."""
         commands = (Mock(restart=WHEN_DEAD), Mock(restart=EACH_MATCH), None)
         players = tuple(dataclasses.replace(player, command=command) for player, command in zip(self.plan.competition.players, commands))
         self.plan.competition = dataclasses.replace(self.plan.competition, players=players)
@@ -357,7 +357,7 @@ class Pages(Served):
         log = begin(self.plan, match, started(match) + self.play(match, 2, "NIL", ["(take 1)", "noop"]))
         lines = [f"restart {other.id} {name}: process 7, port 8" for other, name in zip(self.plan.matches[1:], ("ann", "ann", "bob"))]
         self.plan.folder.journal.write_text("".join(f"2026-01-02T03:04:05.000Z {text}\n" for text in lines))
-        # Neither does it say so if `serve` begins within the turn, or if the end of the turn before is read in the same look.
+        # The page does not show it either if `serve` starts within the turn, or if the end of the turn before is read in the same look.
         moment = itertools.count()
         self.enterContext(patch.object(live, "clock", lambda: next(moment) / 1_000))
         self.site = self.server.site = LiveSite(self.plan, Referee(program()), lambda: self.plan)
@@ -420,7 +420,7 @@ class Delayed(Served):
         log = begin(self.plan, match, started(match, time_of_day) + self.play(match, 2, "NIL", ["(take 2)", "noop"], time_of_day))
         self.assertEqual(self.look_at(1), ("0 matches are open", "0 of 6"))
         self.assertEqual(self.look_at(58), ("0 matches are open", "0 of 6"))
-        # It is over before anything of it is shown.
+        # The match is over before the pages show anything of it.
         lines = self.play(match, 3, "((take 2) noop)", ["noop", "(take 1)"], time_of_day)
         end(self.plan, match, record_of(match, [["(take 2)", "noop"], ["noop", "(take 1)"]], [["", ""]] * 2, [0, 100]), log.read_text() + lines)
         moment = self.moment if time_of_day is None else time_of_day / 1_000
@@ -443,7 +443,7 @@ class Delayed(Served):
             end(self.plan, over, record_of(over, *turns, [0, 100]))
         self.look_at(1)
         self.assertEqual(self.look_at(61)[1], "2 of 6")
-        # Nobody has asked for the page of the match so far.
+        # The page of the match was not requested so far.
         places = f"/matches/{match.id}.html", f"/api/matches/{match.id}", "/", "/players/player-ann.html", "/matches.html", "/api/table"
         end(self.plan, match, record_of(match, [["(take 1)", "noop"]], [["IL (zq)", ""]], [100, 0]))
         self.plan.folder.record(other.id).unlink()
@@ -540,7 +540,7 @@ class Refused(Served):
             self.assertEqual((heads[0], body), (heads[1], b""), path)
 
     def test_other_names(self):
-        # A site that gives its name to this address does not get the pages of a server that this computer alone can reach.
+        # A site whose name leads to this address does not get the pages of a server that only this computer can reach.
         self.assertEqual(self.ask("/", Host="evil.example")[0], 403)
         for host in ("localhost:80", "127.0.0.1", "[::1]:80"):
             self.assertEqual(self.ask("/", Host=host)[0], 200, host)
@@ -587,7 +587,7 @@ class Limits(Served):
         for connection in held:
             connection.close()
         self.until(lambda: not self.visitors.connections)
-        # Those who are told of changes leave some connections free.
+        # Visitors with event streams leave some connections free.
         page = self.page("/")
         answers = [self.events(page) for _ in range(self.MOST)]
         self.assertEqual([answer.status for answer in answers], [200] * 7 + [503])
@@ -600,7 +600,7 @@ class Limits(Served):
 
     def test_half_requests_of_an_address_give_way(self):
         half = self.hold(self.MOST, is_idle=True)
-        # Others are served, whoever comes, at the price of the oldest of them.
+        # New visitors are served, and the oldest connections give way.
         for at in range(3):
             self.assertEqual(self.ask("/")[0], 200)
             self.assertEqual(half[at].recv(100), b"")
@@ -641,7 +641,7 @@ class Limits(Served):
         with patch.object(self.site, "page", page):
             for at in range(20):
                 self.ask_and_leave(f"/{at}")
-            # The first one was in hand. Nobody waits for the others.
+            # The first one was in progress. The thread does not work for the others.
             held.set()
             self.assertEqual(self.ask("/last")[0], 404)
         self.assertEqual(made, ["/0", "/last"])
@@ -663,7 +663,7 @@ class Limits(Served):
 
     def test_one_address_does_not_take_all_connections(self):
         half, whole = [True] * 4 + [False], [True] * 8 + [False]
-        # A host with an IPv6 address has many, and an IPv4 address may be written as one of IPv6.
+        # A host with IPv6 has many addresses. An IPv4 address may be in IPv6 notation.
         cases = (
             (["192.0.2.1"], half), (["127.0.0.1"], whole), (["::1", "::ffff:127.0.0.2", "127.0.0.1"], whole),
             ([f"2001:db8::{at:x}:{at:x}" for at in range(1, 9)], half), (["192.0.2.1", "::ffff:192.0.2.1"], half),

@@ -1,4 +1,4 @@
-"""What `serve` says to other programs: JSON, events and numbers; and who may show its pages, also behind a proxy."""
+"""Data of `serve` for other programs: JSON, events and numbers. Also which pages may show its pages, with and without a proxy."""
 
 import errno
 import json
@@ -119,9 +119,9 @@ class Front(Served):
         self.assertEqual(self.opened("/cup", Host="localhost").getheader("Location"), "/cup/")
 
     def test_behind_the_proxy_of_the_document(self):
-        """nginx has the server of docs/SERVING.md, but for the ports."""
+        """nginx has the server of docs/SERVING.md, except for the ports."""
         server = re.search(r"(?ms)^    server \{.*?^    \}", (TOP / "docs/SERVING.md").read_text())[0]
-        # nginx takes over a socket that listens already, as from another nginx that it succeeds.
+        # nginx takes over a socket that is listening already, as from an nginx that it replaces.
         listening = self.enterContext(socket.create_server(("127.0.0.1", 0)))
         server = server.replace(":8000;", f":{self.port};")
         self.port = listening.getsockname()[1]

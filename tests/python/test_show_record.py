@@ -14,7 +14,7 @@ from browser import Browser
 from html_pages import links_of, parsed
 from support import GAMES, TOP, program
 
-# A match with each kind of error, which ends since both roles are retired.
+# A match with each kind of error, which ends because both roles are retired.
 SCRIPT = """strict m 0 10 5 2 ann bob
 submit m 0 0 READY
 submit m 1 0 READY
@@ -34,18 +34,18 @@ FORMS = [
     (["(piece white 1 1)", "(piece black 2 2)"], 1),
     (["(at red 1 1)", "(at blue 2 2)", "(wall 1 1)", "(wall 1 2)", "(wall 2 2)"], 1),
     (["(peg 1 1)", "(peg 1 2)", "(peg 2 2)"], 1),
-    # One number or letter for each: no places.
+    # Only one number or letter: no places.
     (["(heap 1 3)", "(heap 2 5)"], 0),
     (["(on 1 a)", "(on 2 a)"], 0),
     (["(step 0 1 1)"], 0),
-    # No numbers behind one letter, no letters, or too many.
+    # No number after one letter, no letter, or too many.
     (["(score ann 10)", "(score bob 20)"], 0),
     (["(cell a1 1 x)", "(cell b2 2 x)"], 0),
     (["(cell 1 1 x)", "(cell 99 2 x)"], 0),
     (["(cell 1 1 (piece x))", "(cell 2 2 (piece o))"], 0),
     (["(", ")", "()", "( )", "(cell  1 x)", "cell 1 1 x"], 0),
 ]
-# What a board of tic-tac-toe shows.
+# The glyphs on a board of tic-tac-toe.
 SHOWN = {"x": "\u2715", "o": "\u25ef", "b": "\u00b7"}
 TAGS = {"html", "head", "meta", "title", "style", "body", "h1", "p", "span", "table", "tr", "th", "td", "div", "main", "nav", "button"}
 TAGS |= {"section", "h2", "ul", "li", "b", "i", "br", "a", "code", "script", "strong", "label", "input"}
@@ -96,7 +96,7 @@ def parts_of(record: dict) -> tuple[dict, dict]:
         "scripts": (len(shown("script")), page.count(b"<script")),
         "numbers of turns": [link.text for link in shown("a")],
     }
-    # Whose turn it is stands in the heading of a state, that of the last one says who won.
+    # The heading of a state says whose turn it is; that of the last state says who won.
     turns = [[role for role in record["roles"] if {f"(control {role})", f"(turn {role})"} & set(state)] for state in record["states"]]
     said = [f": {role[0]} to move" if role else "" for role in turns]
     best = [name for name, goal in zip(players, record["goalValues"]) if goal == max(record["goalValues"]) and len(players) > 1]

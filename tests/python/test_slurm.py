@@ -43,7 +43,7 @@ KillWait=2
 PartitionName=all Nodes=n[1-3] Default=YES MaxTime=INFINITE State=UP OverSubscribe=FORCE:64
 """
 HEAD = "start = 60\nplay = 60\nstrikes = 0\nwait = 1\ninfo = 10\ntries = 20\n"
-# A command is not asked for where it is: a package of Debian has it.
+# A command's path is not needed: a Debian package has the command.
 TOOLS = ("munged", "slurmctld", "slurmd", "srun", "sbatch", "sinfo")
 
 
@@ -118,7 +118,7 @@ class Cluster:
     def send(self, process, number):
         name = pathlib.Path(f"/proc/{process}/comm")
         try:
-            # The daemon of another node is its own parent's child.
+            # The daemon of another node is not a child of this one.
             if name.read_text().strip() != "slurmd":
                 os.kill(process, number)
         except OSError:

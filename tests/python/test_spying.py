@@ -26,8 +26,7 @@ from players import TestPlayer
 from support import GAMES, InFolder, program, start
 from test_serving import Served
 
-# What may come back: of a move its own words, which come nowhere else. After each that is replaced a legal one comes, so that nobody is
-# retired.
+# The possible answers: a move has text that occurs nowhere else. After each replaced move a legal one follows, so that no role is retired.
 LEGAL = "(say zq{0}x{1})"
 ILLEGAL = ("(bad zq{0}x{1})", "zq{0}x{1} ((", "(say zq{0}x{1})?", SILENT, Missed("CE (no connection)"), "lost (zq{0}x{1})", "zq{0}x{1}".ljust(400, "y"))
 ANSWERS = (LEGAL, "; zq{0}x{1}\n(say zq{0}x{1})", *(answer for illegal in ILLEGAL for answer in (illegal, LEGAL)))
@@ -63,7 +62,7 @@ class Spying(Served):
         self.site.look()
 
     def all_pages(self):
-        """Returns all that is served, but for the time of day and how many visitors there are."""
+        """Returns everything that is served, except for the time of day and the number of visitors."""
         paths = ["/", "/index.html", "/matches.html", "/games/heap.html", *(f"/matches/{match.id}.html" for match in self.plan.matches)]
         paths += [f"/players/player-{name}.html" for name in NAMES]
         paths += ["/api/table", "/api/matches", *(f"/api/matches/{match.id}" for match in self.plan.matches), "/metrics"]
@@ -73,8 +72,8 @@ class Spying(Served):
         return [line(self.match, role, number, message, answer) for role, answer in enumerate(answers)]
 
     def assert_nothing_is_shown_before_the_last(self, lines):
-        """Lets these answers of a round come one by one. Returns all pages after the last one."""
-        # A board is there once somebody has looked at its page.
+        """Writes these answers of a round to the log one by one. Returns all pages after the last one."""
+        # A board is drawn once somebody has opened its page.
         self.all_pages()
         self.site.look()
         before = self.all_pages()
@@ -84,7 +83,7 @@ class Spying(Served):
             self.assertEqual(self.all_pages(), before, text)
         self.say(self.log, lines[-1])
         after = self.all_pages()
-        # The first that a page is told of is the end of the round: each has the same as who asks for it.
+        # The first event of a page is the end of the round: an open page has the same data as a new one.
         for answer, path in zip(events, ("/", f"/matches/{self.match.id}.html")):
             self.assertNotEqual(after[path], before[path])
             told = str(self.next_event(answer))
@@ -125,8 +124,9 @@ class Spying(Served):
 
 @dataclass(frozen=True)
 class Step:
-    """The line that the log gets when a role answers, empty if it is lost; its run, its round, and the number of answers to the round; and the events
-    until the next step: time passes, `serve` may start again, and the directory is read, with or without asking the referee."""
+    """A step of a match: the line that the log gets when a role answers, empty if it is lost, with its run, its round, and the number of answers to
+    the round. Then the events until the next step: time passes, `serve` may start again, and the directory is read, with or without asking the
+    referee."""
 
     run: int
     round: int
@@ -210,7 +210,7 @@ class Desk:
 
 
 class Watched:
-    """A match in a directory, and all that is served of it."""
+    """A match in a directory, and everything that is served about it."""
 
     def __init__(self, room, head, roles, delay):
         self.plan, self.delay = plan_in(room, NAMES, head=head, rules=rules_of(roles), roles=roles), delay
@@ -238,7 +238,7 @@ class Watched:
         assert not self.site.reader.troubles_of_matches()
 
     def served(self):
-        """Returns all pages and what programs get, and what those who have them open are told of."""
+        """Returns all pages and the data for programs, and the events of open pages."""
         pages = {path: self.site.page(path) for path in self.paths} | {path: self.site.data(path) for path in self.data}
         self.site.opened(live_api.FEED)
         for page in self.site.pages.values():
@@ -247,8 +247,7 @@ class Watched:
 
 
 class Whatever(InFolder):
-    """Two sites that differ only in what happened in unfinished rounds: one does not have these answers in its log, and not in its journal that a
-    player died and was restarted."""
+    """Two sites that differ only in unfinished rounds: one lacks these answers in its log, and the restart of a dead player in its journal."""
 
     @settings(max_examples=40)
     @given(st.data(), st.integers(2, 3), st.sampled_from((0, 2)), st.sampled_from((0, 0, 5.5)), st.sampled_from((1 << 20, 1 << 20, 700)))
@@ -258,7 +257,7 @@ class Whatever(InFolder):
         self.moment, self.ticks = 1_000_000.0, itertools.count()
 
         def clock():
-            """Also within the time that reading the directory takes, time passes."""
+            """Time also passes while the directory is read."""
             return self.moment + next(self.ticks) * 1e-6
 
         with contextlib.ExitStack() as patches:
@@ -320,7 +319,7 @@ class Files(InFolder):
             os.umask(before)
         self.assertTrue(held.is_set())
         self.assertLessEqual({"log.jsonl", "play.log"}, {path.name for path in found})
-        # The addresses of the players and the stage of the match are no answers, and a match whose record is checked is over.
+        # The addresses of the players and the stage of the match do not depend on answers, and a match whose record is checked is over.
         others = [path for path, status in found.items() if status.st_mode & (stat.S_IRWXG | stat.S_IRWXO)]
         self.assertLessEqual({path.name for path in others if path.parent.parent == self.folder / "open"}, {"players", "record", "account", *STAGES})
         others = {path.relative_to(self.folder).parts[0] for path in others if path.parent.parent != self.folder / "open"}

@@ -1,4 +1,4 @@
-"""Players that the competition starts: their arguments, their ends, and that nothing of them is left."""
+"""Players that the competition starts: their arguments, how they end, and that none of their processes is left."""
 
 import asyncio
 import json
@@ -206,7 +206,7 @@ def test_only_players_with_a_command_are_started(tmp_path):
         players = StartedPlayers(folder, competition, types.SimpleNamespace(info_words=lambda place: ANSWERS), reporter)
         await players.ready("cup-001", ("bob", "ann"))
         places = [players.place(name) for name in ("ann", "bob")]
-        # What the name of a host has led to since this play began counts for all matches.
+        # The first lookup of a host's name in this run counts for all matches.
         players.addresses["bob"] = "bob@10.0.0.1:1"
         assert players.place("bob") == "bob@10.0.0.1:1"
         assert players.players["ann"].matches == {"cup-001"}
@@ -219,7 +219,7 @@ def test_only_players_with_a_command_are_started(tmp_path):
     assert (places, len(reporter.notes)) == ([f"ann@127.0.0.1:{port}", "bob@h:1"], 1)
 
 
-# It starts a player that has processes of its own, says that it is there, and waits.
+# It starts a player with several processes, prints its number, and waits.
 PLAYING = """
 import asyncio, sys
 sys.path.insert(0, sys.argv[1])
@@ -318,7 +318,7 @@ def test_the_memory_of_all_processes_is_bounded_where_systemd_takes_it(tmp_path,
     user = "" if os.geteuid() == 0 else "--user "
     words = f"{user}--scope --quiet --property=MemoryMax={1 << 30} --property=MemorySwapMax=0 --"
     assert asked.read_text().splitlines() == [f"{words} true", f"{words} sh -c echo up; exec sleep 600"]
-    # A systemd-run that does not work, as where systemd does not run, is not used.
+    # A systemd-run that does not work, for example without systemd, is not used.
     systemd.write_text("#!/bin/sh\nexit 1\n")
     assert (job.bounded(1 << 30), job.bounded(0)) == ([], [])
 
@@ -360,7 +360,7 @@ def test_a_full_disk_ends_no_player(tmp_path):
 
 # ---- competitions
 
-# A player that tries to read and write files of the competition, and to kill the referee. It tells what it could do.
+# A player that tries to read and write files of the competition, and to kill the referee. It prints which attempts succeeded.
 THIEF = """#!/usr/bin/python3
 import contextlib, http.server, os, pathlib, signal, sys
 cup = pathlib.Path(sys.argv[2])

@@ -1,4 +1,4 @@
-"""Files and standard streams: what an error says, and the exit status that it gives."""
+"""Files and standard streams: the messages of errors, and their exit status."""
 
 import argparse
 import errno

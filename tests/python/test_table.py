@@ -24,7 +24,7 @@ def competition(head=""):
 
 
 def result(players, goals, wrong=None, retired=None, game="two", forfeit=True):
-    """Returns the result of a match in which this many moves of each player were substituted."""
+    """Returns the result of a match in which this many moves of each player were replaced."""
     wrong = wrong or [0] * len(players)
     errors = tuple(Counter({"TO": count} if count else {}) for count in wrong)
     retirements = tuple(Retirement(("TO",), 5) if gone else None for gone in retired or [False] * len(players))
@@ -37,7 +37,7 @@ def line(results, player, head="", game=0):
 
 class Tables(unittest.TestCase):
     def test_the_order_and_places(self):
-        # Means of 33.333.. and 33.33 are printed alike, so wins decide; then losses; else the place is shared.
+        # Means of 33.333.. and 33.33 are printed alike, so wins decide, then losses. If these are equal too, the rank is shared.
         line = Line("x", matches=3, scored=3, goals=100, won=1, lost=2)
         changes = [
             ({}, {"goals": 101}, 1), ({"goals": 3333, "scored": 100}, {"won": 0}, -1), ({}, {"goals": 3333, "scored": 100}, 0),
@@ -69,7 +69,7 @@ class Tables(unittest.TestCase):
             return [(of.won, of.lost, of.mean(), of.won_by_forfeit, of.lost_by_forfeit) for of in (lines["ann"], lines["bob"])]
 
         self.assertEqual(found(False, [0, 100], [False, True]), [(0, 1, 0, 0, 0), (1, 0, 100, 0, 0)])
-        # Neither the goals that substituted moves have led to, nor that there are none, make a difference.
+        # The goals after replaced moves make no difference, even if there are none.
         for goals in ([0, 100], [100, 0], [50, 50], [30, 10], []):
             self.assertEqual(found(True, goals, [False, True]), [(1, 0, 100, 1, 0), (0, 1, 0, 0, 1)])
             self.assertEqual(found(True, goals, [True, True]), [(0, 1, 0, 0, 1), (0, 1, 0, 0, 1)])
@@ -88,7 +88,7 @@ class Tables(unittest.TestCase):
             self.assertEqual((lines["ann"].retired, lines["bob"].retired), (0, 2))
 
     def test_substituted_moves_do_not_decide_places(self):
-        # By the goals alone bob, with fewer wins, would stand above ann.
+        # By the goals alone bob, with fewer wins, would be above ann.
         results = [result(["ann", "cid"], [0, 100], [0, 5], retired=[False, True])] * 10 + [result(["ann", "dan"], [100, 0])] * 8
         results += [result(["ann", "dan"], [0, 100])] * 2 + [result(["bob", "dan"], [100, 0])] * 17 + [result(["bob", "dan"], [0, 100])] * 3
         table = tables_of(competition("forfeit = true"), results)[0]
@@ -102,7 +102,7 @@ class Tables(unittest.TestCase):
             three = [result(["ann", "bob", "cid"], goals, [0, 5, 0], retired=[False, True, False], game="three")]
             table = tables_of(competition(), three)[0]
             found = [(of.won, of.drawn, of.lost, of.mean()) for of in map(table.lines.get, ("ann", "bob", "cid"))]
-            # The others keep their goals, and share 100 where there are none.
+            # The others keep their goals, and share 100 if there are none.
             ann, _, cid = goals or (50, 0, 50)
             self.assertEqual(found, [(ann > cid, ann == cid, ann < cid, ann), (0, 0, 1, 0), (cid > ann, ann == cid, cid < ann, cid)])
             self.assertEqual([table.points[pair] for pair in (("ann", "bob"), ("bob", "ann"), ("ann", "cid"))], [1, 0, (1 + (ann > cid) - (ann < cid)) / 2])
@@ -137,7 +137,7 @@ class Tables(unittest.TestCase):
         match = Match("m", "two", 1, 1, ("ann", "bob"))
         self.assertEqual(result_of(record, match).retirements, (None, Retirement(("TO", "TO"), 2)))
         self.assertEqual(result_of({**record, "strikes": 0}, match).retirements, (None, None))
-        # Where the match ended with its last strike there is no `RT`.
+        # If the match ended with the last strike, there is no `RT`.
         last = {**record, "errors": [["", ""], ["", "TO"], ["", "IL x"]]}
         self.assertEqual(result_of(last, match).retirements, (None, Retirement(("TO", "IL"), 3)))
         self.assertEqual(result_of(last, match).errors[1], {"TO": 1, "IL": 1})
@@ -180,7 +180,7 @@ class Tables(unittest.TestCase):
         self.assertEqual([(of.player, of.byes, of.points(), of.buchholz, of.rounds_won) for of in whole.standings()],
                          [("bob", 1, 4.5, 2.5, None), ("cid", 1, 4, 2.5, None), ("ann", 0, 2.5, 8.5, None)])
         self.assertEqual((whole.ranks(), whole.rounds, whole.by, whole.matches, len(whole.again)), ([1, 2, 3], rounds, "swiss", 3, 1))
-        # The tables of games know nothing of rounds.
+        # The tables of single games have no rounds.
         self.assertEqual([(of.player, of.byes, of.points()) for of in two.standings()], [("ann", 0, 2.5), ("bob", 0, 0.5), ("cid", 0, 0)])
         self.assertEqual((two.by, two.rounds, other.standings()), ("points", (), []))
 

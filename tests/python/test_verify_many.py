@@ -1,5 +1,5 @@
-"""Checking records by many processes gives the same results as one process. A fake program accepts lines with `ok`, and takes lines that begin with a
-digit as lines of accounts."""
+"""Checking records by many processes gives the same results as one process. A fake program accepts lines with `ok`, and treats lines that begin with
+a digit as lines of call logs."""
 
 import contextlib
 import io
@@ -114,7 +114,7 @@ class Checks(WithProgram):
 
     def test_a_fault_of_the_program(self):
         self.assertEqual(self.checked(b"ok\nshort\n"), (b"lawful\n", 0, 0, (b"ggp_manager: want of memory\n", 2)))
-        # A record that is not lawful has status 1, and else it is 0.
+        # With an unlawful record the status is 1, otherwise 0.
         for name, row, status in (("silent", "", 1), ("wrong", verdict_rows("goals").decode(), 0), ("fault", verdict_rows("goals").decode(), 2)):
             program = self.stand_in(name, f"#!/bin/sh\ncat > /dev/null\necho said >&2\nprintf '%s' '{row}'\nexit {status}\n")
             self.assertEqual(self.checked(b"no\n", program)[1:], (0, 0, (b"said\n", 2)), name)
@@ -143,7 +143,7 @@ class All(WithProgram):
     def all(self, text, jobs=2, size=8, program=None):
         """Returns the output, the messages and the error for this input."""
         written, said, reads = [], [], iter([text[at : at + 3] for at in range(0, len(text), 3)])
-        # A thread of an earlier call may still read: it must not take what is for this one.
+        # A thread of an earlier call may still read: it must not take the input of this one.
         before = set(threading.enumerate())
         with contextlib.ExitStack() as stack:
             stack.enter_context(reading(lambda *_: b"" if threading.current_thread() in before else next(reads, b"")))
@@ -243,7 +243,7 @@ class Commands(WithProgram):
     def test_how_a_run_ends(self):
         words, more = ("--jobs", "3", "--piece", "9", "p", "--"), (["p", "verify", "--lines"], 3, 9)
         self.assertEqual(self.ended(*words), (0, more, b"", []))
-        # Ctrl-C ends it as it ends the program, unless it is ignored.
+        # Ctrl-C ends it like the program, unless the signal is ignored.
         self.assertEqual(self.ended(*words, handler=signal.default_int_handler)[3], [(signal.SIGINT, signal.SIG_DFL)])
         for fault, said, status in ((Fault(b"no\n", 1), b"no\n", 1), (Fault(b"bad\n"), b"bad\n", 2), (MemoryError(), b"ggp_manager: want of memory\n", 2)):
             self.assertEqual(self.ended(*words, fault=fault), (status, more, said, []))

@@ -1,6 +1,6 @@
-"""A competition of 12 players, five of them no good, over three games with 6 matches at once. It is killed twice, interrupted once, and
-goes on. Then each match has one lawful record and one account that gives it again, no player was asked while it sat in a match, and the
-table is what a plain recount of the records gives."""
+"""A competition of 12 players, five of them bad, over three games with 6 matches at once. It is killed twice, interrupted once, and resumed. In the
+end each match has one lawful record and one call log that reproduces it, no player was asked during a match, and the table agrees with a simple
+recount of the records."""
 
 import json
 import signal
@@ -24,7 +24,7 @@ STARVED = "the referee was not running"
 
 
 def recount(records):
-    """Returns for each player its matches, goals, matches with goals, wins, draws, losses, moves, substituted moves and retirements."""
+    """Returns for each player its matches, goals, matches with goals, wins, draws, losses, moves, replaced moves and retirements."""
     found = {}
     for record in records:
         out = [any(turn[role] for turn in record["errors"]) for role in range(len(record["players"]))]
@@ -81,7 +81,7 @@ class Whole(InFolder):
             out, said = playing.communicate()
             status = playing.returncode
             while number is None and status == 1 and STARVED in out:
-                # On a busy computer the referee may get no processor as an answer's seconds end. The match is played at the next run.
+                # On a busy computer the referee may get no processor when the time of an answer ends. The match is played at the next run.
                 status, out, said = run(self.folder, "play", "--at-once", "6")
             self.assertEqual(said, "")
             clashed += [line for line in out.splitlines() if line.startswith(("no record", "refused")) and STARVED not in line]

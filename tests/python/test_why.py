@@ -1,4 +1,4 @@
-"""What `why` reports of a match, from its record, its log and the journal of `play`, and the times in these."""
+"""The report of `why` about a match, from its record, its log and the journal of `play`, and the times in these."""
 
 import re
 import shutil
@@ -124,7 +124,7 @@ class Why(InFolder):
         shutil.unpack_archive(self.folder / "cup.tar.gz", self.folder / "there")
         told = self.why("cup-001")
         self.assertEqual(run(self.folder, "why", "there/cup", "cup-001"), (0, told, ""))
-        # A referee that could not read the clock, and a folder without a journal.
+        # A referee that could not read the clock, and a directory without a journal.
         (self.folder / "play.log").unlink()
         log = self.folder / "logs/cup-001.jsonl"
         log.write_text(re.sub('"time":[0-9]+', '"time":null', log.read_text()))
@@ -151,7 +151,7 @@ class Why(InFolder):
         for message, seconds in (("START", 20), ("turn 3: PLAY", 30), ("STOP", 30)):
             self.assertIn(f"{message} brought {SILENT} after 5 ms; TO: no whole answer within {seconds} s", said)
         self.assertIn("turn 3: PLAY brought CE (no connection) after", said)
-        # Who answers with these very words has answered.
+        # A player that answers with exactly this text has answered.
         text = "IL ?: the answer is not one expression, or too long: a second expression begins at column 4; its first legal move was played"
         self.assertIn(f"turn 4: PLAY was answered `{SILENT}` after 5 ms; {text}", said)
 

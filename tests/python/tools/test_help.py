@@ -8,9 +8,9 @@ import unittest
 from crates import TOP
 
 FOLDERS = (".ci", "bench", "tests/program", "examples", "tests/oracle", "python", "tools")
-# What reads the words of a command line, and prints its help.
+# Code that parses a command line, and prints its help.
 READERS = ("ArgumentParser(", "arguments(__doc__", "program_of(__doc__)", "reader(__doc__)", "run_test(__doc__", "words_with_program(__doc__)")
-# These hand their words on to modules of `ggp_tools`.
+# These pass their arguments to modules of `ggp_tools`.
 COMMANDS = tuple(sorted(os.path.relpath(path, TOP) for path in glob.glob(f"{TOP}/python/ggp*") if os.path.isfile(path)))
 OLDER = "import runpy, sys; sys.version_info = (3, 10, 18); runpy.run_path(sys.argv[1], run_name='__main__')"
 

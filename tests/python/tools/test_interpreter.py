@@ -4,9 +4,9 @@ import unittest
 
 from interpreter import Game, read
 
-# Ways over edges that no state changes, from place to place.
+# Paths over edges that do not depend on the state, from place to place.
 WAYS = "(edge 1 2) (edge 2 3) (edge 3 1) (edge 4 4) (<= (way ?x ?y) (edge ?x ?y)) (<= (way ?x ?z) (way ?x ?y) (edge ?y ?z))"
-# A circle that is asked for inside of another one, for the first time where that is being derived.
+# A cycle that is first queried while another one is being derived.
 WITHIN = """
     (role r) (edge 1 2) (edge 2 3) (e2 1 2) (e2 2 3) (b0 1)
     (<= (b ?x) (b0 ?x))

@@ -1,4 +1,4 @@
-"""The example player: its answers, also to unexpected messages, and that it goes on."""
+"""The example player: its answers, also to unexpected messages, and that it continues."""
 import contextlib
 import io
 import os

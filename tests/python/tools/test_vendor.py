@@ -6,7 +6,7 @@ import tempfile
 import unittest
 
 TOP = os.path.dirname(os.path.dirname(os.path.dirname(os.path.dirname(os.path.realpath(__file__)))))
-# A crate that stands on no other.
+# A crate that uses no other crate.
 CRATE = "game_core"
 
 
