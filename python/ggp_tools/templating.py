@@ -8,7 +8,7 @@ import sys
 import typing
 from collections.abc import Sequence
 
-from ggp_tools.printable import visible
+from ggp_tools.printable import MOST_SHOWN, shown, visible
 
 if typing.TYPE_CHECKING:
     import jinja2
@@ -66,7 +66,7 @@ def environment() -> "jinja2.Environment":
         auto_reload=False,
     )
     created.globals |= {"policy": policy, "source": lambda name: markupsafe.Markup(source(name))}
-    created.filters |= {"rows_of_text": rows_of_text, "count": "{:,}".format}
+    created.filters |= {"rows_of_text": rows_of_text, "count": "{:,}".format, "term": lambda text: shown(text, MOST_SHOWN)}
     return created
 
 

@@ -74,8 +74,8 @@ def state_html(states: list[list[str]], roles: tuple[str, ...], named: Named, no
     """Returns the last state as HTML, if there is one."""
     found = last_state(states, roles, named)
     more = max(0, len(found["terms"]) - MOST_TERMS) if found else 0
-    shown = found and {**found, "terms": found["terms"][:MOST_TERMS], "gone": found["gone"][:MOST_TERMS]}
-    return html_of("live", "state", found=shown, more=more, notes=notes)
+    shown = found and {**found, "terms": found["terms"][:MOST_TERMS], "gone": found["gone"][:MOST_TERMS], "more": more}
+    return html_of("live", "state", found=shown, notes=notes)
 
 
 def board_item(seen: Seen, state: "Markup", roles: tuple[str, ...]) -> Item:

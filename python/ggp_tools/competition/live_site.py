@@ -32,10 +32,12 @@ if typing.TYPE_CHECKING:
 
 # The tables are computed for at most a tenth of the time, and each look follows boards for at most FOLLOW seconds.
 SHARE, FOLLOW = 10, 0.25
-# For how long a page without viewers is kept, how many pages are kept, and how many changes of a page.
-IDLE, MOST_PAGES, MOST_EVENTS = 30.0, 200, 60
+# For how long a page without viewers is kept, how many pages are kept, and how many changes of a page, with how many bytes.
+IDLE, MOST_PAGES, MOST_EVENTS, BYTES_OF_EVENTS = 30.0, 200, 60, 1 << 20
 # How many bytes of pages of finished matches are kept. A browser without JavaScript reloads a page after this many seconds.
 MOST_KEPT, RELOAD = 64 << 20, 10
+# How many bytes of records of long matches are kept parsed. The last record is always kept.
+MOST_PARSED = 16 << 20
 FIRST, MATCH = "/index.html", re.compile(r"/matches/([A-Za-z0-9_.-]+)\.html")
 # The page of a match that is over, or a part of it if the match is long.
 OVER = re.compile(r"/matches/([A-Za-z0-9_.-]+)(?:~([1-9][0-9]{0,4}))?\.html")
@@ -104,6 +106,9 @@ class SiteOfShown(Site):
     def __init__(self, plan: Plan, reader: Reader) -> None:
         super().__init__(plan, written=lambda result: reader.identities[result.match.id][0][2])
         self.reader = reader
+        # How many parts the page of each match has, and the last records with several parts, each with its number of bytes.
+        self.part_counts: dict[str, tuple[Result, int]] = {}
+        self.parsed: OrderedDict[str, tuple[Result, dict, int]] = OrderedDict()
 
     def add(self, result: Result, known: Known | None = None) -> bytes:
         data = super().add(result, known)
@@ -112,11 +117,26 @@ class SiteOfShown(Site):
 
     def part_of_match(self, result: Result, number: int) -> bytes:
         """Returns a part of the page of a match, counted from 1; 0 is the last one."""
-        head, data, rules, answers, named, winner = self.match_work(result, self.plan.read_record(result.match))
-        record = read_record(data)
-        if number > len(parts_of(record["states"])):
+        known, count = self.part_counts.get(result.match.id, (None, 0))
+        record = self.record_of(result) if known is not result or number <= count else None
+        if number > self.part_counts[result.match.id][1]:
             raise NoRecord("its page has no such part")
+        head, _, rules, answers, named, winner = self.match_work(result, b"")
         return page_of(record, (lambda: game_of(rules)) if rules else None, answers, Frame(head, named, winner, number - 1))
+
+    def record_of(self, result: Result) -> dict:
+        """Returns the record of a match, counts the parts of its page, and keeps the record if there are several."""
+        name = result.match.id
+        known, record, size = self.parsed.pop(name, (None, {}, 0))
+        if known is not result:
+            data = self.plan.read_record(result.match)
+            record, size = read_record(data), len(data)
+            self.part_counts[name] = result, len(parts_of(record["states"]))
+        if self.part_counts[name][1] > 1:
+            self.parsed[name] = result, record, size
+        while len(self.parsed) > 1 and sum(size for _, _, size in self.parsed.values()) > MOST_PARSED:
+            self.parsed.popitem(last=False)
+        return record
 
 
 class LiveSite:
@@ -314,7 +334,11 @@ class LiveSite:
         found.parts = parts
         if told:
             version = next(self.versions)
-            found.events = (*found.events[1 - MOST_EVENTS :], (version, event_text(version, {**told, "now": self.delay.now()})))
+            events = [*found.events[1 - MOST_EVENTS :], (version, event_text(version, {**told, "now": self.delay.now()}))]
+            # The one before the last change has the version that viewers have.
+            while len(events) > 2 and sum(len(text) for _, text in events) > BYTES_OF_EVENTS:
+                del events[0]
+            found.events = tuple(events)
 
     def opened(self, path: str) -> OpenPage | None:
         """Returns a page as it is now. None if there is no such page, or its match is over."""
@@ -341,7 +365,7 @@ class LiveSite:
         result = self.reader.results.get(match[1]) if match else None
         data = result and self.data_of_match(path, result.match, lambda: self.site.part_of_match(result, int(match[2] or 0)))
         trouble = live_pages.trouble_part(self.trouble).text.encode("ascii", "xmlcharrefreplace")
-        return data and data.replace(b"<body>", b"<body>" + trouble, 1)
+        return data and data.replace(b"<body>", b"<body>" + trouble, 1) if trouble else data
 
     def data(self, path: str) -> bytes | None:
         """Returns the data for other programs at a path, or None."""

@@ -111,6 +111,7 @@ def pages_of_all(results: list[Result]) -> dict[str, list[Result]]:
     return {f"matches{f'-{at}' if at > 1 else ''}": results[start : start + MOST_LISTED] for at, start in enumerate(starts, 1)}
 
 
+@functools.lru_cache(16)
 def rules_part(rules: Rules) -> Part:
     """Returns the rules of a game, after the rules that its players get if they differ."""
     player_text = rules.player_rules

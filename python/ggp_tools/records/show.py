@@ -12,7 +12,7 @@ from typing import TYPE_CHECKING, Any, BinaryIO
 from ggp_tools.answers import Whys
 from ggp_tools.holding.game import Game
 from ggp_tools.kif import Expression, expressions, head_of, is_variable, spelled
-from ggp_tools.printable import visible
+from ggp_tools.printable import MOST_SHOWN, visible
 from ggp_tools.records.marks import PIECES, Mark, marks_of
 from ggp_tools.records.record import ACCOUNT_LINE, CAUSE, LONGEST_RECORD, TOO_LONG, NoRecord, numbered_lines, read_record
 from ggp_tools.streams import Ended, opened, put_bytes, status_of
@@ -36,10 +36,11 @@ MOST_DRAWN = 32_768
 # A single state is drawn from at most this many terms: its own, those of earlier states, and those of the rules. Its boards have at most this many
 # places and names together. This bounds the processor time of a drawing to about half a second. A larger state is listed as text.
 MOST_READ, MOST_PLACES = 16_384, 4_096
-# A part of the page of a long match draws states with at most this many terms together, which takes about as long.
-MOST_OF_PART = 16_384
-# The sizes of the caches of cells and of openings of boards.
-MOST_CELLS, MOST_BOARDS = 16_384, 64
+# A part of the page of a long match draws states with at most this many terms together, which takes about as long. The terms have at most this many
+# letters on average.
+MOST_OF_PART, LETTERS = 16_384, 64
+# The sizes of the caches of terms, of cells and of openings of boards.
+MOST_TERMS, MOST_CELLS, MOST_BOARDS = 65_536, 16_384, 64
 
 PHASES = {
     "starting": "It is starting: not every role has its START mark.",
@@ -66,6 +67,9 @@ ERRORS = {
 
 # Terms of a state that name the role whose turn it is.
 TURN = re.compile(r"\((?:control|turn|on-turn) ([^()]*)\)")
+
+# What a page has of a state that is listed as text, except its terms.
+LISTED = {"boards": "", "before": None, "gone": [], "is_empty": False, "drawn": [], "more": 0}
 
 # The labels at each place of a board.
 Place = tuple[int, int]
@@ -98,7 +102,7 @@ def record_of(file: BinaryIO) -> bytes:
 # ---- boards
 
 
-@functools.cache
+@functools.lru_cache(MOST_TERMS)
 def words_of(term: str) -> list[str]:
     """Returns the members of a term that is a list of atoms, else an empty list."""
     is_flat = term.startswith("(") and term.endswith(")") and not re.search(r"[()]", term[1:-1])
@@ -362,18 +366,21 @@ def states_of_page(
         if number >= since:
             drawn = joined([board_page(*parts, is_played) for parts in zip(boards, places, before, ground, marks)])
             gone = sorted((known_before or set()) - known)
-            more = {"gone": gone, "is_empty": not state, "mover": mover, "drawn": boards}
+            more = {"gone": gone, "is_empty": not state, "mover": mover, "drawn": boards, "more": 0}
             yield {"boards": drawn, "terms": terms, "before": known_before, **more}
+
+
+def quick(named: Named) -> Named:
+    """Returns names without those of rules that have too many."""
+    return Named(is_hex=named.is_hex) if sum(map(len, named.terms.values())) > MOST_READ else named
 
 
 def last_state(states: list[list[str]], roles: Sequence[str], named: Named, is_played: bool = False) -> dict[str, Any] | None:
     """Returns the drawing of the last state, if there is one, with as many states before it as may be read."""
     count = sum(size <= MOST_READ for size in itertools.accumulate(map(len, reversed(states))))
     if states and not count:
-        return {"boards": "", "terms": states[-1], "before": None, "gone": [], "is_empty": False, "drawn": []}
-    if sum(map(len, named.terms.values())) > MOST_READ:
-        named = Named(is_hex=named.is_hex)
-    return next(states_of_page(states[len(states) - count :], roles, named, count - 1, MOST_PLACES, is_played), None)
+        return LISTED | {"terms": states[-1]}
+    return next(states_of_page(states[len(states) - count :], roles, quick(named), count - 1, MOST_PLACES, is_played), None)
 
 
 def named_roles(state: list[str], roles: Sequence[str]) -> list[tuple[str, str]]:
@@ -409,14 +416,32 @@ def turn_of_page(moves: Sequence[str], errors: Sequence[str], mover: int | None,
     return found
 
 
+def weight_of(state: list[str]) -> int:
+    """Returns how many terms of a state are drawn. Long ones count more."""
+    if sum(map(len, state)) <= LETTERS * len(state):
+        return len(state)
+    return max(len(state), sum(min(len(term), MOST_SHOWN) for term in state) // LETTERS)
+
+
+def states_of_part(states: list[list[str]], part: range, roles: Sequence[str], named: Named) -> list[dict[str, Any]]:
+    """Returns the states of a part of the page of a long match. The beginning of a state that is too large for a part is listed."""
+    first, before = states[part.start], max(0, part.start - 1)
+    if (weight := weight_of(first)) > MOST_OF_PART:
+        shown = first[: len(first) * MOST_OF_PART // weight]
+        return [LISTED | {"terms": shown, "more": len(first) - len(shown), "mover": mover_of(first, roles)}]
+    if weight_of(states[before]) > MOST_OF_PART:
+        before = part.start
+    return list(states_of_page(states[before : part.stop], roles, quick(named), part.start - before, MOST_PLACES))
+
+
 def parts_of(states: list[list[str]]) -> list[range]:
-    """Returns the parts of a long match: for each part the numbers of its states, which have at most this many terms."""
+    """Returns the parts of a long match: for each part the numbers of its states. It has at most MOST_OF_PART terms, or only one state."""
     starts, size = [0], 0
-    for number, state in enumerate(states):
-        size += len(state)
+    for number, own in enumerate(map(weight_of, states)):
+        size += own
         if size > MOST_OF_PART and number > starts[-1]:
             starts.append(number)
-            size = len(state)
+            size = own
     return [range(start, end) for start, end in zip(starts, [*starts[1:], len(states)])]
 
 
@@ -437,9 +462,11 @@ def page_of(
     """Returns the page in ASCII. With the game and the answers, by role and turn counted from 0, the page explains replaced moves."""
     all_states, moves, errors, whys = record["states"], record["moves"], record["errors"], Whys(record, game, answers or {})
     parts = [range(len(all_states))] if frame.part is None else parts_of(all_states)
-    part = parts[frame.part or 0]
-    before = max(0, part.start - 1)
-    states = list(states_of_page(all_states[before : part.stop], record["roles"], frame.named, part.start - before))
+    part, roles = parts[frame.part or 0], record["roles"]
+    if frame.part is None:
+        states = list(states_of_page(all_states, roles, frame.named))
+    else:
+        states = states_of_part(all_states, part, roles, frame.named)
     # A record that is too long has only its first states.
     last = len(moves) if part is parts[-1] else part.stop - 1
     turns = []
