@@ -1,10 +1,11 @@
-"""Limits the connections of a server. If there are too many, the oldest one that has not sent its whole request gives way."""
+"""Limits the connections of a server. If there are too many, one gives way: the oldest one that has not sent its whole request, or else one of the
+client that has most of them."""
 
 import contextlib
 import ipaddress
 import threading
 from collections import Counter
-from collections.abc import Iterator
+from collections.abc import Callable, Collection, Iterator
 from typing import Protocol
 
 # The clients with loopback addresses.
@@ -12,13 +13,13 @@ THIS_COMPUTER = "this computer"
 
 
 def client_of(address: str) -> str:
-    """Returns the client of an address. A host with IPv6 usually has all addresses with the same first 64 bits. An IPv4 address may be in IPv6
-    notation."""
+    """Returns the client of an address. A customer with IPv6 usually has all addresses with the same first 56 bits. An IPv4 address may be in IPv6
+    notation. Raises ValueError if the text is not an address."""
     found = ipaddress.ip_address(address.partition("%")[0])
     found = getattr(found, "ipv4_mapped", None) or found
     if found.is_loopback:
         return THIS_COMPUTER
-    return str(found if found.version == 4 else ipaddress.ip_network((int(found), 64), strict=False))
+    return str(found if found.version == 4 else ipaddress.ip_network((int(found), 56), strict=False))
 
 
 class Connection(Protocol):
@@ -30,33 +31,49 @@ class Connection(Protocol):
     def end(self) -> None: ...
 
 
-class Visitors:
-    """The connections, at most `most` at once. One client has at most half of them, except this computer, which may be a proxy. Threads may
-    share this object."""
+def oldest_of_most(connections: Collection[Connection], size_of: Callable[[Connection], int] = lambda connection: 1) -> Connection | None:
+    """Returns the oldest connection of the client that has most of them, by number or by another size. None if there are none."""
+    counts: Counter[str] = Counter()
+    for connection in connections:
+        counts[connection.client] += size_of(connection)
+    return max(connections, key=lambda connection: counts[connection.client], default=None)
 
-    def __init__(self, most: int) -> None:
-        self.most, self.lock = most, threading.RLock()
+
+def one_for(client: str, connections: Collection[Connection]) -> Connection | None:
+    """Returns the connection that gives way to a new one of a client: that of `oldest_of_most`, unless this client has as many, or only one less."""
+    counts, gone = Counter(connection.client for connection in connections), oldest_of_most(connections)
+    return gone if gone and counts[client] + 1 < counts[gone.client] else None
+
+
+class Visitors:
+    """The connections, at most `most` at once. One client has at most an eighth of them, except this computer, which may be a proxy. Without
+    `spares_busy`, a connection whose request has arrived may have to give way, too. Threads may share this object."""
+
+    def __init__(self, most: int, spares_busy: bool = True) -> None:
+        self.most, self.spares_busy, self.lock = most, spares_busy, threading.RLock()
         # The oldest one is first.
         self.connections: dict[Connection, None] = {}
         self.counts: Counter[str] = Counter()
-        self.viewers: Counter[str] = Counter()
+        # The connections that stay open to get changes. The oldest one is first.
+        self.viewers: dict[Connection, None] = {}
 
     def most_of(self, client: str) -> int:
-        return self.most if client == THIS_COMPUTER else max(1, self.most // 2)
+        return self.most if client == THIS_COMPUTER else max(2, self.most // 8)
 
     def has_room_for(self, client: str) -> bool:
         """Returns whether one more connection of a client is served. If necessary, the oldest idle connection gives way: this client's if it has used
-        up its share, else that of the client with the most idle connections."""
+        up its share, else that of the client with the most idle connections. If there is none, a busy connection may give way."""
         with self.lock:
             is_own = self.counts[client] >= self.most_of(client)
             if not is_own and len(self.connections) < self.most:
                 return True
             idle = [connection for connection in self.connections if connection.is_idle and (not is_own or connection.client == client)]
-            if idle:
-                counts = Counter(connection.client for connection in idle)
-                worst = max(counts, key=counts.__getitem__)
-                next(connection for connection in idle if connection.client == worst).end()
-            return bool(idle)
+            gone = oldest_of_most(idle)
+            if not idle and not is_own and not self.spares_busy:
+                gone = one_for(client, self.connections)
+            if gone:
+                gone.end()
+            return gone is not None
 
     def come(self, connection: Connection) -> None:
         with self.lock:
@@ -71,14 +88,17 @@ class Visitors:
                 self.counts += Counter()
 
     @contextlib.contextmanager
-    def viewing(self, client: str) -> Iterator[bool]:
-        """Yields whether a client may open one more page that gets changes. The last eighth of all connections, and of those of a client, is for
-        loading pages."""
-        counts = (self.viewers.total(), self.most), (self.viewers[client], self.most_of(client))
-        is_served = all(count < most - most // 8 for count, most in counts)
-        self.viewers[client] += is_served
+    def viewing(self, connection: Connection) -> Iterator[bool]:
+        """Yields whether a connection may stay open to get changes. It must end once it is not one of the viewers any more, because another one took
+        its place. The last eighth of all connections, and of those of a client, is for loading pages."""
+        client, (most, own) = connection.client, (many - many // 8 for many in (self.most, self.most_of(connection.client)))
+        is_served = sum(viewer.client == client for viewer in self.viewers) < own
+        if is_served and len(self.viewers) >= most:
+            gone = one_for(client, self.viewers)
+            is_served = gone is not None
+            self.viewers.pop(gone, None)
+        self.viewers |= {connection: None} if is_served else {}
         try:
             yield is_served
         finally:
-            self.viewers[client] -= is_served
-            self.viewers += Counter()
+            self.viewers.pop(connection, None)

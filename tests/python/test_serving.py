@@ -14,7 +14,6 @@ import re
 import resource
 import signal
 import socket
-import struct
 import sys
 import tempfile
 import threading
@@ -560,128 +559,6 @@ class Refused(Served):
         self.assertEqual({str(path): path.stat().st_mtime_ns for path in self.plan.folder.path.rglob("*")}, before)
 
 
-class Limits(Served):
-    MOST = 8
-
-    def connect(self, said=b""):
-        """Opens a connection and sends the beginning of a request."""
-        connection = self.enterContext(socket.create_connection(("127.0.0.1", self.port), timeout=60))
-        connection.sendall(said)
-        return connection
-
-    def until(self, is_so):
-        while not self.in_loop(is_so):
-            time.sleep(0.01)
-
-    def hold(self, count, is_idle):
-        """Opens this many connections, with or without a request, until the server knows them."""
-        held = [self.connect() for _ in range(count)]
-        self.until(lambda: len(self.visitors.connections) == count)
-        for connection in self.visitors.connections if not is_idle else ():
-            self.in_loop(connection.has_asked)
-        return held
-
-    def test_connections(self):
-        held = self.hold(self.MOST, is_idle=False)
-        self.assertTrue(self.connect().recv(100).startswith(b"HTTP/1.1 503 "))
-        for connection in held:
-            connection.close()
-        self.until(lambda: not self.visitors.connections)
-        # Visitors with event streams leave some connections free.
-        page = self.page("/")
-        answers = [self.events(page) for _ in range(self.MOST)]
-        self.assertEqual([answer.status for answer in answers], [200] * 7 + [503])
-        self.until(lambda: len(self.visitors.connections) == 7)
-        self.assertEqual(self.ask("/")[0], 200)
-
-    def test_a_connection_that_asks_for_nothing_is_ended(self):
-        with patch.object(http_server, "HEAD", 0):
-            self.assertEqual(self.connect(b"GET / HTTP/1.1\r\nHost: ").recv(100), b"")
-
-    def test_half_requests_of_an_address_give_way(self):
-        half = self.hold(self.MOST, is_idle=True)
-        # New visitors are served, and the oldest connections give way.
-        for at in range(3):
-            self.assertEqual(self.ask("/")[0], 200)
-            self.assertEqual(half[at].recv(100), b"")
-
-    def test_a_head_has_an_end_and_only_one_request_is_read(self):
-        self.assertEqual(self.connect(b"GET / HTTP/1.1\r\n" + b"X: y\r\n" * 4_096).recv(100), b"")
-        many = self.connect(b"GET /none.html HTTP/1.1\r\nHost: localhost\r\n\r\n" * 300)
-        answer = b"".join(iter(lambda: many.recv(65_536), b""))
-        self.assertEqual(answer.count(b"HTTP/1.1 404 "), 1)
-
-    def test_who_takes_nothing_is_ended(self):
-        with patch.object(self.site, "page", return_value=b"x" * (64 << 20)), patch.object(http_server, "PATIENCE", 0.2):
-            slow = self.connect(b"GET / HTTP/1.1\r\nHost: localhost\r\n\r\n")
-            self.until(lambda: len(self.visitors.connections) == 1)
-            self.until(lambda: not self.visitors.connections)
-            taken = 0
-            with contextlib.suppress(ConnectionResetError):
-                taken = sum(map(len, iter(lambda: slow.recv(1 << 20), b"")))
-            self.assertLess(taken, 64 << 20)
-
-    def ask_and_leave(self, path):
-        """Sends a request, and resets the connection."""
-        asking = socket.create_connection(("127.0.0.1", self.port), timeout=60)
-        asking.setsockopt(socket.SOL_SOCKET, socket.SO_LINGER, struct.pack("ii", 1, 0))
-        asking.sendall(f"GET {path} HTTP/1.1\r\nHost: localhost\r\n\r\n".encode())
-        self.until(lambda: any(connection.asking for connection in self.visitors.connections))
-        asking.close()
-        self.until(lambda: not self.visitors.connections)
-
-    def test_who_is_gone_is_not_answered(self):
-        made, held = [], threading.Event()
-        self.addCleanup(held.set)
-
-        def page(path):
-            made.append(path)
-            held.wait(60)
-
-        with patch.object(self.site, "page", page):
-            for at in range(20):
-                self.ask_and_leave(f"/{at}")
-            # The first one was in progress. The thread does not work for the others.
-            held.set()
-            self.assertEqual(self.ask("/last")[0], 404)
-        self.assertEqual(made, ["/0", "/last"])
-
-    def test_of_each_client_one_thing_at_a_time_waits_for_the_thread(self):
-        made, held = [], threading.Event()
-        self.addCleanup(held.set)
-
-        async def ask():
-            asked = [asyncio.create_task(self.server.for_client(client, made.append, client)) for client in "aaaabb"]
-            await asyncio.sleep(0)
-            held.set()
-            await asyncio.gather(*asked)
-
-        self.server.thread.submit(held.wait)
-        self.in_loop(ask)
-        self.assertEqual("".join(made), "ababaa")
-        self.assertFalse(self.server.turns)
-
-    def test_one_address_does_not_take_all_connections(self):
-        half, whole = [True] * 4 + [False], [True] * 8 + [False]
-        # A host with IPv6 has many addresses. An IPv4 address may be in IPv6 notation.
-        cases = (
-            (["192.0.2.1"], half), (["127.0.0.1"], whole), (["::1", "::ffff:127.0.0.2", "127.0.0.1"], whole),
-            ([f"2001:db8::{at:x}:{at:x}" for at in range(1, 9)], half), (["192.0.2.1", "::ffff:192.0.2.1"], half),
-            ([f"fe80::{at:x}%eth{at}" for at in range(1, 9)], half), ([f"2001:db8:0:{at:x}::1" for at in range(1, 9)], whole),
-        )
-        for addresses, has_room in cases:
-            visitors, found = http_server.Visitors(8), []
-            for client, _ in zip(itertools.cycle(map(http_server.client_of, addresses)), has_room):
-                found.append(visitors.has_room_for(client))
-                visitors.come(Mock(client=client, is_idle=False))
-            self.assertEqual(found, has_room, addresses)
-        with contextlib.ExitStack() as viewers:
-            found = [viewers.enter_context(self.visitors.viewing("192.0.2.1")) for _ in range(5)]
-            found += [viewers.enter_context(self.visitors.viewing("192.0.2.2")) for _ in range(4)]
-        self.assertEqual(found, [True] * 4 + [False] + [True] * 3 + [False])
-        self.assertFalse(self.visitors.viewers)
-
-
 class Events(Served):
     def test_a_page_is_told_of_what_changes(self):
         match, other = self.plan.matches[0], self.plan.matches[5]
@@ -728,7 +605,7 @@ class Events(Served):
         with socket.create_connection(("127.0.0.1", self.port), timeout=60) as visitor:
             visitor.sendall(f"GET /{path} HTTP/1.1\r\nHost: localhost\r\n\r\n".encode())
             self.assertTrue(visitor.recv(100).startswith(b"HTTP/1.1 200 "))
-            self.assertEqual(self.visitors.viewers.total(), 1)
+            self.assertEqual(len(self.visitors.viewers), 1)
         while self.visitors.viewers:
             self.look()
         self.assertEqual(self.site.pages["/index.html"].viewers, 0)

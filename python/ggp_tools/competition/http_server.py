@@ -3,6 +3,7 @@
 import asyncio
 import concurrent.futures
 import contextlib
+import functools
 import logging
 import re
 import socket
@@ -19,7 +20,7 @@ from ggp_tools.competition.live_api import FEED, METRICS, json_bytes, metrics_te
 from ggp_tools.competition.live_site import LiveSite, OpenPage
 from ggp_tools.holding.game import MOST_CALLS
 from ggp_tools.human.server import is_own_name
-from ggp_tools.visitors import THIS_COMPUTER, Visitors, client_of
+from ggp_tools.visitors import THIS_COMPUTER, Visitors, client_of, oldest_of_most
 
 Value = TypeVar("Value")
 # The directory is read every INTERVAL seconds. A page without changes gets a row every ALIVE seconds, which shows whether the visitor is still there.
@@ -33,6 +34,8 @@ HEADERS = {
     "Referrer-Policy": "no-referrer",
     "Server": "ggp_competition",
 }
+# An answer is sent in pieces, because the event loop copies what the visitor has not accepted yet. All answers together have at most MOST_SENT bytes.
+PIECE, MOST_SENT = 1 << 16, 256 << 20
 # The content types of pages, and of data for programs.
 PAGE, JSON, NUMBERS = "text/html", "application/json", "text/plain; version=0.0.4"
 NOBODY = ("'none'",)
@@ -49,13 +52,14 @@ def kind_of(path: str) -> str:
 class Connection(web.RequestHandler):
     """A connection with one request. `is_idle` is set until the head has arrived. The task that answers the request ends with the connection."""
 
-    __slots__ = ("visitors", "client", "is_idle", "left", "clock", "asking")
+    __slots__ = ("visitors", "client", "is_idle", "left", "clock", "asking", "answer")
 
     def __init__(self, visitors: Visitors, server: web.Server) -> None:
         super().__init__(server, loop=asyncio.get_running_loop(), access_log=None, logger=SILENT, lingering_time=0)
         self.visitors, self.client, self.is_idle, self.left = visitors, "", True, LONGEST_HEAD
         self.clock: asyncio.TimerHandle | None = None
         self.asking: asyncio.Task | None = None
+        self.answer = b""
 
     def connection_made(self, transport: asyncio.Transport) -> None:
         self.client = client_of(transport.get_extra_info("peername")[0])
@@ -90,6 +94,17 @@ class Connection(web.RequestHandler):
         self.is_idle, self.asking = False, asyncio.current_task()
         self.clock.cancel()
 
+    def is_served(self, forwarded: Sequence[str]) -> bool:
+        """Returns whether the client may have this connection. If a proxy on this computer sends it, the last address in these headers is the client."""
+        if self.client == THIS_COMPUTER and forwarded:
+            self.visitors.go(self)
+            with contextlib.suppress(ValueError):
+                self.client = client_of(forwarded[-1].rpartition(",")[2].strip())
+            is_served = self.visitors.has_room_for(self.client)
+            self.visitors.come(self)
+            return is_served
+        return True
+
     def end(self) -> None:
         self.visitors.go(self)
         if self.transport:
@@ -101,7 +116,7 @@ class Server:
     else. Browsers may use `names` for the server. Pages of `origins` may show its pages and read its data."""
 
     def __init__(self, site: LiveSite, most: int, base: str = "", names: Sequence[str] = (), origins: Sequence[str] = ()) -> None:
-        self.site, self.visitors, self.address, self.told = site, Visitors(most), "", ""
+        self.site, self.visitors, self.address, self.told = site, Visitors(most, spares_busy=False), "", ""
         self.base, self.names, self.origins = base, ["localhost", *names], origins
         self.headers = {**HEADERS, "Content-Security-Policy": f"frame-ancestors {' '.join(origins or NOBODY)}"}
         self.thread = concurrent.futures.ThreadPoolExecutor(1, initializer=lambda: sys.setrecursionlimit(MOST_CALLS))
@@ -166,6 +181,8 @@ class Server:
                 return await self.send(request, HTTPStatus.METHOD_NOT_ALLOWED)
             if not self.is_open_to(request.headers.get("Host", "")):
                 return await self.send(request, HTTPStatus.FORBIDDEN)
+            if not request.protocol.is_served(request.headers.getall("X-Forwarded-For", ())):
+                return await self.send(request, HTTPStatus.SERVICE_UNAVAILABLE)
             if not asked:
                 return await self.send(request, HTTPStatus.PERMANENT_REDIRECT if whole == self.base else HTTPStatus.NOT_FOUND)
             if asked == FEED or asked.startswith("/events/"):
@@ -176,7 +193,7 @@ class Server:
             else:
                 data = await self.for_client(request.protocol.client, self.site.data, request.raw_path.removeprefix(self.base))
             if asked == METRICS and data:
-                data += metrics_text({"serve_connections": {"": len(self.visitors.connections)}, "serve_viewers": {"": self.visitors.viewers.total()}})
+                data += metrics_text({"serve_connections": {"": len(self.visitors.connections)}, "serve_viewers": {"": len(self.visitors.viewers)}})
             return await self.send(request, HTTPStatus.NOT_FOUND if data is None else HTTPStatus.OK, data)
         except (OSError, TimeoutError):
             request.protocol.end()
@@ -184,6 +201,13 @@ class Server:
         except Exception as why:
             print(f"ggp_competition: a page could not be made: {why!r}", file=sys.stderr)
             return await self.send(request, HTTPStatus.INTERNAL_SERVER_ERROR)
+
+    def note_answer(self, connection: Connection, answer: bytes) -> None:
+        """Notes the answer that is being sent. If all answers are too long together, this ends connections of the client with most of these bytes."""
+        connection.answer = answer
+        while sum(map(len, {id(other.answer): other.answer for other in self.visitors.connections}.values())) > MOST_SENT:
+            answered = [other for other in self.visitors.connections if other.answer]
+            oldest_of_most(answered, lambda other: len(other.answer)).end()
 
     def headers_of(self, request: web.BaseRequest, kind: str) -> dict[str, str]:
         """Returns the headers of an answer. Only pages of `origins` may read it, besides its own."""
@@ -200,18 +224,20 @@ class Server:
             kind = JSON if kind == JSON else "text/plain"
         more = {HTTPStatus.PERMANENT_REDIRECT: {"Location": f"{self.base}/"}, HTTPStatus.METHOD_NOT_ALLOWED: {"Allow": ", ".join(METHODS)}}
         headers = self.headers_of(request, kind) | more.get(status, {})
-        response = web.Response(status=status, body=data, headers=headers)
+        response = web.StreamResponse(status=status, headers={**headers, "Content-Length": str(len(data))})
         response.force_close()
+        self.note_answer(request.protocol, data)
         async with asyncio.timeout(PATIENCE):
             await response.prepare(request)
+            for at in range(0, len(data) if request.method != "HEAD" else 0, PIECE):
+                await response.write(memoryview(data)[at : at + PIECE])
             await response.write_eof()
         return response
 
     async def send_events(self, request: web.BaseRequest, path: str, known: str) -> web.StreamResponse:
         """Sends the changes since a version, or from now on, as long as the visitor accepts them."""
-        client = request.protocol.client
-        with self.visitors.viewing(client) as has_room:
-            found = await self.for_client(client, self.site.opened, path) if has_room else None
+        with self.visitors.viewing(request.protocol) as has_room:
+            found = await self.for_client(request.protocol.client, self.site.opened, path) if has_room else None
             if found is None:
                 return await self.send(request, HTTPStatus.NOT_FOUND if has_room else HTTPStatus.SERVICE_UNAVAILABLE)
             response = web.StreamResponse(headers={**self.headers_of(request, "text/event-stream"), "X-Accel-Buffering": "no"})
@@ -223,18 +249,20 @@ class Server:
                 return response
             found.viewers += 1
             try:
-                await self.send_changes(response, found, int(known) if VERSION.fullmatch(known) else -1 if known else found.version)
+                stays = functools.partial(self.visitors.viewers.__contains__, request.protocol)
+                await self.send_changes(response, found, int(known) if VERSION.fullmatch(known) else -1 if known else found.version, stays)
             finally:
                 found.viewers, found.touched = found.viewers - 1, time.monotonic()
             return response
 
-    async def send_changes(self, response: web.StreamResponse, found: OpenPage, version: int) -> None:
-        """Sends the changes of a page since a version, until the page is final. Sending fails once the visitor is gone."""
+    async def send_changes(self, response: web.StreamResponse, found: OpenPage, version: int, stays: Callable[[], bool]) -> None:
+        """Sends the changes of a page since a version, until the page is final or another stream takes the place of this one. Sending fails once
+        the visitor is gone."""
         is_last = False
-        while not is_last:
+        while not is_last and stays():
             with contextlib.suppress(TimeoutError):
                 async with asyncio.timeout(ALIVE):
-                    while found.version == version and not found.is_final:
+                    while found.version == version and not found.is_final and stays():
                         await self.looked.wait()
             texts, version, is_last = found.news(version)
             async with asyncio.timeout(PATIENCE):
