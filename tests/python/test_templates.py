@@ -26,7 +26,7 @@ def values_of(text: str) -> dict[str, object]:
     """Returns values for macros by the names of their arguments. Every text from outside is this one."""
     match = Value(id=text, game=text, players=(text, text), start=1, play=2)
     seen = Value(players=((text, text), (text, text)), text=text, since=1.0, clock=text, is_of_players=True, mover=text)
-    found = Value(boards=markupsafe.Markup("<p>made</p>"), terms=[text, text], before={text}, gone=[text], is_empty=True)
+    found = Value(boards=markupsafe.Markup("<p>made</p>"), terms=[text, text], before={text}, gone=[text], is_empty=True, more=2)
     html = markupsafe.Markup("<p>made</p>")
     texts = [text, text]
     numbers = dict.fromkeys(("count", "of_all", "shown", "waiting", "lost", "open", "unread", "turn", "turns", "number", "more", "mean", "moment"), 2)
