@@ -1,5 +1,5 @@
-"""Generates mutants of Python code, each with one small error that a programmer could make: a comparison turned, a bound moved by one, a condition
-negated or left out, a constant or a compared word changed, a call, a raise or an assignment dropped, two arguments swapped."""
+"""Generates mutants of Python code. Each has one small error that a programmer could make, for example an inverted comparison, a bound that is off by
+one, a changed constant, a missing call, or two swapped arguments."""
 import ast
 import copy
 import difflib

@@ -1,5 +1,5 @@
 """Checks that Python is new enough, and that a version of the Rattle toolchain is installed with which the gate passes. If not, it reports this in
-one line before anything else is done. Any Python 3 can run this file, so that an old one can report itself."""
+one line before anything else is done. Any Python 3 can run this file, so that an old version can report itself."""
 import importlib.machinery
 import importlib.util
 import os

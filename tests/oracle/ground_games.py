@@ -1,13 +1,11 @@
 #!/usr/bin/env python3
-"""Writes NAME.out, what a desk must print for NAME.kif and NAME.script: the replies, and the match's record.
+"""Writes NAME.out, the expected output of a desk for NAME.kif and NAME.script: the replies, and the match's record.
 
-ground_games.py NAME ..   writes them, in the present folder
-ground_games.py --check   ends with status 1 where one of examples/games is not what it would write
+ground_games.py NAME ..   writes them in the current directory
+ground_games.py --check   exits with status 1 if one of examples/games differs from what it would write
 
-It is an oracle, and shares nothing with the program, nor with what stands in `python`: rules are looked up from the question down, by recursion, where the program
-evaluates them once in the order of a ranking. It takes lawful scripts of one match alone: no line that the desk
-refuses, and no abort.
-"""
+It is an oracle, and shares nothing with the program or with `python`: it evaluates rules top-down by recursion, while the program evaluates each once
+in the order of ranks. It accepts only scripts of one match, without lines that the desk refuses, and without an abort."""
 
 import argparse
 import json

@@ -1,16 +1,13 @@
-"""A plain interpreter of GDL with variables, for `compare` and for a player of examples/players. It makes no instances: it looks a
-question up from the question down, rule by rule, as the standard says what is true. It is an oracle, and shares nothing with the
-program, nor with what stands in `python`.
+"""A plain interpreter of GDL with variables, for `compare` and for a player of examples/players. It makes no instances: it answers a query top-down,
+rule by rule, as the standard defines what is true. It is an oracle, and shares nothing with the program or with `python`.
 
-A question is an atomic sentence that may have variables, and its answers are the sentences without variables that it fits and
-that are true. Rules are safe, so each answer of a rule has a value for each of its variables. Where a question comes up again while it is
-being answered, its relation goes round: from then on that is derived as a whole, from the facts up. So it is from the beginning where
-a question could come up again with more in it.
-"""
+A query is an atomic sentence that may have variables. Its answers are the true sentences without variables that it matches. Rules are safe, so each
+answer of a rule has a value for each of its variables. If a query comes up again while it is being answered, its relation is recursive: from then on
+the whole relation is derived bottom-up from the facts. The same happens from the beginning if a query could come up again with larger terms."""
 
 import re
 
-# What a state and the moves of a turn say.
+# The relations of a state and of the moves of a turn.
 GIVEN = {("true", 2), ("does", 3)}
 
 
@@ -61,7 +58,7 @@ def fitted(pattern, term, values):
 
 
 def narrowed(head, question, values):
-    """Returns what the question implies for the variables of a rule's head, or None if the head cannot be an answer."""
+    """Returns what the query implies for the variables of a rule's head, or None if the head cannot be an answer."""
     if is_variable(question):
         return values
     if isinstance(head, str):
@@ -76,7 +73,7 @@ def narrowed(head, question, values):
 
 
 def key_of(question, names):
-    """Returns the question with its variables numbered, so that equivalent questions are equal."""
+    """Returns the query with its variables numbered, so that equivalent queries are equal."""
     if isinstance(question, str):
         return names.setdefault(question, f"?{len(names)}") if question[0] == "?" else question
     return tuple([key_of(part, names) for part in question])
@@ -135,7 +132,7 @@ class Facts:
                 self.by_name.setdefault(name_of(fact), []).append(fact)
 
     def fitting(self, question):
-        """Returns the facts that match a question."""
+        """Returns the facts that match a query."""
         if is_ground(question):
             return [question] if question in self.all else []
         some = self.by_name.get(name_of(question), ())
@@ -153,7 +150,7 @@ class Facts:
 
 
 class GoesRound(Exception):
-    """A question of this relation came up again while it was being answered."""
+    """A query of this relation came up again while it was being answered."""
 
 
 class Look:
@@ -163,7 +160,7 @@ class Look:
         self.game, self.known, self.facts, self.open = game, {}, Facts(facts), set()
 
     def answers(self, question):
-        """Returns the answers to a question, without duplicates."""
+        """Returns the answers to a query, without duplicates."""
         name = name_of(question)
         if name in GIVEN:
             return self.facts.fitting(question)
@@ -193,7 +190,7 @@ class Look:
                     more = [answer for name, head in asked for answer in self.derived(head, name)]
                     known[circle] = Facts([*known[circle].all, *more])
             except GoesRound:
-                # What is not complete may not stay: a circle on which no state bears outlives this look.
+                # Incomplete results must go: a cycle that does not depend on the state is kept beyond this query.
                 del known[circle]
                 raise
         return known[circle]
@@ -238,7 +235,7 @@ class Look:
 
 def grouped(asks):
     """Returns the relations that have rules, grouped by mutual dependence. Each group comes after those that it depends on."""
-    # (Tarjan's way, by a list of what is open in the place of calls: a chain may be long)
+    # (Tarjan's algorithm, with a list of open nodes instead of recursion, because a chain may be long)
     groups, places, lowest, path, done = [], {}, {}, [], set()
     for first in asks:
         calls = [] if first in places else [(first, iter(asks[first]))]
@@ -309,12 +306,12 @@ class Game:
         return found
 
     def can_grow(self, circle):
-        """Returns whether a question could come up again with a larger term for a variable, and so without an end."""
+        """Returns whether a query could come up again and again with a larger term for a variable."""
         asked = [sentence for name in circle for _, body in self.rules[name] for literal in body for sentence in asked_in(literal)]
         return any(not (is_variable(argument) or is_ground(argument)) for sentence in asked if name_of(sentence) in circle for argument in sentence[1:])
 
     def asked(self, state, joint, work):
-        """Answers a question in a state. It is asked again if a relation turns out to be recursive."""
+        """Answers a query in a state. It begins again if a relation turns out to be recursive."""
         does = [("does", role, move) for role, move in zip(self.roles, joint)] if joint else []
         while True:
             try:

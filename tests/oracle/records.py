@@ -1,13 +1,13 @@
 #!/usr/bin/env python3
-"""Writes what `verify` must say of records of Countdown. It is an oracle, and shares nothing with the program, nor with
-what stands in `python`: it replays a record by its own reading of the profile, sections 8 and 9.
+"""Writes the expected output of `verify` for records of Countdown. It is an oracle, and shares nothing with the program or with `python`: it replays
+a record by the text of docs/RECORDS.md.
 
 records.py                    writes NAME.word for each NAME.record of examples/records
-records.py --check            ends with status 1 where one of these files is not what it would write
+records.py --check            exits with status 1 if one of these files differs from what it would write
 records.py --random SEED MATCHES CHANGES
-                              prints records of random matches, each followed by as many that are changed in one place
-records.py --program PROGRAM  asks the program of these records, of random matches, and of each changed in one place again and again,
-                               and ends with status 1 where it says something else
+                              prints records of random matches, each followed by CHANGES copies with one change
+records.py --program PROGRAM  checks with the program these records, random matches, and copies of each with one change, and exits with
+                              status 1 if a verdict differs
 """
 
 import argparse
@@ -31,7 +31,7 @@ MOST_LISTS = 64
 
 
 class Countdown:
-    """In each turn one or two are taken from a heap. The player whose turn it is at an empty heap has lost."""
+    """In each turn one or two are taken from a heap. The player whose turn it is when the heap is empty has lost."""
 
     def __init__(self, heap, turn=0):
         self.heap, self.turn = heap, turn
@@ -131,7 +131,7 @@ SHAPES = {
 
 
 def misshapen(record):
-    """Returns the first key that is missing or has the wrong shape. A record without a version has version 1."""
+    """Returns the first key that is missing or has a wrong value. A record without a version has version 1."""
     record = record if isinstance(record, dict) else {}
     for key in KEYS:
         if key == "strikes" and record.get("version", 1) != 2:
@@ -167,7 +167,7 @@ def fault_of_turn(state, strikes, turns, turn, moves, errors):
 
 
 def is_end(record, state, strikes):
-    """Returns whether phase, cause, marks and the last state agree with a row of the profile's table."""
+    """Returns whether phase, cause, marks and the last state agree with a row of the table in docs/RECORDS.md."""
     started = None not in record["startMarks"]
     ended = None not in record["endMarks"]
     unended = record["endMarks"] == [None, None]

@@ -1,6 +1,6 @@
 """Random small descriptions with variables. Each is grounded in four forms, which must describe the same game. Each description has facts, recursive
 relations, states with nested terms, moves, and nested negations and `or`s. Three matches of each are played by one form. The same answers must make
-the same records by the other forms, and each record is checked with the description. """
+the same records by the other forms, and each record is checked with the description."""
 
 import random
 

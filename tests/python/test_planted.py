@@ -4,7 +4,7 @@ Ten games of different kinds get an error each: a missing rule, two swapped move
 the game with a cycle, the cycle is unrolled in half of its rounds. The place of the error is random, and matches by the wrong rules are played until
 one reaches it: its answers make another record by the right rules. No random match needs that many rounds of a cycle, so there red's stones are
 given, which wind from side to side. The program loads the wrong rules, plays the match by them, finds its record lawful, and reproduces it from its
-call log, so it does not notice the error. `ggp-hold-against` must find the error, and none in the record by the right rules. """
+call log, so it does not notice the error. `ggp-hold-against` must find the error, and none in the record by the right rules."""
 
 import functools
 import json

@@ -1,7 +1,7 @@
 """Formulas over ground atomic sentences. Each formula is stored once, with a number that is larger than those of its parts.
 
 In a turn each role makes exactly one of its moves. So exactly one of a role's `does` sentences is true, and the `or` of all of them is true. An `or`
-of most of them is equivalent to the negation of the `or` of the others. """
+of most of them is equivalent to the negation of the `or` of the others."""
 
 from collections.abc import Iterable
 

@@ -2,7 +2,7 @@
 
 The number of instances of a rule is the product over all of its variables. A part of the body that shares only a few variables with the rest and the
 head becomes an auxiliary relation over these variables (`split1`, `split2` ..). The product becomes a sum. The meaning is the same, because the other
-variables of the part occur nowhere else. Relations that depend on themselves are not split. """
+variables of the part occur nowhere else. Relations that depend on themselves are not split."""
 
 import itertools
 from collections.abc import Iterable, Iterator, Sequence
