@@ -143,7 +143,7 @@ class BadInput(InFolder):
                 for path in lost:
                     path.unlink()
                 if lost != sums[1:]:
-                    self.assert_refused("is not there: `ggp_competition plan` writes it\n", "play")
+                    self.assert_refused("is not there: `ggp_competition plan` writes it\n", "table")
                 self.assertEqual(run(self.folder, "plan")[::2], (0, ""))
                 self.assertEqual({path: path.read_bytes() for path in before}, before)
         text = games.read_text()
@@ -160,10 +160,11 @@ class BadInput(InFolder):
         file, rules = self.folder / "competition.toml", self.folder / "rules/game.kif"
         text = file.read_text()
         file.write_text(text.replace("start = 2", "start = 3"))
-        for command in ("play", "table", "pages", "publish"):
+        self.assert_refused("the clocks of game were 2 and 10, and are 3 and 10: put back what was changed", "play")
+        for command in ("table", "pages", "publish"):
             self.assert_refused("schedule.tsv is not what competition.toml says: matches were played, so put back what was changed, or add to it and plan again\n", command)
         file.write_text(text.replace('name = "game"', 'name = "other"'))
-        self.assert_refused("rules/SHA256SUMS is not what competition.toml says: matches were played, so put back what was changed, or add to it and plan again\n", "play")
+        self.assert_refused("rules/SHA256SUMS is not what competition.toml says: matches were played, so put back what was changed, or add to it and plan again\n", "table")
         file.write_text(text)
         rules.write_text("(role a)")
         self.assert_refused("rules/game.kif is not what `ggp_competition plan` wrote: take it away, and `ggp_competition plan` writes it again\n", "play")
@@ -171,11 +172,11 @@ class BadInput(InFolder):
         file.write_text(text.replace("start = 2", "start = 3"))
         self.assertEqual(run(self.folder, "plan")[::2], (0, ""))
         file.write_text(text)
-        self.assert_refused("schedule.tsv is not what competition.toml says: `ggp_competition plan` writes it anew\n", "play")
+        self.assert_refused("schedule.tsv is not what competition.toml says: `ggp_competition plan` writes it anew\n", "table")
         self.assertEqual(run(self.folder, "plan")[::2], (0, ""))
         schedule = self.folder / "schedule.tsv"
         schedule.write_text(schedule.read_text().replace("ann bob", "bob ann"))
-        self.assert_refused("schedule.tsv is not what competition.toml says", "play")
+        self.assert_refused("schedule.tsv is not what competition.toml says", "table")
 
     def test_descriptions(self):
         for text, words in DESCRIPTIONS:
@@ -259,7 +260,7 @@ class BadInput(InFolder):
     def test_what_is_missing(self):
         self.assert_refused("competition.toml can't be read: No such file")
         self.write(PLAYERS, [("tictactoe", GAMES / "tictactoe.kif")])
-        for command in ("play", "table", "pages", "publish"):
+        for command in ("table", "pages", "publish"):
             self.assert_refused("schedule.tsv is not there: `ggp_competition plan` writes it", command)
 
     def test_wrong_use(self):
@@ -280,7 +281,7 @@ class BadInput(InFolder):
             self.assertRegex(whole, rf"\n +{name} +{told}\n")
             of_command = said(name, "--help")
             self.assertIn(f"\n{told[0].upper()}{told[1:]}.\n", of_command)
-            self.assertRegex(of_command, r"\n +((FOLDER|DIRECTORY) +the (folder|directory) of the competition|ARCHIVE +the file of the archive|FILE +competition.toml)")
+            self.assertRegex(of_command, r"\n +((FOLDER|DIRECTORY) +the (folder|directory) of the competition|ARCHIVE +the file of an archive|FILE +competition.toml)")
             self.assertRegex(of_command, r"\n +--program FILE +the referee, ggp_manager \(")
 
     def test_no_referee_is_found(self):

@@ -255,7 +255,7 @@ class Asking(WithMatch):
 
     def test_without_who_is_absent_it_is_played_where_that_is_wanted(self):
         head = 'tries = 1\nabsent = "play"\n'
-        self.assertEqual(self.asked(READY, NO_ANSWER, head=head), (True, None, [f"absent {self.match.id}: bob is silent, and the match is played"]))
+        self.assertEqual(self.asked(READY, NO_ANSWER, head=head), (True, None, [f"silent {self.match.id}: bob has not answered INFO, and the match is played"]))
         # A busy player is not missing.
         self.assertEqual(self.asked(info_of("busy"), NO_ANSWER, head=head), (False, "ann is busy", []))
         self.assertEqual(self.asked(READY, NO_ANSWER, head='tries = 2\nabsent = "play"\n'), (False, None, [f"back {self.match.id}: bob is silent"]))

@@ -101,7 +101,7 @@ class Play(InFolder):
         self.players[1].leave()
         status, out, _ = run(self.folder, "play")
         self.assertEqual(status, 0, out)
-        self.assertEqual(len(lines(out, "absent")), 2)
+        self.assertEqual(len(lines(out, "silent")), 2)
         self.assertEqual({tuple(sorted(set(map(str, turn)))) for record in self.records().values() for turn in record["errors"]}, {("", "CE"), ("", "RT")})
         toml = self.folder / "competition.toml"
         toml.write_text(toml.read_text().replace('"play"', '"leave"'))
@@ -140,7 +140,7 @@ class Play(InFolder):
             text = text.replace(old, new)
         file.write_text(f"{text}concurrent = 2\n")
         status, out, _ = run(self.folder, "play")
-        self.assertEqual((status, len(lines(out, "absent")), len(lines(out, "end"))), (0, 4, 4), out)
+        self.assertEqual((status, len(lines(out, "silent")), len(lines(out, "end"))), (0, 4, 4), out)
         self.assertEqual([run(self.folder, command)[0] for command in ("plan", "table", "publish")], [0, 0, 0])
         self.assertEqual(run(self.folder, "check", "cup.tar.gz")[0], 0)
         self.assert_sound(self.schedule)

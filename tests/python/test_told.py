@@ -78,13 +78,15 @@ class Told(InFolder):
         self.assert_refused("rules/nim.players is not what `ggp_competition plan` wrote", "play")
         (self.folder / "rules/nim.players").write_bytes(text)
         self.tell_otherwise()
-        self.assert_refused("rules/SHA256SUMS is not what competition.toml says: `ggp_competition plan` writes it anew", "play")
+        self.assert_refused("rules/SHA256SUMS is not what competition.toml says: `ggp_competition plan` writes it anew", "table")
         self.assertEqual(run(self.folder, "plan")[0], 0)
         self.assertEqual(run(self.folder, "table")[0], 0)
 
     def test_played_and_published(self):
+        (self.folder / "schedule.tsv").unlink()
         status, out, said = run(self.folder, "play")
         self.assertEqual((status, said), (0, ""), out)
+        self.assertIn(f"schedule.tsv: {len(self.schedule)} matches of", out)
         self.assert_sound(self.schedule)
         told = {"nim": self.read("nim.players"), "countdown": self.read("countdown.kif"), "nim.players": self.read("nim.kif")}
         for match, game, *_ in self.schedule:

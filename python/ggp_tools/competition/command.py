@@ -1,7 +1,6 @@
 """The command line of `ggp_competition`."""
 
 import argparse
-import contextlib
 import os
 import pathlib
 import sys
@@ -18,7 +17,7 @@ from ggp_tools.competition.call_logs import faults_of_logs
 from ggp_tools.competition.match_files import check_records
 from ggp_tools.competition.packing import TooLarge
 from ggp_tools.competition.pages import Pages
-from ggp_tools.competition.plan import WRITES, Plan, faults_of_descriptions, make_plan, next_plan, order_again, read_plan, round_words, rounds_left
+from ggp_tools.competition.plan import WRITES, Plan, Unplanned, faults_of_descriptions, make_plan, next_plan, order_again, read_plan, round_words, rounds_left
 from ggp_tools.competition.playing import Playing, play
 from ggp_tools.competition.results import Result
 from ggp_tools.competition.schedule import Match
@@ -51,7 +50,7 @@ def add_options(command: argparse.ArgumentParser, name: str) -> None:
     """Adds the arguments of a command."""
     add = command.add_argument
     if name == "check":
-        add("archive", metavar="ARCHIVE", help="the file of the archive")
+        add("archives", nargs="+", metavar="ARCHIVE", help="the file of an archive")
     elif name == "init":
         add_init(command)
     elif name == "try":
@@ -152,7 +151,11 @@ def preview(path: str, referee: Referee) -> int:
 def run_plan(asked: argparse.Namespace, referee: Referee) -> int:
     if asked.preview:
         return preview(asked.folder, referee)
-    plan = make_plan(asked.folder, referee)
+    print_plan(make_plan(asked.folder, referee))
+    return 0
+
+
+def print_plan(plan: Plan) -> None:
     for game in plan.competition.games:
         say(f"{game.name}: {counts_of_game(plan, [match for match in plan.matches if match.game == game.name and match.counts()])}")
         for note in plan.rules[game.name].notes:
@@ -164,7 +167,6 @@ def run_plan(asked: argparse.Namespace, referee: Referee) -> int:
     if plan.rounds:
         say(round_words(plan))
     say(f"{plan.folder.schedule}: {len(plan.matches)} matches of {len(plan.competition.players)} players{growth(plan)}{not_played(plan)}")
-    return 0
 
 
 def not_played(plan: Plan) -> str:
@@ -214,7 +216,20 @@ def missing_lines(missing: dict[str, str]) -> Iterator[str]:
 
 
 def run_play(asked: argparse.Namespace, referee: Referee) -> int:
-    plan = read_plan(asked.folder, referee)
+    """Plays a competition, and plans it first if competition.toml is new or has changed. No other run changes the plan while matches are played."""
+    with held(asked.folder):
+        try:
+            plan = read_plan(asked.folder, referee)
+        except Unplanned:
+            plan = None
+        if plan:
+            return play_planned(plan, asked, referee)
+    print_plan(make_plan(asked.folder, referee))
+    with held(asked.folder):
+        return play_planned(read_plan(asked.folder, referee), asked, referee)
+
+
+def play_planned(plan: Plan, asked: argparse.Namespace, referee: Referee) -> int:
     reporter = Reporter(Journal(plan.folder.journal))
     playing = Playing(plan, referee, reporter, asked.at_once)
     if asked.watch:
@@ -288,6 +303,12 @@ def archive_path(plan: Plan, to: str | None) -> pathlib.Path:
 
 
 def run_publish(asked: argparse.Namespace, referee: Referee) -> int:
+    # No other run changes the plan until the archive is written.
+    with held(asked.folder):
+        return publish_planned(asked, referee)
+
+
+def publish_planned(asked: argparse.Namespace, referee: Referee) -> int:
     plan = read_plan(asked.folder, referee)
     path, known = archive_path(plan, asked.to), Known(plan.folder.path)
     results, is_faulty = known_results(plan, referee, known)
@@ -324,11 +345,16 @@ def run_try(asked: argparse.Namespace, referee: Referee) -> int:
 
 
 def run_check(asked: argparse.Namespace, referee: Referee) -> int:
-    if not os.path.exists(asked.archive):
-        raise Refused(f"{asked.archive} is not there")
-    faults, said = check_archive(pathlib.Path(asked.archive), referee)
+    if missing := [archive for archive in asked.archives if not os.path.exists(archive)]:
+        raise Refused(f"{missing[0]} is not there")
+    return max([check_one(archive, referee) for archive in asked.archives])
+
+
+def check_one(archive: str, referee: Referee) -> bool:
+    """Checks an archive. Returns whether it has errors."""
+    faults, said = check_archive(pathlib.Path(archive), referee)
     for fault in faults:
-        print(f"ggp_competition: {asked.archive}: {fault}", file=sys.stderr)
+        print(f"ggp_competition: {archive}: {fault}", file=sys.stderr)
     if not faults:
         say(said)
     return bool(faults)
@@ -338,17 +364,15 @@ COMMANDS = {
     "init": ("writes a first competition.toml with comments, from options or answers", run_init),
     "plan": ("writes the rules and schedule.tsv, as competition.toml says", run_plan),
     "again": ("has a match played again: the new one counts, and both are kept", run_again),
-    "play": ("plays the matches that have no lawful record yet", run_play),
+    "play": ("plays the matches that have no lawful record yet; plans them first if competition.toml is new or has changed", run_play),
     "table": ("prints the table, and writes it as table.txt, table.csv, crosstable.csv and table.json", run_table),
     "pages": ("writes the directory `pages` for a browser", run_pages),
     "publish": ("writes an archive of the whole competition, with checksums", run_publish),
     "serve": ("serves live pages of the matches, the standings and the players to browsers, read only", run_serve),
     "why": ("explains what happened to the players of a match, turn by turn, with the times", run_why),
     "try": ("starts one player that has a command, and plays a match with it in each role", run_try),
-    "check": ("checks an archive that `publish` has written, and reads nothing else", run_check),
+    "check": ("checks archives that `publish` has written, and reads nothing else", run_check),
 }
-# These hold the lock of the directory, so that no other run changes the plan from before they read it until they have written their files.
-LOCKING = run_play, run_publish
 
 
 def main() -> int:
@@ -358,8 +382,7 @@ def main() -> int:
     interrupted = 3 if asked.run is run_check else 1
     try:
         referee = Referee(find_program(asked.program))
-        with held(asked.folder) if asked.run in LOCKING else contextlib.nullcontext():
-            return int(asked.run(asked, referee))
+        return int(asked.run(asked, referee))
     except (Refused, NoReferee) as why:
         print(f"ggp_competition: {why}" if "\n" not in str(why) else why, file=sys.stderr)
         return 2

@@ -144,7 +144,7 @@ class OpenMatch:
             self.reporter.line(f"back {self.match.id}: {reason}")
         else:
             for name in missed:
-                self.reporter.line(f"absent {self.match.id}: {name} is silent, and the match is played")
+                self.reporter.line(f"silent {self.match.id}: {name} has not answered INFO, and the match is played")
         return not given_up and not again
 
     def run_words(self, log: pathlib.Path | str) -> list[str]:

@@ -68,6 +68,10 @@ class Plan:
         return None if self.rules[game].player_rules is None else self.folder.player_rules_of(game)
 
 
+class Unplanned(Refused):
+    """There is no plan, or it is not that of competition.toml as it is."""
+
+
 # ---- files of a plan
 
 
@@ -81,7 +85,7 @@ def read_file(path: Path) -> bytes:
 def read_planned(path: Path) -> bytes:
     """Returns the bytes of a file that `plan` wrote."""
     if not path.exists():
-        raise Refused(f"{path} is not there", WRITES)
+        raise Unplanned(f"{path} is not there", WRITES)
     return read_file(path)
 
 
@@ -130,10 +134,10 @@ def files_of_origin(plan: Plan) -> list[Path]:
     return [folder.planned, *history_files(folder), *([folder.key] if plan.history.key else []), *([folder.seeds] if plan.competition.seeds else [])]
 
 
-def refused_plan(folder: Folder, path: Path) -> Refused:
+def refused_plan(folder: Folder, path: Path) -> Unplanned:
     """Returns the error of a file that `plan` has written for another competition.toml."""
     advice = "matches were played, so put back what was changed, or add to it and plan again" if is_played(folder) else f"{WRITES} anew"
-    return Refused(f"{path} is not what {folder.competition} says", advice)
+    return Unplanned(f"{path} is not what {folder.competition} says", advice)
 
 
 def lost_key(folder: Folder) -> Refused:
@@ -416,7 +420,7 @@ def round_words(plan: Plan) -> str:
     last = plan.rounds[-1]
     matches = [match for match in plan.matches if match.round == last.number]
     span = f"{matches[0].id} to {matches[-1].id}" if matches else "no match"
-    return f"round {last.number} of {rounds_of(plan.competition)}: {span}{last.byes_words()}"
+    return f"round {last.number} of {rounds_of(plan.competition)}: {span}{last.byes_words()}{last.absent_words()}"
 
 
 def replaceable_match(plan: Plan, referee: Referee, match_id: str) -> Match:

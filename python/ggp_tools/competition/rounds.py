@@ -39,6 +39,9 @@ class Round:
     def byes_words(self) -> str:
         return f"; bye: {', '.join(self.byes)}" if self.byes else ""
 
+    def absent_words(self) -> str:
+        return f"; withdrawn: {', '.join(f'{name} ({why})' for name, why in self.absent)}" if self.absent else ""
+
 
 class Scores:
     """The points, goals, opponents and byes of the players in some rounds."""

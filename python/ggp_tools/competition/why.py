@@ -21,7 +21,7 @@ from ggp_tools.records.show import read_record
 TIMED = re.compile(rf"({MOMENT}) (.*)")
 # The beginnings of the journal's rows about a match and about its round. Players, games and matches may have the same names.
 ROWS = (
-    "(?:begin|end|no record|back|absent|info|abort|no answer to abort|lost|refused|aside|missing|start|restart|died|down) {match}[ :]"
+    "(?:begin|end|no record|back|silent|info|abort|no answer to abort|lost|refused|aside|missing|start|restart|died|down) {match}[ :]"
     r"|stopped \S+ is not played on, since {match} |round {round} of "
 )
 # The first words of rows that are about one player.
