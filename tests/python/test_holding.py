@@ -50,6 +50,18 @@ class Words(unittest.TestCase):
         self.assertIsNone(self.words())
         self.assertEqual((self.record["phase"], self.record["goalValues"]), ("finished", [100, 50]))
 
+    def test_turns_compile_nothing(self):
+        turn = Following.turn
+
+        def checked(following, *arguments):
+            count = following.game.program.count
+            after = turn(following, *arguments)
+            self.assertEqual(following.game.program.count, count)
+            return after
+
+        with mock.patch.object(Following, "turn", checked):
+            self.assertIsNone(self.words(errors=[["", ""]] * len(self.record["moves"])))
+
     def test_roles(self):
         self.assertEqual(self.words(roles=["bob", "ann"]), "the roles are ann bob by the description, and bob ann in the record")
 

@@ -59,6 +59,7 @@ class Following:
         self.look_at_roles(record["roles"])
         state = self.game.initial
         self.look_at_state("the first state", state, record["states"][0], lambda term: self.cited(INIT, (term,), frozenset()))
+        self.game.compile()
         for turn, (moves, errors) in enumerate(zip(record["moves"], record["errors"])):
             state = self.turn(f"turn {turn + 1}", state, moves, errors, record["states"][turn + 1])
         self.look_at_end(record, state)

@@ -43,6 +43,11 @@ class Game:
             self.program = Program(self.program.relations, sizes)
         return self.program.position(state, list(zip(self.roles, moves)), rows)
 
+    def compile(self) -> None:
+        """Compiles what each turn uses, so that the first turn does not."""
+        for relation, known in ((TERMINAL, ()), (LEGAL, (True, True)), (NEXT, (False,))):
+            self.program.function(relation, known)
+
     def following(self, position: Position) -> list[Term]:
         """Returns the terms of the state after the moves of a position."""
         return position.ask(NEXT, (False,))(position)

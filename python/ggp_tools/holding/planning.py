@@ -120,7 +120,9 @@ def values_at(place: int, joined: Iterable[tuple[Rule, float, Mapping[str, float
 
 
 def is_known(term: Term, bound: Container[str]) -> bool:
-    return all(name in bound for name in variables(term))
+    if isinstance(term, str):
+        return term in bound or not term.startswith("?")
+    return all(is_known(part, bound) for part in term)
 
 
 def is_test(condition: Condition, bound: Container[str]) -> bool:

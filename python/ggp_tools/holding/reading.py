@@ -5,6 +5,7 @@ its variables. In a ground description each atomic sentence becomes a relation.
 """
 
 from collections.abc import Iterator
+from functools import lru_cache
 from typing import NamedTuple
 
 from ggp_tools import gdl
@@ -78,6 +79,7 @@ def is_built(term: Term) -> bool:
     return not isinstance(term, str) and bool(variables(term))
 
 
+@lru_cache
 def variables_of(condition: Condition) -> dict[str, None]:
     """Returns the variables of a condition."""
     if isinstance(condition, Either):
