@@ -4,8 +4,9 @@ import random
 import unittest
 
 from ggp_tools.competition.command import MOST_AT_ONCE
-from ggp_tools.competition.competition_file import Command, Launcher, MOST_PLAYERS, MOST_ROUNDS, MOST_SECONDS, MOST_STRIKES, Mistaken, mistake_lines, read_competition
+from ggp_tools.competition.competition_file import Command, Launcher, MOST_GAMES, MOST_OF_COMPETITION, MOST_PLAYERS, MOST_ROUNDS, MOST_SECONDS, MOST_STRIKES, Mistaken, mistake_lines, read_competition
 from ggp_tools.competition.schedule import MOST_MATCHES
+from ggp_tools.competition.toml_lines import MOST_SIGNS
 from planning import planned
 from support import TOP, toml
 
@@ -178,7 +179,7 @@ class CompetitionFile(unittest.TestCase):
     def test_the_document_has_the_limits(self):
         text = (TOP / "docs/COMPETITION.md").read_text()
         limits = [
-            f"at most {MOST_PLAYERS:,} players", f"at most {MOST_MATCHES:,} matches", f"`rounds` times, 1 to {MOST_ROUNDS:,} (1)", f"0 to {MOST_STRIKES}",
+            f"at most {MOST_OF_COMPETITION:,} bytes", f"at most {MOST_SIGNS:,} of the signs", f"at most {MOST_PLAYERS:,} players, {MOST_GAMES:,} games", f"at most {MOST_MATCHES:,} matches", f"`rounds` times, 1 to {MOST_ROUNDS:,} (1)", f"0 to {MOST_STRIKES}",
             "before it is reported, 1 to 1,000 (5)", f"0 to {MOST_SECONDS:,} (10)", f"N matches at the same time, 1 to {MOST_AT_ONCE:,}, by default 4", "`concurrent = N`, 1 to 1,024",
             "`name` | 1 to 40 letters", "`name`, 1 to 64 letters",
         ]
@@ -191,6 +192,14 @@ class CompetitionFile(unittest.TestCase):
         for lines, wanted in SCHEDULES:
             with self.subTest(lines):
                 self.assert_told(toml(PLAYERS, GAMES, f'kind = "schedule"\n{lines}'), wanted)
+
+    def test_a_file_has_a_greatest_size(self):
+        self.assertEqual(mistakes_of(GOOD.encode().ljust(4 << 20)), [])
+        self.assertEqual(mistakes_of(GOOD.encode().ljust((4 << 20) + 1)), [(1, "", "the file has more than 4,194,304 bytes")])
+        for key, more in (("games", 'name = "g{0}"\nfile = "f"'), ("players", 'name = "p{0}"\naddress = "h:{1}"')):
+            text = GOOD + "".join(f"[[{key}]]\n{more.format(at, at + 1)}\n" for at in range(1_000))
+            (line, found, words), *others = mistakes_of(text.encode())
+            self.assertEqual((line > 2_900, found, words, others), (True, key, f"expected at most 1,000 tables [[{key}]], found {1_002 + (key == 'players'):,}", []))
 
     def test_no_text_and_no_tables(self):
         self.assertEqual([mistake[:2] for mistake in mistakes_of(b"name = 1\n\xff")], [(2, "")])

@@ -184,7 +184,7 @@ class Packing(InFolder):
             self.assertEqual(most_files(schedule), 5 * count + 10_000)
 
     def test_a_file_has_no_more_bytes_than_are_read_of_it(self):
-        for name, most in (("competition.toml", 8 << 20), ("SHA256SUMS", 64 << 20), ("earlier/7.toml", 8 << 20), ("games/a.kif", 64 << 20), ("logs/a.jsonl", 256 << 20), ("records/a.json", 1 << 30)):
+        for name, most in (("competition.toml", 4 << 20), ("SHA256SUMS", 64 << 20), ("earlier/7.toml", 4 << 20), ("games/a.kif", 64 << 20), ("logs/a.jsonl", 256 << 20), ("records/a.json", 1 << 30)):
             large = block(f"cup/{name}", change=at(124, b"%011o\0" % (most + 1)))
             head = HEAD if name != "competition.toml" else b""
             self.assertEqual(unpacked(head + large + END), f"cup/{name} has more than {most:,} bytes, which are the most of such a file in an archive")

@@ -17,9 +17,11 @@ MARK = b"\xef\xbb\xbf"
 CONTROL = re.compile(r"[\x00-\x1f\x7f-\x9f]")
 # A message has at most this many characters of a key or a value, and at most this many mistakes of a file are reported.
 MOST_SHOWN, MOST_MISTAKES = 200, 100
+# The greatest size of the file.
+MOST_OF_COMPETITION = 4 << 20
 # The most matches at the same time: for a player, for a launcher, and for all together.
 MOST_AT_A_TIME = 1_024
-MOST_SECONDS, MOST_STRIKES, MOST_PLAYERS, MOST_ROUNDS, MOST_PORT = 86_400, 255, 1_000, 1_000, 65_535
+MOST_SECONDS, MOST_STRIKES, MOST_PLAYERS, MOST_GAMES, MOST_ROUNDS, MOST_PORT = 86_400, 255, 1_000, 1_000, 1_000, 65_535
 # When a player with a command is restarted: if it is dead, for each match, or never.
 RESTARTS = WHEN_DEAD, EACH_MATCH, NEVER = "when_dead", "each_match", "never"
 PORT = "{port}"
@@ -241,13 +243,15 @@ class Section:
         tables = self.table.get(key)
         return {str(table.get("name")) for table in tables if isinstance(table, dict)} if isinstance(tables, list) else set()
 
-    def sections(self, key: str) -> list["Section"]:
-        """Returns a section for each table of an array of tables, which must have one."""
+    def sections(self, key: str, most: int) -> list["Section"]:
+        """Returns a section for each table of an array of tables, which must have one, or for the first of them if there are too many."""
         tables = self.table.get(key)
         if not isinstance(tables, list) or not tables or not all(isinstance(table, dict) for table in tables):
             self.mistake(key, f"expected one or more tables [[{key}]]")
             return []
-        return [Section(table, (*self.path, key, number), self.lines, self.mistakes) for number, table in enumerate(tables)]
+        if len(tables) > most:
+            self.mistake(key, f"expected at most {most:,} tables [[{key}]], found {len(tables):,}", self.line(key, most))
+        return [Section(table, (*self.path, key, number), self.lines, self.mistakes) for number, table in enumerate(tables[:most])]
 
     def section(self, key: str) -> "Section":
         table = self.table.get(key)
@@ -407,7 +411,7 @@ def refuse_twice(sections: list[Section], key: str) -> None:
 
 def games_of(root: Section, clocks: dict[str, int | None]) -> tuple[Game, ...]:
     """Returns the games. These are their clocks if they have none."""
-    found, sections = [], root.sections("games")
+    found, sections = [], root.sections("games", MOST_GAMES)
     for section in sections:
         section.refuse_others(keys_of(Game))
         section.table = {**clocks, **section.table}
@@ -448,12 +452,10 @@ def player_of(section: Section) -> Player:
 
 
 def players_of(root: Section) -> tuple[Player, ...]:
-    sections = root.sections("players")
+    sections = root.sections("players", MOST_PLAYERS)
     found = tuple(map(player_of, sections))
     refuse_twice(sections, "name")
     refuse_twice(sections, "address")
-    if len(found) > MOST_PLAYERS:
-        root.mistake("players", f"expected at most {MOST_PLAYERS:,} players, found {len(found):,}")
     for player in found:
         if player.command and not player.command.launcher and "launcher" in root.table:
             words = "the matches of a launcher can't reach a player that is started here: give it a `launcher` too"
@@ -501,6 +503,8 @@ def refuse_line(section: Section, line: Text, games: set[str], players: set[str]
 
 def root_of(data: bytes, mistakes: list[Mistake]) -> Section:
     """Returns the table of a whole file. If it is not TOML, raises the reason."""
+    if len(data) > MOST_OF_COMPETITION:
+        raise Mistaken([Mistake(1, "", f"the file has more than {MOST_OF_COMPETITION:,} bytes")])
     if data.startswith(MARK):
         raise Mistaken([Mistake(1, "", "the file begins with a byte order mark, the bytes EF BB BF: remove them")])
     try:

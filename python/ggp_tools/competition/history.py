@@ -7,7 +7,7 @@ import re
 from dataclasses import replace
 from pathlib import Path
 
-from ggp_tools.competition.competition_file import RANDOM_IDS, Competition, Mistaken, read_competition, mistake_lines
+from ggp_tools.competition.competition_file import MOST_OF_COMPETITION, RANDOM_IDS, Competition, Mistaken, read_competition, mistake_lines
 from ggp_tools.competition.files import UNFINISHED, Folder, Refused, file_bytes
 from ggp_tools.competition.growth import Again, History
 from ggp_tools.competition.table import ALL
@@ -67,7 +67,7 @@ def earlier_files(folder: Folder) -> list[Path]:
 
 def read_history(folder: Folder) -> History:
     """Reads the history."""
-    earlier = tuple((int(file.stem), competition_of_file(file, file_bytes(file), folder.seeds)) for file in earlier_files(folder))
+    earlier = tuple((int(file.stem), competition_of_file(file, file_bytes(file, MOST_OF_COMPETITION + 1), folder.seeds)) for file in earlier_files(folder))
     return History(earlier, read_again(folder))
 
 

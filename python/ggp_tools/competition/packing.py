@@ -11,6 +11,7 @@ import zlib
 from collections.abc import Iterable, Iterator
 from typing import BinaryIO
 
+from ggp_tools.competition.competition_file import MOST_OF_COMPETITION
 from ggp_tools.competition.files import Refused
 from ggp_tools.competition.schedule import MOST_MATCHES, is_row
 from ggp_tools.records.lengths import LONGEST_ACCOUNT
@@ -23,7 +24,7 @@ LONG_NAME = re.compile(rb"[0-9]+ path=([^\n]*)\n")
 AT_ONCE, MOST_BYTES = 1 << 20, 8 << 30
 # The greatest sizes of files that `check` reads as a whole, by their names or directories.
 MOST_OF_FILES = {
-    **dict.fromkeys(("competition.toml", "planned.toml", "earlier"), 8 << 20),
+    **dict.fromkeys(("competition.toml", "planned.toml", "earlier"), MOST_OF_COMPETITION),
     **dict.fromkeys(("schedule.tsv", "SHA256SUMS", "again.tsv", "seeds.csv", "ids.key", "rules", "games"), 64 << 20),
     **dict.fromkeys(("accounts", "logs", "pages"), LONGEST_ACCOUNT),
     "records": 1 << 30,

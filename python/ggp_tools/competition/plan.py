@@ -9,7 +9,7 @@ from dataclasses import dataclass, field, replace
 from pathlib import Path
 
 from ggp_tools.competition.addresses import mistakes_of_addresses, places_now, written
-from ggp_tools.competition.competition_file import REASON, Competition, Game, Mistake, Mistaken, mistake_lines
+from ggp_tools.competition.competition_file import MOST_OF_COMPETITION, REASON, Competition, Game, Mistake, Mistaken, mistake_lines
 from ggp_tools.competition.files import UNFINISHED, Folder, Refused, file_bytes, held, write_whole
 from ggp_tools.competition.game import trial
 from ggp_tools.competition.growth import Again, Growing, History, Misfit, grown, refuse_changes, refuse_unchanged, shape
@@ -75,11 +75,16 @@ class Unplanned(Refused):
 # ---- files of a plan
 
 
-def read_file(path: Path) -> bytes:
+def read_file(path: Path, most: int = -1) -> bytes:
     try:
-        return file_bytes(path)
+        return file_bytes(path, most)
     except OSError as why:
         raise Refused(f"{path} can't be read: {why.strerror}") from None
+
+
+def read_toml_file(path: Path) -> bytes:
+    """Returns the bytes of a competition.toml. Of one that is too long, this returns one byte too many."""
+    return read_file(path, MOST_OF_COMPETITION + 1)
 
 
 def read_planned(path: Path) -> bytes:
@@ -214,7 +219,7 @@ def make_plan(path: str, referee: Referee, is_preview: bool = False) -> Plan:
     """Writes the rules and the schedule of the competition in a directory, and returns it. Writes nothing for a preview, if anything is wrong, if the
     schedule of matches that were played would change and not only grow, or while matches are played."""
     folder = Folder(path)
-    text = read_file(folder.competition)
+    text = read_toml_file(folder.competition)
     competition = competition_of_file(folder.competition, text)
     if seeds := seeds_of(folder, competition):
         competition = seeded(competition, seeds)
@@ -262,7 +267,7 @@ def planned_before(folder: Folder, competition: Competition) -> Competition | No
     """Returns the competition that `plan` read last, or None. Since matches were played, this refuses changes of what must stay."""
     if not folder.planned.exists():
         return None
-    before = competition_of_file(folder.planned, read_file(folder.planned), folder.seeds)
+    before = competition_of_file(folder.planned, read_toml_file(folder.planned), folder.seeds)
     try:
         refuse_changes(before, competition)
     except Misfit as why:
@@ -339,7 +344,7 @@ def read_plan(path: str, referee: Referee) -> Plan:
     """Returns the competition that was planned in a directory. Refuses one whose rules or schedule are not those of the plan."""
     folder = Folder(path)
     folder.refuse_old_logs()
-    text = read_file(folder.competition)
+    text = read_toml_file(folder.competition)
     competition = competition_of_file(folder.competition, text, folder.seeds)
     schedule, rules, history = read_planned(folder.schedule), read_rules(folder, competition, referee), read_history(folder)
     key = read_key(folder, competition)

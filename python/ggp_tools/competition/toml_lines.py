@@ -20,6 +20,9 @@ KEY = re.compile(r"\s*([A-Za-z0-9_-]+)")
 
 # The time that Python's parser takes for a dotted key grows with the square of its dots, so more dots are refused.
 MOST_DOTS = 100
+# Each key, table and member of an array has one of these signs. A value takes some hundred bytes of memory, so more of them are refused: this many
+# suffice for the greatest schedule and the greatest number of players.
+SIGNS, MOST_SIGNS = frozenset("=,["), 150_000
 
 
 class TomlFault(Exception):
@@ -32,8 +35,8 @@ class TomlFault(Exception):
 
 def read_toml(text: str) -> tuple[dict, dict[Path, int]]:
     """Returns the values of a text, and the lines of its tables, of the keys in them, and of the members of arrays."""
-    if text.count(".") > MOST_DOTS:
-        refuse_long_keys(text)
+    if text.count(".") > MOST_DOTS or sum(map(text.count, SIGNS)) > MOST_SIGNS:
+        refuse_too_many(text)
     try:
         return tomllib.loads(text), lines_of(text)
     except tomllib.TOMLDecodeError as why:
@@ -45,16 +48,19 @@ def read_toml(text: str) -> tuple[dict, dict[Path, int]]:
         raise TomlFault(1, "", "a number in it has too many digits") from None
 
 
-def refuse_long_keys(text: str) -> None:
-    """Refuses more dots than a key may have between two signs of punctuation. Python's parser reads no further than the first unfinished string."""
-    line, dots, end = 1, 0, 0
+def refuse_too_many(text: str) -> None:
+    """Refuses more dots than a key may have between two signs of punctuation, and more signs than a file may have. Python's parser reads no further
+    than the first unfinished string."""
+    line, dots, signs, end = 1, 0, 0, 0
     for token in TOKEN.finditer(text):
         if text[end : token.start()].strip():
             return
         word, end = token[0], token.end()
         dots = 0 if word in PUNCTUATION else dots + word.count(".") * (word[0] not in "\"'#")
-        if dots > MOST_DOTS:
-            raise TomlFault(line, "", f"there are more than {MOST_DOTS} dots outside of texts and comments")
+        signs += word in SIGNS
+        if dots > MOST_DOTS or signs > MOST_SIGNS:
+            what = f"{MOST_DOTS} dots" if dots > MOST_DOTS else f"{MOST_SIGNS:,} signs `=`, `,` and `[`"
+            raise TomlFault(line, "", f"there are more than {what} outside of texts and comments")
         line += word.count("\n")
 
 

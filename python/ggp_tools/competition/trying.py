@@ -8,7 +8,7 @@ from dataclasses import replace
 from ggp_tools.competition.competition_file import Competition, Game, Player
 from ggp_tools.competition.files import Folder, Refused, held
 from ggp_tools.competition.history import competition_of_file
-from ggp_tools.competition.plan import loaded_games, read_file, refuse_addresses
+from ggp_tools.competition.plan import loaded_games, read_toml_file, refuse_addresses
 from ggp_tools.competition.started_players import StartedPlayer
 from ggp_tools.descriptions.loading import Rules
 from ggp_tools.referee import Referee
@@ -52,7 +52,7 @@ def try_player(folder_or_file: str, name: str, game_name: str | None, referee: R
     given, reporter = pathlib.Path(folder_or_file), Reporter()
     folder = Folder(given if given.is_dir() else given.parent)
     path = folder.competition if given.is_dir() else given
-    competition = competition_of_file(path, read_file(path))
+    competition = competition_of_file(path, read_toml_file(path))
     player, game = chosen(competition, path, name, game_name)
     refuse_addresses(folder, replace(competition, players=(player,)))
     rules = loaded_games(folder, replace(competition, games=(game,)), referee)[game.name]
