@@ -7,8 +7,10 @@ import re
 import tempfile
 import types
 import unittest
+from unittest import mock
 
-from ggp_tools.competition.call_logs import REASONS, fault_of_account, fault_of_run, faults_of_logs, unpublished
+from ggp_tools.competition import call_logs
+from ggp_tools.competition.call_logs import MOST_HOLDS, REASONS, fault_of_account, fault_of_run, faults_of_logs, unpublished
 from ggp_tools.competition.files import Folder
 from ggp_tools.competition.schedule import Match
 from ggp_tools.match_log import End, Host, Open, Other, last_run, line_of, published
@@ -205,7 +207,8 @@ class Accounts(unittest.TestCase):
 
     def test_what_a_referee_calls(self):
         self.assertIsNone(fault_of_account(CALLS))
-        self.assertIsNone(fault_of_account(CALL_LINES[0].replace(b"strict cup-001 0 5 5 2", b"open cup-001 0 5 5")))
+        self.assertIsNone(fault_of_account(CALLS.replace(b"strict cup-001 0 5 5 2", b"open cup-001 0 5 5")))
+        self.assertRegex(self.fault(CALL_LINES[0]), "its account ends after line 1")
 
     def test_a_call_that_no_referee_makes_is_named_wherever_it_is(self):
         calls = (
@@ -222,6 +225,23 @@ class Accounts(unittest.TestCase):
     def test_each_line_is_needed_where_another_follows_from_it(self):
         for at in (1, 2, 3, 6, 7, 8, 9, 10, 11, 12):
             self.assertRegex(self.fault(*CALL_LINES[:at], *CALL_LINES[at + 1 :]), r"line \d+ of its account is not a call that a referee makes there: ")
+
+    def test_a_role_that_waits_asks_as_often_as_its_clock_allows(self):
+        head, most = CALL_LINES[0].replace(b"0 5 5", b"0 7 6"), MOST_HOLDS + 2 * 2
+        for at, hold, clock in ((4, b"1\tnext cup-001 0\thold 0\n", 7), (10, b"2\tnext cup-001 1\thold 1\n", 6)):
+            before, after = (head, *CALL_LINES[1:at]), [line for line in CALL_LINES[at:] if line != hold]
+            self.assertIsNone(self.fault(*before, *[hold] * (most + clock), *after))
+            fault = self.fault(*before, *[hold] * (most + clock + 1), *after)
+            self.assertRegex(fault, f"line {at + most + clock + 1} of its account is not a call that a referee makes there: . next cup-001 . hold")
+
+    def test_a_history_has_a_greatest_length(self):
+        with mock.patch.object(call_logs, "MOST_CALLS", len(CALL_LINES)):
+            self.assertIsNone(fault_of_account(CALLS))
+        with mock.patch.object(call_logs, "MOST_CALLS", len(CALL_LINES) - 1):
+            self.assertRegex(fault_of_account(CALLS), "line 17 of its account is not a call")
+
+    def test_the_part_of_each_role_comes_to_its_end(self):
+        self.assertEqual(self.fault(*CALL_LINES[:-1]), "its account ends after line 16, before each role's part is over")
 
     def test_nothing_is_called_once_a_role_s_part_is_over(self):
         self.assertRegex(self.fault(*CALL_LINES, CALL_LINES[-1]), "line 18 of its account is not a call")

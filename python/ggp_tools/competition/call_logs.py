@@ -19,9 +19,14 @@ if TYPE_CHECKING:
     from ggp_tools.competition.schedule import Match
 
 # The first call, and those for a role: which message it is owed, and its answer.
-OPENING = re.compile(rb"0\t(?:open|strict) ([^ \t]+) [^\t]*\topened")
+OPENING = re.compile(rb"0\t(?:open|(strict)) ([^ \t]+) \d+ (\d{1,5}) (\d{1,5}) ([^\t]*)\topened")
 NEXT = re.compile(rb"(\d+)\tnext ([^ \t]+) (\d+)\t(?:owe (\d+) ([^ \t]+) ?([^\t]*)|(hold \d+|over))")
 ANSWER = re.compile(rb"(\d+)\t(submit|miss) ([^ \t]+) (\d+) (\d+)(?: ([^\t]*))?\ttaken")
+# A role that waits in a round asks every two seconds, and more often at first and when another role wakes it, at most twice. So `hold` comes less than
+# once for each second of the clock, twice for each role, and this often, which allows for ten minutes in which the computer holds the referee up.
+MOST_HOLDS = 300
+# The history of the referee's desk has at most so many calls.
+MOST_CALLS = 1_000_000
 # The match of any call.
 MATCH = re.compile(rb"\d+\t[a-z]+ ([^ \t]+)[ \t]")
 ESCAPED = re.compile(r"\\x([0-9a-f]{2})")
@@ -50,16 +55,24 @@ def lines_of(account: bytes) -> Iterator[bytes]:
 
 
 class Asked:
-    """The state of the roles' calls: for each role the round whose answer is awaited, and whether its part is over."""
+    """The state of the roles' calls: for each role the round whose answer is awaited, how often it got `hold` in a round, and whether its part is over."""
 
-    def __init__(self, match: bytes) -> None:
-        self.match = match
+    def __init__(self, opening: re.Match[bytes]) -> None:
+        is_strict, self.match, start, play, players = opening.groups()
+        self.clocks, self.roles = (int(start), int(play)), len(players.split()) - bool(is_strict)
         self.rounds: dict[bytes, bytes] = {}
+        self.holds: dict[bytes, tuple[bytes, int]] = {}
         self.over: set[bytes] = set()
 
     def is_of_role(self, line: bytes, match: bytes, role: bytes) -> bool:
         """Returns whether a call comes from the line that the role has at the desk, before its part is over."""
         return match == self.match and int(line) == int(role) + 1 and role not in self.over
+
+    def may_hold(self, role: bytes, hold: bytes) -> bool:
+        """Counts that a role must wait, and returns whether a referee lets it ask so often in this round."""
+        before, count = self.holds.get(role, (hold, 0))
+        self.holds[role] = hold, count + 1 if before == hold else 1
+        return self.holds[role][1] <= MOST_HOLDS + self.clocks[hold != b"hold 0"] + 2 * self.roles
 
     def is_next(self, text: bytes) -> bool:
         """Returns whether a line of the call log is the next call that a referee makes for its role."""
@@ -71,6 +84,8 @@ class Asked:
                 self.rounds[role] = call[4]
             elif call[7] == b"over":
                 self.over.add(role)
+            else:
+                return self.may_hold(role, call[7])
             return True
         answer = ANSWER.fullmatch(text)
         return bool(answer) and self.is_of_role(*answer.group(1, 3, 4)) and self.rounds.pop(answer[4], None) == answer[5]
@@ -87,13 +102,13 @@ def fault_of_account(account: bytes) -> str | None:
     opening = OPENING.fullmatch(first)
     if not opening:
         return f"line 1 of its account does not open a match: {shown(first)}"
-    asked = Asked(opening[1])
+    asked, number = Asked(opening), 1
     for number, text in enumerate(lines, 2):
-        if not asked.is_next(text):
+        if number > MOST_CALLS or not asked.is_next(text):
             named = MATCH.match(text)
-            why = "is of another match" if named and named[1] != opening[1] else "is not a call that a referee makes there"
+            why = "is of another match" if named and named[1] != opening[2] else "is not a call that a referee makes there"
             return f"line {number} of its account {why}: {shown(text)}"
-    return None
+    return None if len(asked.over) == asked.roles else f"its account ends after line {number}, before each role's part is over"
 
 
 # ---- the match log
