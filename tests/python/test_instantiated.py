@@ -9,6 +9,7 @@ import tempfile
 import unittest
 from unittest import mock
 
+from ggp_tools.competition.files import UNFINISHED
 from ggp_tools.descriptions import kept
 from ggp_tools.descriptions.loading import has_variables, sum_of
 from support import GAMES, TOP, InFolder, run, toml
@@ -48,6 +49,31 @@ class Kept(unittest.TestCase):
         self.assertIsNone(kept.kept("key"))
         (self.folder / "ggp_manager/instantiated/key").write_bytes(b"")
         self.assertIsNone(kept.kept("key"))
+
+    def test_what_another_user_can_have_placed_is_not_read(self):
+        kept.keep("key", b"rules\n", b"")
+        kept.keep("other", b"others\n", b"")
+        folder = self.folder / "ggp_manager/instantiated"
+        own, other = folder / "key", folder / "other"
+        self.assertEqual((own.stat().st_mode & 0o777, kept.kept("key")), (0o600, (b"rules\n", b"")))
+        own.chmod(0o602)
+        self.assertIsNone(kept.kept("key"))
+        own.write_bytes(other.read_bytes())
+        own.chmod(0o600)
+        self.assertIsNone(kept.kept("key"))
+        kept.keep("key", b"rules\n", b"")
+        own.rename(self.folder / "elsewhere")
+        own.symlink_to(self.folder / "elsewhere")
+        self.assertIsNone(kept.kept("key"))
+        # Nor is a link followed when a file is written.
+        unfinished = folder / f"{UNFINISHED}{os.getpid()}-new"
+        unfinished.symlink_to(self.folder / "elsewhere")
+        before = (self.folder / "elsewhere").read_bytes()
+        kept.keep("new", b"new\n", b"")
+        self.assertEqual(((self.folder / "elsewhere").read_bytes(), kept.kept("new")), (before, (b"new\n", b"")))
+        if os.geteuid() == 0:
+            os.chown(folder / "new", 1, -1)
+            self.assertIsNone(kept.kept("new"))
 
     def test_what_can_not_be_kept_is_no_fault(self):
         (self.folder / "ggp_manager").write_bytes(b"")

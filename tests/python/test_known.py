@@ -1,6 +1,5 @@
 """Facts about files, cached by their checksums: they save work, and every changed byte is noticed."""
 
-import hashlib
 import os
 import pathlib
 import pickle
@@ -16,6 +15,7 @@ from ggp_tools.competition.known import Known, sum_of_parts
 from ggp_tools.competition.pages import Pages
 from ggp_tools.competition.plan import read_plan
 from ggp_tools.competition.table_text import in_order
+from ggp_tools.descriptions.kept import store
 from ggp_tools.referee import Referee
 from html_pages import parsed, rows_of
 from live_support import BEGAN
@@ -69,17 +69,16 @@ class Values(InCache):
         one = Known(self.folder)
         one.put("lines", "a", 1)
         one.write()
-        self.assertEqual(one.path().stat().st_mode & 0o777, 0o600)
-        one.path().chmod(0o620)
+        path = self.cache / one.name
+        self.assertEqual(path.stat().st_mode & 0o777, 0o600)
+        path.chmod(0o620)
         self.assertIsNone(Known(self.folder).get("lines", "a"))
 
     def test_a_file_runs_no_code(self):
         one = Known(self.folder)
         made = pathlib.Path(self.folder) / "made"
         for data in (pickle.dumps(Made(made)), pickle.dumps([1]), b"no pickle"):
-            one.path().parent.mkdir(parents=True, exist_ok=True)
-            one.path().write_bytes(hashlib.sha256(data).hexdigest().encode() + b"\n" + data)
-            one.path().chmod(0o600)
+            store("known", one.name, data, 1)
             self.assertEqual(Known(self.folder).before, {})
         self.assertFalse(made.exists())
 

@@ -101,7 +101,10 @@ def written_whole(path: pathlib.Path, is_lasting: bool = True, is_private: bool 
     # Two runs may write the same file, each under another name.
     other = path.with_name(f"{UNFINISHED}{os.getpid()}-{path.name}")
     try:
-        with open(other, "wb", opener=private if is_private else None) as file:
+        if is_private:
+            # Another user may have placed a link of this name.
+            other.unlink(missing_ok=True)
+        with open(other, "xb" if is_private else "wb", opener=private if is_private else None) as file:
             yield file
             file.flush()
             if is_lasting:
@@ -142,9 +145,9 @@ def new_file(path: str | pathlib.Path) -> BinaryIO:
     return open(path, "wb", buffering=0, opener=private)
 
 
-def opened_file(path: str | pathlib.Path) -> BinaryIO:
+def opened_file(path: str | pathlib.Path, flags: int = 0) -> BinaryIO:
     """Opens a regular file for reading, and refuses anything else: a pipe would block the reader until somebody writes to it."""
-    descriptor = os.open(path, os.O_RDONLY | os.O_NONBLOCK | os.O_CLOEXEC)
+    descriptor = os.open(path, os.O_RDONLY | os.O_NONBLOCK | os.O_CLOEXEC | flags)
     kind = os.fstat(descriptor).st_mode
     if not stat.S_ISREG(kind):
         os.close(descriptor)

@@ -1,7 +1,6 @@
 """A cache of facts about the files of a competition, by the checksums of everything that they follow from: a changed file has another checksum. It is
 in the user's cache directory, so a competition's directory that comes from elsewhere cannot bring false facts."""
 
-import contextlib
 import dataclasses
 import hashlib
 import io
@@ -11,8 +10,8 @@ import pickle
 import sys
 import typing
 
-from ggp_tools.competition.files import opened_file, write_whole
-from ggp_tools.descriptions.kept import cache
+from ggp_tools.competition.files import opened_file
+from ggp_tools.descriptions.kept import cached, store
 
 PACKAGE = pathlib.Path(__file__).resolve().parents[1]
 CODE = {".py", ".html", ".css", ".js"}
@@ -20,6 +19,7 @@ CODE = {".py", ".html", ".css", ".js"}
 MOST_KEPT = 20
 # The facts about a competition have at most this size, which suffices for about 30,000 matches.
 MOST_BYTES = 64 << 20
+KIND = "known"
 
 
 def sum_of_parts(*parts: bytes) -> str:
@@ -67,20 +67,12 @@ class Known:
         self.name = sum_of_parts(os.fsencode(folder.absolute()), sys.version.encode(), *code)
         self.before, self.used = self.read(), {}
 
-    def path(self) -> pathlib.Path:
-        return cache() / "known" / self.name
-
     def read(self) -> dict[str, dict[str, typing.Any]]:
-        """Returns the stored facts: none if the file has changed since it was written, or if another user may have written it."""
+        """Returns the stored facts, or none if the file has changed since it was written, or if another user may have written it."""
+        data = cached(KIND, self.name)
         try:
-            with opened_file(self.path()) as file:
-                status = os.fstat(file.fileno())
-                if status.st_uid != os.geteuid() or status.st_mode & 0o022:
-                    return {}
-                digest, _, data = file.read().partition(b"\n")
-            os.utime(self.path())
-            facts = Facts(io.BytesIO(data)).load() if hashlib.sha256(data).hexdigest().encode() == digest else {}
-        except (OSError, RuntimeError, pickle.UnpicklingError):
+            facts = Facts(io.BytesIO(data)).load() if data else {}
+        except (RuntimeError, pickle.UnpicklingError):
             return {}
         return facts if isinstance(facts, dict) else {}
 
@@ -99,10 +91,5 @@ class Known:
         time."""
         facts = {**self.before, **self.used}
         data = pickle.dumps(facts) if facts != self.before else b""
-        if not data or len(data) > MOST_BYTES:
-            return
-        with contextlib.suppress(OSError, RuntimeError):
-            self.path().parent.mkdir(parents=True, exist_ok=True)
-            write_whole(self.path(), hashlib.sha256(data).hexdigest().encode() + b"\n" + data, is_lasting=False, is_private=True)
-            for old in sorted(self.path().parent.iterdir(), key=lambda file: file.stat().st_mtime)[:-MOST_KEPT]:
-                old.unlink(missing_ok=True)
+        if 0 < len(data) <= MOST_BYTES:
+            store(KIND, self.name, data, MOST_KEPT)

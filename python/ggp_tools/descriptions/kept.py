@@ -1,15 +1,18 @@
-"""Caches the results of grounding, by the checksum of everything that they depend on: the description, the code, the grounder and the options."""
+"""The files of the cache directory, and the cache of the results of grounding, by the checksum of everything that they depend on: the description, the
+code, the grounder and the options."""
 
 import contextlib
 import hashlib
 import os
 import pathlib
 import shutil
-import tempfile
+
+from ggp_tools.competition.files import opened_file, write_whole
 
 HERE = pathlib.Path(__file__).resolve().parent
 # Above this number of results, those that were not used for the longest time are deleted.
 MOST_KEPT = 200
+KIND = "instantiated"
 
 
 def cache() -> pathlib.Path:
@@ -18,9 +21,36 @@ def cache() -> pathlib.Path:
     return pathlib.Path(parent) / "ggp_manager"
 
 
-def folder() -> pathlib.Path:
-    """Returns the directory of the results."""
-    return cache() / "instantiated"
+def sealed(name: str, data: bytes) -> bytes:
+    """Returns the contents of a cached file of this name. Under another name they are not read."""
+    return hashlib.sha256(f"{name}\n".encode() + data).hexdigest().encode() + b"\n" + data
+
+
+def cached(kind: str, name: str) -> bytes | None:
+    """Returns what `store` has stored under this name, or None if the file has changed since, or if another user can have written or placed it."""
+    path = cache() / kind / name
+    try:
+        with opened_file(path, os.O_NOFOLLOW) as file:
+            status = os.fstat(file.fileno())
+            if status.st_uid != os.geteuid() or status.st_mode & 0o022:
+                return None
+            found = file.read()
+        os.utime(path)
+    except (OSError, RuntimeError):
+        return None
+    data = found.partition(b"\n")[2]
+    return data if found == sealed(name, data) else None
+
+
+def store(kind: str, name: str, data: bytes, most: int) -> None:
+    """Stores a private file, and deletes those of its kind that were not used for the longest time, above so many. If it cannot be written, its contents
+    are computed again the next time."""
+    with contextlib.suppress(OSError, RuntimeError):
+        folder = cache() / kind
+        folder.mkdir(parents=True, exist_ok=True)
+        write_whole(folder / name, sealed(name, data), is_lasting=False, is_private=True)
+        for old in sorted(folder.iterdir(), key=lambda file: file.lstat().st_mtime)[:-most]:
+            old.unlink(missing_ok=True)
 
 
 def sources() -> list[pathlib.Path]:
@@ -42,22 +72,12 @@ def sum_of_work(text: bytes, options: list[str]) -> str:
 
 def kept(key: str) -> tuple[bytes, bytes] | None:
     """Returns the cached rules and the text for players, or None."""
-    try:
-        size, _, data = (folder() / key).read_bytes().partition(b"\n")
-        os.utime(folder() / key)
-    except (OSError, RuntimeError):
+    found = cached(KIND, key)
+    if found is None:
         return None
-    if not size.isdigit() or int(size) > len(data):
-        return None
+    size, _, data = found.partition(b"\n")
     return data[: int(size)], data[int(size) :]
 
 
 def keep(key: str, rules: bytes, player_rules: bytes) -> None:
-    """Caches a result. If it cannot be written, it is computed again the next time."""
-    with contextlib.suppress(OSError, RuntimeError):
-        folder().mkdir(parents=True, exist_ok=True)
-        with tempfile.NamedTemporaryFile(dir=folder(), delete=False) as file:
-            file.write(b"%d\n" % len(rules) + rules + player_rules)
-        os.replace(file.name, folder() / key)
-        for old in sorted(folder().iterdir(), key=lambda file: file.stat().st_mtime)[:-MOST_KEPT]:
-            old.unlink(missing_ok=True)
+    store(KIND, key, b"%d\n" % len(rules) + rules + player_rules, MOST_KEPT)
