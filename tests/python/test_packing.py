@@ -12,7 +12,7 @@ import hypothesis
 from hypothesis import strategies
 
 from ggp_tools.competition import packing
-from ggp_tools.competition.packing import Spoilt, TooLarge, most_files, pack, unpack
+from ggp_tools.competition.packing import Spoilt, TooLarge, pack, planned_ids, unpack
 from support import InFolder, toml
 
 COMPETITION = toml([("ann", "h:1"), ("bob", "h:2")], [("g", "f")]).encode()
@@ -166,22 +166,28 @@ class Packing(InFolder):
         said = "it does not begin with competition.toml and schedule.tsv"
         for files in ({}, {"cup/competition.toml": b""}, {"cup/schedule.tsv": b"", **FIRST}, {"cup/competition.toml": b"", "cup/a": b"", **FIRST}):
             self.assertIn(said, unpacked(tar_of(files)))
-        with mock.patch.object(packing, "most_files", lambda _: 4):
-            self.assertEqual(len(unpacked(tar_of({**FIRST, "cup/a": b"", "cup/b": b""}))), 4)
-            said = "it has more than 4 files, and the matches of its schedule have no more"
-            self.assertEqual(unpacked(tar_of({**FIRST, "cup/a": b"", "cup/b": b"", "cup/c": b""})), said)
 
-    def test_more_files_than_the_matches_need_are_not_unpacked(self):
-        path, schedule = self.folder / "a.tar.gz", self.folder / "schedule.tsv"
-        with open(path, "wb") as file:
-            pack(file, [*FIRST.items(), *((f"cup/{number}", b"") for number in range(30))])
-        with mock.patch.object(packing, "OTHER_FILES", 10), self.assertRaisesRegex(Spoilt, "it has more than 15 files, "):
-            unpack(path, self.folder)
-        self.assertEqual(len([*(self.folder / "cup").iterdir()]), 15)
-        # Only rows of matches count.
-        for text, count in ((b"", 0), (b"\n" * 40_000, 0), (b"\t\t\t\t\n" * 40_000, 0), (b"id\tgame\tstart\tplay\tplayers\n", 0), (ROW * 2_000, 2_000), (ROW * 100_001, 100_000)):
-            schedule.write_bytes(text)
-            self.assertEqual(most_files(schedule), 5 * count + 10_000)
+    def test_only_files_that_the_matches_need_are_unpacked(self):
+        path, of_match = self.folder / "a.tar.gz", {f"cup/{name}": b"1" for name in ("records/cup-1.json", "accounts/cup-1.txt", "pages/matches/cup-1.html")}
+        log = {"cup/logs/cup-1.jsonl": b""}
+        with mock.patch.object(packing, "OTHER_FILES", 4):
+            self.assertEqual(len(unpacked(tar_of({**FIRST, **of_match, **log, "cup/a": b"", "cup/records/x.json": b""}))), 8)
+            with open(path, "wb") as file:
+                pack(file, [*FIRST.items(), *((f"cup/logs/{number}.jsonl", b"") for number in range(30))])
+            with self.assertRaisesRegex(Spoilt, "it has more than 4 files that are of no match of its schedule"):
+                unpack(path, self.folder)
+        self.assertEqual(len([*(self.folder / "cup").rglob("*.*")]), 4)
+        for name in (*of_match, *log):
+            self.assertEqual(unpacked(tar_of({**FIRST, name: b""})), f"{name} is empty")
+
+    def test_a_schedule_has_a_greatest_number_of_matches(self):
+        rows = [b"cup-%d\tg\t10\t5\tann bob\n" % number for number in range(100_001)]
+        schedule = self.folder / "schedule.tsv"
+        schedule.write_bytes(b"id\n" + b"".join(rows[:-1]))
+        self.assertEqual(len(planned_ids(schedule)), 100_001)
+        schedule.write_bytes(b"id\n" + b"".join(rows))
+        with self.assertRaisesRegex(Spoilt, "^schedule.tsv has more than 100,000 matches$"):
+            planned_ids(schedule)
 
     def test_a_file_has_no_more_bytes_than_are_read_of_it(self):
         for name, most in (("competition.toml", 4 << 20), ("SHA256SUMS", 64 << 20), ("earlier/7.toml", 4 << 20), ("games/a.kif", 64 << 20), ("logs/a.jsonl", 256 << 20), ("records/a.json", 1 << 30)):

@@ -13,7 +13,7 @@ from typing import BinaryIO
 
 from ggp_tools.competition.competition_file import MOST_OF_COMPETITION
 from ggp_tools.competition.files import Refused
-from ggp_tools.competition.schedule import MOST_MATCHES, is_row
+from ggp_tools.competition.schedule import MOST_MATCHES, id_in
 from ggp_tools.records.lengths import LONGEST_ACCOUNT
 
 # The names of the files of an archive, all below one directory.
@@ -29,10 +29,10 @@ MOST_OF_FILES = {
     **dict.fromkeys(("accounts", "logs", "pages"), LONGEST_ACCOUNT),
     "records": 1 << 30,
 }
-# These files are first, because the matches determine how many files there may be.
+# These files are first, because the matches determine which files there may be.
 FIRST = "competition.toml", "schedule.tsv"
-# A match has a record, a call log, a match log, a page, and perhaps a file in `earlier`. All other files, of games and players too, are fewer.
-FILES_OF_MATCH, OTHER_FILES = 5, 10_000
+# The files of a match. All other files, of games and players too, are fewer.
+OF_MATCH, OTHER_FILES = re.compile(r"[^/]*/(?:records/(.+)\.json|accounts/(.+)\.txt|logs/(.+)\.jsonl|pages/matches/(.+)\.html)"), 10_000
 # Higher levels take much longer, and save little.
 LEVEL = 6
 OTHERWISE = "it is not packed as `publish` packs"
@@ -109,15 +109,29 @@ def copy(stream: BinaryIO, size: int, path: pathlib.Path) -> None:
         raise Spoilt(f"{OTHERWISE}: see what is after {path}")
 
 
-def most_files(schedule: pathlib.Path) -> int:
-    """Returns how many files an archive with this schedule may have."""
+def planned_ids(schedule: pathlib.Path) -> set[str | None]:
+    """Returns the ids of the matches of a schedule, and None for its head."""
     with open(schedule, "rb") as rows:
-        return FILES_OF_MATCH * min(sum(map(is_row, rows)), MOST_MATCHES) + OTHER_FILES
+        if sum(1 for _ in rows) > MOST_MATCHES + 1:
+            raise Spoilt(f"{schedule.name} has more than {MOST_MATCHES:,} matches")
+        rows.seek(0)
+        return set(map(id_in, rows))
+
+
+def is_of_match(name: str, size: int, ids: set[str | None], folder: pathlib.Path) -> bool:
+    """Returns whether a file belongs to a match of the schedule. Refuses one that is empty, except for the log of a match that has a record."""
+    found = OF_MATCH.fullmatch(name)
+    match = found and found[found.lastindex]
+    if not match or match not in ids:
+        return False
+    if not size and not (found[3] and (folder / "records" / f"{match}.json").exists()):
+        raise Spoilt(f"{name} is empty")
+    return True
 
 
 def unpack(path: pathlib.Path, empty: pathlib.Path) -> pathlib.Path:
     """Unpacks an archive into an empty directory, and returns the directory of the competition in it."""
-    folder, count, size, most = empty, 0, 0, OTHER_FILES
+    folder, count, size, others, ids = empty, 0, 0, 0, set()
     try:
         with gzip.open(path) as stream:
             for count, (name, own) in enumerate(members(stream), 1):
@@ -129,14 +143,15 @@ def unpack(path: pathlib.Path, empty: pathlib.Path) -> pathlib.Path:
                     raise Spoilt(f"{name!r} is not below {folder.name}")
                 if count <= len(FIRST) and empty / name != folder / FIRST[count - 1]:
                     raise Spoilt(f"it does not begin with {' and '.join(FIRST)}")
-                if count > most:
-                    raise Spoilt(f"it has more than {most:,} files, and the matches of its schedule have no more")
+                others += not is_of_match(name, own, ids, folder)
+                if others > OTHER_FILES:
+                    raise Spoilt(f"it has more than {OTHER_FILES:,} files that are of no match of its schedule")
                 if own > most_of_file(name):
                     raise Spoilt(f"{name} has more than {most_of_file(name):,} bytes, which are the most of such a file in an archive")
                 if size > MOST_BYTES:
                     raise Spoilt(f"with {name!r} it has more than {MOST_BYTES:,} bytes, which are the most of an archive")
                 copy(stream, own, empty / name)
-                most = most_files(empty / name) if count == len(FIRST) else most
+                ids = planned_ids(empty / name) if count == len(FIRST) else ids
     except (EOFError, zlib.error, gzip.BadGzipFile) as why:
         raise Spoilt(f"it can't be unpacked: {why}") from None
     if count < len(FIRST):

@@ -148,9 +148,10 @@ def matches_in(schedule: bytes, competition: Competition) -> list[Match]:
     return [match for match in matches if match.game in games and names.issuperset(match.players)]
 
 
-def is_row(line: bytes) -> bool:
-    """Returns whether a line of schedule.tsv is a match."""
-    return ROW.fullmatch(line) is not None
+def id_in(line: bytes) -> str | None:
+    """Returns the id of the match in a line of schedule.tsv, or None if it has none."""
+    row = ROW.fullmatch(line)
+    return row[1].decode("ascii") if row else None
 
 
 def schedule_text(matches: Iterable[Match]) -> bytes:
