@@ -36,21 +36,26 @@ HOW_TO = """How to check this competition.
 
     ggp_competition check {name}.tar.gz
 
-checks all that follows. By hand, in this folder:
+makes all of these checks. To make them by hand, run these commands in this directory:
 
     sha256sum --check SHA256SUMS                                          each file is the one that was published
-    ggp_manager verify --rules-file rules/GAME.kif < records/ID.json      the match was played by the rules
-    ggp_manager replay --rules-file rules/GAME.kif < accounts/ID.txt      each call got its reply, and the record comes of them
-    ggp-hold-against games/GAME.kif records/ID.json                       the match is one of the description, where that has variables
-    ggp_competition table                                                 the schedule follows from competition.toml, the table from the records
+    ggp_manager verify --rules-file rules/GAME.kif < records/ID.json      the match follows the rules
+    ggp_manager replay --rules-file rules/GAME.kif < accounts/ID.txt      each call gets the same reply again, and the calls give this record
+    ggp-hold-against games/GAME.kif records/ID.json                       if the description has variables: the match follows it, too
+    ggp_competition table                                                 the schedule follows from competition.toml, and the table from the records
 
-The rules are ground descriptions; games has the descriptions that they were made from, whose sums when the plan was made are in
-rules/DESCRIPTIONS.sha256. Where rules/GAME.players is there, the players of that game were told this in place of rules/GAME.kif. The
-version of the referee with which this was published is in VERSION. Where GAPS.tsv is there, it has the matches of the schedule that
-have no record. Where again.tsv is there, it has the matches that were played again, with the reasons: the earlier records do not count.
-Where earlier is there, the competition grew: earlier/N.toml is competition.toml as it was when N matches were planned; planned.toml is it
-as it was planned by last. Where seeds.csv is there, it is the table of another competition, which the order of the players is from.
-What this does not show: that the players of these names sent these answers, and when. Keep the sum of the archive as you got it.
+rules/GAME.kif has the ground rules that the referee played. games/GAME.kif has the description that they were made from. `plan` wrote the
+SHA-256 checksums of the descriptions to rules/DESCRIPTIONS.sha256. planned.toml is the competition.toml that `plan` read last. VERSION has
+the version of the program that published this archive. These files are only in some archives:
+
+    rules/GAME.players    the rules that the players of this game received, instead of rules/GAME.kif
+    GAPS.tsv              the matches of the schedule that have no record
+    again.tsv             the matches that were played again, with the reasons. Their earlier records do not count
+    earlier/N.toml        competition.toml as it was when the first N matches were planned
+    ids.key               the key that the random ids of the matches follow from
+    seeds.csv             the table of another competition, which gives the order of the players
+
+No check shows that these players sent these answers, or when. Keep the checksum of the archive that its publisher announced.
 """
 
 
