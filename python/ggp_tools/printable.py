@@ -35,5 +35,7 @@ def shown(text: str, most: int = MOST_OF_LINE) -> str:
     return visible(text[:most]) + MORE * (len(text) > most)
 
 
-def counted(number: int, word: str) -> str:
-    return f"{number:,} {word}{'' if number == 1 else 's'}"
+def counted(number: int, word: str, *verbs: str) -> str:
+    """Returns a number with a word, and with the first of two verbs, or with the second one for the plural."""
+    plural = "" if number == 1 else "es" if word.endswith("ch") else "s"
+    return " ".join([f"{number:,} {word}{plural}", *verbs[number != 1 :][:1]])

@@ -226,7 +226,7 @@ class Archive(unittest.TestCase):
         self.assertEqual((run(cup, "publish", "--gaps", "--to", "again.tar.gz")[0], (cup / "again.tar.gz").read_bytes()), (0, published))
         line = next(planned for planned in (cup / "schedule.tsv").read_text().splitlines() if planned.startswith("cup-003"))
         (cup / "records/cup-003.json").unlink()
-        self.assertIn("nothing is published: 1 matches have no lawful record; with `--gaps` the others are\n", run(cup, "publish")[2])
+        self.assertIn("nothing is published: 1 match has no lawful record; with `--gaps` the others are\n", run(cup, "publish")[2])
         self.assertEqual(run(cup, "publish", "--gaps")[::2], (0, ""))
         files = files_of(cup / "cup.tar.gz")
         self.assertEqual(files["cup/GAPS.tsv"].decode().splitlines()[1:], [line])

@@ -261,6 +261,8 @@ class Checked(Made):
         lines = [f"error {number}" for number in range(5_000)]
         with mock.patch.object(archive, "unpack", side_effect=Spoilt("\n".join(["x" * 3_000_000, *lines]))):
             self.assertEqual(self.check(), (["x" * 1_000 + "..", *lines[:99], "there are 4,901 more errors"], ""))
+        with mock.patch.object(archive, "what_is_right", side_effect=Spoilt("\n".join(lines[:101]))):
+            self.assertEqual(self.check()[0][-1], "there is 1 more error")
 
     def test_a_huge_file_is_not_read(self):
         self.publish()
@@ -308,7 +310,7 @@ class Held(Made):
         same = "the same: 2 turns"
         self.assertEqual(self.held(same, same, same), ("; 3 matches are those of descriptions with variables", []))
         self.assertEqual(self.held(same, "differs: x", same), ("; 2 matches are those of descriptions with variables", ["cup-002: by games/heap.kif it differs: x"]))
-        said = "; 1 matches are those of descriptions with variables, and 2 could not be followed: cup-001 not followed: a, cup-003 not followed: b"
+        said = "; 1 match is that of descriptions with variables, and 2 could not be followed: cup-001 not followed: a, cup-003 not followed: b"
         self.assertEqual(self.held("not followed: a", same, "not followed: b"), (said, []))
         said = "; 0 matches are those of descriptions with variables, and 3 could not be followed: cup-001 not followed: a, cup-002 not followed: a, cup-003 not followed: a"
         self.assertEqual(self.held(*["not followed: a"] * 3), (said, []))

@@ -31,7 +31,7 @@ MISTAKES = [
     ("strikes = 3", "pause = true", [(3, "pause", "only the kinds swiss and knockout have this key")]),
     ("strikes = 3", "anchor = {ann = 1.5, eve = 1_500}", [(3, "anchor", "expected for ann a whole number from -10,000 to 10,000, found 1.5"), (3, "anchor", "no player 'eve'")]),
     ("strikes = 3", "seeds = 7", [(3, "seeds", "a text in quotes")]),
-    ('"round_robin"\nrounds = 2', '"swiss"\nrounds = 2\nfinal = 4', [(8, "form.final", "there are 3 players")]),
+    ('"round_robin"\nrounds = 2', '"swiss"\nrounds = 2\nfinal = 4', [(8, "form.final", "the competition has 3 players")]),
     ("rounds = 2", "final = 2", [(7, "form.final", "the kind round_robin has no such key")]),
     ("strikes = 3", "absent_rounds = 1", [(3, "absent_rounds", "only the kinds swiss and knockout have this key")]),
     ("strikes = 3", 'withdrawn_results = "drop"', [(3, "withdrawn_results", "one of keep, void")]),

@@ -45,7 +45,7 @@ class Words(unittest.TestCase):
 class Held(unittest.TestCase):
     def test_what_there_is_to_say_of_a_record(self):
         holding = Holding(ONE_TURN)
-        self.assertEqual(holding.held(RECORD), (SAME, "the same: 1 turns"))
+        self.assertEqual(holding.held(RECORD), (SAME, "the same: 1 turn"))
         status, words = holding.held(OTHER)
         self.assertEqual((status, words.startswith("differs: ann has the goal 7 in the record")), (DIFFERENT, True))
         self.assertEqual(holding.held(WRONG), (NOT_FOLLOWED, NO_KEY))
@@ -81,7 +81,7 @@ class Held(unittest.TestCase):
                 self.assertEqual(len(read), count, line)
             with mock.patch.object(command.Following, "follow", side_effect=Late), self.assertRaises(Late):
                 holding.held(RECORD)
-            self.assertEqual((holding.held(RECORD), len(read)), ((SAME, "the same: 1 turns"), 3))
+            self.assertEqual((holding.held(RECORD), len(read)), ((SAME, "the same: 1 turn"), 3))
 
     def test_where_a_fault_comes_from(self):
         def inner():
@@ -101,13 +101,13 @@ class Seconds(unittest.TestCase):
     def test_each_record_has_its_own(self):
         times = []
         with mock.patch.object(signal, "setitimer", lambda kind, limit: times.append((kind, limit))):
-            self.assertEqual(list(hold(Holding(ONE_TURN), [RECORD, WRONG], 2.5)), [(SAME, "the same: 1 turns"), (NOT_FOLLOWED, NO_KEY)])
+            self.assertEqual(list(hold(Holding(ONE_TURN), [RECORD, WRONG], 2.5)), [(SAME, "the same: 1 turn"), (NOT_FOLLOWED, NO_KEY)])
         self.assertEqual(times, [(signal.ITIMER_PROF, 2.5), (signal.ITIMER_PROF, 0)] * 2)
 
     def test_where_they_are_over_it_is_told(self):
         with mock.patch.object(command.Following, "follow", lambda *_: signal.raise_signal(signal.SIGPROF)):
             self.assertEqual(list(hold(Holding(ONE_TURN), [RECORD], 90.0)), [(NOT_FOLLOWED, "not followed: out of time after 90 s")])
-        self.assertEqual(list(hold(Holding(ONE_TURN), [RECORD], 90.0)), [(SAME, "the same: 1 turns")])
+        self.assertEqual(list(hold(Holding(ONE_TURN), [RECORD], 90.0)), [(SAME, "the same: 1 turn")])
 
     def test_they_may_be_over_when_all_is_said(self):
         calls = iter([None, Late])

@@ -108,14 +108,14 @@ class Words(unittest.TestCase):
 
         one, other, none = (["a", "b"], ["go", "stay"], [70, 30]), (["b", "a"], ["stay", "go"], [30, 70]), (["a", "c"], ["go", "stay"], [70, 30])
         for played_so in (one, other, one, other, none, one, none, other):
-            words = "differs: the roles are a b by the description, and a c in the record" if played_so is none else "the same: 1 turns"
+            words = "differs: the roles are a b by the description, and a c in the record" if played_so is none else "the same: 1 turn"
             self.assertEqual(held(holding, *played_so), words)
         # After the turn b has no legal move.
         holding = Holding(f"{rules.replace('(legal b stay)', '(<= (legal b stay) (true s))')} (<= terminal (true t)) (goal a 70)")
         for (roles, moves, _), stuck in ((one, 1), (other, 0)):
             words = [held(holding, roles, moves, [], phase="aborted", cause=f"nolegal {at}") for at in (stuck, 1 - stuck)]
             said = "differs: after the last turn a has no legal move in the record, and by the description b"
-            self.assertEqual(words, ["the same: 1 turns", said])
+            self.assertEqual(words, ["the same: 1 turn", said])
 
     def test_of_the_moves_of_one_sentence_the_least_number_is_the_first(self):
         game = Game("(role r) (n 2) (n 10) (<= (legal r (go ?x)) (n ?x)) (init s) (<= (next s) (true s)) (<= terminal (true t))")
@@ -277,7 +277,7 @@ class Records(unittest.TestCase):
         return self.holding.held(json.dumps({**self.record, **changes}))[1]
 
     def test_what_is_no_record(self):
-        self.assertEqual(self.words(), "the same: 1 turns")
+        self.assertEqual(self.words(), "the same: 1 turn")
         one = {"moves": [["go"]], "errors": [[""]]}
         for changes, words in [
             ({"moves": [[5]]}, "expected in moves: "), ({"states": ["s"]}, "expected in states: "), ({"roles": [None]}, "expected in roles: "),
@@ -295,7 +295,7 @@ class Records(unittest.TestCase):
         self.assertEqual(self.words(moves=[["(go"]]), "not followed: a list that is not closed")
         for line, words in (("[" * 200_000, "it is not JSON: "), ('{"roles":' * 90_000, "it is not JSON: "), ("", "it is not JSON: it is empty"), ("[1", "it is not JSON: line 1, column 3: `,` is missing"), ("5", "it is JSON, and not an object")):
             self.assertTrue(self.holding.held(line)[1].startswith(f"not followed: it is not a record: {words}"))
-        self.assertEqual(self.words(), "the same: 1 turns")
+        self.assertEqual(self.words(), "the same: 1 turn")
 
     def test_marks_causes_and_goals_that_fit_the_phase(self):
         none = {"moves": [], "errors": [], "states": self.record["states"][:1], "goalValues": []}
@@ -328,7 +328,7 @@ class Records(unittest.TestCase):
             holding = Holding(ONE_TURN)
             with mock.patch.object(Whole, "close", side_effect=fault), contextlib.suppress(Late):
                 self.assertEqual(holding.held(json.dumps(self.record))[1], "not followed: out of memory")
-            self.assertEqual(holding.held(json.dumps(self.record))[1], "the same: 1 turns")
+            self.assertEqual(holding.held(json.dumps(self.record))[1], "the same: 1 turn")
 
     def test_terms_that_grow(self):
         rules = "(p a) (<= (p (g ?x)) (p ?x)) (<= terminal (true s) (p s))"

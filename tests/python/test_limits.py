@@ -95,7 +95,7 @@ class Figures(unittest.TestCase):
         sentences = expressions("a (b c) d e")
         costs = Counter({0: 5, 1: 12_345.6, 2: 7, 3: 6})
         self.assertEqual(dearest(costs, sentences, [1, 2, 3, 4], True), ["sentence 1, line 2: (b c): 12,346 bytes", "sentence 2, line 3: d: 7 bytes", "sentence 3, line 4: e: 6 bytes"])
-        self.assertEqual(dearest(Counter({0: 1}), sentences, (), False), ["sentence 0, a: 1 ground sentences"])
+        self.assertEqual(dearest(Counter({0: 1}), sentences, (), False), ["sentence 0, a: 1 ground sentence"])
 
 
 class Endless(unittest.TestCase):

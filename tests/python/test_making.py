@@ -126,8 +126,8 @@ class Made(unittest.TestCase):
         steps = "(step a b) (step b a) (step b c) (step c b)"
         game = f"(role r) {steps} (init (at a)) (init (at b)) (<= (reach ?x) (true (at ?x))) (<= (reach ?y) (reach ?x) (step ?x ?y) (true (on ?y))) (<= (legal r ?x) (reach ?x)) (<= (next (at ?x)) (does r ?x)) (<= (next (on ?x)) (does r ?x)) (goal r 1)"
         found, said = made(game)
-        self.assertRegex(found, r"^; 1 cycles of sentences are unrolled, the largest, of 2 sentences with \(reach a\), in 2 rounds\n")
-        self.assertIn("1 cycles of sentences are unrolled", said)
+        self.assertRegex(found, r"^; 1 cycle of sentences is unrolled, the largest, of 2 sentences with \(reach a\), in 2 rounds\n")
+        self.assertIn("1 cycle of sentences is unrolled", said)
 
     def test_refusals_have_the_sentence(self):
         for text, words in (

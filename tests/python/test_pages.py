@@ -199,7 +199,7 @@ class PagesOfMany(unittest.TestCase):
         pages = Pages(self.plan)
         pages.write(self.results[:1])
         page = self.page(pages, f"players/player-{player}.html")
-        self.assertIn("Place 1 of 2 in all games: 1 matches, mean goal 50.00, 1 won, 0 drawn, 0 lost; 1 of 1 moves replaced", text_of(page))
+        self.assertIn("Place 1 of 2 in all games: 1 match, mean goal 50.00, 1 won, 0 drawn, 0 lost; 1 of 1 moves replaced", text_of(page))
         self.assertEqual(rows_of(page.find(id="seats"))[1:], [["one", "b", "1", "50.00", "1 of 1", "", "1,500 ms"]])
         self.assertEqual(rows_of(page.find(id="errors"))[1:], [[match.id, "1", "the answer was no legal move IL", f"(PLAY {match.id} NIL)", "<script>", "noop"]])
         self.assertEqual(len(page.select("#times svg")), 1)

@@ -213,7 +213,7 @@ class Play(InFolder):
         # The error comes before anything is read or sent.
         waiting = program_but(self.folder / "waiting", '"$1" = abort', "sleep 60")
         playing = start(self.folder, "play", "--program", waiting)
-        self.assertEqual(playing.stdout.readline(), "open 1 matches, when a play before this one was ended; their players are sent ABORT\n")
+        self.assertEqual(playing.stdout.readline(), "open 1 match, when a play before this one was ended; their players are sent ABORT\n")
         self.assertEqual([player.aborted for player in self.players], [[], []])
         playing.kill()
         playing.communicate()

@@ -19,6 +19,7 @@ from ggp_tools.printable import counted, message_lines, message_of, printable, s
         (shown("abc", 3), "abc"),
         (shown("ab\ncd", 3), "ab\\u{a}.."),
         ([counted(number, "row") for number in (0, 1, 2, 1_000)], ["0 rows", "1 row", "2 rows", "1,000 rows"]),
+        ([counted(number, "match", "has", "have") for number in (0, 1, 2)], ["0 matches have", "1 match has", "2 matches have"]),
     ],
 )
 def test_text_is_made_safe(found, wanted):

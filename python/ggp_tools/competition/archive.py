@@ -22,7 +22,7 @@ from ggp_tools.competition.side_by_side import PROCESSORS, made_side_by_side
 from ggp_tools.competition.table import tables_of
 from ggp_tools.competition.table_text import in_order, table_files, without_record
 from ggp_tools.descriptions.loading import has_variables, sum_of
-from ggp_tools.printable import message_of
+from ggp_tools.printable import counted, message_of
 from ggp_tools.records.facts import Exchanges, broken_answers, record_sum
 from ggp_tools.records.match_logs import logged
 from ggp_tools.referee import VERSION_LINE, Referee, Unchecked, has_events
@@ -222,7 +222,7 @@ def check_archive(path: pathlib.Path, referee: Referee) -> tuple[list[str], str]
                 return [], what_is_right(path, pathlib.Path(empty), referee)
             except Refused as why:
                 lines = why.words.replace(f"{empty}/", "").split("\n")
-                more = [f"there are {len(lines) - MOST_FAULTS:,} more errors"] if len(lines) > MOST_FAULTS else []
+                more = [f"there {'is' if len(lines) == MOST_FAULTS + 1 else 'are'} {counted(len(lines) - MOST_FAULTS, 'more error')}"] if len(lines) > MOST_FAULTS else []
                 return [*map(message_of, lines[:MOST_FAULTS]), *more], ""
             except Unchecked as why:
                 raise Unchecked(str(why).replace(f"{empty}/", "")) from None
@@ -255,7 +255,7 @@ def compared_matches(plan: Plan, results: list[Result], folder: pathlib.Path) ->
                 faults.append(f"{match.id}: by games/{game.name}.kif it {line}")
             elif not line.startswith(IS_SAME):
                 not_followed.append(f"{match.id} {line}")
-    remark = f"; {count} matches are those of descriptions with variables" if count or not_followed else ""
+    remark = f"; {counted(count, 'match', 'is that', 'are those')} of descriptions with variables" if count or not_followed else ""
     return f"{remark}, and {len(not_followed)} could not be followed: {', '.join(not_followed)}" if not_followed else remark, faults
 
 
@@ -282,5 +282,5 @@ def what_is_right(path: pathlib.Path, empty: pathlib.Path, referee: Referee) -> 
     missing, left = len(without_record(plan, results)), rounds_left(plan)
     gaps = f"; {missing} of {len(plan.matches)} matches have no record, {GAPS} names them" if missing else ""
     gaps += f"; {left} of {left + len(plan.rounds)} rounds were not planned" if left else ""
-    right = f"the sums, the schedule, {len(results)} records and accounts, the table and the pages are right{gaps}"
+    right = f"the sums, the schedule, {counted(len(results), 'record')} and account{'s' * (len(results) != 1)}, the table and the pages are right{gaps}"
     return f"{right}{compared}; published with {made_by}, checked by {referee.version()}"

@@ -27,7 +27,7 @@ from ggp_tools.competition.table import tables_of
 from ggp_tools.competition.table_text import in_order, joined, table_files, table_text, without_record
 from ggp_tools.competition.trying import try_player
 from ggp_tools.competition.why import explanation
-from ggp_tools.printable import printable
+from ggp_tools.printable import counted, printable
 from ggp_tools.reporting import Journal, Reporter
 from ggp_tools.streams import PACKED, ready_streams, say, whole
 
@@ -130,7 +130,7 @@ def counts_of_game(plan: Plan, matches: list[Match]) -> str:
     roles = plan.roles(matches[0].game)
     in_roles = spread([played[role, name] for role in range(len(roles)) for name in names])
     pairs = spread([met[player, other] for player in names for other in names if player < other])
-    counts = f"{len(matches)} matches, roles {' '.join(roles)}; each player in each role: {in_roles}"
+    counts = f"{counted(len(matches), 'match')}, roles {' '.join(roles)}; each player in each role: {in_roles}"
     return f"{counts}; each two players: {pairs}" if len(roles) > 1 else counts
 
 
@@ -142,7 +142,7 @@ def preview(path: str, referee: Referee) -> int:
         results, _ = known_results(plan, referee, None)
         missing, plan = len(without_record(plan, results)), next_plan(plan, {result.match.id: result for result in results}) or plan
     if plan.rounds:
-        say(f"round {len(plan.rounds)} is not over: {missing} matches have no record" if missing else round_words(plan))
+        say(f"round {len(plan.rounds)} is not over: {counted(missing, 'match', 'has', 'have')} no record" if missing else round_words(plan))
     for match in plan.new_matches():
         say(f"{match.id} {match.game} {' '.join(match.players)}")
     return 0
@@ -166,13 +166,13 @@ def print_plan(plan: Plan) -> None:
         say(f"players that run as you, and can read and change all that you can: {', '.join(same_user)}")
     if plan.rounds:
         say(round_words(plan))
-    say(f"{plan.folder.schedule}: {len(plan.matches)} matches of {len(plan.competition.players)} players{growth(plan)}{not_played(plan)}")
+    say(f"{plan.folder.schedule}: {counted(len(plan.matches), 'match')} of {counted(len(plan.competition.players), 'player')}{growth(plan)}{not_played(plan)}")
 
 
 def not_played(plan: Plan) -> str:
     """Returns how many matches are not played because a player has withdrawn."""
     count = sum(bool(match.withdrawn) and not plan.folder.record(match.id).exists() for match in plan.matches)
-    return f"; {count} are not played, since a player has withdrawn" if count else ""
+    return f"; {count} {'is' if count == 1 else 'are'} not played, since a player has withdrawn" if count else ""
 
 
 def growth(plan: Plan) -> str:
@@ -316,7 +316,7 @@ def publish_planned(asked: argparse.Namespace, referee: Referee) -> int:
     faults = []
     if missing and (is_faulty or not asked.gaps):
         # A record that is wrong is not a gap: the match is played again, or the record corrected.
-        faults = [f"{missing} matches have no lawful record{'' if is_faulty else '; with `--gaps` the others are'}"]
+        faults = [f"{counted(missing, 'match', 'has', 'have')} no lawful record{'' if is_faulty else '; with `--gaps` the others are'}"]
     elif left and not asked.gaps:
         faults = [f"{left} of {left + len(plan.rounds)} rounds are not planned yet; with `--gaps` the others are"]
     faults = faults or list(faults_of_descriptions(plan, plan.folder.description, f", and {WRITES}"))

@@ -6,7 +6,7 @@ from dataclasses import dataclass, field, fields
 from typing import Any
 
 from ggp_tools.competition.toml_lines import Path, TomlFault, read_toml
-from ggp_tools.printable import shown
+from ggp_tools.printable import counted, shown
 from ggp_tools.records.lengths import MOST_TURNS
 
 NAME = re.compile(r"[A-Za-z0-9][A-Za-z0-9_.-]{0,39}")
@@ -64,14 +64,14 @@ class Mistaken(Exception):
     """All mistakes of a file."""
 
     def __init__(self, mistakes: list[Mistake]) -> None:
-        super().__init__(f"{len(mistakes)} mistakes")
+        super().__init__(counted(len(mistakes), "mistake"))
         self.mistakes = mistakes
 
 
 def mistake_lines(path: object, mistakes: Sequence[Mistake]) -> str:
     """Returns the first mistakes of a file, a line for each, and how many more there are."""
     lines = [f"{path}:{mistake.line}: {mistake.key + ': ' if mistake.key else ''}{mistake.words}" for mistake in mistakes[:MOST_MISTAKES]]
-    more = [f"{path}: {len(mistakes) - MOST_MISTAKES:,} more mistakes"] if len(mistakes) > MOST_MISTAKES else []
+    more = [f"{path}: {counted(len(mistakes) - MOST_MISTAKES, 'more mistake')}"] if len(mistakes) > MOST_MISTAKES else []
     return "\n".join([*lines, *more])
 
 
@@ -470,7 +470,7 @@ def form_of(root: Section) -> Form:
     rounds = section.number("rounds", 1, MOST_ROUNDS, None if kind == SWISS else 1)
     final = section.number("final", 2, MOST_PLAYERS) if "final" in section.table and kind == SWISS else 0
     if final and final > len(root.names("players")):
-        section.mistake("final", f"there are {len(root.names('players'))} players")
+        section.mistake("final", f"the competition has {counted(len(root.names('players')), 'player')}")
     one = section.text("one") if kind == "gauntlet" else ""
     if one and one not in root.names("players"):
         section.mistake("one", f"there is no player {spelled(one)}")

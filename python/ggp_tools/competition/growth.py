@@ -14,6 +14,7 @@ from ggp_tools.competition.competition_file import KNOCKOUT, SWISS, Competition
 from ggp_tools.competition.results import Result
 from ggp_tools.competition.rounds import Round, Rounds, is_by_rounds, meetings, rounds_of, withdrawn_by, withdrawn_words
 from ggp_tools.competition.schedule import Match, asked, id_of, refuse_numbers, refuse_too_many
+from ggp_tools.printable import counted
 
 # The number of planned matches when a version of competition.toml was replaced; None for the present one.
 Until = int | None
@@ -226,7 +227,7 @@ def grown(history: History, competition: Competition, roles: Mapping[str, int], 
             refuse_changes(before, version)
         growing.take(before, version, until, most if until is None else until)
         if until is not None and len(growing.matches) != until:
-            raise Misfit(f"{len(growing.matches)} matches were planned when earlier/{until}.toml was replaced, and not {until}")
+            raise Misfit(f"{counted(len(growing.matches), 'match', 'was', 'were')} planned when earlier/{until}.toml was replaced, and not {until}")
         before = version
     growing.leave_out(competition)
     if growing.again:

@@ -10,6 +10,7 @@ from ggp_tools.competition.results import Result, again_words
 from ggp_tools.competition.table import Table
 from ggp_tools.competition.table_text import rating_text
 from ggp_tools.match_log import PLAY, START, Event, Message, messages, shown
+from ggp_tools.printable import counted
 from ggp_tools.records.show import why_of
 
 # A page shows at most this many errors of a player, and of one match, the newest ones.
@@ -100,7 +101,7 @@ def standing_texts(table: Table) -> dict[str, str]:
         mean = "none" if line.mean() is None else f"{line.mean():.2f}"
         counts = f"{line.won} won, {line.drawn} drawn, {line.lost} lost; {line.replaced} of {line.moves} moves replaced"
         rating = f"; rating {rating_text(table, line)}" if table.is_of_pairs() else ""
-        texts[line.player] = f"Place {rank} of {len(lines)} in all games: {line.matches} matches, mean goal {mean}, {counts}{rating}."
+        texts[line.player] = f"Place {rank} of {len(lines)} in all games: {counted(line.matches, 'match')}, mean goal {mean}, {counts}{rating}."
     return texts
 
 

@@ -22,6 +22,7 @@ from ggp_tools.competition.plan import Plan, plan_next_round, refuse_addresses, 
 from ggp_tools.competition.schedule import Match
 from ggp_tools.competition.slots import Slots
 from ggp_tools.competition.started_players import StartedPlayers
+from ggp_tools.printable import counted
 from ggp_tools.referee import Referee
 from ggp_tools.reporting import REDRAWN, Reporter
 
@@ -109,7 +110,7 @@ class Playing:
         others = [waiting for waiting in self.waiting if waiting.game == match.game]
         self.left.update((other.id, self.stopped[match.game]) for other in others)
         self.waiting = deque(waiting for waiting in self.waiting if waiting.game != match.game)
-        self.reporter.line(f"stopped {self.stopped[match.game]}; {len(others)} matches of it do not begin")
+        self.reporter.line(f"stopped {self.stopped[match.game]}; {counted(len(others), 'match')} of it {'does' if len(others) == 1 else 'do'} not begin")
 
     async def go(self) -> None:
         """Plays until no match is open, and none waits or may begin."""
@@ -295,7 +296,7 @@ def prepare(playing: Playing) -> None:
     directories = open_directories(plan)
     if count := sum(bool(places) and not folder.record(directory.name).exists() for directory, places in directories.items()):
         # The check of the records takes a while, and players that do not answer take longer.
-        reporter.line(f"open {count} matches, when a play before this one was ended; their players are sent ABORT")
+        reporter.line(f"open {counted(count, 'match')}, when a play before this one was ended; their players are sent ABORT")
     reporter.draw("checking the records")
     playing.results, faults, misfits = check_records(plan, playing.referee)
     refuse_lost_results(plan, playing.results)

@@ -18,6 +18,7 @@ from dataclasses import dataclass, replace
 
 from ggp_tools.competition.competition_file import KNOCKOUT, ROUND_KINDS, SWISS, Competition
 from ggp_tools.competition.results import DRAWN, WON, Result
+from ggp_tools.printable import counted
 
 # The round and the two players of a pairing.
 Meeting = tuple[int, frozenset[str]]
@@ -204,7 +205,7 @@ class Rounds:
         if self.counted < len(self.found):
             self.count(results)
         known, least = withdrawn_by(competition, self.found), competition.absent_rounds or len(self.found) + 1
-        new = {name: f"absent in {count} whole round{'s' * (count > 1)}" for name, count in self.absences.items() if count >= least and name not in known}
+        new = {name: f"absent in {counted(count, 'whole round')}" for name, count in self.absences.items() if count >= least and name not in known}
         withdrawn = new | known
         if withdrawn.keys() != self.withdrawn.keys():
             self.scores = scores_of(competition, self.found, self.results, withdrawn)

@@ -8,6 +8,7 @@ from collections.abc import Iterable, Iterator, Mapping, Sequence
 from dataclasses import dataclass
 
 from ggp_tools.competition.competition_file import ROUND_KINDS, Competition, Mistake, Mistaken
+from ggp_tools.printable import counted
 
 HEAD = "id\tgame\tstart\tplay\tplayers\n"
 MOST_MATCHES = 100_000
@@ -89,13 +90,13 @@ def mistakes_of_numbers(competition: Competition, roles: Mapping[str, int]) -> I
         for line in form.lines:
             name, *players = line.text.split()
             if len(players) != roles[name]:
-                yield Mistake(line.line, "form.lines", f"{name} has {roles[name]} roles, and the line names {len(players)} players")
+                yield Mistake(line.line, "form.lines", f"{name} has {counted(roles[name], 'role')}, and the line names {counted(len(players), 'player')}")
         return
     for name, game in games.items():
         if form.kind in ROUND_KINDS and roles[name] != 2:
             yield Mistake(game.line, "games.file", f"the kind {form.kind} is for games of two roles, and {name} has {roles[name]}")
         elif roles[name] > len(competition.players):
-            words = f"{name} has {roles[name]} roles, and there are {len(competition.players)} players"
+            words = f"{name} has {counted(roles[name], 'role')}, and the competition has {counted(len(competition.players), 'player')}"
             yield Mistake(game.line, "games.file", words)
 
 

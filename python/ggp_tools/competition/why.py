@@ -15,7 +15,7 @@ from ggp_tools.competition.results import Result, counted_result, forfeit_words
 from ggp_tools.competition.schedule import Match
 from ggp_tools.match_log import PLAY, START, Message, Other, Runs, events
 from ggp_tools.moments import MOMENT, moment_at
-from ggp_tools.printable import message_of
+from ggp_tools.printable import counted, message_of
 from ggp_tools.records.show import read_record
 
 TIMED = re.compile(rf"({MOMENT}) (.*)")
@@ -194,7 +194,7 @@ class Explanation:
         match = self.match
         who = ", ".join(f"{player} is {role}" for player, role in zip(match.players, self.roles))
         strikes, most = self.plan.competition.strikes, self.plan.competition.faults.replaced
-        more = f", retired after {strikes} turns in a row without a move of its own" if strikes else ""
+        more = f", retired after {counted(strikes, 'turn')} in a row without a move of its own" if strikes else ""
         more += f", lost by {most} replaced moves in turns in which the player had a choice" if most else ""
         yield f"{match.id}, {match.game}: {who}; {match.start} s for START, {match.play} s for each other message{more}"
         entries = in_order(list(self.notes()), self.runs(), match.id)

@@ -124,7 +124,7 @@ class RandomMatches:
             raise TimeIsOver
         if now - self.drawn > REDRAWN:
             self.drawn = now
-            self.reporter.draw(f"{said}, {self.turns:,} turns")
+            self.reporter.draw(f"{said}, {counted(self.turns, 'turn')}")
 
     def hand_in(self, seed: int, match: Played, record: dict) -> None:
         if any(is_too_long(move) for moves in match.moves for move in moves):

@@ -12,7 +12,7 @@ from typing import NamedTuple
 from ggp_tools.descriptions.loading import NoDescription, sentence_starts
 from ggp_tools.gdl import ARITIES, GAME, SECRET, as_read, must_be_atomic, must_be_literal, reached
 from ggp_tools.kif import TOKEN, Expression, Refused, Relation, blanked, expressions, head_of, place_of, quoted, relation, spelled, variables
-from ggp_tools.printable import shown
+from ggp_tools.printable import counted, shown
 from ggp_tools.referee import MOST_OF_MOVE
 
 # The relations that no rule needs to use, and those whose first argument is a role.
@@ -428,4 +428,4 @@ def lines_of(description: Description, found: list[Finding]) -> list[str]:
     for finding in shown_ones:
         more = f" (and {counts[finding.kind] - 1:,} more like this)" if counts[finding.kind] > 1 else ""
         lines.append(f"{places_of_parts[finding.part[:2]]}: {finding.words}: {quoted(finding.part.atom, MOST_SHOWN)}{more}" if finding.part else finding.words)
-    return lines + ([f"and {len(firsts) - MOST_LINES:,} more lines"] if len(firsts) > MOST_LINES else [])
+    return lines + ([f"and {counted(len(firsts) - MOST_LINES, 'more line')}"] if len(firsts) > MOST_LINES else [])

@@ -6,7 +6,7 @@ import sys
 from collections.abc import Iterable, Iterator
 
 from ggp_tools.kif import Refused, told
-from ggp_tools.printable import shown
+from ggp_tools.printable import counted, shown
 from ggp_tools.records.record import NoRecord
 from ggp_tools.streams import MOST_SECONDS, opened, say, seconds, status_of
 from ggp_tools.timed import Late, limited
@@ -65,7 +65,7 @@ class Holding:
             # A bug of this command says nothing about the game.
             return NOT_FOLLOWED, f"not followed: a bug of ggp-hold-against, please report it: {type(why).__name__} in {place_of(why)}: {why}"
         self.following = following
-        return SAME, f"the same: {turns:,} turns"
+        return SAME, f"the same: {counted(turns, 'turn')}"
 
     def game(self) -> Game:
         """Parses the game. Refuses an invalid one, with the place."""

@@ -6,6 +6,7 @@ from collections.abc import Iterator, Sequence
 
 from ggp_tools.kif import MOST_LEVELS, Expression, Refused, head_of, levels, quoted, relation, spelled
 from ggp_tools.gdl import SECRET, Rule, cited
+from ggp_tools.printable import counted
 
 MOST = {"sentences": 8192, "atomic sentences": 16384, "roles": 16, "moves": 4096, "bytes": 1048576, "levels": MOST_LEVELS}
 # The limits of ggp_manager --large.
@@ -83,5 +84,5 @@ def costs_of(written: list[Numbered], is_bytes: bool) -> Counter[int]:
 
 def dearest(costs: Counter[int], sentences: Sequence[Expression], lines: Sequence[int], is_bytes: bool) -> list[str]:
     """Cites the three sentences of the description that cost the most."""
-    unit = "bytes" if is_bytes else "ground sentences"
-    return [f"{cited(number, sentences, lines)}: {count:,.0f} {unit}" for number, count in costs.most_common(3)]
+    unit = "byte" if is_bytes else "ground sentence"
+    return [f"{cited(number, sentences, lines)}: {counted(round(count), unit)}" for number, count in costs.most_common(3)]

@@ -8,6 +8,7 @@ from . import folding, for_players, gringo, grounding, limits, rounds
 from .endless import endless
 from .splitting import split
 from ggp_tools.kif import Expression, Refused, expressions, quoted, relation, spelled
+from ggp_tools.printable import counted
 from ggp_tools.streams import report
 from ggp_tools.timed import Late, limited
 from ggp_tools.gdl import Relations, Rule, all_rules, as_read, cited, lines_of
@@ -42,7 +43,7 @@ def forms(rules: list[Rule], is_whole: bool, is_split: bool) -> list[Form]:
     whole, parts = Form(rules, gringo.MOST_INSTANCES), split(rules)
     if is_whole or len(parts) == len(rules):
         return [whole]
-    note = f"split: {len(parts) - len(rules):,} parts of rules became auxiliary relations, so that each rule has fewer variables"
+    note = f"split: {counted(len(parts) - len(rules), 'part')} of rules became auxiliary relations, so that each rule has fewer variables"
     parted = Form(parts, gringo.MOST_INSTANCES, (note,))
     return [parted] if is_split else [whole._replace(most=FEW_INSTANCES), parted, whole]
 
@@ -147,7 +148,7 @@ class Making:
             self.is_unrolled = True
             rules = grounding.in_order(grounding.needed(rules))
             self.note_circles([cycle for cycle in cycles if cycle[1] > 1])
-            self.know(f"{len(rules):,} ground sentences, because {self.notes[-1] if self.notes else 'cycles are unrolled'}")
+            self.know(f"{counted(len(rules), 'ground sentence')}, because {self.notes[-1] if self.notes else 'cycles are unrolled'}")
         limits.refuse_faults(rules)
         self.ground_rules = rules
         return rules
@@ -155,8 +156,8 @@ class Making:
     def note_circles(self, circles: list[tuple[Expression, int, int]]) -> None:
         if circles:
             atom, count, last = max(circles, key=lambda circle: circle[1])
-            largest = f"the largest, of {count:,} sentences with {quoted(atom)}, in {last + 1:,} rounds"
-            self.notes.append(f"{len(circles):,} cycles of sentences are unrolled, {largest}")
+            largest = f"the largest, of {counted(count, 'sentence')} with {quoted(atom)}, in {counted(last + 1, 'round')}"
+            self.notes.append(f"{counted(len(circles), 'cycle', 'of sentences is', 'of sentences are')} unrolled, {largest}")
 
     def ground(self, program: gringo.LogicProgram, most: int) -> list[Rule]:
         self.work = "finding the instances"
@@ -176,7 +177,7 @@ class Making:
         if high:
             self.notes.append(f"goals past 100 are left out ({high:,}, the first by {self.cited(first)}): {limits.WITHOUT_HIGH_GOALS}")
         rules = grounding.in_order(rules)
-        self.know(f"{len(rules):,} ground sentences")
+        self.know(counted(len(rules), "ground sentence"))
         return rules
 
     def know(self, words: str) -> None:
@@ -224,7 +225,7 @@ class Making:
             raise
         folded = list(game.written())
         size = sum(len(spelled(sentence)) + 1 for _, sentence in plain.sentences)
-        self.notes.append(f"factored: {len(rules):,} ground sentences of {size:,} bytes became {len(folded):,}")
+        self.notes.append(f"factored: {counted(len(rules), 'ground sentence')} of {size:,} bytes became {len(folded):,}")
         result = self.as_written(folded)._replace(game=game)
         return plain if can_stay and result.past() else result
 
@@ -235,7 +236,7 @@ class Making:
 
     def reported(self, written: Written) -> str:
         """Reports the result and the limits. Returns the text, or refuses it if a limit is exceeded."""
-        report(f"ggp-instantiate: {len(self.sentences)} sentences gave {len(written.sentences):,} ground ones, in {time.monotonic() - self.began:.2f} s")
+        report(f"ggp-instantiate: {counted(len(self.sentences), 'sentence')} gave {counted(len(written.sentences), 'ground one')}, in {time.monotonic() - self.began:.2f} s")
         for note in written.notes:
             report(f"  {note}")
         wide = max(len(name) for name, _, _ in written.figures)

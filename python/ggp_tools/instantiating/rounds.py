@@ -14,6 +14,7 @@ from collections.abc import Iterator
 
 from ggp_tools.kif import Expression, Refused, atoms, fresh, quoted, relation
 from ggp_tools.gdl import Literal, Rule, components
+from ggp_tools.printable import counted
 
 # The rules of each sentence.
 RulesFor = dict[Expression, list[Rule]]
@@ -184,6 +185,6 @@ def unrolled(rules: list[Rule]) -> tuple[list[Rule], list[tuple[Expression, int,
         summary.append((cycle[0], len(cycle), last))
         if len(made) + last * sum(len(rules_for[atom]) for atom in cycle) > MOST_RULES:
             why = f"its {last + 1:,} rounds have more than {MOST_RULES:,} rules"
-            raise Refused(f"a cycle of {len(cycle):,} sentences, such as {quoted(cycle[0])}: {why}")
+            raise Refused(f"a cycle of {counted(len(cycle), 'sentence')}, such as {quoted(cycle[0])}: {why}")
         made += layers(cycle, rules_for, last, word)
     return made, summary

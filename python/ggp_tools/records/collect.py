@@ -144,7 +144,7 @@ def arguments(words: list[str]) -> argparse.Namespace:
 def report_others(count: int) -> None:
     """Reports how many lines of logs are not events."""
     if count:
-        report(f"{COMMAND}: {count:,} {'line is' if count == 1 else 'lines are'} not of a log")
+        report(f"{COMMAND}: {counted(count, 'line', 'is', 'are')} not of a log")
 
 
 def print_log(paths: list[str]) -> int:

@@ -4,6 +4,7 @@ import pathlib
 import re
 from collections.abc import Iterable
 
+from ggp_tools.printable import counted
 from ggp_tools.records.collection import Judged
 from ggp_tools.records.show import page_of, winner_words
 from ggp_tools.templating import page
@@ -39,4 +40,4 @@ def write_pages(folder: pathlib.Path, lines: Iterable[Judged]) -> None:
             game = judged.game.rules if judged.game else None
             (folder / name).write_bytes(page_of(record, game and (lambda: game)))
         rows.append(index_row(judged, record, name))
-    (folder / "index.html").write_bytes(page("records", title=f"{len(rows):,} records", rows=rows))
+    (folder / "index.html").write_bytes(page("records", title=counted(len(rows), "record"), rows=rows))
