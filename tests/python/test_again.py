@@ -14,7 +14,7 @@ from ggp_tools.competition.plan import Plan, order_again, replaceable_match, sch
 from support import toml
 
 RULES = {"nim": types.SimpleNamespace(text=b"(role first) (role second)", roles=("first", "second"), is_large=False)}
-ACCOUNT = b"0\topen cup-001 0 10 10 ann bob\topened\n"
+ACCOUNT = b"0\topen cup-001 0 10 10\topened\n"
 RECORD = (
     b'{"matchId":"cup-001","players":["ann","bob"],"startClock":10,"playClock":5,"strikes":0,"phase":"finished","cause":null,'
     b'"goalValues":[100,0],"moves":[],"errors":[]}\n'

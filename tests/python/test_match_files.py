@@ -74,7 +74,7 @@ class Kept(unittest.TestCase):
             match = types.SimpleNamespace(id=f"cup-{len(self.plan.matches)}", game="one")
             self.plan.matches.append(match)
             self.folder.record(match.id).write_bytes(b"{" + b" " * (size - 2) + b"\n")
-            self.folder.account(match.id).write_bytes(f"0\topen {match.id} 0 ".encode().ljust(size - 8, b"x") + b"\topened\n")
+            self.folder.account(match.id).write_bytes(f"0\topen {match.id} 0 1 1".encode().ljust(size - 8) + b"\topened\n")
 
     def counts(self):
         referee = Counting()
@@ -217,7 +217,7 @@ class Looked(unittest.TestCase):
             "goalValues": [40, 60], "moves": [["a", "b"]] * 2, "errors": [["TO", ""], ["", ""]], **more,
         }
         self.folder.record(match.id).write_text(json.dumps(record) + "\n")
-        self.folder.account(match.id).write_text(f"0\topen {match.id} {account}\topened\n")
+        self.folder.account(match.id).write_text(f"0\topen {match.id} 0 1 1 {account}\topened\n1\tnext {match.id} 0\tover\n")
 
     def look(self, known=None):
         self.referee.counts.clear()
@@ -319,7 +319,7 @@ class Looked(unittest.TestCase):
     def test_a_file_that_has_become_wrong_is_not_right_by_what_is_known(self):
         self.known()
         account = self.folder.account("cup-0")
-        account.write_text(f"{account.read_text()}1\tnext cup-0 0\tover\n")
+        account.write_text(account.read_text().replace("right", "right!"))
         self.assertEqual(self.known()[1], 1)
         account.unlink()
         known = Known(self.folder.path)
@@ -403,7 +403,7 @@ class Files(InFolder):
     """Errors in files, by their bytes only."""
 
     def test_what_is_not_handed_to_the_referee(self):
-        account = b"0\topen cup-1 0 1 1 a\topened\n"
+        account = b"0\topen cup-1 0 1 1\topened\n"
         for record, its, fault in (
             (b"{}\n", None, "its account is missing"), (b"{}\n", account[:-1], "its account is cut off"), (b"{}\n", b"", "its account is cut off"),
             (b"{}\n", b"\n", "line 1 of its account does not open a match: "), (b"{}", account, "its record is not one line"), (b"", account, "its record is not one line"),

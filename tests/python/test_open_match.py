@@ -110,7 +110,7 @@ class WithMatch(unittest.TestCase):
         self.slots.take(self.match)
         self.open = OpenMatch(playing, self.match)
         self.record = json.dumps(record_of(self.match, [["(take 2)", "noop"], ["noop", "(take 1)"]], [["", ""], ["", ""]], [0, 100])).encode() + b"\n"
-        self.account = f"0\topen {self.match.id} 0 10 10 ann bob\topened\n".encode()
+        self.account = f"0\topen {self.match.id} 0 10 10\topened\n".encode()
         self.laid_down["played"] = (0, self.record + self.account, OPENED)
 
     def go(self):
@@ -325,7 +325,7 @@ class Checking(WithMatch):
         self.assertEqual(self.checked(other + self.account), ("its matchId is 'cup-009', and the schedule has 'cup-001'", []))
         self.begin(self.HEAD)
         other = self.account.replace(b"cup-001", b"cup-002")
-        self.assertEqual(self.checked(self.record + self.account + other), ("line 2 of its account is of another match: 0 open cup-002 0 10 10 ann bob opened", []))
+        self.assertEqual(self.checked(self.record + self.account + other), ("line 2 of its account is of another match: 0 open cup-002 0 10 10 opened", []))
 
     def log(self):
         return self.plan.folder.log("cup-001").read_text().removeprefix(OPENED)

@@ -62,7 +62,7 @@ class ByRounds(unittest.TestCase):
         for match in plan.matches:
             if not self.folder.record(match.id).exists() and match.counts():
                 self.folder.record(match.id).write_text(json.dumps(record(match, goals_of(match))) + "\n")
-                self.folder.account(match.id).write_text(f"0\topen {match.id} x\topened\n")
+                self.folder.account(match.id).write_text(f"0\topen {match.id} 0 1 1\topened\n")
         return {match.id: found for match in plan.matches if (found := unverified_result(self.folder, plan.competition, plan.rules, match))}
 
     def pairs(self, plan):

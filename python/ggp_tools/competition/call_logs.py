@@ -19,7 +19,7 @@ if TYPE_CHECKING:
     from ggp_tools.competition.schedule import Match
 
 # The first call, and those for a role: which message it is owed, and its answer.
-OPENING = re.compile(rb"0\t(?:open|(strict)) ([^ \t]+) \d+ (\d{1,5}) (\d{1,5}) ([^\t]*)\topened")
+OPENING = re.compile(rb"0\t(?:open|(strict)) ([^ \t]+) \d+ (\d{1,5}) (\d{1,5})([^\t]*)\topened")
 NEXT = re.compile(rb"(\d+)\tnext ([^ \t]+) (\d+)\t(?:owe (\d+) ([^ \t]+) ?([^\t]*)|(hold \d+|over))")
 ANSWER = re.compile(rb"(\d+)\t(submit|miss) ([^ \t]+) (\d+) (\d+)(?: ([^\t]*))?\ttaken")
 # A role that waits in a round asks every two seconds, and more often at first and when another role wakes it, at most twice. So `hold` comes less than
