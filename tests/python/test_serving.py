@@ -368,6 +368,22 @@ class Pages(Served):
         self.assertIn(f"ann was restarted 2 times, the last time, for {self.plan.matches[2].id}<", self.page("/"))
         self.assertNotIn("bob was restarted", self.page("/"))
 
+    def test_a_silent_player_is_named_once_that_says_nothing_of_a_turn(self):
+        """A player that may play several matches at once can be silent in an open turn and to the INFO of another match."""
+        match, other = [match for match in self.plan.matches if "ann" in match.players][:2]
+        log = begin(self.plan, match, started(match) + self.play(match, 2, "NIL", ["(take 1)", "noop"]))
+        (self.plan.folder.open / other.id).mkdir()
+        (self.plan.folder.open / other.id / "asking").touch()
+        self.look()
+        self.assertIn("1 match is open", self.page("/"))
+        self.plan.folder.journal.write_text(f"2026-01-02T03:04:05.000Z no record {other.id}: ann is silent\n")
+        for _ in range(2):
+            self.look()
+            self.assertNotIn("ann is silent", self.page("/"))
+        self.say(log, self.play(match, 3, "((take 1) noop)", ["noop", "(take 1)"]))
+        self.look()
+        self.assertIn("ann is silent", self.page("/"))
+
 
 class Delayed(Served):
     """Pages with a delay of some seconds. The tests control the clock and the time of day."""

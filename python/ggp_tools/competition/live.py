@@ -5,17 +5,18 @@ The players of an open match can read the pages too. So the pages show only what
 A round is START, a turn, or the end. It is finished once all of its roles have answered or were replaced."""
 
 import errno
+import functools
 import os
 import pathlib
 import re
 import time
 from collections import Counter, deque
-from collections.abc import Container
+from collections.abc import Callable, Container, Iterable
 from dataclasses import dataclass
 from typing import NamedTuple
 
 from ggp_tools.competition.competition_file import EACH_MATCH
-from ggp_tools.competition.files import STAGES, Folder, lock_place, opened_file
+from ggp_tools.competition.files import ASKING, STAGES, Folder, lock_place, opened_file
 from ggp_tools.competition.live_board import Answers, LiveBoard
 from ggp_tools.competition.plan import Plan
 from ggp_tools.competition.playing import NOT_BEGUN
@@ -270,12 +271,12 @@ class Seen:
 
 
 @dataclass
-class Restart:
-    """A player that was started again for a match. `rounds` has the matches of the player that were open when this was read, each with its open
-    round, or None until that is known."""
+class News:
+    """What a row of the journal says about players, until it may be shown. `gives_up` is the match that was given up, if one was. `rounds` has the
+    matches of the players that were open when the row was read, each with its open round, or None until that is known."""
 
-    player: str
-    match: str
+    gives_up: str
+    show: Callable[[], None]
     rounds: dict[str, int | None]
 
 
@@ -358,8 +359,8 @@ class Reader:
         self.journal, self.given_up = Tail(str(plan.folder.journal), note_of), {}
         commands = {player.name: player.command for player in plan.competition.players}
         self.restarting = {name for name, command in commands.items() if command and command.restart != EACH_MATCH}
-        # The restarts that are not shown yet; and what is shown of the others.
-        self.restarts: list[Restart] = []
+        self.news: list[News] = []
+        # How often each player was restarted, and for which match the last time.
         self.restarted: dict[str, tuple[int, str]] = {}
 
     def look(self) -> None:
@@ -393,7 +394,10 @@ class Reader:
         names = self.listed(self.plan.folder.open)
         if names is not None:
             found = {name: self.room_there(name) for name in names if name in self.known}
-            self.rooms = {name: room for name, room in found.items() if room and room.stage != WAITING}
+            rooms = {name: room for name, room in found.items() if room and room.stage != WAITING}
+            # While INFO is sent, a match would show that a player is silent, perhaps in an open turn of another match, too.
+            playing = {player for name, room in rooms.items() if room.stage != ASKING for player in self.known[name].players}
+            self.rooms = {name: room for name, room in rooms.items() if room.stage != ASKING or playing.isdisjoint(self.known[name].players)}
         return self.rooms
 
     def room_there(self, name: str) -> Room | None:
@@ -432,27 +436,46 @@ class Reader:
         if sight.is_held and not self.is_held:
             self.given_up.clear()
             self.restarted.clear()
+            self.news.clear()
         while notes := self.journal.added(*sight.journal)[0]:
-            for found in map(RESTARTED.fullmatch, notes):
-                if found and found[2] in self.restarting:
-                    rounds = {name: None for name, seen in self.open.items() if found[2] in seen.match.players}
-                    self.restarts.append(Restart(found[2], found[1], rounds))
-            for found in filter(None, map(GIVEN_UP.fullmatch, notes)):
-                if found[2] is None:
-                    self.given_up.pop(found[3], None)
-                elif found[1] in self.known:
-                    self.given_up[found[1]] = for_visitors(self.plan.folder, found[2])
+            for note in notes:
+                self.take_note(note)
         self.version += before != self.given_up
 
-    def show_restarts(self) -> None:
-        """Shows which players were restarted, once the rounds that were open then are finished: in these a dead player did not answer."""
-        for restart in self.restarts:
-            found = ((self.open[name], name, at) for name, at in restart.rounds.items() if name in self.open)
-            restart.rounds = {name: seen.open_round() if at is None else at for seen, name, at in found if at is None or seen.turn() <= at}
-            if not restart.rounds:
-                self.restarted[restart.player] = self.restarted.get(restart.player, (0,))[0] + 1, restart.match
+    def take_note(self, note: str) -> None:
+        """Takes a row of the journal."""
+        restarted, given_up = RESTARTED.fullmatch(note), GIVEN_UP.fullmatch(note)
+        if restarted and restarted[2] in self.restarting:
+            self.show_later("", [restarted[2]], functools.partial(self.count_restart, restarted[2], restarted[1]))
+        elif given_up and given_up[2] is None:
+            self.given_up.pop(given_up[3], None)
+            self.news = [news for news in self.news if news.gives_up != given_up[3]]
+        elif given_up and (match := self.known.get(given_up[1])):
+            words = for_visitors(self.plan.folder, given_up[2])
+            self.show_later(match.id, match.players, functools.partial(self.given_up.__setitem__, match.id, words))
+
+    def count_restart(self, player: str, match: str) -> None:
+        self.restarted[player] = self.restarted.get(player, (0,))[0] + 1, match
+
+    def show_later(self, gives_up: str, players: Iterable[str], show: Callable[[], None]) -> None:
+        """Shows what the journal says about players, at once if none of their matches is open."""
+        rounds = {name: None for name, seen in self.open.items() if not set(players).isdisjoint(seen.match.players)}
+        if rounds:
+            self.news.append(News(gives_up, show, rounds))
+        else:
+            show()
+            self.version += 1
+
+    def show_news(self) -> None:
+        """Shows what the journal says about players, once the rounds that were open then are finished: a dead or silent player did not answer in
+        these."""
+        for news in self.news:
+            found = ((self.open[name], name, at) for name, at in news.rounds.items() if name in self.open)
+            news.rounds = {name: seen.open_round() if at is None else at for seen, name, at in found if at is None or seen.turn() <= at}
+            if not news.rounds:
+                news.show()
                 self.version += 1
-        self.restarts = [restart for restart in self.restarts if restart.rounds]
+        self.news = [news for news in self.news if news.rounds]
 
     def look_at_room(self, name: str, seen: Seen, room: Room) -> int:
         """Reads the log of an open match. Returns how many changes there are. A fault of these pages is shown, and stops no other match."""
@@ -468,13 +491,13 @@ class Reader:
         return seen.version - before + is_other
 
     def judge(self, until: float, first: Container[str] = ()) -> None:
-        """Asks the referee about the answers of open matches, until a moment: first about these matches. Then shows restarts."""
+        """Asks the referee about the answers of open matches, until a moment: first about these matches. Then shows news."""
         began = time.monotonic()
         if began >= self.next_judging:
             self.judge_due(until, first)
             ended = time.monotonic()
             self.next_judging = ended + JUDGING_SHARE * (ended - began)
-        self.show_restarts()
+        self.show_news()
 
     def judge_due(self, until: float, first: Container[str]) -> None:
         due = [seen for seen in self.open.values() if seen.board.is_due()]
