@@ -12,7 +12,7 @@ from unittest import mock
 from ggp_tools.holding.game import Game
 from ggp_tools.human import server
 from ggp_tools.human.game import Shown
-from ggp_tools.human.seat import Seat, Unread, read_message
+from ggp_tools.human.seat import MOST_MESSAGE, Seat, Unread, head_of, members_of
 from ggp_tools.human.server import MOST_CONNECTIONS, Server
 from ggp_tools.records.show import boards_of, places_of
 from html_pages import parsed, text_of
@@ -31,12 +31,13 @@ SECONDS = 60
 
 class Messages(unittest.TestCase):
     def test_an_id_is_kept_as_it_is_written(self):
-        self.assertEqual(read_message("(START Ab.c Red ((role red)) 5 7)"), ("start", "Ab.c", ("red", (("role", "red"),), "5", "7")))
-        self.assertEqual(read_message("info"), ("info", "", ()))
+        start = "(START Ab.c Red ((role red)) 5 7)"
+        self.assertEqual((head_of(start), members_of(start)), (("start", "Ab.c"), ("red", (("role", "red"),), "5", "7")))
+        self.assertEqual(head_of("info"), ("info", ""))
 
     def test_what_is_no_message_is_refused(self):
-        for text in ("", "(", "x", "(PLAY)", "(PLAY a) (PLAY b)"):
-            self.assertRaises(Unread, read_message, text)
+        for text in ("", "(", "x", "(PLAY)", "(PLAY a) (PLAY b)", "(info x)"):
+            self.assertRaises(Unread, lambda: (head_of(text), members_of(text)))
 
 
 class Boards(unittest.TestCase):
@@ -105,6 +106,15 @@ class Seats(unittest.TestCase):
         asked.join(SECONDS)
         self.seat.answer("(PLAY M ((mark 1 1) noop))")
         self.assertIn("Your move was replaced by (mark 1 1).", self.seat.view["note"])
+
+    def test_one_start_is_read_at_a_time(self):
+        with self.seat.reading:
+            self.assertEqual(self.seat.answer(f"(START M xplayer ({RULES}) 60 60)"), "busy")
+        self.begin()
+
+    def test_only_start_may_be_long(self):
+        self.begin()
+        self.assertEqual(self.seat.answer(f"(PLAY M NIL{' ' * MOST_MESSAGE})"), "busy")
 
     def test_time_that_is_over_is_no_answer(self):
         self.begin()

@@ -16,6 +16,8 @@ SPARE = 0.5
 # A referee that is this many seconds late with its next message is considered lost. Then a START of another referee is accepted.
 PATIENCE = 10.0
 NO_MOVES = ("nil", ())
+# All messages but START have at most 16 moves of 4,096 bytes.
+MOST_MESSAGE = 131_072
 CLOCK = re.compile("[0-9]{1,5}")
 # The exceptions that invalid rules can cause.
 BAD_RULES = (Refused, RecursionError, IndexError, KeyError, TypeError, ValueError)
@@ -25,19 +27,26 @@ class Unread(Exception):
     """Why a text is not a message."""
 
 
-def read_message(text: str) -> tuple[str, str, tuple]:
-    """Returns a message's keyword, its match, and its further members."""
+def head_of(text: str) -> tuple[str, str]:
+    """Returns a message's keyword and its match, without parsing the rest, which may be long."""
     if text.strip().lower() in ("info", "(info)"):
-        return "info", "", ()
+        return "info", ""
     head = HEAD.match(text)
+    if not head or head[1].lower() == "info":
+        raise Unread("it is not one list with a keyword and a match")
+    return head[1].lower(), head[2]
+
+
+def members_of(text: str) -> tuple:
+    """Returns what a message has after its keyword and its match."""
     try:
         # The rules in a message are parsed separately.
         terms = expressions(text, math.inf, takes_bytes=True)
     except Refused as why:
         raise Unread(str(why)) from None
-    if not head or len(terms) != 1:
+    if len(terms) != 1:
         raise Unread("it is not one list with a keyword and a match")
-    return head[1].lower(), head[2], terms[0][2:]
+    return terms[0][2:]
 
 
 def game_of(rules: object) -> Game:
@@ -68,6 +77,8 @@ class Seat:
 
     def __init__(self, waits_for_page: bool = True, is_hex: bool = False) -> None:
         self.changed = threading.Condition()
+        # One START is read at a time, because its rules may be long.
+        self.reading = threading.Lock()
         self.version, self.pages, self.waits_for_page, self.is_hex = 0, 0, waits_for_page, is_hex
         self.match, self.receiver = "", ""
         # The number of the current message, counted over all matches. Threads that wait for an earlier one give up.
@@ -87,18 +98,20 @@ class Seat:
 
     def answer(self, text: str, receiver: str = "") -> str | None:
         """Answers a message to a receiver. Returns None if the person made no move in time, or if a later message came."""
-        keyword, match, more = read_message(text)
+        keyword, match = head_of(text)
         is_own = match == self.match and receiver == self.receiver
-        match keyword:
-            case "info":
-                return "available" if not self.match and self.is_person_there() else "busy"
-            case "start" if len(more) == 4 and (is_own or self.is_free()):
-                return self.start(match, receiver, *more)
-            case "play" if is_own and len(more) == 1:
-                return self.play(*more)
-            case "stop" if is_own and len(more) == 1:
-                return self.stop(*more)
-            case "abort" if is_own:
+        if keyword == "info":
+            return "available" if not self.match and self.is_person_there() else "busy"
+        if keyword == "start" and (is_own or self.is_free()):
+            return self.start(match, receiver, text)
+        if not is_own or len(text) > MOST_MESSAGE:
+            return "busy"
+        match keyword, members_of(text):
+            case "play", (moves,):
+                return self.play(moves)
+            case "stop", (moves,):
+                return self.stop(moves)
+            case "abort", ():
                 self.next_message()
                 self.end("aborted", "The referee has given the match up.")
                 return "aborted"
@@ -121,25 +134,40 @@ class Seat:
             self.changed.notify_all()
             return self.asked
 
-    def start(self, match: str, receiver: str, role: object, rules: object, start: object, play: object) -> str:
-        """Begins a match after a page was opened."""
-        deadline, play_clock = time.monotonic() + clock_of(start) - SPARE, clock_of(play)
-        asked = self.next_message(clock_of(start))
+    def start(self, match: str, receiver: str, text: str) -> str:
+        """Begins a match after a page was opened. While another START is read, answers `busy`."""
+        began = time.monotonic()
+        if not self.reading.acquire(blocking=False):
+            return "busy"
+        try:
+            members = members_of(text)
+            asked = self.begin(match, receiver, *members) if len(members) == 4 else None
+        finally:
+            self.reading.release()
+        if asked is None:
+            return "busy"
+        left = began + clock_of(members[2]) - SPARE - time.monotonic()
+        with self.changed:
+            self.changed.wait_for(lambda: self.is_person_there() or self.asked != asked, max(0.0, left))
+        return "ready"
+
+    def begin(self, match: str, receiver: str, role: object, rules: object, start: object, play: object) -> int | None:
+        """Begins a match. Returns the number of its START, or None if the match is refused."""
+        play_clock, asked = clock_of(play), self.next_message(clock_of(start))
         try:
             shown, own = Shown(game_of(rules), self.is_hex), spelled(role)
             if own not in shown.roles:
                 raise Refused(f"they have no role {own}")
         except BAD_RULES as why:
             self.refuse(asked, f"A match was refused, since its rules can't be followed: {why}")
-            return "busy"
+            return None
         with self.changed:
             if self.asked != asked:
-                return "busy"
+                return None
             self.match, self.receiver, self.role, self.play_clock, self.sent = match, receiver, role, play_clock, None
             self.shown, self.roles = shown, shown.roles
             self.show("ready", [], f"Match {match}: you are {own}.")
-            self.changed.wait_for(lambda: self.is_person_there() or self.asked != asked, max(0.0, deadline - time.monotonic()))
-        return "ready"
+        return asked
 
     def refuse(self, asked: int, note: str) -> None:
         """Shows why a START was refused. If it was a repeated START, its match is left."""

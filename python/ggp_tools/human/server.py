@@ -9,19 +9,20 @@ import re
 import secrets
 import socket
 import sys
+import threading
 import time
 from collections.abc import Iterable, Mapping
 from http.server import BaseHTTPRequestHandler, ThreadingHTTPServer
 from http import HTTPStatus
 
-from ggp_tools.human.seat import Seat, Unread, read_message
+from ggp_tools.human.seat import MOST_MESSAGE, Seat, Unread, head_of
 from ggp_tools.templating import source
 from ggp_tools.visitors import Visitors, client_of
 
 # START has the whole rules, with a space for each atom and each list.
 MOST_BYTES, MOST_MOVE = 33_554_432, 65_536
-# A referee introduces itself with one of these messages. Before that no other long message is parsed.
-INTRODUCES = re.compile(r"[\s(]*(?:info|start)\b", re.IGNORECASE)
+# A referee introduces itself with one of these messages.
+INTRODUCES = "info", "start"
 # After this many seconds without a change the page gets a line, which also detects that the page was closed.
 ALIVE = 1.0
 # A request must arrive within this many seconds, and one more for each MiB of its body. The client must accept the answer within PATIENCE seconds.
@@ -128,14 +129,16 @@ class Handler(BaseHTTPRequestHandler):
         if not re.fullmatch("[0-9]{1,8}", size) or int(size) > most:
             return None
         self.asked.ends += int(size) >> 20
-        body = self.rfile.read(int(size))
+        # One long body is read at a time, so that few of them are in memory.
+        with self.server.reading if int(size) > MOST_MESSAGE else contextlib.nullcontext():
+            body = self.rfile.read(int(size))
         return body if len(body) == int(size) else None
 
     def take_message(self, body: bytes) -> None:
         """Answers the referee. If there is no move in time, the connection is closed without an answer."""
         try:
             text = body.decode("latin-1")
-            if not self.server.referees and (len(text) <= MOST_MOVE or INTRODUCES.match(text)) and read_message(text)[0] in ("info", "start"):
+            if not self.server.referees and head_of(text)[0] in INTRODUCES:
                 self.server.referees.add(self.client_address[0])
             is_referee = self.client_address[0] in self.server.referees
             answer = self.server.seat.answer(text, self.headers["Receiver"] or "") if is_referee else "busy"
@@ -198,7 +201,7 @@ class Server(ThreadingHTTPServer):
     def __init__(self, address: tuple[str, int], seat: Seat, referees: Iterable[str] = ()) -> None:
         super().__init__(address, Handler)
         self.seat, self.referees, self.page = seat, set(referees), f"/{secrets.token_urlsafe(16)}/"
-        self.visitors, self.requests = Visitors(MOST_CONNECTIONS), {}
+        self.visitors, self.requests, self.reading = Visitors(MOST_CONNECTIONS), {}, threading.Lock()
 
     def verify_request(self, request: socket.socket, client_address: tuple[str, int]) -> bool:
         """Returns whether a connection is served. If there are too many, the oldest one without a whole request gives way."""
