@@ -15,6 +15,7 @@ from typing import TYPE_CHECKING
 
 from ggp_tools.kif import expressions, head_of, spelled
 from ggp_tools.printable import message_lines
+from ggp_tools.processes import ended_words, run_whole
 
 if TYPE_CHECKING:
     from ggp_tools.competition.schedule import Match
@@ -89,7 +90,7 @@ def records_replayed(output: bytes) -> list[bytes]:
 def unchecked(said: subprocess.CompletedProcess, name: object) -> Unchecked:
     """Returns the error of a run that gave no verdict. `name` names the rules."""
     words = last_line(said).removeprefix("ggp_manager: ") or "it said nothing"
-    return Unchecked(f"`{PROGRAM} {said.args[1]}` came to no verdict with {name}: {words}, status {said.returncode}")
+    return Unchecked(f"`{PROGRAM} {said.args[1]}` came to no verdict with {name}: {words}; {ended_words(said.returncode)}")
 
 
 @contextlib.contextmanager
@@ -131,7 +132,7 @@ class Referee:
         return [f"--rules-file={rules_path}", *(["--large"] if self.is_large else [])]
 
     def call(self, *words: object, data: bytes = b"") -> subprocess.CompletedProcess:
-        return subprocess.run([self.path, *map(str, words)], input=data, capture_output=True)
+        return run_whole([self.path, *map(str, words)], input=data)
 
     def version(self) -> str:
         run = self.call("--version")

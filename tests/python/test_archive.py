@@ -201,7 +201,7 @@ class Archive(unittest.TestCase):
 
     def test_an_archive_that_can_not_be_checked(self):
         short = program_but(self.other / "short", '"$1" = replay', "kill -9 $$")
-        said = "ggp_competition: `ggp_manager replay` came to no verdict with cup/rules/countdown.kif: it said nothing, status -9; nothing is changed\n"
+        said = "ggp_competition: `ggp_manager replay` came to no verdict with cup/rules/countdown.kif: it said nothing; it was killed by signal 9 (SIGKILL); nothing is changed\n"
         self.assertEqual(run(self.folder, "check", "cup.tar.gz", "--program", short), (3, "", said))
 
     def test_sums_that_were_made_anew_are_taken_of_what_is_right(self):

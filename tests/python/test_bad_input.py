@@ -229,7 +229,7 @@ class BadInput(InFolder):
         short = program_but(self.folder / "short", '"$1" = verify', "echo 'ggp_manager: want of memory' >&2; exit 3")
         status, out, said = run(self.folder, "plan", "--program", short)
         self.assertEqual((status, out), (3, ""))
-        self.assertEqual(said, f"ggp_competition: `ggp_manager verify` came to no verdict with {GAMES}/tictactoe.kif: want of memory, status 3; nothing is changed\n")
+        self.assertEqual(said, f"ggp_competition: `ggp_manager verify` came to no verdict with {GAMES}/tictactoe.kif: want of memory; it ended with status 3; nothing is changed\n")
         self.assertEqual(sorted(file.name for file in self.folder.iterdir()), ["competition.toml", "short"])
 
     def test_all_descriptions_are_told_at_once(self):

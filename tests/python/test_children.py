@@ -9,6 +9,7 @@ import pytest
 from ggp_tools.competition import jobs
 from ggp_tools.competition.children import run
 from ggp_tools.competition.jobs import Job, Lost
+from ggp_tools.processes import ended_words
 
 NODE = "import sys\nsys.stderr.write('ggp_competition: node n1\\n')\nsys.stderr.flush()\n"
 CLEAR = "bad \x1b]0;title\x07 words \x9b31m"
@@ -158,7 +159,7 @@ def test_a_verdict_is_the_object_that_is_printed():
 
 def test_a_process_that_reads_no_input_is_no_error(caplog):
     done = asyncio.run(run(["sleep", "0.1"], b"x" * (1 << 20)))
-    assert (done.status, done.message()) == (0, "it ended with status 0 and no message")
+    assert (done.status, done.message()) == (0, "it ended with status 0, without a message")
     gc.collect()
     assert caplog.records == []
 
@@ -206,3 +207,10 @@ def test_the_last_words_are_printable_and_short(tmp_path):
     words = asyncio.run(run(["sh", "-c", f"cat {tmp_path}/said >&2"])).message()
     assert words.startswith("bad ?]0;title? words ?31m" + "y" * 900)
     assert len(words) == 1_002
+
+
+@pytest.mark.parametrize(("status", "words"), [
+    (2, "it ended with status 2"), (-9, "it was killed by signal 9 (SIGKILL)"), (-35, "it was killed by signal 35"), (-999, "it was killed by signal 999"),
+])
+def test_how_a_process_has_ended(status, words):
+    assert ended_words(status) == words

@@ -305,7 +305,7 @@ class Game(InFolder):
             "exec sleep 600": (0, "the program had not played 1 of them after 5 s: their records are not compared\n", ""),
             "echo 'ggp_manager: want of memory' >&2; exit 3": (
                 3, "",
-                "ggp_competition: `ggp_manager desk` came to no verdict with game.kif: want of memory, status 3\n",
+                "ggp_competition: `ggp_manager desk` came to no verdict with game.kif: want of memory; it ended with status 3\n",
             ),
         }
         for done, (wanted, printed, told) in cases.items():
@@ -318,7 +318,7 @@ class Game(InFolder):
 
     def test_a_program_that_prints_no_record(self):
         (self.folder / "game.kif").write_text(SOUND)
-        said = "ggp_competition: `ggp_manager desk` came to no verdict with game.kif: it said nothing, status 0\n"
+        said = "ggp_competition: `ggp_manager desk` came to no verdict with game.kif: it said nothing; it ended with status 0\n"
         for record in ("{garbage", "\\xff{", '{"a":' * 9_999):
             path = program_but(self.folder / "other", '"$1" = desk', f"printf '%b\\n' '{record}'; exit 0")
             status, _, told = run(self.folder, "game", "game.kif", "--program", path)

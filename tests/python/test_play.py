@@ -13,11 +13,10 @@ import tempfile
 import time
 import unittest
 
-from ggp_tools.competition.children import WITHOUT_MESSAGE
 from ggp_tools.competition.files import held
 from ggp_tools.competition.command import MOST_LINES
 from players import TestPlayer
-from support import GAMES, InFolder, program, program_but, run, run_into_full, start
+from support import GAMES, InFolder, command_of, program, program_but, run, run_into_full, start
 
 COUNTDOWN = [("countdown", GAMES / "countdown.kif")]
 HEAD = "start = 5\nplay = 5\nstrikes = 1\nwait = 1\ninfo = 5\ntries = 2\n"
@@ -112,7 +111,7 @@ class Play(InFolder):
 
     def test_a_referee_that_ends_without_a_word(self):
         self.planned(["good", "good"])
-        for done, words, count in (("kill -9 $$", WITHOUT_MESSAGE.format(-9), 2), ("exit 1", WITHOUT_MESSAGE.format(1), 2), ("echo 'ggp_manager: write fault' >&2; exit 1", "ggp_manager: write fault", 1)):
+        for done, words, count in (("kill -9 $$", "it was killed by signal 9 (SIGKILL), without a message", 2), ("exit 1", "it ended with status 1, without a message", 2), ("echo 'ggp_manager: write fault' >&2; exit 1", "ggp_manager: write fault", 1)):
             faulty = program_but(self.folder / "faulty", '"$1" = run', f"for word; do case $word in --log=*) echo cut >> ${{word#--log=}};; esac; done; {done}")
             status, out, _ = run(self.folder, "play", "--at-once", "1", "--program", faulty)
             self.assertEqual((status, lines(out, "no record")), (1, [f"no record {planned[0]}: {words}" for planned in self.schedule[:count]]), out)
@@ -221,6 +220,31 @@ class Play(InFolder):
 
     def test_a_second_interrupt_ends_them_and_frees_the_players(self):
         self.look_at_ended_ones(self.interrupted(signal.SIGINT, signal.SIGINT))
+
+    def checking(self):
+        """Plays a match, and returns `play` in a group of its own while the match is being checked, and the file that lets the check go on."""
+        self.planned(["good", "good"], form='kind = "schedule"\nlines = ["countdown p0 p1"]')
+        number, go = self.folder / "number", self.folder / "go"
+        waiting = program_but(self.folder / "waiting", '"$1" = replay', f"echo $$ > {number}.new; mv {number}.new {number}; until [ -e {go} ]; do sleep 0.1; done")
+        playing = start(self.folder, "play", "--program", waiting, start_new_session=True)
+        while not number.exists():
+            time.sleep(0.02)
+        return playing, int(number.read_text()), go
+
+    def test_ctrl_c_at_the_terminal_does_not_end_a_check(self):
+        playing, _, go = self.checking()
+        os.killpg(playing.pid, signal.SIGINT)
+        next(line for line in playing.stdout if line.endswith("ended by one more Ctrl-C\n"))
+        go.touch()
+        out, said = playing.communicate(timeout=600)
+        self.assertEqual((playing.returncode, said, out.splitlines()[-1]), (0, "", "1 of 1 matches have a lawful record"), out)
+
+    def test_a_check_ends_with_play(self):
+        playing, number, _ = self.checking()
+        playing.kill()
+        playing.communicate()
+        while command_of(number):
+            time.sleep(0.02)
 
     def test_a_termination_ends_them_at_once(self):
         self.look_at_ended_ones(self.interrupted(signal.SIGTERM))
@@ -400,13 +424,13 @@ class Play(InFolder):
         before = self.files()
         short = "echo 'ggp_manager: want of memory' >&2; exit 3"
         shortages = [
-            ('"$1 $2" = "verify --lines"', short, "`ggp_manager verify` came to no verdict with rules/countdown.kif: want of memory, status 3"),
-            ('"$1" = verify', "kill -9 $$", "`ggp_manager verify` came to no verdict with rules/countdown.kif: it said nothing, status -9"),
-            ('"$1" = verify', "echo lawful; exit 0", "`ggp_manager verify` came to no verdict with rules/countdown.kif: it said nothing, status 0"),
-            ('"$1" = verify', "cat > /dev/null; echo 'ggp_manager: input too long' >&2; exit 1", "input too long, status 1"),
-            ('"$1" = verify', f"{program()} \"$@\"; echo 'ggp_manager: read fault' >&2; exit 1", "read fault, status 1"),
-            ('"$1" = replay', "kill -9 $$", "`ggp_manager replay` came to no verdict with rules/countdown.kif: it said nothing, status -9"),
-            ('"$1" = replay', short, "want of memory, status 3"),
+            ('"$1 $2" = "verify --lines"', short, "`ggp_manager verify` came to no verdict with rules/countdown.kif: want of memory; it ended with status 3"),
+            ('"$1" = verify', "kill -9 $$", "`ggp_manager verify` came to no verdict with rules/countdown.kif: it said nothing; it was killed by signal 9 (SIGKILL)"),
+            ('"$1" = verify', "echo lawful; exit 0", "`ggp_manager verify` came to no verdict with rules/countdown.kif: it said nothing; it ended with status 0"),
+            ('"$1" = verify', "cat > /dev/null; echo 'ggp_manager: input too long' >&2; exit 1", "input too long; it ended with status 1"),
+            ('"$1" = verify', f"{program()} \"$@\"; echo 'ggp_manager: read fault' >&2; exit 1", "read fault; it ended with status 1"),
+            ('"$1" = replay', "kill -9 $$", "`ggp_manager replay` came to no verdict with rules/countdown.kif: it said nothing; it was killed by signal 9 (SIGKILL)"),
+            ('"$1" = replay', short, "want of memory; it ended with status 3"),
         ]
         for at, (asked, done, words) in enumerate(shortages):
             short_one = program_but(self.folder / "short", asked, done)
@@ -444,7 +468,7 @@ class Play(InFolder):
         played = ("records/cup-001.json", "accounts/cup-001.txt", "logs/cup-001.jsonl")
         # With an empty input `verify` only says whether the rules are accepted, as the plan is read.
         record = '"$1" = verify && -n $(head -c 1)'
-        shortages = [(record, short, "want of memory"), (record, "kill -9 $$", "status -9"), ('"$1" = replay', short, "want of memory")]
+        shortages = [(record, short, "want of memory"), (record, "kill -9 $$", "signal 9"), ('"$1" = replay', short, "want of memory")]
         for (asked, done, words), ending in zip(shortages, ("unchecked", "unchecked.2", "unchecked.3")):
             before = self.files() if (self.folder / "records").exists() else {}
             status, out, _ = run(self.folder, "play", "--program", program_but(self.folder / "short", asked, done))

@@ -78,9 +78,9 @@ class Verdicts(WithStandIn):
     def test_an_answer_that_does_not_fit_is_no_verdict(self):
         lawful, wrong = verdict_rows(None), verdict_rows(None, "goals")
         for said, *answer in (
-            ("it said nothing, status 0", lawful), ("it said nothing, status 0", lawful * 3), ("it said nothing, status 1", lawful * 2, b"", 1),
-            ("records not lawful 1, status 0", wrong, b"ggp_manager: records not lawful 1\n", 0), ("read fault, status 2", wrong, b"ggp_manager: read fault\n", 2),
-            ("want of memory, status 3", lawful[:-3], b"more\nggp_manager: want of memory\n", 3),
+            ("it said nothing; it ended with status 0", lawful), ("it said nothing; it ended with status 0", lawful * 3), ("it said nothing; it ended with status 1", lawful * 2, b"", 1),
+            ("records not lawful 1; it ended with status 0", wrong, b"ggp_manager: records not lawful 1\n", 0), ("read fault; it ended with status 2", wrong, b"ggp_manager: read fault\n", 2),
+            ("want of memory; it ended with status 3", lawful[:-3], b"more\nggp_manager: want of memory\n", 3),
         ):
             self.assert_unchecked(f"`ggp_manager verify` came to no verdict with game.kif: {said}", self.verdicts, *answer)
 
@@ -118,8 +118,8 @@ class Replays(WithStandIn):
     def test_an_answer_that_does_not_fit_is_no_verdict(self):
         whole = replayed(1) + b'{"a":1}\n' + replayed(1) + b'{"b":2}\n' + replayed(1) + b'{"c":3}\n'
         for said, *answer in (
-            ("it said nothing, status 0", replayed(1) + b'{"a":1}\n'), ("it said nothing, status 0", whole + replayed(0)),
-            ("want of memory, status 3", whole, b"ggp_manager: want of memory\n", 3), ("read fault, status 2", whole[:-9], b"ggp_manager: read fault\n", 2),
+            ("it said nothing; it ended with status 0", replayed(1) + b'{"a":1}\n'), ("it said nothing; it ended with status 0", whole + replayed(0)),
+            ("want of memory; it ended with status 3", whole, b"ggp_manager: want of memory\n", 3), ("read fault; it ended with status 2", whole[:-9], b"ggp_manager: read fault\n", 2),
         ):
             self.assert_unchecked(f"`ggp_manager replay` came to no verdict with game.kif: {said}", self.replays, *answer)
 
@@ -153,13 +153,13 @@ class Rules(WithStandIn):
 
     def test_roles_that_no_answer_tells(self):
         for said, *answer in (
-            ("want of memory, status 3", b"", b"ggp_manager: want of memory\n", 3), ("bad, status 1", b"", b"ggp_manager: bad\n", 1),
+            ("want of memory; it ended with status 3", b"", b"ggp_manager: want of memory\n", 3), ("bad; it ended with status 1", b"", b"ggp_manager: bad\n", 1),
         ):
             self.assert_unchecked(f"`ggp_manager verify` came to no verdict with nim: {said}", lambda: self.referee.roles(b"", "nim"), *answer)
 
     def test_rules_that_were_not_looked_at(self):
         answer = b"", b"ggp_manager: bad description: no such file\n", 2
-        said = "`ggp_manager verify` came to no verdict with game.kif: bad description: no such file, status 2"
+        said = "`ggp_manager verify` came to no verdict with game.kif: bad description: no such file; it ended with status 2"
         self.assert_unchecked(said, lambda: self.referee.check_rules("game.kif"), *answer)
         self.begin_anew()
         self.answers()

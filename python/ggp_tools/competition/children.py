@@ -12,12 +12,9 @@ from collections.abc import AsyncIterator
 from dataclasses import dataclass
 
 from ggp_tools.printable import message_lines
+from ggp_tools.processes import WITH_PARENT, ended_words
 from ggp_tools.referee import Referee
 
-# Followed by the number of this process and a command, this runs the command, and kills it when this process ends. If it has ended before, the
-# command is not run.
-WITH_PARENT = ("setpriv", "--pdeathsig", "KILL", "--", "sh", "-c", 'test "$PPID" = "$0" && exec "$@"')
-WITHOUT_MESSAGE = "it ended with status {} and no message"
 MOST_AT_ONCE = 1 << 16
 # At most this many players are sent ABORT at the same time.
 MOST_ABORTS = 1_024
@@ -75,7 +72,7 @@ class Done:
 
     def message(self) -> str:
         """Returns the last line of standard error, or how the process ended if there is none."""
-        return (message_lines(self.errors) or [WITHOUT_MESSAGE.format(self.status)])[-1]
+        return (message_lines(self.errors) or [f"{ended_words(self.status)}, without a message"])[-1]
 
 
 async def run(words: list[str], given: bytes = b"", seconds: float | None = None) -> Done:

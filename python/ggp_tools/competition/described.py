@@ -9,6 +9,7 @@ from ggp_tools.competition.packing import pack
 from ggp_tools.competition.plan import Plan, sums_of
 from ggp_tools.competition.schedule import Match
 from ggp_tools.descriptions.loading import has_variables, run_module, sum_of
+from ggp_tools.processes import ended_words
 from ggp_tools.referee import Unchecked
 
 # The time limit for each match.
@@ -38,7 +39,7 @@ def comparisons(path: pathlib.Path, records: Sequence[bytes]) -> list[str]:
     run = run_module("holding", f"--seconds={SECONDS}", "--", str(path), data=b"".join(records))
     lines = run.stdout.decode("ascii", "replace").splitlines()
     if run.returncode not in (SAME, DIFFERENT, NOT_FOLLOWED) or len(lines) != len(records):
-        last = (run.stderr.decode("ascii", "replace").strip().splitlines() or [f"it ended with status {run.returncode}"])[-1]
+        last = (run.stderr.decode("ascii", "replace").strip().splitlines() or [ended_words(run.returncode)])[-1]
         raise Unchecked(f"records can't be held against {path}: {last}")
     return lines
 

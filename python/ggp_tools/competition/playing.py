@@ -23,6 +23,7 @@ from ggp_tools.competition.schedule import Match
 from ggp_tools.competition.slots import Slots
 from ggp_tools.competition.started_players import StartedPlayers
 from ggp_tools.printable import counted
+from ggp_tools.processes import APART
 from ggp_tools.referee import Referee
 from ggp_tools.reporting import REDRAWN, Reporter
 
@@ -203,6 +204,7 @@ class Playing:
                 asyncio.get_running_loop().add_signal_handler(number, self.interrupt, count)
         may_pair = not self.plan.competition.pause or not self.waiting
         try:
+            APART.set(True)
             await self.go()
             while may_pair and self.may_begin() and not self.reporter.fault and (matches := plan_next_round(self.plan, self.results)):
                 may_pair = not self.plan.competition.pause

@@ -15,6 +15,7 @@ from ggp_tools.descriptions import kept
 from ggp_tools.instantiating.limits import LARGE, LARGE_NOTE, MOST
 from ggp_tools.gdl import Relations, Rule, all_rules, as_read
 from ggp_tools.instantiating.for_players import text_for_players as text_for_players
+from ggp_tools.processes import run_whole
 from ggp_tools.referee import BadRules, Referee
 
 # The directory of this package.
@@ -80,7 +81,7 @@ def has_variables(text: bytes) -> bool:
 def run_module(name: str, *words: str, data: bytes | None = None) -> subprocess.CompletedProcess:
     """Runs a module of this package as a command."""
     command, environment = [sys.executable, "-B", "-P", "-m", f"ggp_tools.{name}", *words], {**os.environ, "PYTHONPATH": str(FOLDER)}
-    return subprocess.run(command, env=environment, input=data, capture_output=True)
+    return run_whole(command, env=environment, input=data)
 
 
 def why_not(made: subprocess.CompletedProcess) -> str:

@@ -1,0 +1,27 @@
+"""Runs other programs to their ends, and says how they ended."""
+
+import contextvars
+import os
+import signal
+import subprocess
+from collections.abc import Sequence
+
+# Followed by the number of this process and a command, this runs the command, and kills it when this process ends. If it has ended before, the
+# command is not run.
+WITH_PARENT = ("setpriv", "--pdeathsig", "KILL", "--", "sh", "-c", 'test "$PPID" = "$0" && exec "$@"')
+# Whether Ctrl-C at the terminal must not reach the programs, because this process finishes its work first. They end with it even if it is killed.
+APART = contextvars.ContextVar("APART", default=False)
+
+
+def run_whole(words: Sequence[str], **more: object) -> subprocess.CompletedProcess:
+    """Runs a program to its end, and returns its output."""
+    before = (*WITH_PARENT, str(os.getpid())) if APART.get() else ()
+    ran = subprocess.run([*before, *words], capture_output=True, start_new_session=APART.get(), **more)
+    ran.args = words
+    return ran
+
+
+def ended_words(status: int) -> str:
+    """Says how a process has ended by its status, which is negative after a signal."""
+    name = next((f" ({known.name})" for known in signal.Signals if known == -status), "")
+    return f"it was killed by signal {-status}{name}" if status < 0 else f"it ended with status {status}"
