@@ -13,13 +13,13 @@ THIS_COMPUTER = "this computer"
 
 
 def client_of(address: str) -> str:
-    """Returns the client of an address. A customer with IPv6 usually has all addresses with the same first 56 bits. An IPv4 address may be in IPv6
+    """Returns the client of an address. A customer with IPv6 may have all addresses with the same first 48 bits. An IPv4 address may be in IPv6
     notation. Raises ValueError if the text is not an address."""
     found = ipaddress.ip_address(address.partition("%")[0])
     found = getattr(found, "ipv4_mapped", None) or found
     if found.is_loopback:
         return THIS_COMPUTER
-    return str(found if found.version == 4 else ipaddress.ip_network((int(found), 56), strict=False))
+    return str(found if found.version == 4 else ipaddress.ip_network((int(found), 48), strict=False))
 
 
 class Connection(Protocol):

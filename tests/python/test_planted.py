@@ -19,6 +19,7 @@ from unittest import mock
 from ggp_tools.holding.command import DIFFERENT, SAME, Holding
 from ggp_tools.instantiating import making, rounds
 from ggp_tools.kif import Expression, relation, spelled
+from ggp_tools.printable import counted
 from ground_matches import Record, Sentences, begun, description, ended, instantiated, played, played_again
 from support import program
 
@@ -164,7 +165,7 @@ class Planted(unittest.TestCase):
         self.assertEqual({key: json.loads(line)[key] for key in ("moves", "errors", "states", "goalValues")}, {key: record[key] for key in ("moves", "errors", "states", "goalValues")})
         status, words = holding(name).held(line)
         self.assertEqual((status, words.partition(":")[0]), (DIFFERENT, "differs"), words)
-        self.assertEqual(holding(name).held(json.dumps(right)), (SAME, f"the same: {len(right['moves']):,} turns"))
+        self.assertEqual(holding(name).held(json.dumps(right)), (SAME, f"the same: {counted(len(right['moves']), 'turn')}"))
 
     def assert_each_is_found(self, plant: Plant, names: tuple[str, ...] = PLANTED_IN) -> None:
         for name in names:

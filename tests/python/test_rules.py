@@ -159,7 +159,7 @@ class Rules(InArchive):
         self.assertIn("cup/competition.toml is there already", self.refused(*words))
         for more, refused in (
             (["--games", "nogame"], "'nogame' is neither a file nor a game"), (["--knockout"], "not allowed with argument --swiss"), (["--swiss", "x"], "rounds: this is no TOML"),
-            (["--final", "3"], "form.final: there are 2 players"), (["--name", "a cup"], "name: expected a name of 1 to 40 letters"), (["--players", "ann=9147"], "players.address: expected HOST:PORT"),
+            (["--final", "3"], "form.final: the competition has 2 players"), (["--name", "a cup"], "name: expected a name of 1 to 40 letters"), (["--players", "ann=9147"], "players.address: expected HOST:PORT"),
         ):
             self.assertIn(refused, self.refused("init", "other", *words[2:], *more))
         self.assertFalse((self.folder / "other").exists())

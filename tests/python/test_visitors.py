@@ -122,8 +122,8 @@ class Limits(Served):
         cases = (
             (["192.0.2.1"], eighth), (["127.0.0.1"], whole), (["::1", "::ffff:127.0.0.2", "127.0.0.1"], whole),
             ([f"2001:db8::{at:x}:{at:x}" for at in range(8)], eighth), (["192.0.2.1", "::ffff:192.0.2.1"], eighth),
-            ([f"fe80::{at:x}%eth{at}" for at in range(8)], eighth), ([f"2001:db8:0:{at:x}::1" for at in range(8)], eighth),
-            ([f"2001:db8:0:{at:x}00::1" for at in range(8)], whole),
+            ([f"fe80::{at:x}%eth{at}" for at in range(8)], eighth), ([f"2001:db8:0:{at:x}00::1" for at in range(8)], eighth),
+            ([f"2001:db8:{at:x}::1" for at in range(8)], whole),
         )
         for addresses, has_room in cases:
             visitors, found = http_server.Visitors(32), []

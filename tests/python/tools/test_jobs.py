@@ -31,7 +31,7 @@ def shell(name: str, script: str, **more: bool) -> Job:
 def test_commands_are_counted_and_those_that_fail_are_named(capsys: pytest.CaptureFixture) -> None:
     jobs = Jobs()
     assert not jobs.side_by_side([shell("one", "echo 3 passed"), shell("two", "echo wrong; exit 1")], [Job("gone", ["no-such-command"])])
-    assert (jobs.counts, sorted(jobs.failed), jobs.last_lines["two"]) == (Counts(3, 2), ["gone", "two"], "wrong")
+    assert (jobs.counts, jobs.failed, jobs.last_lines["two"]) == (Counts(3, 2), {"gone": [], "two": ["wrong\n"]}, "wrong")
     printed = capsys.readouterr().out
     assert "one: 3 passed\n" in printed and "== two: 0 passed, 1 failed, in 0 s\n" in printed and "gone: no-such-command cannot be run: " in printed
 
@@ -39,7 +39,7 @@ def test_commands_are_counted_and_those_that_fail_are_named(capsys: pytest.Captu
 def test_after_a_needed_command_that_failed_the_chain_ends_and_others_go_on() -> None:
     jobs = Jobs()
     assert not jobs.side_by_side([shell("program", "exit 1", is_needed=True), shell("after", "echo 1 passed")], [shell("beside", "true")])
-    assert (jobs.failed, "after" in jobs.last_lines, jobs.counts) == (["program"], False, Counts(1, 1))
+    assert (jobs.failed, "after" in jobs.last_lines, jobs.counts) == ({"program": []}, False, Counts(1, 1))
     assert Jobs().side_by_side([shell("program", "true", is_needed=True)])
 
 
