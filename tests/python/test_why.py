@@ -195,13 +195,13 @@ class Why(InFolder):
         of_round = Explanation(plan, replace(plan.matches[0], round=1))
         self.assertEqual([note.text for note in of_round.notes()], [lines[at] for at in (0, 3, 5, 6, 7)])
 
-    def said_of(self, notes: str, log: str) -> str:
-        """Returns the report about a player from a journal and a log. `MATCH` in the notes stands for the match."""
+    def said_of(self, notes: str, log: str, *players: str) -> str:
+        """Returns the report about players from a journal and a log. `MATCH` in the notes stands for the match."""
         plan = plan_in(str(self.folder), ["ann", "bob"])
         match = plan.matches[0]
         plan.folder.journal.write_text(notes.replace("MATCH", match.id))
         plan.folder.log(match.id).write_text(log)
-        return "\n".join(Explanation(plan, match).lines(["ann"]))
+        return "\n".join(Explanation(plan, match).lines(players or ["ann"]))
 
     def message(self, number: int, answer: str, time: int | None) -> str:
         """Returns the line of a message that was sent this many seconds after the match began."""
@@ -219,7 +219,7 @@ class Why(InFolder):
 
     def test_a_clock_that_is_set_back_while_no_line_has_a_time(self):
         said = self.said_of("2026-01-02T10:00:00.000Z begin MATCH heap\n2026-01-02T09:00:05.000Z end MATCH heap\n", self.message(1, "ready", None))
-        words = "begin ", "(no time) START was", "the clock was set back: the line before has 2026-01-02T10:00:00.000Z", "end "
+        words = "begin ", "(no time) START was", "the clock was set back: it was 2026-01-02T10:00:00.000Z before", "end "
         self.assertEqual(re.findall("|".join(map(re.escape, words)), said), list(words))
 
     def test_each_beginning_in_the_log_is_told_however_many_were_noted(self):
@@ -230,6 +230,16 @@ class Why(InFolder):
         )):
             said = self.said_of("".join(f"{began} {word} MATCH heap\n" for word in ("info", *["begin"] * count, "end")), log)
             self.assertEqual(re.findall(r"info|begin|(?<=answered `)\w+|end ", said), ["info", *wanted.split(), "end "] if count else ["info", "end ", *wanted.split()], count)
+
+    def test_rows_are_in_the_order_of_their_times(self):
+        match = plan_in(str(self.folder), ["ann", "bob"]).matches[0]
+        # In turn 1 bob answers before ann, and ann dies between turns 1 and 2. Its node has another clock than `play`.
+        rows = ((0, 1, "START", 0), (1, 1, "START", 0), (0, 2, "PLAY", 2), (1, 2, "PLAY", 1), (0, 3, "PLAY", 5))
+        log = "".join(line(match, role, number, f"({kind} {match.id} NIL)", "noop", 0, BEGAN + 1_000 * time) for role, number, kind, time in rows)
+        notes = "".join(f"2026-01-02T03:04:{second:02}.500Z {row}\n" for second, row in ((5, "begin MATCH heap"), (8, "died MATCH ann: it ended"), (9, "end MATCH heap")))
+        said = self.said_of(notes, log, "ann", "bob")
+        found = re.findall(r"begin|START was|turn \d|the clock was set back|died|end ", said)
+        self.assertEqual(found, ["begin", "START was", "turn 1", "died", "turn 2", "end ", "begin", "START was", "turn 1", "end "])
 
     def test_an_answer_is_told_whole_but_not_without_end(self):
         log = self.message(1, "x" * 900, 1) + self.message(2, "y" * 60_000, 2)

@@ -26,7 +26,7 @@ ROWS = (
 )
 # The first words of rows that are about one player.
 OF_PLAYER = "info", "abort", "start", "restart", "died", "down"
-SET_BACK = "the clock was set back: the line before has {before}"
+SET_BACK = "the clock was set back: it was {before} before"
 MARKS = {
     "TO": "no whole answer within {seconds} s",
     "CE": "no connection, or no whole reply",
@@ -37,27 +37,25 @@ MARKS = {
 
 @dataclass
 class Entry:
-    """What happened at a time, which is empty if it is unknown; to one role, or to all."""
+    """What happened at a time, which is empty if it is unknown; to one role, or to all. The journal and the log may be of two computers, whose clocks
+    differ."""
 
     time: str
     role: int | None
     text: str
+    is_note: bool = False
 
 
-def marked(entries: list[Entry], before: str = "") -> list[Entry]:
-    """Returns the entries of one file, with a remark where the clock was set back."""
-    remarked = []
+def marked(entries: list[Entry]) -> list[Entry]:
+    """Returns the entries, with a remark where the clock was set back."""
+    remarked, before = [], {}
     for entry in entries:
-        if entry.time and entry.time < before:
-            remarked.append(Entry(entry.time, None, SET_BACK.format(before=before)))
+        if entry.time and entry.time < before.get(entry.is_note, ""):
+            remarked.append(Entry(entry.time, None, SET_BACK.format(before=before[entry.is_note])))
+            before.clear()
         remarked.append(entry)
-        before = entry.time or before
+        before.update({entry.is_note: entry.time} if entry.time else {})
     return remarked
-
-
-def last_time(entries: list[Entry]) -> str:
-    """Returns the last known time of entries."""
-    return next((entry.time for entry in reversed(entries) if entry.time), "")
 
 
 def parts_at(notes: list[Entry], beginning: str) -> list[list[Entry]]:
@@ -66,20 +64,24 @@ def parts_at(notes: list[Entry], beginning: str) -> list[list[Entry]]:
     return [notes[start:end] for start, end in itertools.pairwise([0, *starts, len(notes)])]
 
 
+def merged(*parts: list[Entry]) -> list[Entry]:
+    """Returns entries of the log and of the journal by their times, or one after the other if a clock was set back or a time is unknown."""
+    is_known = all(entry.time for part in parts for entry in part) and all(marked(part) == part for part in parts)
+    return sorted(itertools.chain(*parts), key=lambda entry: entry.time) if is_known else list(itertools.chain(*parts))
+
+
 def in_order(notes: list[Entry], runs: list[list[Entry]], match_id: str) -> list[Entry]:
-    """Merges the notes of the journal and the runs of the log, both in the order of their lines, because a clock may be set back. A run follows the
-    note of its beginning. The log may lack the first runs."""
+    """Merges the notes of the journal and the runs of the log, both about one role. A run is between the notes of its beginning and its end, and the
+    notes about the player are at their times. The log may lack the first runs."""
     before, *begun = parts_at(notes, f"begin {match_id} ")
     if not begun:
-        return marked([*notes, *sum(runs, [])])
+        return [*notes, *sum(runs, [])]
     lacking = len(begun) - len(runs)
     runs = [[] for _ in range(lacking)] + runs if lacking >= 0 else [sum(runs[: 1 - lacking], []), *runs[1 - lacking :]]
-    entries = marked(before)
     for part, run in zip(begun, runs):
-        # The note of a beginning may be later than the first line of the log.
-        entries += marked(part[:1], last_time(entries)) + marked(run)
-        entries += marked(part[1:], last_time(entries))
-    return entries
+        end = next((at for at, note in enumerate(part) if at and note.role is None), len(part))
+        before += [part[0], *merged(run, part[1:end]), *part[end:]]
+    return before
 
 
 class Explanation:
@@ -102,7 +104,7 @@ class Explanation:
             for line in file:
                 row = TIMED.fullmatch(line.rstrip("\n"))
                 if row and of_match.match(row[2]):
-                    yield Entry(row[1], self.role_of(row[2]), row[2])
+                    yield Entry(row[1], self.role_of(row[2]), row[2], True)
 
     def role_of(self, row: str) -> int | None:
         """Returns the role of the player that a row is about, or None if it is about the whole match."""
@@ -197,13 +199,13 @@ class Explanation:
         more = f", retired after {counted(strikes, 'turn')} in a row without a move of its own" if strikes else ""
         more += f", lost by {most} replaced moves in turns in which the player had a choice" if most else ""
         yield f"{match.id}, {match.game}: {who}; {match.start} s for START, {match.play} s for each other message{more}"
-        entries = in_order(list(self.notes()), self.runs(), match.id)
+        notes, runs = list(self.notes()), self.runs()
         for player in players:
             role = match.players.index(player)
             yield from ("", f"{player}, {self.roles[role]}:")
-            for entry in entries:
-                if entry.role in (None, role):
-                    yield f"{entry.time or '(no time)'} {entry.text}"
+            # Only the rows of one role are in the order of their times, because the players of a turn answer in any order.
+            of_role, *of_runs = ([entry for entry in entries if entry.role in (None, role)] for entries in (notes, *runs))
+            yield from (f"{entry.time or '(no time)'} {entry.text}" for entry in marked(in_order(of_role, of_runs, match.id)))
             yield from self.outcome(role)
 
 
