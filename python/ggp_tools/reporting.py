@@ -114,4 +114,4 @@ class Reporter:
 
     def progress(self, over: int, open_count: int, to_come: int, left: float | None) -> None:
         """Shows the numbers of matches and the time left."""
-        self.draw(f"over {over}, open {open_count}, to come {to_come}, left {'unknown' if left is None else spell(left)}")
+        self.draw(f"over {over}, open {open_count}, to come {to_come}, time left {'unknown' if left is None else spell(left)}")

@@ -191,4 +191,4 @@ class Launched(InFolder):
                 time.sleep(0.01)
             (self.folder / "process").unlink()
             if number == signal.SIGTERM:
-                self.assertIn("missing cup-001: it was ended before its end", out)
+                self.assertIn("missing cup-001: broken off", out)

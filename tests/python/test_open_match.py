@@ -242,6 +242,17 @@ class Asking(WithMatch):
         self.begin("tries = 3\n")
         self.assertEqual(self.asked(NO_ANSWER, info_of("busy")), (False, None, [f"back {self.match.id}: ann is silent, bob is busy"]))
 
+    def test_a_player_that_is_not_started_again_is_not_asked_again(self):
+        self.players_over("bob")
+        self.assertEqual(self.asked(READY, NO_ANSWER), (False, "bob is silent", []))
+        self.assertEqual(self.slots.failed, {"ann": 0, "bob": 0})
+        self.begin(f'{self.HEAD}absent = "play"\n')
+        self.players_over("bob")
+        self.assertEqual(self.asked(READY, NO_ANSWER), (True, None, [f"silent {self.match.id}: bob has not answered INFO, and the match is played"]))
+
+    def players_over(self, *names):
+        self.open.players.is_over = lambda name: name in names
+
     def test_who_is_there_begins_anew(self):
         self.slots.failed.update(ann=1, bob=1)
         self.asked(READY, NO_ANSWER)

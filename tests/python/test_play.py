@@ -212,7 +212,7 @@ class Play(InFolder):
         # The error comes before anything is read or sent.
         waiting = program_but(self.folder / "waiting", '"$1" = abort', "sleep 60")
         playing = start(self.folder, "play", "--program", waiting)
-        self.assertEqual(playing.stdout.readline(), "open 1 match, when a play before this one was ended; their players are sent ABORT\n")
+        self.assertEqual(playing.stdout.readline(), "open 1 match of an earlier `play`; its players are sent ABORT\n")
         self.assertEqual([player.aborted for player in self.players], [[], []])
         playing.kill()
         playing.communicate()
@@ -284,7 +284,7 @@ class Play(InFolder):
         self.assertEqual(sorted(match for player in self.players for match in player.aborted), sorted(2 * ended))
         self.assertEqual([player.matches for player in self.players], [{}] * 4)
         for match in ended:
-            self.assertIn(f"missing {match}: it was ended before its end", out)
+            self.assertIn(f"missing {match}: broken off", out)
         self.assertEqual(list((self.folder / "open").iterdir()), [])
         self.assertEqual(run(self.folder, "play")[0], 0)
         self.assertEqual([player.clashes for player in self.players], [[]] * 4)
@@ -614,8 +614,8 @@ class Play(InFolder):
         os.close(theirs)
         said = read_to_close(ours)
         self.assertEqual(playing.wait(), 0)
-        self.assertRegex(said, r"over 0, open 1, to come 1, left unknown")
-        self.assertRegex(said, r"over 1, open [01], to come [01], left 0:00:\d\d")
+        self.assertRegex(said, r"over 0, open 1, to come 1, time left unknown")
+        self.assertRegex(said, r"over 1, open [01], to come [01], time left 0:00:\d\d")
 
     def test_watch_writes_the_pages(self):
         self.planned(["slow"] * 4)

@@ -247,7 +247,7 @@ class Going(WithMatches):
         may_begin = []
         self.go(cup_001=["playing", self.interrupt(1), "playing", won], cup_003=["playing", "playing", lambda match: may_begin.append(self.playing.may_begin(match.match)), won])
         self.assertEqual((sorted(self.begun()), sorted(self.playing.results), may_begin), (["cup-001", "cup-003"], ["cup-001", "cup-003"], [False]))
-        self.assertEqual(self.reporter.lines, ["no more matches begin; 2 are played to their ends, or ended by one more Ctrl-C"])
+        self.assertEqual(self.reporter.lines, ["no more matches begin; 2 matches are played to their ends, or ended by one more Ctrl-C"])
 
     def test_a_match_whose_players_were_asked_when_it_came_waits_again(self):
         self.begin(at_once=1)
@@ -262,7 +262,7 @@ class Going(WithMatches):
                 (self.plan.folder.open / match).mkdir(parents=True, exist_ok=True)
             self.go(cup_001=["playing", self.interrupt(counts[0]), "playing", self.interrupt(counts[1]), *["playing"] * 9, won], cup_003=[*["asking"] * 9, won])
             self.assertEqual((self.begun(), self.playing.results, [standing.is_ended for standing in Standing.begun]), (["cup-001", "cup-003"], {}, [True, True]))
-            self.assertEqual((self.playing.left, self.aborted), ({"cup-001": "it was ended before its end"}, [({"cup-001": ["ann@h", "bob@h"]}, 3)]))
+            self.assertEqual((self.playing.left, self.aborted), ({"cup-001": "broken off"}, [({"cup-001": ["ann@h", "bob@h"]}, 3)]))
             self.assertEqual(self.playing.slots.free, dict.fromkeys(self.NAMES, 1))
 
     def test_those_that_are_checked_go_on(self):
@@ -408,7 +408,7 @@ class Before(WithMatches):
         places = ["ann@h:1", "bob@h:2"]
         self.assertEqual(self.aborted, [({"cup-001": places, "old-007": places}, None)])
         self.assertEqual([room.exists() for room in (first, over_one, other, plain, empty, wrong)], [False, False, False, True, False, True])
-        self.assertEqual(self.reporter.lines[0], "open 2 matches, when a play before this one was ended; their players are sent ABORT")
+        self.assertEqual(self.reporter.lines[0], "open 2 matches of an earlier `play`; their players are sent ABORT")
 
     def test_rooms_and_the_places_that_they_name(self):
         self.room("cup-001", None)
@@ -454,15 +454,15 @@ class Before(WithMatches):
         Standing.laid_down = {"cup-001": [interrupt]}
         with mock.patch.object(playing, "plan_next_round", side_effect=AssertionError):
             missing = playing.play(self.playing)
-        self.assertEqual(missing, {match.id: "it was not begun" for match in self.plan.matches[1:]})
+        self.assertEqual(missing, {match.id: "not begun" for match in self.plan.matches[1:]})
 
 
 class Words(unittest.TestCase):
     def test_missing_matches_are_told_by_reasons(self):
         ten, eleven = ({f"m{at}": "why" for at in range(count)} for count in (10, 11))
         self.assertEqual(list(missing_lines(ten)), [f"missing m{at}: why" for at in range(10)])
-        self.assertEqual(list(missing_lines({**eleven, "x": "else"})), ["missing 11 matches, m0 to m10: why", "missing x: else"])
-        self.assertEqual(list(missing_lines({f"m{at}": "it was not begun" for at in range(1_200)})), ["missing 1,200 matches, m0 to m1199: it was not begun"])
+        self.assertEqual(list(missing_lines({**eleven, "x": "else"})), ["missing 11 matches between m0 and m10: why", "missing x: else"])
+        self.assertEqual(list(missing_lines({f"m{at}": "not begun" for at in range(1_200)})), ["missing 1,200 matches between m0 and m1199: not begun"])
 
 
 class Signals(WithMatches):

@@ -334,7 +334,7 @@ class Pages(Served):
         lines = [f"info {match.id} ann: refused, 0.0 s" for match in (lost, again)]
         lines += [f"no record {lost.id}: ann is silent", f"no record {again.id}: its files: {self.plan.folder.path}/x"]
         lines += [f"info {again.id} ann: available, 0.1 s"]
-        lines += [f"missing {other.id}: it was not begun", "no record none: x", f"no record {other.id}"]
+        lines += [f"missing {other.id}: not begun", "no record none: x", f"no record {other.id}"]
         self.plan.folder.journal.write_text("".join(f"2026-01-02T03:04:05.000Z {text}\n" for text in lines))
         self.look()
         first = self.page("/")

@@ -3,6 +3,7 @@
 import asyncio
 import json
 import os
+import re
 import shutil
 import signal
 import socket
@@ -17,6 +18,7 @@ from ggp_tools.competition import children, job, jobs, started_players
 from ggp_tools.competition.competition_file import Command, Player
 from ggp_tools.competition.files import Folder
 from ggp_tools.competition.started_players import PlayerLog, StartedPlayer, StartedPlayers
+from ggp_tools.moments import MOMENT
 from support import GAMES, TOP, InFolder, command_of, program, program_but, run, start, toml
 
 ANSWERS, SILENT = ["true"], ["false"]
@@ -110,8 +112,8 @@ def test_a_player_that_lives_is_started_again_for_each_match_only_if_it_says_so(
     assert not any(map(is_alive, processes))
 
 
-@pytest.mark.parametrize(("restart", "comes_again"), [("when_dead", True), ("never", False), ("each_match", True)])
-def test_a_player_that_dies_is_reported_with_its_last_words(tmp_path, restart, comes_again):
+@pytest.mark.parametrize("restart", ["when_dead", "each_match"])
+def test_a_player_that_dies_is_reported_with_its_last_words(tmp_path, restart):
     ann = player(tmp_path, "read line < wait; echo oh no; exit 3", restart=restart)
     os.mkfifo(tmp_path / "wait")
 
@@ -122,17 +124,43 @@ def test_a_player_that_dies_is_reported_with_its_last_words(tmp_path, restart, c
         await ann.watching
         ann.matches.clear()
         await ann.ready("cup-002")
-        is_running = ann.is_running()
-        assert is_running == comes_again
+        assert ann.is_running()
         await ann.end()
         return first
 
     first = asyncio.run(play())
     assert ann.reporter.lines[0] == "died cup-001 ann: it ended with status 3: oh no"
     said = ann.reporter.lines[1:] + ann.reporter.notes[1:]
-    assert [line.rpartition(",")[0].rpartition(" ")[0] for line in said] == ["restart cup-002 ann: process"] * comes_again
+    assert [line.rpartition(",")[0].rpartition(" ")[0] for line in said] == ["restart cup-002 ann: process"]
     assert (ann.reporter.lines[1:] == said) == (restart != "each_match")
     assert not is_alive(first)
+
+
+def test_a_player_that_dies_between_matches_is_reported_once_and_if_it_is_not_started_again(tmp_path):
+    ann = player(tmp_path, "read line < wait; kill -9 $$", restart="never")
+    players = StartedPlayers(Folder(tmp_path), types.SimpleNamespace(players=()), None, ann.reporter)
+    players.players["ann"] = ann
+    os.mkfifo(tmp_path / "wait")
+
+    async def play():
+        await ann.ready("cup-001")
+        ann.matches.clear()
+        assert not players.is_over("ann")
+        (tmp_path / "wait").write_text("go\n")
+        await ann.watching
+        await ann.ready("cup-002")
+        await ann.end()
+
+    asyncio.run(play())
+    why = 'it was killed by signal 9 (SIGKILL), and it is not started again because of `restart = "never"`'
+    assert (ann.reporter.lines, players.is_over("ann"), players.is_over("bob")) == ([f"died ann: {why}", f"down cup-002 ann: {why}"], True, False)
+
+
+def test_only_what_a_player_has_written_since_its_last_start_is_reported(tmp_path):
+    ann = player(tmp_path, "test -e again && exit 1; touch again; echo first; exit 1", SILENT, memory=1 << 30)
+    run_for(ann, "cup-001", "cup-002")
+    assert ann.reporter.lines[2:] == [f"down cup-002 ann: it ended with status 1; it wrote nothing to {ann.log.path}"]
+    assert re.fullmatch(rf"first\n---- {MOMENT} start for cup-002\n", ann.log.path.read_text())
 
 
 def test_a_player_that_does_not_come_up_is_reported_with_the_end_of_its_log(tmp_path):
@@ -144,7 +172,7 @@ def test_a_player_that_does_not_come_up_is_reported_with_the_end_of_its_log(tmp_
     ]
     ann = player(tmp_path / "other", "exec sleep 600", SILENT, start_seconds=1)
     process, = run_for(ann, "cup-001")
-    assert (ann.reporter.lines, process) == ([f"down cup-001 ann: it did not answer INFO within 1 s; {ann.log.path} is empty"], None)
+    assert (ann.reporter.lines, process) == ([f"down cup-001 ann: it did not answer INFO within 1 s; it may need more `start_seconds`; it wrote nothing to {ann.log.path}"], None)
 
 
 def test_a_program_that_can_not_be_started(tmp_path):
@@ -164,7 +192,7 @@ def test_an_answer_of_another_program_at_its_port_is_not_its_own(tmp_path, monke
 
     monkeypatch.setattr(started_players, "run", answered_later)
     run_for(ann, "cup-001")
-    assert ann.reporter.lines == [f"down cup-001 ann: it ended with status 1; {ann.log.path} is empty"]
+    assert ann.reporter.lines == [f"down cup-001 ann: it ended with status 1; it wrote nothing to {ann.log.path}"]
 
 
 def test_a_port_that_is_taken_is_left_for_another(tmp_path):
@@ -522,6 +550,15 @@ class Started(InFolder):
             status, out, said = run(self.folder, command_line)
             self.assertEqual((status, out), (2, ""))
             self.assertRegex(said, r"competition.toml:\d+: players.command: .*none is not a program that can be run\n.*competition.toml:\d+: players.directory: nowhere is not a directory\n")
+
+    def test_limits_above_those_of_the_computer_are_refused(self):
+        self.planned()
+        file = self.folder / "competition.toml"
+        file.write_text(f'{file.read_text()}processors = 1024\nmemory = "1000T"\n')
+        status, out, said = run(self.folder, "plan")
+        words = r"competition.toml:(\d+): players.%s: [\d,]+ %sare more than the [\d,]+ %s\n"
+        self.assertEqual((status, out), (2, ""))
+        self.assertRegex(said, words % ("processors", "", "that `play` may use on this computer") + ".*" + words % ("memory", "bytes ", "bytes of this computer"))
 
     def test_the_demonstration(self):
         # Its commands are run by the Python that runs this.

@@ -88,7 +88,7 @@ class Whole(InFolder):
             self.assertEqual(status, {signal.SIGKILL: -9, signal.SIGINT: 1, None: 0}[number], out[-2000:])
             if number == signal.SIGINT:
                 self.assertIn("no more matches begin", out)
-                self.assertIn(": it was not begun", out)
+                self.assertIn(": not begun", out)
         seconds = time.monotonic() - began
         self.assertEqual(clashed, [])
         self.assertIn("192 of 192 matches have a lawful record", out)

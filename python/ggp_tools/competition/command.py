@@ -210,7 +210,7 @@ def missing_lines(missing: dict[str, str]) -> Iterator[str]:
         by_reason.setdefault(why, []).append(match)
     for why, matches in by_reason.items():
         if len(matches) > MOST_LINES:
-            yield f"missing {len(matches):,} matches, {matches[0]} to {matches[-1]}: {why}"
+            yield f"missing {len(matches):,} matches between {matches[0]} and {matches[-1]}: {why}"
         else:
             yield from (f"missing {match}: {why}" for match in matches)
 

@@ -134,7 +134,7 @@ class OpenMatch:
         missed = {player: answer for player, answer in answers.items() if answer not in FREE}
         for player in answers.keys() - missed.keys():
             self.slots.count_answer(player)
-        again = [name for name in missed if self.slots.count_failure(name, self.taken_at)]
+        again = [name for name in missed if not self.players.is_over(name) and self.slots.count_failure(name, self.taken_at)]
         played_without = [name for name, answer in missed.items() if answer == "silent" and self.plan.competition.absent == "play"]
         given_up = [name for name in missed if name not in again and name not in played_without]
         reason = ", ".join(f"{name} is {missed[name]}" for name in given_up or again)

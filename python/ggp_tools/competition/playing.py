@@ -29,7 +29,7 @@ from ggp_tools.reporting import REDRAWN, Reporter
 
 # The players of matches that are ended must answer ABORT within this many seconds.
 ABORT_SECONDS = 3
-NOT_BEGUN, ENDED = "it was not begun", "it was ended before its end"
+NOT_BEGUN, ENDED = "not begun", "broken off"
 # How many interrupts a signal counts as: after the first no more matches begin, the second ends the open ones.
 INTERRUPTS = {signal.SIGINT: 1, signal.SIGTERM: 2, signal.SIGHUP: 2}
 # The names and addresses of a match's players have fewer bytes.
@@ -165,7 +165,8 @@ class Playing:
         self.news.set()
         if self.interrupts == 1:
             playing = sum(open_match.stage == PLAYING for open_match in self.open)
-            self.reporter.line(f"no more matches begin; {playing} are played to their ends, or ended by one more Ctrl-C")
+            ends = counted(playing, "match", "is played to its end", "are played to their ends")
+            self.reporter.line(f"no more matches begin; {ends}, or ended by one more Ctrl-C")
         elif before < 2 and self.open:
             self.group.create_task(self.end_open_matches())
 
@@ -298,7 +299,7 @@ def prepare(playing: Playing) -> None:
     directories = open_directories(plan)
     if count := sum(bool(places) and not folder.record(directory.name).exists() for directory, places in directories.items()):
         # The check of the records takes a while, and players that do not answer take longer.
-        reporter.line(f"open {counted(count, 'match')}, when a play before this one was ended; their players are sent ABORT")
+        reporter.line(f"open {counted(count, 'match')} of an earlier `play`; {'its' if count == 1 else 'their'} players are sent ABORT")
     reporter.draw("checking the records")
     playing.results, faults, misfits = check_records(plan, playing.referee)
     refuse_lost_results(plan, playing.results)

@@ -9,10 +9,12 @@ import time
 from collections.abc import Iterator
 
 from ggp_tools.competition.children import run
-from ggp_tools.competition.competition_file import EACH_MATCH, NEVER, Competition, Mistake, Player
+from ggp_tools.competition.competition_file import EACH_MATCH, NEVER, Command, Competition, Mistake, Player
 from ggp_tools.competition.files import Folder, file_bytes, new_file
 from ggp_tools.competition.jobs import Job
+from ggp_tools.moments import moment
 from ggp_tools.printable import MOST_READ, message_lines
+from ggp_tools.processes import ended_words
 from ggp_tools.referee import Referee
 from ggp_tools.reporting import Reporter
 
@@ -35,6 +37,14 @@ class PlayerLog:
 
     def __init__(self, path: pathlib.Path) -> None:
         self.path, self.size = path, path.stat().st_size if path.exists() else 0
+        # Where the output since the last start begins.
+        self.begin = self.size
+
+    def mark(self, text: str) -> None:
+        """Writes a line between the output of an earlier start and that of the next one."""
+        if self.size:
+            self.write(f"---- {moment()} {text}\n".encode())
+        self.begin = self.size
 
     async def take(self, data: bytes) -> None:
         self.write(data)
@@ -46,15 +56,16 @@ class PlayerLog:
         with contextlib.suppress(OSError):
             if self.size > MOST_BYTES:
                 os.replace(self.path, f"{self.path}.1")
+                self.begin = 0
             # Like the directory of open matches, only its owner can read it.
             with open(self.path, "ab", buffering=0) if self.path.exists() else new_file(self.path) as file:
                 file.write(data)
                 self.size = file.tell()
 
     def last_lines(self) -> list[str]:
-        """Returns the last lines, or none if the file is empty or missing."""
+        """Returns the last lines since the last start, or none if the file is missing."""
         try:
-            return message_lines(file_bytes(self.path)[-MOST_READ:])[-LAST_LINES:]
+            return message_lines(file_bytes(self.path)[self.begin :][-MOST_READ:])[-LAST_LINES:]
         except OSError:
             return []
 
@@ -68,6 +79,8 @@ class StartedPlayer:
         self.job, self.address, self.port, self.was_started = None, NOWHERE, 0, False
         self.lock, self.matches, self.reported_lines = asyncio.Lock(), set(), []
         self.watching: asyncio.Task | None = None
+        # Why it does not run, and is not started again.
+        self.over = ""
 
     def place(self) -> str:
         return f"{self.name}@{self.address}"
@@ -80,7 +93,9 @@ class StartedPlayer:
         async with self.lock:
             if self.command.restart == EACH_MATCH:
                 await self.end()
-            if not self.is_running() and not (self.was_started and self.command.restart == NEVER):
+            if self.over:
+                self.reporter.line(f"down {match} {self.name}: {self.over}")
+            elif not self.is_running():
                 await self.end()
                 await self.start(match)
             self.matches.add(match)
@@ -88,6 +103,7 @@ class StartedPlayer:
     async def start(self, match: str) -> None:
         """Starts the player, and waits until it answers INFO."""
         is_again, self.was_started = self.was_started, True
+        self.log.mark(f"start for {match}")
         try:
             why = await self.came_up()
         except OSError as error:
@@ -105,8 +121,8 @@ class StartedPlayer:
         """Reports that the player did not start, with the last lines of its log unless they were reported before."""
         last, before = self.log.last_lines(), self.reported_lines
         self.reported_lines = last
-        end = f"{self.log.path} is empty" if not last else f"the end of {self.log.path}:" if last != before else f"{self.log.path} ends as before"
-        self.reporter.line(f"down {match} {self.name}: {why}; {end}")
+        end = f"it wrote nothing to {self.log.path}" if not last else f"the end of {self.log.path}:" if last != before else f"{self.log.path} ends as before"
+        self.reporter.line(f"down {match} {self.name}: {self.with_restart(why)}; {end}")
         for line in last if last != before else ():
             self.reporter.line(f"down {match} {self.name}: | {line}")
 
@@ -129,15 +145,22 @@ class StartedPlayer:
                 pause = min(2 * pause, LONGEST_PAUSE)
         if job.running.done():
             job.running.result()
-            return ended_words(job)
-        return f"it did not answer INFO within {command.start_seconds} s"
+            return words_of_end(job)
+        more = " or more `memory`" if command.memory else ""
+        return f"it did not answer INFO within {command.start_seconds} s; it may need more `start_seconds`{more}"
 
     async def watch(self, job: Job) -> None:
-        """If the player ends by itself, this reports it for each match that it is playing."""
+        """If the player ends by itself, this reports it for each match that it is playing, or once between matches."""
         await asyncio.wait([job.running])
-        last = "".join(f": {line}" for line in self.log.last_lines()[-1:])
-        for match in sorted(self.matches):
-            self.reporter.line(f"died {match} {self.name}: {ended_words(job)}{last}")
+        words, last = self.with_restart(words_of_end(job)), "".join(f": {line}" for line in self.log.last_lines()[-1:])
+        for match in [f"{match} " for match in sorted(self.matches)] or [""]:
+            self.reporter.line(f"died {match}{self.name}: {words}{last}")
+
+    def with_restart(self, why: str) -> str:
+        """Adds to the reason why the player does not run that it is not started again, if this is so."""
+        if self.command.restart == NEVER:
+            why = self.over = f"{why}, and it is not started again because of `restart = \"never\"`"
+        return why
 
     async def end(self) -> None:
         """Ends the player, with all processes that it has started."""
@@ -148,9 +171,9 @@ class StartedPlayer:
         self.job, self.address = None, NOWHERE
 
 
-def ended_words(job: Job) -> str:
+def words_of_end(job: Job) -> str:
     """Describes how a player has ended."""
-    return job.why or ("it can't be started" if job.status is None else f"it ended with status {job.status}")
+    return job.why or ("it can't be started" if job.status is None else ended_words(job.status))
 
 
 class StartedPlayers:
@@ -178,6 +201,10 @@ class StartedPlayers:
             for player in self.of(names):
                 group.create_task(player.ready(match))
 
+    def is_over(self, name: str) -> bool:
+        """Returns whether a player does not run, and is not started again."""
+        return name in self.players and bool(self.players[name].over)
+
     def leave(self, match: str, names: tuple[str, ...]) -> None:
         for player in self.of(names):
             player.matches.discard(match)
@@ -202,3 +229,14 @@ def mistakes_of_programs(folder: Folder, competition: Competition) -> Iterator[M
             yield Mistake(player.line, f"players.{'launcher' if player.command.launcher else 'command'}", f"{program} is not a program that can be run")
         if not os.path.isdir(directory):
             yield Mistake(player.line, "players.directory", f"{directory} is not a directory")
+        if not player.command.launcher:
+            yield from mistakes_of_limits(player.line, player.command)
+
+
+def mistakes_of_limits(line: int, command: Command) -> Iterator[Mistake]:
+    """Yields a mistake for each limit of a player that is above what this computer has."""
+    processors, memory = len(os.sched_getaffinity(0)), os.sysconf("SC_PHYS_PAGES") * os.sysconf("SC_PAGE_SIZE")
+    if command.processors > processors:
+        yield Mistake(line, "players.processors", f"{command.processors} are more than the {processors} that `play` may use on this computer")
+    if command.memory > memory:
+        yield Mistake(line, "players.memory", f"{command.memory:,} bytes are more than the {memory:,} bytes of this computer")
