@@ -539,7 +539,7 @@ class Started(InFolder):
         log = (self.folder / "players/bob.log").read_text().splitlines()
         self.assertEqual((log.count("user 65534"), len(log) > 10), (2, True), log)
         denied = {f"not {name} Permission denied" for name in ("listed", "read", "key", "wrote")} | {"not killed Operation not permitted"}
-        self.assertEqual({line for line in log if not line.startswith("user")}, denied)
+        self.assertEqual({line for line in log if not line.startswith(("user", "---- "))}, denied)
         self.assertEqual((len(schedule), [process for process in self.processes() if is_alive(process)]), (2, []))
 
     def test_a_program_or_a_directory_that_is_not_there_is_refused(self):
