@@ -85,5 +85,5 @@ prove: needs
 gate: needs
 	@.ci/run
 
-# These names are no targets of their own.
+# These names are arguments, not targets.
 $(NAMED): ; @:

@@ -49,7 +49,7 @@ class Proofs:
     block: collections.deque[str] = field(default_factory=lambda: collections.deque(maxlen=LAST_LINES))
 
     def read(self, line: str) -> None:
-        """Parses a line, and prints what people need of it."""
+        """Parses a line, and prints the part that people need."""
         self.last_line = line
         self.waits.read(line)
         if line.startswith("== "):

@@ -57,7 +57,7 @@ class DeskEnded(Exception):
 
 
 def word(value: str | int) -> str:
-    """Returns a word of a call. Refuses a value that would make other words of it."""
+    """Returns a word of a call. Refuses a value that would not be one word."""
     if isinstance(value, int) and not 0 <= value <= MOST_NUMBER:
         raise ValueError(f"expected a number from 0 to {MOST_NUMBER}, found {value}")
     if not WORD.fullmatch(str(value)):

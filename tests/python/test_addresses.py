@@ -12,8 +12,8 @@ from ggp_tools.competition.competition_file import read_competition
 from support import call, toml
 
 BROADCAST = "the system refuses connections to it, as to a broadcast address"
-MULTICAST = "a multicast address takes no connection"
-LINK_LOCAL = "a link-local address needs its interface, as in [fe80::1%eth0]"
+MULTICAST = "a multicast address accepts no connection"
+LINK_LOCAL = "a link-local address needs its interface, for example [fe80::1%eth0]"
 # Addresses to which no system connects.
 NO_HOSTS = [
     ("255.255.255.255", BROADCAST), ("127.255.255.255", BROADCAST), ("[::ffff:255.255.255.255]", BROADCAST), ("224.0.0.1", MULTICAST),
@@ -30,17 +30,17 @@ def mistakes(*given):
 
 @pytest.mark.parametrize("other", ["127.1:9147", "0.0.0.0:9147", "[::ffff:127.0.0.1]:9147", "2130706433:9147", "localhost:9147", "127.0.0.1:09147"])
 def test_two_players_at_one_address(other):
-    own = "are one: 127.0.0.1, port"
+    own = "are the same: 127.0.0.1, port"
     found = mistakes("127.0.0.1:9147", "127.0.0.1:9148", other)
     assert found == [(13, f"{other!r} and '127.0.0.1:9147', the address of p0, {own} {other.rpartition(':')[2]}")]
     assert mistakes(other, "127.0.0.1:9147")[0][1] == f"'127.0.0.1:9147' and {other!r}, the address of p0, {own} 9147"
 
 
 def test_addresses_of_ipv6_with_interfaces():
-    assert mistakes("[::]:9147", "[0:0::1]:9147") == [(10, "'[0:0::1]:9147' and '[::]:9147', the address of p0, are one: ::1, port 9147")]
+    assert mistakes("[::]:9147", "[0:0::1]:9147") == [(10, "'[0:0::1]:9147' and '[::]:9147', the address of p0, are the same: ::1, port 9147")]
     assert mistakes("127.0.0.1:9147", "127.0.0.2:9147", "[::1]:9148") == []
     without = [(address, "this computer has no such interface, or the address is not link-local") for address in ("[fe80::1%nope]:9147", "[::1%lo]:9147")]
-    through = [(address, "no link-local address is reached through this interface") for address in ("[fe80::1%lo]:9147", "[fe80::1%1]:9148")]
+    through = [(address, "this interface reaches no link-local address") for address in ("[fe80::1%lo]:9147", "[fe80::1%1]:9148")]
     assert mistakes(*(address for address, _ in without + through)) == [
         (line, f"{address!r}: {why}") for line, (address, why) in zip(range(7, 19, 3), without + through)
     ]
@@ -68,7 +68,7 @@ def test_names():
         return [(socket.AF_INET, type, 6, "", (address, 0)) for address in known[host]]
 
     with mock.patch.object(addresses.socket, "getaddrinfo", lookup):
-        words = "'bob.example:1' and 'ann.example:1', the address of p0, are one: 10.0.0.2, port 1"
+        words = "'bob.example:1' and 'ann.example:1', the address of p0, are the same: 10.0.0.2, port 1"
         assert mistakes("ann.example:1", "bob.example:1", "cid.example:1", "none.example:1", "other.example:1") == [(10, words)]
 
 

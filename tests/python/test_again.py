@@ -90,7 +90,7 @@ class OrderedAgain(unittest.TestCase):
         for reason in ("", " x", "x ", "x" * 201, "a\tb", "a\nb", "\xe4"):
             with self.assertRaises(Refused) as why:
                 self.order("cup-001", reason)
-            self.assertEqual(str(why.exception), "--reason: 1 to 200 printable characters of ASCII are wanted, without a space at either end")
+            self.assertEqual(str(why.exception), "--reason: expected 1 to 200 printable ASCII characters, without a space at either end")
         self.assertFalse(self.folder.again.exists() or self.folder.schedule.exists())
         for reason in ("x", "a b", "x" * 200, "!~"):
             self.assertEqual(self.order("cup-001", reason).id, "cup-003")
@@ -106,8 +106,8 @@ class OrderedAgain(unittest.TestCase):
         self.assert_refused("cup-001 does not count, so `ggp_competition play` plays it again: its playClock is 6, and the schedule has 5", "cup-001")
         self.folder.record("cup-001").write_bytes(RECORD)
         self.plan.matches[0], self.plan.rounds = dataclasses.replace(self.plan.matches[0], round=1), [object(), object()]
-        self.assert_refused("cup-001 is of round 1, by which the next one was paired, so it can't be played again", "cup-001")
+        self.assert_refused("cup-001 is of round 1, and the next one was paired by its results, so it can't be played again", "cup-001")
         self.plan.rounds.pop()
         self.assertEqual(replaceable_match(self.plan, Lawful(), "cup-001").id, "cup-001")
         self.plan.matches[0] = dataclasses.replace(self.plan.matches[0], again="cup-003", reason="late")
-        self.assert_refused("cup-001 was ordered again already, as cup-003: late", "cup-001")
+        self.assert_refused("cup-001 was already replaced by cup-003: late", "cup-001")

@@ -64,6 +64,6 @@ class Answers(unittest.TestCase):
         }
         hostile = (GAMES / "countdown.kif").read_bytes().replace(b"take", b'"><i>')
         titles = [cell["title"] for cell in parsed(page_of(record, lambda: game_of(hostile), {(1, 0): "(<i>"})).select("td.substituted")]
-        told = ['the answer was no legal move, of which there were 2: ("><i> 1), ("><i> 2)', "the answer was not one expression: a list that is not closed at column 1"]
+        told = ['the answer was not a legal move, of which there were 2: ("><i> 1), ("><i> 2)', "the answer was not one expression: a list that is not closed at column 1"]
         self.assertEqual(titles, told)
         self.assertEqual([cell["title"] for cell in parsed(page_of(record)).select("td.substituted")], [title.partition(",")[0].partition(":")[0] for title in told])

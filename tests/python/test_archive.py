@@ -98,9 +98,9 @@ SPOILINGS = {
     "the archive is cut off": (None, "can't be unpacked"),
     "it is no archive": (None, "can't be unpacked"),
     "goals are exchanged": (changed("cup/records/cup-002.json", better), "cup-002: not lawful: goals"),
-    "a record has another player's name": (changed("cup/records/cup-001.json", renamed), "cup-001: its account does not give its record again"),
+    "a record has another player's name": (changed("cup/records/cup-001.json", renamed), "cup-001: its account does not reproduce its record"),
     "a move of the account is another one": (changed("cup/accounts/cup-001.txt", lambda text: text.replace(b"READY", b"BUSY").replace(b"(take 1)", b"(take 2)")), "cup-001: "),
-    "two accounts are exchanged": (swapped("cup/accounts/cup-001.txt", "cup/accounts/cup-002.txt"), "does not give its record again"),
+    "two accounts are exchanged": (swapped("cup/accounts/cup-001.txt", "cup/accounts/cup-002.txt"), "does not reproduce its record"),
     "two whole matches are exchanged": (None, "cup-001: its matchId is 'cup-002'"),
     "calls of one account stand in another": (moved_calls, "of its account is of another match: 0 strict cup-002 "),
     "an account has a line that replay skips": (
@@ -110,11 +110,11 @@ SPOILINGS = {
     "a log tells of another player": (changed("cup/logs/cup-001.jsonl", lambda text: text.replace(b'"ann"', b'"cid"').replace(b'"bob"', b'"ann"')), " of its log is not what its account says"),
     "two logs are exchanged": (swapped("cup/logs/cup-001.jsonl", "cup/logs/cup-002.jsonl"), "cup-002: line 1 of its log is not a line that is published"),
     "the rules are others": (changed("cup/rules/countdown.kif", lambda text: text.replace(b"100", b"90")), "rules/countdown.kif is not what"),
-    "a description and its sum are others": (nonsense, "games/odd.kif has no variables, and is not the rules of odd"),
+    "a description and its sum are others": (nonsense, "games/odd.kif has no variables, and differs from the rules of odd"),
     "a description is missing": (without("cup/games/odd.kif"), "games/odd.kif is missing: it is the description of odd"),
-    "the sums of the descriptions are missing": (without("cup/rules/DESCRIPTIONS.sha256"), "rules/DESCRIPTIONS.sha256 is missing: it has the sums of the descriptions"),
+    "the sums of the descriptions are missing": (without("cup/rules/DESCRIPTIONS.sha256"), "rules/DESCRIPTIONS.sha256 is missing: it has the checksums of the descriptions"),
     "there is a sum of another description": (changed("cup/rules/DESCRIPTIONS.sha256", lambda text: text + b"0" * 64 + b"  more.kif\n"), "has a sum of more.kif, which is no game"),
-    "the schedule is another": (changed("cup/schedule.tsv", lambda text: text.replace(b"ann bob", b"bob ann", 1)), "schedule.tsv is not what"),
+    "the schedule is another": (changed("cup/schedule.tsv", lambda text: text.replace(b"ann bob", b"bob ann", 1)), "schedule.tsv does not agree with"),
     "the competition has other strikes": (changed("cup/competition.toml", lambda text: text.replace(b"strikes = 1", b"strikes = 2")), "competition.toml:4: strikes was 1 and is 2"),
     "the competition counts otherwise": (changed("cup/competition.toml", lambda text: text.replace(b"forfeit = true", b"forfeit = false")), "competition.toml:5: forfeit was true and is false"),
     "the competition has another order": (changed("cup/competition.toml", lambda text: b'order = "points"\n' + text), "competition.toml:1: order was 'goals' and is 'points'"),
@@ -197,7 +197,7 @@ class Archive(unittest.TestCase):
         self.assertEqual(self.archive.read_bytes(), published)
 
     def test_an_archive_that_is_not_there(self):
-        self.assertEqual(run(self.folder, "check", "none.tar.gz"), (2, "", "ggp_competition: none.tar.gz is not there\n"))
+        self.assertEqual(run(self.folder, "check", "none.tar.gz"), (2, "", "ggp_competition: none.tar.gz does not exist\n"))
 
     def test_an_archive_that_can_not_be_checked(self):
         short = program_but(self.other / "short", '"$1" = replay', "kill -9 $$")
@@ -231,7 +231,7 @@ class Archive(unittest.TestCase):
         files = files_of(cup / "cup.tar.gz")
         self.assertEqual(files["cup/GAPS.tsv"].decode().splitlines()[1:], [line])
         self.assertEqual([file for file in files if "cup-003" in file], [])
-        self.assertIn(b"<h2>Matches without a record</h2><p>These count for nobody.</p>", files["cup/pages/index.html"])
+        self.assertIn(b"<h2>Matches without a record</h2><p>They count for no player.</p>", files["cup/pages/index.html"])
         self.assertIn("cup: 11 of 12 matches", files["cup/table.txt"].decode())
         status, out, said = run(cup, "check", "cup.tar.gz")
         self.assertEqual((status, said), (0, ""))
@@ -269,14 +269,14 @@ class Archive(unittest.TestCase):
         cup = self.other / "cup"
         shutil.copytree(self.folder, cup)
         published = (cup / "cup.tar.gz").read_bytes()
-        for change, words in ((b"(role nonsense)\n", "is not the description that the rules of odd were made from"), (None, "is missing: it is the description of odd, of which the archive has a copy")):
+        for change, words in ((b"(role nonsense)\n", "is not the description that the rules of odd were made from"), (None, "is missing: it is the description of odd, and the archive needs a copy of it")):
             (cup / "odd.kif").write_bytes(change) if change else (cup / "odd.kif").unlink()
             self.assertEqual(run(cup, "publish"), (1, "", f"ggp_competition: nothing is published: odd.kif {words}\n"))
         (cup / "odd.kif").write_text(ODD)
         sums = cup / "rules/DESCRIPTIONS.sha256"
         before = sums.read_bytes()
         sums.unlink()
-        self.assertIn("rules/DESCRIPTIONS.sha256 is missing: it has the sums of the descriptions, and `ggp_competition plan` writes it", run(cup, "publish")[2])
+        self.assertIn("rules/DESCRIPTIONS.sha256 is missing: it has the checksums of the descriptions, and `ggp_competition plan` writes it", run(cup, "publish")[2])
         self.assertEqual((run(cup, "plan")[0], sums.read_bytes()), (0, before))
         self.assertEqual((run(cup, "publish")[0], (cup / "cup.tar.gz").read_bytes()), (0, published))
 
@@ -298,13 +298,13 @@ class Archive(unittest.TestCase):
         (self.other / "there").mkdir()
         os.mkfifo(self.other / "pipe")
         wrong = [
-            (".", ". is no plain file: `--to` names the file of the archive"),
-            (f"{self.other}/there/", f"{self.other}/there is no plain file: `--to` names the file of the archive"),
-            (f"{self.other}/pipe", f"{self.other}/pipe is no plain file: `--to` names the file of the archive"),
-            ("none/a.tgz", "none/a.tgz can't be written: none is no folder"),
-            ("competition.toml/a.tgz", "competition.toml/a.tgz can't be written: competition.toml is no folder"),
+            (".", ". is not a regular file: `--to` names the file of the archive"),
+            (f"{self.other}/there/", f"{self.other}/there is not a regular file: `--to` names the file of the archive"),
+            (f"{self.other}/pipe", f"{self.other}/pipe is not a regular file: `--to` names the file of the archive"),
+            ("none/a.tgz", "none/a.tgz can't be written: none is not a directory"),
+            ("competition.toml/a.tgz", "competition.toml/a.tgz can't be written: competition.toml is not a directory"),
         ]
-        among = "stands among the files of the competition: `--to` names a file directly in ., or outside of it"
+        among = "is among the files of the competition: `--to` names a file directly in ., or outside of it"
         wrong += [(path, f"{path} {among}") for path in ("pages/a.tgz", "records/cup-001.json", f"{self.other}/link/rules/odd.kif", "pages/matches/a.tgz")]
         (self.other / "link").symlink_to(self.folder)
         own = "competition.toml", "schedule.tsv", "matches.jsonl", "planned.toml", "play.log", "odd.kif", f"{self.other}/link/odd.kif"
@@ -324,13 +324,13 @@ class Archive(unittest.TestCase):
             said = io.StringIO()
             with mock.patch("ggp_tools.competition.packing.MOST_BYTES", most), mock.patch("sys.argv", words), mock.patch("sys.stderr", said), mock.patch("sys.stdout", io.StringIO()):
                 self.assertEqual(main(), status)
-            self.assertEqual(said.getvalue(), f"ggp_competition: nothing is published: it has more than {most:,} bytes, which are the most of an archive\n" if status else "")
+            self.assertEqual(said.getvalue(), f"ggp_competition: nothing is published: it has more than {most:,} bytes, the limit of an archive\n" if status else "")
             self.assertEqual(((cup / "cup.tar.gz").read_bytes(), [*cup.glob(".*")]), (before, []))
             with mock.patch("ggp_tools.competition.packing.MOST_BYTES", most), tempfile.TemporaryDirectory() as room:
                 try:
                     self.assertEqual((unpack(self.archive, pathlib.Path(room)).name, status), ("cup", 0))
                 except Spoilt as why:
-                    self.assertEqual((str(why), status), (f"with 'cup/SHA256SUMS' it has more than {most:,} bytes, which are the most of an archive", 1))
+                    self.assertEqual((str(why), status), (f"with 'cup/SHA256SUMS' it has more than {most:,} bytes, the limit of an archive", 1))
 
     def test_a_file_that_is_not_finished_leaves_nothing(self):
         file = self.other / "file"

@@ -236,7 +236,7 @@ class Checked(Made):
         self.path.unlink()
         with mock.patch.object(packing, "MOST_BYTES", size - 1), self.assertRaises(TooLarge) as why:
             self.publish(known)
-        self.assertEqual((str(why.exception), self.path.exists()), (f"it has more than {size - 1:,} bytes, which are the most of an archive", False))
+        self.assertEqual((str(why.exception), self.path.exists()), (f"it has more than {size - 1:,} bytes, the limit of an archive", False))
 
     def test_faults_of_this_computer_are_none_of_the_archive(self):
         for number in (errno.ENOSPC, errno.EDQUOT, errno.EIO, errno.EMFILE, errno.ENFILE, errno.ENOMEM):

@@ -113,7 +113,7 @@ class BadInput(InFolder):
             if words:
                 with self.assertRaises(Refused) as why:
                     make_plan(self.folder, referee)
-                said = f"{self.folder}/competition.toml:4: games.file: {game}: {words}; with `aborts = true` it is planned all the same"
+                said = f"{self.folder}/competition.toml:4: games.file: {game}: {words}; with `aborts = true` it is planned anyway"
                 self.assertEqual(str(why.exception), said)
                 self.assertFalse((self.folder / "schedule.tsv").exists())
                 self.write(PLAYERS, [("game", "game.kif", "aborts = true")])
@@ -143,7 +143,7 @@ class BadInput(InFolder):
                 for path in lost:
                     path.unlink()
                 if lost != sums[1:]:
-                    self.assert_refused("is not there: `ggp_competition plan` writes it\n", "table")
+                    self.assert_refused("does not exist: `ggp_competition plan` writes it\n", "table")
                 self.assertEqual(run(self.folder, "plan")[::2], (0, ""))
                 self.assertEqual({path: path.read_bytes() for path in before}, before)
         text = games.read_text()
@@ -151,7 +151,7 @@ class BadInput(InFolder):
         for path in before:
             games.write_text(text.replace("100", "99"))
             path.unlink()
-            self.assert_refused("would change, and matches were played: put back what was changed, or take another folder\n", "plan")
+            self.assert_refused("would change, and matches were played: put back what was changed, or use another directory\n", "plan")
             games.write_text(text)
             self.assertEqual(run(self.folder, "plan")[::2], (0, ""))
 
@@ -162,21 +162,21 @@ class BadInput(InFolder):
         file.write_text(text.replace("start = 2", "start = 3"))
         self.assert_refused("the clocks of game were 2 and 10, and are 3 and 10: put back what was changed", "play")
         for command in ("table", "pages", "publish"):
-            self.assert_refused("schedule.tsv is not what competition.toml says: matches were played, so put back what was changed, or add to it and plan again\n", command)
+            self.assert_refused("schedule.tsv does not agree with competition.toml: matches were played, so put back what was changed, or add to it and plan again\n", command)
         file.write_text(text.replace('name = "game"', 'name = "other"'))
-        self.assert_refused("rules/SHA256SUMS is not what competition.toml says: matches were played, so put back what was changed, or add to it and plan again\n", "table")
+        self.assert_refused("rules/SHA256SUMS does not agree with competition.toml: matches were played, so put back what was changed, or add to it and plan again\n", "table")
         file.write_text(text)
         rules.write_text("(role a)")
-        self.assert_refused("rules/game.kif is not what `ggp_competition plan` wrote: take it away, and `ggp_competition plan` writes it again\n", "play")
+        self.assert_refused("rules/game.kif is not what `ggp_competition plan` wrote: delete it, and `ggp_competition plan` writes it again\n", "play")
         (self.folder / "records/cup-001.json").unlink()
         file.write_text(text.replace("start = 2", "start = 3"))
         self.assertEqual(run(self.folder, "plan")[::2], (0, ""))
         file.write_text(text)
-        self.assert_refused("schedule.tsv is not what competition.toml says: `ggp_competition plan` writes it anew\n", "table")
+        self.assert_refused("schedule.tsv does not agree with competition.toml: `ggp_competition plan` writes it anew\n", "table")
         self.assertEqual(run(self.folder, "plan")[::2], (0, ""))
         schedule = self.folder / "schedule.tsv"
         schedule.write_text(schedule.read_text().replace("ann bob", "bob ann"))
-        self.assert_refused("schedule.tsv is not what competition.toml says", "table")
+        self.assert_refused("schedule.tsv does not agree with competition.toml", "table")
 
     def test_descriptions(self):
         for text, words in DESCRIPTIONS:
@@ -206,7 +206,7 @@ class BadInput(InFolder):
         status, out, said = run(self.folder, "plan")
         self.assertEqual((status, said, [line.split(":")[0] for line in out.splitlines()]), (0, "", ["coins", "coins", "one", "schedule.tsv"]))
         self.assertEqual(out.splitlines()[1], (
-            "coins: goals past 100 are left out (1, the first by sentence 2, line 1: (<= (goal a ?x) (true (s ?x)))): if one would hold at the end, the role gets the other goal that holds there, "
+            "coins: goals above 100 are left out (1, the first by sentence 2, line 1: (<= (goal a ?x) (true (s ?x)))): if one would hold at the end, the role gets the other goal that holds there, "
             "and if there is none the match has no goals"
         ))
 
@@ -241,7 +241,7 @@ class BadInput(InFolder):
         (self.folder / "rules").mkdir()
         (self.folder / "rules/nim.kif").write_text((GAMES / "general/nim.kif").read_text())
         self.write(PLAYERS, [("nim", "rules/nim.kif")])
-        self.assert_refused("competition.toml:4: games.file: rules/nim.kif: a description can't stand in rules, where `plan` writes the rules")
+        self.assert_refused("competition.toml:4: games.file: rules/nim.kif: a description must not be in rules, where `plan` writes the rules")
 
     def test_rules_with_variables_of_a_game_that_has_none(self):
         (self.folder / "one.kif").write_text("(role ?a")
@@ -250,7 +250,7 @@ class BadInput(InFolder):
         self.assert_refused([
             "competition.toml:4: games.file: one.kif: line 1, column 1: a list",
             "competition.toml:8: games.file: two.kif: it can't be read",
-            f'competition.toml:15: games.player_rules: {GAMES}/countdown.kif has no variables: "ground" is wanted',
+            f'competition.toml:15: games.player_rules: {GAMES}/countdown.kif has no variables: use "ground"',
         ])
 
     def test_mistakes_have_line_and_key(self):
@@ -261,7 +261,7 @@ class BadInput(InFolder):
         self.assert_refused("competition.toml can't be read: No such file")
         self.write(PLAYERS, [("tictactoe", GAMES / "tictactoe.kif")])
         for command in ("table", "pages", "publish"):
-            self.assert_refused("schedule.tsv is not there: `ggp_competition plan` writes it", command)
+            self.assert_refused("schedule.tsv does not exist: `ggp_competition plan` writes it", command)
 
     def test_wrong_use(self):
         for words in ([], ["plan", "one", "two"], ["play", "--at-once", "0"], ["check"], ["look"]):

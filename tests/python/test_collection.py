@@ -82,7 +82,7 @@ class Piles(InFolder):
 
     def test_what_a_line_is(self):
         for data, record, said in (
-            (b'{"matchId":"m"}', {"matchId": "m"}, ""), (b"[]", None, "it is JSON, and not an object"), (b"7", None, "it is JSON, and not an object"),
+            (b'{"matchId":"m"}', {"matchId": "m"}, ""), (b"[]", None, "it is JSON, but not an object"), (b"7", None, "it is JSON, but not an object"),
             (b"[" * 99_999, None, f"it is not JSON: {NO_PLACE}"), (b"{", None, "it is not JSON: line 1, column 2: a key is missing"), (b"", None, "it is not JSON: it is empty"),
             (b" ", None, "it is not JSON: it is empty"), (b"{} {}", None, "it is not JSON: line 1, column 4: more follows the value"), (b'{"a":NaN}', None, f"it is not JSON: {NO_PLACE}"),
         ):
@@ -111,7 +111,7 @@ class Piles(InFolder):
         rules = self.folder / "rules"
         self.assertEqual([(game.name, game.roles, game.first, game.path) for game in games], [("g0", ("a",), ("a", "b"), str(rules / "g0.kif"))])
         self.assertEqual(refused, [
-            f"{rules}/h0.kif: it has variables: `ggp-instantiate` makes ground rules of it", f"{rules}/h1.kif: it has no role", f"{rules}/h2.kif: bad",
+            f"{rules}/h0.kif: it has variables: `ggp-instantiate` makes ground rules from it", f"{rules}/h1.kif: it has no role", f"{rules}/h2.kif: bad",
             f"{rules}/h3.kif: line 1, column 1: a `)` with no open list; a sentence before it may have a `)` too many",
             f"{rules}/h4.kif: line 1, column 1: (role) is not a sentence: (role); write (role _)",
         ])
@@ -133,7 +133,7 @@ class Piles(InFolder):
     def test_a_record_is_lawful_if_it_is_so_by_one_of_the_games(self):
         one = {"roles": ["a"], "states": [["a"]]}
         found, referee = self.judged({**one, "by": "g1"}, {**one, "by": "g0"}, 7, {"roles": ["b"]}, {**one, "by": "none"})
-        self.assertEqual(found, [("g1", "lawful"), ("g0", "lawful"), (None, "no record: it is JSON, and not an object"), (None, "no game has its roles"), ("g0", "not lawful: g0")])
+        self.assertEqual(found, [("g1", "lawful"), ("g0", "lawful"), (None, "no record: it is JSON, but not an object"), (None, "no game has its roles"), ("g0", "not lawful: g0")])
         self.assertEqual([(name, len(records)) for name, records in referee.asked], [("g0", 3), ("g1", 2), ("g2", 1)])
         self.assertTrue(all(line.endswith(b"}\n") for _, records in referee.asked for line in records))
 

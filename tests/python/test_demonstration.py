@@ -221,7 +221,7 @@ class Demonstration(InFolder):
         self.assertRegex(said, r"turn 2: PLAY was answered `.*no legal move.*turn 2 in a row without a move of its own, so it is retired\.")
         self.assertEqual(self.ran("why", ".", OF_ANN, "ann")[-1], "the match has no record that counts")
         again = self.ran("again", FIRST, "--reason", "the power of ann's machine was out")
-        self.assertEqual(again, [f"cup-019 tictactoe ann bob takes the place of {FIRST}"])
+        self.assertEqual(again, [f"cup-019 tictactoe ann bob replaces {FIRST}"])
 
     def grow(self, page: Page) -> None:
         """Adds a player and a round, and plays to the end, as the page says."""
@@ -253,4 +253,4 @@ class Demonstration(InFolder):
         self.look_at_pages(page, address)
         page.go(f"{address}index.html")
         self.assertEqual(page.value("document.getElementById('standings').innerText"), standings)
-        self.assertIn(f"{FIRST} does not count: cup-019 was ordered in its place", page.text())
+        self.assertIn(f"{FIRST} does not count: cup-019 replaces it", page.text())

@@ -336,7 +336,7 @@ class Game(InFolder):
         self.assertEqual((status, out), (3, ""))
         self.assertRegex(said, "^ggp_competition: ggp-instantiate came to no verdict with game.kif: .*gringo took .*, or was ended\n$")
         self.assertEqual(run(self.folder, "game", "game.kif", env={**os.environ, "PATH": "/nowhere"}), (
-            3, "", "ggp_competition: game.kif can't be instantiated: the grounder gringo is not installed\n",
+            3, "", "ggp_competition: game.kif can't be grounded: the grounder gringo is not installed\n",
         ))
 
     @unittest.skipUnless(shutil.which("gringo"), "gringo is not installed")
@@ -346,7 +346,7 @@ class Game(InFolder):
         self.assertIn("nim.kif is accepted: 28 sentences, which became 284 ground ones; roles first second\nnothing is suspicious\n", out)
         status, lines = self.look(OPEN + "(<= (goal ?r 200) (true (cell ?n)) (role ?r))", "--matches", "1")
         self.assertEqual(status, 0)
-        self.assertRegex(lines[1], "^its ground rules: .*goals past 100 are left out")
+        self.assertRegex(lines[1], "^its ground rules: .*goals above 100 are left out")
         status, lines = self.look("(role a)\n(<= (legal ?r x) (not (role ?r)))")
         self.assertEqual(status, 1)
         self.assertRegex(lines[0], r"^game.kif is not accepted: line 2, column 1: \?r is unsafe")
@@ -359,7 +359,7 @@ class Game(InFolder):
             self.assertEqual((status, said, out.splitlines()[0].split(":")[0]), (0, "", f"{name} is accepted"))
 
     def test_what_is_wrong_before_it(self):
-        for word, said in [("none", "none can't be read: No such file or directory"), (".", ". is no plain file")]:
+        for word, said in [("none", "none can't be read: No such file or directory"), (".", ". is not a regular file")]:
             self.assertEqual(run(self.folder, "game", word), (2, "", f"ggp_competition: {said}\n"))
         for words in (["--matches", "x"], ["--matches", "10001"], ["--seed", "-1"], ["--seconds", "0"], ["--seconds", "1.5"], ["--matches", "\n"]):
             done = subprocess.run([sys.executable, COMMAND, "game", GAMES / "buttons.kif", *words], capture_output=True, text=True)

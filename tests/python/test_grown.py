@@ -26,14 +26,14 @@ GROWN = {
     "a reason is another": (changed("cup/again.tsv", lambda text: text.replace(b"power", b"cable")), "table.txt does not follow"),
     "a reason is another in the line of the match": (changed("cup/matches.jsonl", lambda text: text.replace(b"power", b"cable")), "matches.jsonl does not follow"),
     "a match was not ordered again": (without("cup/again.tsv"), "2 matches were planned when earlier/3.toml was replaced, and not 3"),
-    "another match was ordered again": (changed("cup/again.tsv", lambda text: text.replace(b"\tcup-001\t", b"\tcup-002\t")), "schedule.tsv is not what"),
+    "another match was ordered again": (changed("cup/again.tsv", lambda text: text.replace(b"\tcup-001\t", b"\tcup-002\t")), "schedule.tsv does not agree with"),
     "a match was ordered again twice": (changed("cup/again.tsv", lambda text: text + text.splitlines(keepends=True)[1]), "again.tsv is not what"),
     "a record that does not count is missing": (without("cup/records/cup-001.json"), "cup-001: it has no record"),
     "a record that does not count is another": (changed("cup/records/cup-001.json", lambda text: text.replace(b'"ann"', b'"eve"')), "cup-001: "),
     "the file before is missing": (without("cup/earlier/3.toml"), "which was ordered again, is not the next match"),
-    "the file before has another player": (changed("cup/earlier/3.toml", lambda text: text.replace(b'"bob"', b'"bab"')), "the player bab is there no more"),
+    "the file before has another player": (changed("cup/earlier/3.toml", lambda text: text.replace(b'"bob"', b'"bab"')), "the player bab is missing"),
     "the file before is another in the order of its players": (
-        changed("cup/earlier/3.toml", lambda text: text.replace(b'"ann"', b'"x"').replace(b'"bob"', b'"ann"').replace(b'"x"', b'"bob"')), "schedule.tsv is not what",
+        changed("cup/earlier/3.toml", lambda text: text.replace(b'"ann"', b'"x"').replace(b'"bob"', b'"ann"').replace(b'"x"', b'"bob"')), "schedule.tsv does not agree with",
     ),
     "there is one more file before": (lambda files: changed("cup/competition.toml", lambda text: b"# \n" + text)({**files, "cup/earlier/9.toml": b""}), "earlier/9.toml:1: name: the key is missing"),
     "there is one more file before, and nothing has replaced it": (
@@ -45,13 +45,13 @@ SWISS = {
     "a pairing is another": (changed("cup/schedule.tsv", lambda text: re.sub(rb"(cup-003.*\t)(\w+) (\w+)\n", rb"\1\3 \2\n", text)), "records/cup-003.json: its players is ['cid', 'ann'], and the schedule has ['ann', 'cid']"),
     "the last round is taken away": (without_round_2, "GAPS.tsv is missing"),
     "there is another number of rounds": (changed("cup/competition.toml", lambda text: text.replace(b"rounds = 2", b"rounds = 3")), "GAPS.tsv is missing"),
-    "there are fewer rounds": (changed("cup/competition.toml", lambda text: text.replace(b"rounds = 2", b"rounds = 1")), "schedule.tsv is not what"),
+    "there are fewer rounds": (changed("cup/competition.toml", lambda text: text.replace(b"rounds = 2", b"rounds = 1")), "schedule.tsv does not agree with"),
     "a record of the first round is missing": (without("cup/records/cup-001.json"), "has round 2, which was paired by cup-001"),
     "a bye is another's": (changed("cup/table.txt", lambda text: text.replace(b"round 1; bye: cid", b"round 1; bye: bob")), "table.txt does not follow"),
     "a bye is another's on the first page": (changed("cup/pages/index.html", lambda text: text.replace(b"round 1; bye: cid", b"round 1; bye: bob")), "pages/index.html does not follow"),
     "the round of a match is another": (changed("cup/matches.jsonl", lambda text: text.replace(b'"round":2', b'"round":1', 1)), "matches.jsonl does not follow"),
     "the seeds are others": (
-        changed("cup/competition.toml", lambda text: text.replace(b'"ann"', b'"x"').replace(b'"cid"', b'"ann"').replace(b'"x"', b'"cid"')), "schedule.tsv is not what",
+        changed("cup/competition.toml", lambda text: text.replace(b'"ann"', b'"x"').replace(b'"cid"', b'"ann"').replace(b'"x"', b'"cid"')), "schedule.tsv does not agree with",
     ),
 }
 
@@ -88,7 +88,7 @@ class Spoilt(InArchive):
         self.folder_of([ann, bob], head=head)
         for words in (["plan"], ["play"]):
             self.ran(*words)
-        said = "cup-003 countdown ann bob takes the place of cup-001"
+        said = "cup-003 countdown ann bob replaces cup-001"
         self.assertEqual(self.ran("again", "cup-001", "--reason", REASON.decode()), [said])
         self.write(players, head=head)
         self.assertEqual(self.ran("plan")[-1], "schedule.tsv: 7 matches of 3 players; added: 4, cup-004 to cup-007")
@@ -105,7 +105,7 @@ class Spoilt(InArchive):
         lines = {line["player"]: line for line in table["tables"][0]["lines"]}
         self.assertEqual([(lines[name]["won_by_forfeit"], lines[name]["lost_by_forfeit"]) for name in ("ann", "bob", "cid")], [(2, 0), (2, 0), (0, 4)])
         self.assertEqual([lines["cid"]["goals"], lines["ann"]["goals"] + lines["bob"]["goals"]], [0, 150])
-        self.assertIn(b"cup-001 does not count: cup-003 was ordered in its place: the power of ann", files["cup/pages/index.html"])
+        self.assertIn(b"cup-001 does not count: cup-003 replaces it: the power of ann", files["cup/pages/index.html"])
         assert_spoilt(self, files, GROWN)
 
     def test_a_swiss_competition(self):

@@ -63,7 +63,7 @@ class Growth(unittest.TestCase):
         self.assertEqual(seated(self.grown(before, competition(4, 3, ("three",))).matches), Counter(asked(competition(4, 3, ("three",)), ROLES)))
         with self.assertRaises(Misfit) as why:
             self.grown(before, competition(5, 2, ("three",)))
-        self.assertEqual(str(why.exception), "three has more than two roles, so rounds and players are added one after the other: plan in between")
+        self.assertEqual(str(why.exception), "three has more than two roles, so add rounds and players one after the other, and plan in between")
 
     def test_lines_and_a_gauntlet(self):
         lines = 'kind = "schedule"\nlines = [{}]'
@@ -79,11 +79,11 @@ class Growth(unittest.TestCase):
         for before, after, words in (
             (competition(3), competition(3, head="strikes = 1"), "strikes was 0 and is 1"),
             (competition(3), competition(3, form='kind = "gauntlet"\none = "p0"'), "form.kind was 'round_robin' and is 'gauntlet'"),
-            (competition(3), competition(2), "the player p2 is there no more"),
-            (competition(3), competition(3, games=("two",)), "the game one is there no more"),
+            (competition(3), competition(2), "the player p2 is missing"),
+            (competition(3), competition(3, games=("two",)), "the game one is missing"),
             (competition(3), competition(3, head="play = 7"), "the clocks of two were 10 and 10, and are 10 and 7"),
-            (competition(3, 2), competition(3, 1), "cup-007 (two p0 p1) was planned, and is asked for no more"),
-            (competition(2, form=pair), competition(2, form=lines.format('"two p0 p1", "two p0 p1"')), "cup-002 (two p1 p0) was planned, and is asked for no more"),
+            (competition(3, 2), competition(3, 1), "cup-007 (two p0 p1) was planned, but is no longer among the matches"),
+            (competition(2, form=pair), competition(2, form=lines.format('"two p0 p1", "two p0 p1"')), "cup-002 (two p1 p0) was planned, but is no longer among the matches"),
         ):
             with self.assertRaises(Misfit) as why:
                 self.grown(before, after)
@@ -96,8 +96,8 @@ class Growth(unittest.TestCase):
         told = [(match.id, match.again, match.reason, match.instead_of) for match in found.matches if match.again or match.instead_of]
         self.assertEqual(told, [("cup-002", "cup-005", "cut off", ""), ("cup-005", "cup-011", "again", "cup-002"), ("cup-011", "", "", "cup-005")])
         for again, words in (
-            ([Again("cup-005", "cup-009", "x")], "cup-005 was ordered in the place of cup-009, which is no match that counts"),
-            ([Again("cup-005", "cup-001", "x"), Again("cup-006", "cup-001", "x")], "cup-006 was ordered in the place of cup-001, which is no match that counts"),
+            ([Again("cup-005", "cup-009", "x")], "cup-005 replaces cup-009, which is not a match that counts"),
+            ([Again("cup-005", "cup-001", "x"), Again("cup-006", "cup-001", "x")], "cup-006 replaces cup-001, which is not a match that counts"),
             ([Again("cup-007", "cup-001", "x")], "cup-007, which was ordered again, is not the next match"),
         ):
             with self.assertRaises(Misfit) as why:
@@ -181,7 +181,7 @@ class Growth(unittest.TestCase):
         games = ("three", "more")
         for history, after, words in (
             (History((), orders), competition(2), "cup-007, which was ordered again, is not the next match"),
-            (History(((8, competition(4, 1, games)),)), competition(5, 2, games), "more has more than two roles, so rounds and players are added"),
+            (History(((8, competition(4, 1, games)),)), competition(5, 2, games), "more has more than two roles, so add rounds and players"),
             (History(((9, competition(3)),)), competition(3, head="strikes = 1"), "strikes was 0 and is 1"),
         ):
             with self.assertRaises(Misfit) as why:
@@ -313,7 +313,7 @@ class Histories(InFolder):
         self.write(4, 1)
         status, out, said = run(self.folder, "plan")
         self.assertEqual((status, out), (2, ""))
-        self.assertRegex(said, r"competition.toml: cup-0\d\d \(countdown p\d p\d\) was planned, and is asked for no more: put back what was changed")
+        self.assertRegex(said, r"competition.toml: cup-0\d\d \(countdown p\d p\d\) was planned, but is no longer among the matches: put back what was changed")
         self.write(4, 2)
         for lost in ("schedule.tsv", "rules/SHA256SUMS", "planned.toml"):
             (self.folder / lost).unlink()
@@ -347,8 +347,8 @@ class Histories(InFolder):
         for words, said in (
             (["cup-009", "--reason", "x"], "schedule.tsv has no match cup-009\n"),
             (["cup-001", "--reason", "x"], "cup-001 has no record, so `ggp_competition play` plays it\n"),
-            (["cup-001", "--reason", " x"], "--reason: 1 to 200 printable characters of ASCII are wanted, without a space at either end\n"),
-            (["cup-001", "--reason", "\N{BULLET}"], "--reason: 1 to 200 printable"),
+            (["cup-001", "--reason", " x"], "--reason: expected 1 to 200 printable ASCII characters, without a space at either end\n"),
+            (["cup-001", "--reason", "\N{BULLET}"], "--reason: expected 1 to 200 printable"),
         ):
             status, out, told = run(self.folder, "again", *words)
             self.assertEqual((status, out), (2, ""))

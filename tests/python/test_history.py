@@ -51,7 +51,7 @@ class Histories(unittest.TestCase):
             (self.folder.earlier / name).write_text(TOML)
             with self.assertRaises(Refused) as why:
                 read_history(self.folder)
-            self.assertEqual(str(why.exception), f"{self.folder.earlier / name} is none of the files by which the competition was planned before")
+            self.assertEqual(str(why.exception), f"{self.folder.earlier / name} is not one of the earlier files of the competition")
             (self.folder.earlier / name).unlink()
 
     def test_an_earlier_file_that_says_no_competition_is_named_with_its_line(self):

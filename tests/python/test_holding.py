@@ -293,7 +293,7 @@ class Records(unittest.TestCase):
             with self.subTest(changes):
                 self.assertTrue(self.words(**changes).startswith(f"not followed: it is not a record: {words}"), self.words(**changes))
         self.assertEqual(self.words(moves=[["(go"]]), "not followed: a list that is not closed")
-        for line, words in (("[" * 200_000, "it is not JSON: "), ('{"roles":' * 90_000, "it is not JSON: "), ("", "it is not JSON: it is empty"), ("[1", "it is not JSON: line 1, column 3: `,` is missing"), ("5", "it is JSON, and not an object")):
+        for line, words in (("[" * 200_000, "it is not JSON: "), ('{"roles":' * 90_000, "it is not JSON: "), ("", "it is not JSON: it is empty"), ("[1", "it is not JSON: line 1, column 3: `,` is missing"), ("5", "it is JSON, but not an object")):
             self.assertTrue(self.holding.held(line)[1].startswith(f"not followed: it is not a record: {words}"))
         self.assertEqual(self.words(), "the same: 1 turn")
 

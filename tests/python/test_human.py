@@ -317,7 +317,7 @@ class Pages(unittest.TestCase):
         self.serve("127.0.0.3")
         line = http.client.HTTPConnection(*self.server.server_address[:2], timeout=SECONDS, source_address=("127.0.0.2", 0))
         self.addCleanup(line.close)
-        # The head alone is sent, and answered at once.
+        # Only the head is sent, and answered at once.
         line.putrequest("POST", "/")
         line.putheader("Content-Length", "16777216")
         line.endheaders()

@@ -132,7 +132,7 @@ class Described(InFolder):
     def test_what_does_not_fit(self):
         said = self.planned('player_rules = "variables"')
         self.assertEqual(said[0], 2)
-        self.assertIn('ground.kif has no variables: "ground" is wanted', said[2])
+        self.assertIn('ground.kif has no variables: use "ground"', said[2])
         for name, text, words in (
             ("ground.kif", (self.folder / "ground.kif").read_bytes(), "its description ground.kif has no variables"), ("other.kif", None, "its description other.kif: it can't be read: No such file or directory"),
             ("other.kif", b"(role ?x)\n(", "its description other.kif: line 2, column 1: a list that is not closed"), ("other.kif", b"(<= p (q ?x)) ()", "its description other.kif: line 1, column 15: "),

@@ -41,7 +41,7 @@ class Figures(unittest.TestCase):
     def test_the_figures_of_what_is_written(self):
         sentences = expressions("(role r) (role s) (legal r a) (legal r (b (c d))) (<= (legal s a) (true x)) (<= (next x) (or (true x) (not (true y))) (does r a)) terminal")
         usual = Written([], "(role r)", list(limits.figures(list(enumerate(sentences)), 123)), ["a"])
-        for written, size, most_of_them in ((usual, 123, (8_192, 16_384, 1_048_576)), (usual.as_large(), 98, (262_144, 262_144, 16_777_216))):
+        for written, size, most_of_them in ((usual, 123, (8_192, 16_384, 1_048_576)), (usual.as_large(), 100, (262_144, 262_144, 16_777_216))):
             self.assertEqual({name: (count, most) for name, count, most in written.figures}, {
                 "sentences": (7, most_of_them[0]), "atomic sentences": (10, most_of_them[1]), "roles": (2, 16), "moves of r": (2, 4_096), "moves of s": (1, 4_096),
                 "bytes": (size, most_of_them[2]), "nested lists": (4, 64),
@@ -53,13 +53,13 @@ class Made(unittest.TestCase):
     def test_what_is_written_and_said(self):
         found, said = made(GAME)
         self.assertEqual(found.splitlines(), [
-            "; goals past 100 are left out (2, the first by sentence 9, line 3: (<= (goal ?p 101) (role ?p) (true (c 3)))): if one would hold at the end, the role gets the other goal that holds there, and if there is none the match has no goals",
+            "; goals above 100 are left out (2, the first by sentence 9, line 3: (<= (goal ?p 101) (role ?p) (true (c 3)))): if one would hold at the end, the role gets the other goal that holds there, and if there is none the match has no goals",
             "(role r)", "(role s)", "(init (c 1))", "(legal r (m 1))", "(legal r (m 2))", "(legal s (m 1))", "(legal s (m 2))",
             "(<= (next (c 2)) (true (c 1)) (does r (m 1)))", "(<= (next (c 3)) (true (c 2)) (does r (m 2)))", "(<= terminal (true (c 3)))", "(goal r 50)", "(goal s 50)",
         ])
-        self.assertRegex(said, r"^ggp-instantiate: 11 sentences gave 12 ground ones, in \d+\.\d\d s\n  goals past 100 are left out")
+        self.assertRegex(said, r"^ggp-instantiate: 11 sentences gave 12 ground ones, in \d+\.\d\d s\n  goals above 100 are left out")
         self.assertIn("\n  sentences               12 of     8,192\n", said)
-        self.assertNotIn("PAST", said)
+        self.assertNotIn("ABOVE", said)
 
     def test_it_is_folded_where_that_is_wanted_or_needed(self):
         for wanted, limit, is_folded in ((ALWAYS, 8_192, True), (WHERE_NEEDED, 8_192, False), (WHERE_NEEDED, 12, False), (NEVER, 8_192, False)):
@@ -103,7 +103,7 @@ class Made(unittest.TestCase):
             found, said = made(GAME, NEVER)
         self.assertIsInstance(found, Refused)
         self.assertTrue(str(found).startswith("nothing is written, because this exceeds the limit: roles (2 of 1)"), found)
-        self.assertIn("2 of         1: PAST THE LIMIT\n", said)
+        self.assertIn("2 of         1: ABOVE THE LIMIT\n", said)
         self.assertEqual(said.count("  largest: sentence "), 3)
 
     def test_what_costs_most_is_named_first(self):

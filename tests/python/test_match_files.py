@@ -103,7 +103,7 @@ class Kept(unittest.TestCase):
         with open(self.folder.record("cup-0"), "r+b") as file:
             file.truncate(1 << 36)
         referee = Counting()
-        self.assertEqual(check_records(self.plan, referee)[1], {"cup-0": f"its record has more than {longest_record(RULES.text):,} bytes, and no match of its game has so many"})
+        self.assertEqual(check_records(self.plan, referee)[1], {"cup-0": f"its record has more than {longest_record(RULES.text):,} bytes, the most that a match of its game can have"})
         self.assertEqual(referee.counts, [])
 
     def names(self):
@@ -164,7 +164,7 @@ class Kept(unittest.TestCase):
         self.assertEqual([call.args for call in synced.call_args_list], [(self.folder.path,)])
 
     def test_where_a_folder_can_not_be_held_no_other_run_is_blamed(self):
-        for fault, words in ((BlockingIOError(errno.EAGAIN, "busy"), "another run plans, plays or publishes this competition"), (OSError(errno.EBADF, "bad"), "can't be held for one run alone: bad")):
+        for fault, words in ((BlockingIOError(errno.EAGAIN, "busy"), "another run plans, plays or publishes this competition"), (OSError(errno.EBADF, "bad"), "can't be locked: bad")):
             with mock.patch("fcntl.flock", side_effect=fault), self.assertRaises(Refused) as why, held(self.folder.path):
                 pass
             self.assertIn(words, str(why.exception))
@@ -237,14 +237,14 @@ class Looked(unittest.TestCase):
         self.assertEqual(sorted(json.loads(record)["matchId"] for _, record in self.referee.replayed), ["cup-0", "cup-2", "cup-3"])
         self.folder.account(other.id).unlink()
         self.write(first, account="wrong")
-        self.assertEqual(self.look()[1], {"cup-0": "its account does not give its record again", "cup-1": "not lawful: goals", "cup-3": "its account is missing"})
+        self.assertEqual(self.look()[1], {"cup-0": "its account does not reproduce its record", "cup-1": "not lawful: goals", "cup-3": "its account is missing"})
         self.folder.record(other.id).unlink()
         self.assertEqual(list(self.look()[1]), ["cup-0", "cup-1"])
         self.assertEqual(sorted(self.referee.counts), [3])
 
     def test_a_verdict_stands_before_what_a_replay_says(self):
         records = [b"{}\n", b'{"verdict":"not lawful: state 1"}\n', b"{}\n"]
-        self.assertEqual(referee_faults(self.plan, self.referee, "one", records, [b"right", b"right", b"wrong"]), [None, "not lawful: state 1", "its account does not give its record again"])
+        self.assertEqual(referee_faults(self.plan, self.referee, "one", records, [b"right", b"right", b"wrong"]), [None, "not lawful: state 1", "its account does not reproduce its record"])
         self.assertEqual(self.referee.replayed, [(b"right", records[0]), (b"wrong", records[2])])
         self.assertEqual(referee_faults(self.plan, self.referee, "one", [], []), [])
 
@@ -376,7 +376,7 @@ class Lengths(Looked):
     def test_a_record_may_be_as_long_as_the_referee_can_write_it(self):
         longest = longest_record(RULES.text)
         self.assertGreater(longest, USUAL_RECORD)
-        words = f"its record has more than {longest:,} bytes, and no match of its game has so many"
+        words = f"its record has more than {longest:,} bytes, the most that a match of its game can have"
         for size, faults in ((USUAL_RECORD, []), (USUAL_RECORD + 1, []), (longest, []), (longest + 1, [words])):
             self.assertEqual(self.faults(RECORD[:-2].ljust(size - 1) + b"}\n"), faults, size)
 

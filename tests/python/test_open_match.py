@@ -288,7 +288,7 @@ class Asking(WithMatch):
         no_name, no_network = info_of("not_sent", 2, lacks="resolver"), info_of("not_sent", 2, "a\nb", lacks="network")
         for answer, seconds, words in (
             (NO_ANSWER, 0, "refused, 0.0 s"), (NO_ANSWER, 9.96, "refused, 10.0 s"), (NO_ANSWER, 10, "silent, 10.0 s"), (NO_ANSWER, 11, "silent, 11.0 s"),
-            (READY, 1, "available, 1.0 s"), (no_network, 1.25, "b, 1.2 s"), ((None, b"", ""), 3, "silent, 3.0 s"), (no_name, 0, "its name is not known, 0.0 s"),
+            (READY, 1, "available, 1.0 s"), (no_network, 1.25, "b, 1.2 s"), ((None, b"", ""), 3, "silent, 3.0 s"), (no_name, 0, "its host name is unknown, 0.0 s"),
         ):
             self.begin(self.HEAD)
             self.asked((*answer, seconds), READY)
@@ -319,7 +319,7 @@ class Checking(WithMatch):
     def test_what_does_not_count(self):
         self.assertEqual(self.checked(verdict="not lawful: goals"), ("not lawful: goals", []))
         self.begin(self.HEAD)
-        self.assertEqual(self.checked(is_replayed=False), ("its account does not give its record again", []))
+        self.assertEqual(self.checked(is_replayed=False), ("its account does not reproduce its record", []))
 
     def test_where_there_is_no_verdict_the_files_are_kept_aside(self):
         short = Unchecked("`ggp_manager verify` came to no verdict: want of memory")
@@ -401,7 +401,7 @@ class Jobs(WithMatch):
         self.job.left = 5
         asyncio.run(self.job.take_output(b"1234"))
         self.job.take_line(b"")
-        words = r"^it sent more than [0-9,]{11,} bytes, which no match has$"
+        words = r"^it sent more than [0-9,]{11,} bytes, more than any match has$"
         with self.assertRaisesRegex(Lost, words):
             asyncio.run(self.job.take_output(b"5"))
         with self.assertRaisesRegex(Lost, words):

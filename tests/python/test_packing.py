@@ -193,7 +193,7 @@ class Packing(InFolder):
         for name, most in (("competition.toml", 4 << 20), ("SHA256SUMS", 64 << 20), ("earlier/7.toml", 4 << 20), ("games/a.kif", 64 << 20), ("logs/a.jsonl", 256 << 20), ("records/a.json", 1 << 30)):
             large = block(f"cup/{name}", change=at(124, b"%011o\0" % (most + 1)))
             head = HEAD if name != "competition.toml" else b""
-            self.assertEqual(unpacked(head + large + END), f"cup/{name} has more than {most:,} bytes, which are the most of such a file in an archive")
+            self.assertEqual(unpacked(head + large + END), f"cup/{name} has more than {most:,} bytes, the limit of such a file in an archive")
         with mock.patch.dict(packing.MOST_OF_FILES, {"logs": 2}):
             self.assertEqual(len(unpacked(tar_of({**FIRST, "cup/logs/a": b"12"}))), 3)
             with self.assertRaisesRegex(TooLarge, "cup/logs/a has more than 2 bytes"):
@@ -206,12 +206,12 @@ class Packing(InFolder):
         with mock.patch.object(packing, "MOST_BYTES", size):
             self.assertEqual((unpacked(tar), tar_of(files)), (files, tar))
         with mock.patch.object(packing, "MOST_BYTES", size - 1):
-            self.assertEqual(unpacked(tar), f"with 'cup/b' it has more than {size - 1} bytes, which are the most of an archive")
-            with self.assertRaisesRegex(TooLarge, f"it has more than {size - 1} bytes, which are the most of an archive"):
+            self.assertEqual(unpacked(tar), f"with 'cup/b' it has more than {size - 1} bytes, the limit of an archive")
+            with self.assertRaisesRegex(TooLarge, f"it has more than {size - 1} bytes, the limit of an archive"):
                 tar_of(files)
         self.assertEqual(packing.MOST_BYTES, 8_589_934_592)
         # A file of this size is refused before a byte of it is written.
         large = block("cup/a", change=at(124, b"77777777777\0"))
-        self.assertEqual(unpacked(HEAD + large + END), "with 'cup/a' it has more than 8,589,934,592 bytes, which are the most of an archive")
+        self.assertEqual(unpacked(HEAD + large + END), "with 'cup/a' it has more than 8,589,934,592 bytes, the limit of an archive")
 
 

@@ -201,7 +201,7 @@ class PagesOfMany(unittest.TestCase):
         page = self.page(pages, f"players/player-{player}.html")
         self.assertIn("Place 1 of 2 in all games: 1 match, mean goal 50.00, 1 won, 0 drawn, 0 lost; 1 of 1 moves replaced", text_of(page))
         self.assertEqual(rows_of(page.find(id="seats"))[1:], [["one", "b", "1", "50.00", "1 of 1", "", "1,500 ms"]])
-        self.assertEqual(rows_of(page.find(id="errors"))[1:], [[match.id, "1", "the answer was no legal move IL", f"(PLAY {match.id} NIL)", "<script>", "noop"]])
+        self.assertEqual(rows_of(page.find(id="errors"))[1:], [[match.id, "1", "the answer was not a legal move IL", f"(PLAY {match.id} NIL)", "<script>", "noop"]])
         self.assertEqual(len(page.select("#times svg")), 1)
         self.assertIn("It has played no match.", text_of(self.page(pages, "players/player-p24.html")))
         self.assertIn("No move of it was replaced.", text_of(self.page(pages, f"players/player-{match.players[0]}.html")))
@@ -277,7 +277,7 @@ class PagesOfMany(unittest.TestCase):
         page = self.page(pages, f"players/player-{player}.html")
         self.assertEqual(rows_of(page.find(id="seats"))[1:], [["one", "b", "1", "50.00", "1 of 1", "", "1,500 ms"]])
         self.assertEqual([row[0] for row in rows_of(page.find(id="errors"))[1:]], [new.id])
-        self.assertEqual(text_of(page).count(f"{old.id} does not count: {new.id} was ordered in its place"), 2)
+        self.assertEqual(text_of(page).count(f"{old.id} does not count: {new.id} replaces it"), 2)
         self.assertIn("1 of 299 matches are over.", text_of(self.page(pages, "index.html")))
         # Until the rematch is played, nothing counts.
         pages = Pages(self.plan)

@@ -122,7 +122,7 @@ class Play(InFolder):
         cup.mkdir()
         for name in ("competition.toml", "schedule.tsv", "rules"):
             shutil.move(self.folder / name, cup)
-        said = f"ggp_competition: {self.folder}/\\udcff: the path of a competition has to be UTF-8, since the referee takes no other\n"
+        said = f"ggp_competition: {self.folder}/\\udcff: the path of a competition must be UTF-8, because the referee accepts no other\n"
         self.assertEqual(run(cup, "play"), (2, "", said))
         self.assertEqual(([run(cup, command)[0] for command in ("plan", "table")], list(cup.glob("open"))), ([0, 0], []))
 
@@ -343,7 +343,7 @@ class Play(InFolder):
         self.planned(["good"] * 3)
         (self.folder / "play.log").symlink_to("/dev/full")
         status, out, _ = run(self.folder, "play", "--at-once", "1")
-        told = ["play.log is not written, and no more matches begin: No space left on device"]
+        told = ["play.log can't be written, and no more matches begin: No space left on device"]
         self.assertEqual((status, lines(out, "play.log"), [player.matches for player in self.players]), (1, told, [{}] * 3), out)
         (self.folder / "play.log").unlink()
         self.assertEqual(run(self.folder, "play")[0], 0)
@@ -402,7 +402,7 @@ class Play(InFolder):
             ("records/cup-002.json", lambda text: text[:-20], "not one line"),
             ("accounts/cup-003.txt", lambda text: text.replace(b"taken", b"over", 1), "is not a call that a referee makes there"),
             ("accounts/cup-004.txt", None, "its account is missing"),
-            ("records/cup-005.json", lambda _: (self.folder / "records/cup-006.json").read_bytes(), "does not give its record again"),
+            ("records/cup-005.json", lambda _: (self.folder / "records/cup-006.json").read_bytes(), "does not reproduce its record"),
         ]
         for name, change, _ in changes:
             file = self.folder / name
@@ -450,14 +450,14 @@ class Play(InFolder):
         damages = [
             (b"5\n", "its record does not begin with `{`"),
             (b"\n", "its record does not begin with `{`"),
-            (before["records/cup-001.json"][:-1] + b" " * (16 << 20) + b"\n", "its account does not give its record again"),
+            (before["records/cup-001.json"][:-1] + b" " * (16 << 20) + b"\n", "its account does not reproduce its record"),
         ]
         for (data, words), ending in zip(damages, ("refused", "refused.2", "refused.3")):
             with self.subTest(words):
                 record.write_bytes(data)
                 self.assertIn(f"ggp_competition: cup-001 does not count: {words}\n", run(self.folder, "table")[2])
                 status, out, _ = run(self.folder, "play")
-                self.assertEqual((status, lines(out, "refused")), (0, [f"refused cup-001: {words}; its files are set aside, and it is played again"]))
+                self.assertEqual((status, lines(out, "refused")), (0, [f"refused cup-001: {words}; its files are renamed, and it is played again"]))
                 after = self.files()
                 self.assertEqual([name for name in before if "cup-001" not in name and after[name] != before[name]], [])
                 self.assertEqual(after[f"records/cup-001.json.{ending}"], data)

@@ -202,7 +202,7 @@ class Going(WithMatches):
         self.assertEqual(self.reporter.lines, ["abort cup-001: ann@h, bob@h", "no record cup-001: ggp_manager: want of memory"])
 
     def test_a_game_whose_rules_are_wrong_is_not_played_on(self):
-        why = "heap is not played on, since cup-001 is no match of its description"
+        why = "heap is not played any more, because cup-001 does not follow its description"
         # The second match was already open: it differs too, without another report, or it has asked its players and does not begin.
         for end, left, lines in ((over(why="differs too", stops_game=True), "differs too", ["no record cup-003: differs too"]), (over(), why, [])):
             self.begin()
@@ -297,7 +297,7 @@ class Going(WithMatches):
     def test_without_a_journal_no_more_begin(self):
         self.begin(at_once=1)
         self.go(cup_001=[lambda match: setattr(self.reporter.journal, "fault", OSError(errno.ENOSPC, "full", "play.log")), won])
-        self.assertEqual((self.begun(), self.reporter.lines, self.playing.is_full), (["cup-001"], ["play.log is not written, and no more matches begin: full"], True))
+        self.assertEqual((self.begun(), self.reporter.lines, self.playing.is_full), (["cup-001"], ["play.log can't be written, and no more matches begin: full"], True))
 
     def test_with_a_launcher_as_many_begin_as_it_has_slots(self):
         self.begin(launcher=Launcher(("x",), 1))
@@ -339,8 +339,8 @@ class Before(WithMatches):
         self.looked = ({"cup-003": "its result"}, {"cup-001": "not lawful: goals"}, {})
         playing.prepare(self.playing)
         self.assertEqual(self.reporter.lines, [
-            "refused cup-001: not lawful: goals; its files are set aside, and it is played again",
-            "aside cup-002: it has no record; its other files are set aside, and it is played",
+            "refused cup-001: not lawful: goals; its files are renamed, and it is played again",
+            "aside cup-002: it has no record; its other files are renamed, and it is played",
         ])
         self.assertEqual(sorted(file.name for kind in (folder.records, folder.accounts, folder.logs) for file in kind.iterdir()), ["cup-001.json.refused", "cup-002.txt.refused", "cup-003.jsonl"])
 
@@ -352,10 +352,10 @@ class Before(WithMatches):
         folder.account("cup-002").write_text("x")
         results = {match.id: "its result" for match in self.plan.matches[2:]}
         self.looked = (results, {"cup-001": "not lawful: goals"}, {})
-        self.assertEqual(playing.play(self.playing), {f"cup-00{at + 1}": f"its record does not count, and cup-02{at} stays in its place" for at in range(2)})
+        self.assertEqual(playing.play(self.playing), {f"cup-00{at + 1}": f"its record does not count, and cup-02{at} still replaces it" for at in range(2)})
         self.assertEqual(self.reporter.lines, [
-            "refused cup-001: not lawful: goals; its files are set aside, and cup-020 stays in its place",
-            "aside cup-002: it has no record; its other files are set aside, and cup-021 stays in its place",
+            "refused cup-001: not lawful: goals; its files are renamed, and cup-020 still replaces it",
+            "aside cup-002: it has no record; its other files are renamed, and cup-021 still replaces it",
         ])
         self.assertEqual((Standing.begun, self.playing.results), ([], results))
 
@@ -365,14 +365,14 @@ class Before(WithMatches):
             (records / name).touch()
             with self.assertRaises(Refused) as why:
                 playing.prepare(self.playing)
-            self.assertEqual(str(why.exception), f"{records}/x.json is of no match of the schedule{more}: move what is of no match out of {records}, and play again")
+            self.assertEqual(str(why.exception), f"{records}/x.json belongs to no match of the schedule{more}: move the files that belong to no match out of {records}, and play again")
         for file in records.iterdir():
             file.unlink()
         self.looked = ({}, {"cup-002": "not lawful: goals"}, {"cup-001": "its matchId is 'x'"})
         self.plan.folder.record("cup-002").touch()
         with self.assertRaises(Refused) as why:
             playing.prepare(self.playing)
-        self.assertEqual(str(why.exception), f"{records}/cup-001.json is lawful, and of another match: its matchId is 'x'")
+        self.assertEqual(str(why.exception), f"{records}/cup-001.json is lawful, but belongs to another match: its matchId is 'x'")
         # Until this is corrected, no file is renamed.
         self.assertEqual([file.name for file in records.iterdir()], ["cup-002.json"])
 

@@ -160,9 +160,9 @@ class Remarks(unittest.TestCase):
         words = "forfeit: ann (CE, IL in turns 2 to 3), counts as ann 0, bob 100"
         self.assertEqual((list(remarks(plain)), list(remarks(forfeited))), ([], [words]))
         again = replace(plain, match=replace(MATCH, again="cup-009", reason="late"))
-        self.assertEqual(list(remarks(again)), ["cup-001 does not count: cup-009 was ordered in its place: late"])
+        self.assertEqual(list(remarks(again)), ["cup-001 does not count: cup-009 replaces it: late"])
         other = replace(forfeited, match=replace(MATCH, instead_of="cup-000", again="cup-009", reason="late"))
-        self.assertEqual(list(remarks(other)), [words, "cup-001 does not count: cup-009 was ordered in its place: late", "cup-001 was ordered in the place of cup-000"])
+        self.assertEqual(list(remarks(other)), [words, "cup-001 does not count: cup-009 replaces it: late", "cup-001 replaces cup-000"])
 
     def test_the_line_of_a_match_says_its_round_and_its_orders(self):
         match = replace(MATCH, round=2, again="cup-009", reason="late", instead_of="cup-000")

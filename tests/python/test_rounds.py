@@ -124,7 +124,7 @@ class ByRounds(unittest.TestCase):
                 self.write(4, form)
                 plan = self.make()
                 head = Site(plan).head(tables_of(plan.competition, [], plan.rounds)[0], []).text
-                self.assertIn(f"{wanted[0]}matches are over. {wanted[1]} of later rounds are to come, which are not planned yet.", head)
+                self.assertIn(f"{wanted[0]}matches are over. {wanted[1]} of later rounds are not planned yet.", head)
         self.write(6, 'kind = "knockout"')
         plan = self.make()
         plan_next_round(plan, self.play(plan, lambda _: [50, 50]))
@@ -144,7 +144,7 @@ class ByRounds(unittest.TestCase):
         text = self.folder.schedule.read_text()
         self.assertIn("cup-005\tgame\t10\t10\tp0 p2\n", text)
         self.folder.schedule.write_text(text.replace("cup-005\tgame\t10\t10\tp0 p2", "cup-005\tgame\t10\t10\tp0 p3"))
-        self.assert_refused("schedule.tsv is not what")
+        self.assert_refused("schedule.tsv does not agree with")
         self.folder.schedule.write_text(text)
         self.read()
         first = self.folder.record("cup-001")
@@ -152,7 +152,7 @@ class ByRounds(unittest.TestCase):
         # Now p1 has won against p0, so the order is another one.
         for number in (1, 3):
             self.folder.record(f"cup-00{number}").write_text(json.dumps(record(plan.matches[number - 1], [0, 100] if number == 1 else [100, 0])) + "\n")
-        self.assert_refused("schedule.tsv is not what")
+        self.assert_refused("schedule.tsv does not agree with")
         # The message says why a record does not count.
         right = first.read_text()
         for text, why in ((right.replace('"matchId"', '"wrong": 1, "matchId"'), "not lawful: goals"), (right.replace('"strikes": 0', '"strikes": 1'), "its strikes is 1, and competition.toml has 0")):
@@ -198,7 +198,7 @@ class ByRounds(unittest.TestCase):
         self.assertEqual(self.read().matches, plan.matches)
         self.assertEqual(sorted(file.name for file in self.folder.earlier.iterdir()), ["4.toml", "8.toml"])
         for count, form, head, words in (
-            (6, SWISS.format(2), "", "form.rounds was 3 and is 2"), (5, SWISS.format(3), "", "the player p5 is there no more"),
+            (6, SWISS.format(2), "", "form.rounds was 3 and is 2"), (5, SWISS.format(3), "", "the player p5 is missing"),
             (6, SWISS.format(3), "forfeit = true", "forfeit was false and is true"), (6, 'kind = "knockout"', "", "form.kind was 'swiss' and is 'knockout'"),
         ):
             self.write(count, form, head)
@@ -252,7 +252,7 @@ class ByRounds(unittest.TestCase):
         first = self.make().matches
         self.play(self.read(), lambda _: [50, 50])
         self.write(4, SWISS.format(2), step=-1)
-        self.assert_refused("schedule.tsv is not what")
+        self.assert_refused("schedule.tsv does not agree with")
         plan = self.make()
         self.assertEqual(([file.name for file in self.folder.earlier.iterdir()], plan.matches), (["4.toml"], first))
         # All have the same points, so the order of the file decides.
@@ -289,7 +289,7 @@ class ByRounds(unittest.TestCase):
         for form in (SWISS.format(2), 'kind = "knockout"', 'kind = "round_robin"'):
             with self.subTest(form):
                 before, new = self.broken_off(form)
-                self.assert_refused("schedule.tsv is not what")
+                self.assert_refused("schedule.tsv does not agree with")
                 plan = self.make()
                 self.assertEqual((plan.known, plan.matches[1:-1]), (len(before.matches), before.matches[1:]))
                 self.assertEqual([(match.id, match.instead_of) for match in plan.matches[-1:]], [(new, "cup-001")])
@@ -331,7 +331,7 @@ class ByRounds(unittest.TestCase):
             self.assertEqual([match.id for match in plan_next_round(plan, results)], ["cup-006", "cup-007", "cup-008", "cup-009"])
             refuse_lost_results(plan, results)
             self.assertEqual(self.read().matches, plan.matches)
-            self.assert_refused("cup-002 is of round 1, by which the next one was paired, so it can't be played again", lambda: order_again(self.folder.path, REFEREE, "cup-002", "x"))
+            self.assert_refused("cup-002 is of round 1, and the next one was paired by its results, so it can't be played again", lambda: order_again(self.folder.path, REFEREE, "cup-002", "x"))
 
     def test_ids_that_nobody_guesses(self):
         self.write(4, SWISS.format(2), 'ids = "random"')
@@ -356,7 +356,7 @@ class ByRounds(unittest.TestCase):
         # With another key, or without it, they would be others.
         self.folder.key.unlink()
         for call in (self.read, self.make):
-            self.assert_refused("ids.key is not there: put it back: the ids of the matches follow from it", call)
+            self.assert_refused("ids.key is missing: put it back: the ids of the matches follow from it", call)
         self.assertFalse(self.folder.key.exists())
         self.folder.key.write_bytes(key)
         self.write(4, SWISS.format(3))

@@ -110,9 +110,9 @@ class Rules(InArchive):
         self.ran("publish")
         self.assertIn("8 records and accounts", self.ran("check", "cup.tar.gz")[0])
         assert_spoilt(self, files_of(self.folder / "cup.tar.gz"), {
-            "they count": (changed("cup/competition.toml", lambda text: text.replace(b'"void"', b'"keep"')), "schedule.tsv is not what"),
-            "one is not withdrawn": (changed("cup/competition.toml", lambda text: text.replace(b"withdrawn = true", b"")), "schedule.tsv is not what"),
-            "who is absent stays": (changed("cup/competition.toml", lambda text: text.replace(b"absent_rounds = 1", b"")), "schedule.tsv is not what"),
+            "they count": (changed("cup/competition.toml", lambda text: text.replace(b'"void"', b'"keep"')), "schedule.tsv does not agree with"),
+            "one is not withdrawn": (changed("cup/competition.toml", lambda text: text.replace(b"withdrawn = true", b"")), "schedule.tsv does not agree with"),
+            "who is absent stays": (changed("cup/competition.toml", lambda text: text.replace(b"absent_rounds = 1", b"")), "schedule.tsv does not agree with"),
         })
 
     def test_a_pause_a_final_seeds_and_one_table_of_two_competitions(self):
@@ -135,7 +135,7 @@ class Rules(InArchive):
         self.assertIn("6 records and accounts", self.ran("check", "cup.tar.gz")[0])
         self.assertIn("<h2>Bracket</h2>", (first / "pages/index.html").read_text())
         assert_spoilt(self, files_of(self.folder / "cup.tar.gz"), {
-            "there is no final": (changed("cup/competition.toml", lambda text: text.replace(b"final = 2", b"")), "schedule.tsv is not what"),
+            "there is no final": (changed("cup/competition.toml", lambda text: text.replace(b"final = 2", b"")), "schedule.tsv does not agree with"),
             "an anchor is another": (changed("cup/competition.toml", lambda text: text.replace(b"1500", b"1600")), "anchor was {'ann': 1500} and is {'ann': 1600}"),
         })
         self.new_folder()
@@ -146,9 +146,9 @@ class Rules(InArchive):
         pair = (self.folder / "schedule.tsv").read_text().splitlines()[1].split("\t")[4]
         self.assertEqual(pair, f"{order[0]} {order[3]}")
         (self.folder / "cup.tar.gz").write_bytes((self.folder / "last.tar.gz").read_bytes())
-        assert_spoilt(self, files_of(self.folder / "cup.tar.gz"), {"the seeds are others": (changed("last/seeds.csv", lambda text: text.replace(order[0].encode(), b"x")), "schedule.tsv is not what")})
+        assert_spoilt(self, files_of(self.folder / "cup.tar.gz"), {"the seeds are others": (changed("last/seeds.csv", lambda text: text.replace(order[0].encode(), b"x")), "schedule.tsv does not agree with")})
         self.assertEqual(self.ran("table", first, ".")[0], "cup + last: 12 of 12 matches")
-        self.assertIn("two of the folders have a competition of the name cup", self.refused("table", first, first))
+        self.assertIn("two of the directories have a competition with the name cup", self.refused("table", first, first))
 
     def test_a_first_file_by_options_and_by_questions(self):
         self.new_folder()
@@ -156,9 +156,9 @@ class Rules(InArchive):
         words = "init", "cup", "--games", "countdown", "--swiss", "1", "--final", "2", "--players", f"{ann},{bob}"
         self.assertEqual(self.ran(*words), ["cup/competition.toml: `ggp_competition plan cup` is next"])
         first = (self.folder / "cup/competition.toml").read_text()
-        self.assertIn("cup/competition.toml is there already", self.refused(*words))
+        self.assertIn("cup/competition.toml already exists", self.refused(*words))
         for more, refused in (
-            (["--games", "nogame"], "'nogame' is neither a file nor a game"), (["--knockout"], "not allowed with argument --swiss"), (["--swiss", "x"], "rounds: this is no TOML"),
+            (["--games", "nogame"], "'nogame' is neither a file nor a game"), (["--knockout"], "not allowed with argument --swiss"), (["--swiss", "x"], "rounds: this is not TOML"),
             (["--final", "3"], "form.final: the competition has 2 players"), (["--name", "a cup"], "name: expected a name of 1 to 40 letters"), (["--players", "ann=9147"], "players.address: expected HOST:PORT"),
         ):
             self.assertIn(refused, self.refused("init", "other", *words[2:], *more))
@@ -166,7 +166,7 @@ class Rules(InArchive):
         self.folder /= "cup"
         for command in (["plan"], ["play"], ["publish"], ["check", "cup.tar.gz"]):
             self.ran(*command)
-        assert_spoilt(self, files_of(self.folder / "cup.tar.gz"), {"there is no final": (changed("cup/competition.toml", lambda text: text.replace(b"final = 2", b"")), "schedule.tsv is not what")})
+        assert_spoilt(self, files_of(self.folder / "cup.tar.gz"), {"there is no final": (changed("cup/competition.toml", lambda text: text.replace(b"final = 2", b"")), "schedule.tsv does not agree with")})
         asked = arguments(["init", str(self.folder / "asked/cup")])
         with mock.patch("builtins.input", side_effect=["countdown", "swiss 1", f"{ann},{bob}"]), mock.patch("sys.stdin.isatty", return_value=True):
             write_first_file(asked)

@@ -485,7 +485,7 @@ class Delayed(Served):
 
     def test_a_plan_is_shown_late(self):
         self.plan.folder.schedule.write_text("another")
-        # Whatever time the file has.
+        # The time of the file does not matter.
         os.utime(self.plan.folder.schedule, (0, 0))
         reader = self.site.reader
         self.look()

@@ -29,7 +29,7 @@ class Shapes(unittest.TestCase):
         self.assertFalse(is_error("IL " + "a" * 8_193))
 
     def test_a_record_may_have_16_mib_before_its_line_s_end(self):
-        for size, end, words in ((1 << 24, b"\n", "it is JSON, and not an object"), (1 << 24, b"", "it is JSON, and not an object"), ((1 << 24) + 1, b"\n", "it is longer than 16 MiB")):
+        for size, end, words in ((1 << 24, b"\n", "it is JSON, but not an object"), (1 << 24, b"", "it is JSON, but not an object"), ((1 << 24) + 1, b"\n", "it is longer than 16 MiB")):
             with self.assertRaises(record.NoRecord) as why:
                 record.read_record(b"[]".ljust(size) + end)
             self.assertEqual(str(why.exception), words, size)

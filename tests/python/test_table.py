@@ -88,7 +88,7 @@ class Tables(unittest.TestCase):
             self.assertEqual((lines["ann"].retired, lines["bob"].retired), (0, 2))
 
     def test_substituted_moves_do_not_decide_places(self):
-        # By the goals alone bob, with fewer wins, would be above ann.
+        # By goals only, bob would be above ann, with fewer wins.
         results = [result(["ann", "cid"], [0, 100], [0, 5], retired=[False, True])] * 10 + [result(["ann", "dan"], [100, 0])] * 8
         results += [result(["ann", "dan"], [0, 100])] * 2 + [result(["bob", "dan"], [100, 0])] * 17 + [result(["bob", "dan"], [0, 100])] * 3
         table = tables_of(competition("forfeit = true"), results)[0]
@@ -149,7 +149,7 @@ class Tables(unittest.TestCase):
         self.assertEqual([(of.player, of.matches, of.won) for of in tables[0].standings()], [("bob", 1, 1), ("ann", 1, 0)])
         files = table_files(Plan(None, competition(), {}, [first.match, second.match]), tables)
         self.assertIn("cup: 1 of 1 matches\n", files["table.txt"].decode())
-        self.assertIn("* m does not count: m2 was ordered in its place: the host's cable\n", files["table.txt"].decode())
+        self.assertIn("* m does not count: m2 replaces it: the host's cable\n", files["table.txt"].decode())
 
     def test_a_line_and_a_table_begin_with_nothing(self):
         values = vars(Line("x"))
@@ -210,7 +210,7 @@ class Tables(unittest.TestCase):
 
     def test_why_there_is_no_rating_is_told(self):
         lines = {name: Line(name, matches=1, rating=Rating(*found)) for name, found in (("ann", (None, None, 1)), ("bob", (None, None, None)), ("cid", (7, 2, 2)))}
-        said = ["no rating: bob (no chain of points leads to and from the others)", "no rating: ann (the results limit it so little that it can't be computed)"]
+        said = ["no rating: bob (the results do not limit it)", "no rating: ann (the results limit it so little that it can't be computed)"]
         self.assertEqual(list(notes(Table("two", lines, met={("ann", "bob"): 1}))), said)
         self.assertEqual(rating_text(Table("two", lines), lines["ann"]), "none")
 

@@ -30,8 +30,8 @@ def another_game(files):
 
 SPOILINGS = {
     "players are told other rules": (OTHER_RULES, "rules/nim.players is not what"),
-    "what players are told is missing": (without("cup/rules/nim.players"), "rules/nim.players is not there"),
-    "players are told ground rules": (OTHERWISE, "rules/SHA256SUMS is not what"),
+    "what players are told is missing": (without("cup/rules/nim.players"), "rules/nim.players does not exist"),
+    "players are told ground rules": (OTHERWISE, "rules/SHA256SUMS does not agree with"),
     "a description is another": (changed("cup/games/nim.kif", lambda text: text + b"; more\n"), "games/nim.kif is not the description that the rules of nim were made from"),
     "the matches are of another game": (another_game, "by games/nim.kif it differs: "),
     "a page has other rules for players": (OTHER_PAGE, "pages/games/nim.html does not follow"),
@@ -78,7 +78,7 @@ class Told(InFolder):
         self.assert_refused("rules/nim.players is not what `ggp_competition plan` wrote", "play")
         (self.folder / "rules/nim.players").write_bytes(text)
         self.tell_otherwise()
-        self.assert_refused("rules/SHA256SUMS is not what competition.toml says: `ggp_competition plan` writes it anew", "table")
+        self.assert_refused("rules/SHA256SUMS does not agree with competition.toml: `ggp_competition plan` writes it anew", "table")
         self.assertEqual(run(self.folder, "plan")[0], 0)
         self.assertEqual(run(self.folder, "table")[0], 0)
 
@@ -116,7 +116,7 @@ class Told(InFolder):
         self.assertEqual((status, said), (1, ""), out)
         wrongly = [planned[0] for planned in self.schedule if planned[1] == "nim"]
         # The next match may have begun while the first was checked.
-        stopped = next(line for line in out.splitlines() if line.startswith("stopped nim is not played on, since "))
+        stopped = next(line for line in out.splitlines() if line.startswith("stopped nim is not played any more, because "))
         first = next(match for match in wrongly if match in stopped)
         words = f"no record {first}: by the description of nim it differs: "
         self.assertIn(words, out)

@@ -37,11 +37,11 @@ class Why(InFolder):
         self.assertTrue(said.startswith("cup-001, countdown: p0 is red, p1 is blue; 5 s for START, 5 s for each other message, retired after 2 turns"))
         self.assertRegex(said, rf"(?m)^{MOMENT} info cup-001 p1: available, \d\.\d s$")
         self.assertRegex(said, rf"(?m)^{MOMENT} begin cup-001 countdown p0 p1$")
-        self.assertRegex(said, rf"(?m)^{MOMENT} START was answered `ready` after \d+ ms\. Message 1 to it: \(START cup-001 blue ")
+        self.assertRegex(said, rf"(?m)^{MOMENT} START was answered `ready` after \d+ ms\. Message 1: \(START cup-001 blue ")
         wrong = r"IL \(no such move\): no legal move of its role in that state, which has \d: [^;]+; its first legal move was played: "
         first, second = (re.escape(turn[1]) for turn in record["moves"][:2])
         self.assertIn(f"in that state, which has 1: {record['moves'][0][1]}; its first", said)
-        self.assertRegex(said, rf"(?m)^{MOMENT} turn 1: PLAY was answered `\(no such move\)` after \d+ ms; {wrong}{first}\. Message 2 to it: \(PLAY cup-001 NIL\)$")
+        self.assertRegex(said, rf"(?m)^{MOMENT} turn 1: PLAY was answered `\(no such move\)` after \d+ ms; {wrong}{first}\. Message 2: \(PLAY cup-001 NIL\)$")
         self.assertRegex(said, rf"(?m)^{MOMENT} turn 2: PLAY .*; {wrong}{second}, turn 2 in a row without a move of its own, so it is retired\. ")
         self.assertNotIn("p0: available", said)
         self.assertEqual(said.splitlines()[-1], f"goal {record['goalValues'][1]}; {len(record['moves'])} of {len(record['moves'])} moves replaced")
@@ -133,8 +133,8 @@ class Why(InFolder):
 
     def test_what_is_no_match_and_who_is_no_player(self):
         self.planned("good", "good")
-        self.assertEqual(run(self.folder, "why", ".", "cup-9")[::2], (2, "ggp_competition: cup-9 is no match of schedule.tsv\n"))
-        self.assertEqual(run(self.folder, "why", ".", "cup-001", "p9")[::2], (2, "ggp_competition: p9 is no player of cup-001: p0, p1\n"))
+        self.assertEqual(run(self.folder, "why", ".", "cup-9")[::2], (2, "ggp_competition: cup-9 is not a match of schedule.tsv\n"))
+        self.assertEqual(run(self.folder, "why", ".", "cup-001", "p9")[::2], (2, "ggp_competition: p9 is not a player of cup-001: p0, p1\n"))
 
     def test_moves_with_the_names_of_errors(self):
         plan = plan_in(str(self.folder), ["ann", "bob"], head="start = 20\nplay = 30\n")
@@ -149,7 +149,7 @@ class Why(InFolder):
         for words in ("turn 1: PLAY was answered `TO` after", "turn 2: PLAY was answered `lost` after", "turn 2: PLAY was answered `CE` after"):
             self.assertIn(words, said)
         for message, seconds in (("START", 20), ("turn 3: PLAY", 30), ("STOP", 30)):
-            self.assertIn(f"{message} brought {SILENT} after 5 ms; TO: no whole answer within {seconds} s", said)
+            self.assertIn(f"{message} brought {SILENT} after 5 ms; TO: no complete answer within {seconds} s", said)
         self.assertIn("turn 3: PLAY brought CE (no connection) after", said)
         # A player that answers with exactly this text has answered.
         text = "IL ?: the answer is not one expression, or too long: a second expression begins at column 4; its first legal move was played"
@@ -183,10 +183,10 @@ class Why(InFolder):
         lines = [
             "info cup-001 cup-001: available, 0.0 s", "info cup-002 cup-001: available, 0.0 s", "begin cup-002 heap bob cup-001",
             "begin cup-001 heap cup-001 bob", "end cup-002 heap bob 100, cup-001 0, 3.1 s", "no answer to abort cup-001: h:1",
-            "stopped heap is not played on, since cup-001 is no match of its description; 3 matches of it do not begin",
+            "stopped heap is not played any more, because cup-001 does not follow its description; 3 matches of it do not begin",
             "round 1 of 2: cup-001 to cup-002", "missing 20 matches between cup-001 and cup-020: broken off",
             # In a competition that has grown an id may begin with that of another match.
-            "begin cup-0010 heap cup-001 bob", "stopped heap is not played on, since cup-0010 is no match of its description", "round 10 of 12: cup-001 to cup-002",
+            "begin cup-0010 heap cup-001 bob", "stopped heap is not played any more, because cup-0010 does not follow its description", "round 10 of 12: cup-001 to cup-002",
         ]
         plan.folder.journal.write_text("".join(f"2026-01-01T00:00:00.000Z {line}\n" for line in lines))
         explained = Explanation(plan, plan.matches[0])

@@ -54,10 +54,10 @@ def refusal(place: Place) -> str:
     """Returns why the system refuses connections to a place, or an empty text. Nothing is sent."""
     address = ipaddress.ip_address(place[0])
     if address.is_multicast:
-        return "a multicast address takes no connection"
+        return "a multicast address accepts no connection"
     by_interface = address.version == 6 and address.is_link_local
     if by_interface and not address.scope_id:
-        return "a link-local address needs its interface, as in [fe80::1%eth0]"
+        return "a link-local address needs its interface, for example [fe80::1%eth0]"
     try:
         with socket.socket(socket.AF_INET6 if address.version == 6 else socket.AF_INET, socket.SOCK_DGRAM) as probe:
             probe.connect((place[0].partition("%")[0], place[1], 0, int(address.scope_id)) if by_interface else place)
@@ -65,7 +65,7 @@ def refusal(place: Place) -> str:
         if error.errno == errno.EACCES:
             return "the system refuses connections to it, as to a broadcast address"
         if by_interface and error.errno == errno.ENETUNREACH:
-            return "no link-local address is reached through this interface"
+            return "this interface reaches no link-local address"
     return ""
 
 
@@ -101,6 +101,6 @@ def mistakes_of_addresses(competition: Competition, places_of: dict[str, list[Pl
             yield Mistake(player.line, "players.address", f"{player.address!r}: {whys[0]}")
         elif others := [place for place in places if place in known]:
             other = known[others[0]]
-            fault = f"{player.address!r} and {other.address!r}, the address of {other.name}, are one: {others[0][0]}, port {port}"
+            fault = f"{player.address!r} and {other.address!r}, the address of {other.name}, are the same: {others[0][0]}, port {port}"
             yield Mistake(player.line, "players.address", fault)
         known |= {place: player for place in places if place not in known}

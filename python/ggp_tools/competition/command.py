@@ -190,7 +190,7 @@ def run_init(asked: argparse.Namespace, referee: Referee) -> int:
 
 def run_again(asked: argparse.Namespace, referee: Referee) -> int:
     match = order_again(asked.folder, referee, asked.match, asked.reason)
-    say(f"{match.id} {match.game} {' '.join(match.players)} takes the place of {match.instead_of}")
+    say(f"{match.id} {match.game} {' '.join(match.players)} replaces {match.instead_of}")
     return 0
 
 
@@ -257,7 +257,7 @@ def play_planned(plan: Plan, asked: argparse.Namespace, referee: Referee) -> int
 def run_table(asked: argparse.Namespace, referee: Referee) -> int:
     """Prints and writes the table of a competition, or one table of several."""
     if asked.to and len(asked.folder) == 1:
-        raise Refused("--to: only the table of several folders is written elsewhere")
+        raise Refused("--to: only the table of several directories is written elsewhere")
     plans = [read_plan(folder, referee) for folder in asked.folder]
     plan, known = joined(plans), [Known(plan.folder.path) for plan in plans]
     checked = [known_results(plan, referee, facts) for plan, facts in zip(plans, known)]
@@ -290,13 +290,13 @@ def archive_path(plan: Plan, to: str | None) -> pathlib.Path:
     """Returns the path of the archive. Refuses a missing directory, a file that is not an archive, and the directories of the competition."""
     path = pathlib.Path(to or plan.folder.path / f"{plan.competition.name}.tar.gz")
     if path.exists() and not path.is_file():
-        raise Refused(f"{path} is no plain file: `--to` names the file of the archive")
+        raise Refused(f"{path} is not a regular file: `--to` names the file of the archive")
     if not path.parent.is_dir():
-        raise Refused(f"{path} can't be written: {path.parent} is no folder")
+        raise Refused(f"{path} can't be written: {path.parent} is not a directory")
     top, parent = os.path.realpath(plan.folder.path), os.path.realpath(path.parent)
     if parent.startswith(os.path.join(top, "")):
         place = f"directly in {plan.folder.path}, or outside of it"
-        raise Refused(f"{path} stands among the files of the competition: `--to` names a file {place}")
+        raise Refused(f"{path} is among the files of the competition: `--to` names a file {place}")
     if path.exists() and file_bytes(path, len(PACKED)) != PACKED:
         raise Refused(f"{path} exists and is not an archive: `--to` names the file of the archive")
     return path
@@ -346,7 +346,7 @@ def run_try(asked: argparse.Namespace, referee: Referee) -> int:
 
 def run_check(asked: argparse.Namespace, referee: Referee) -> int:
     if missing := [archive for archive in asked.archives if not os.path.exists(archive)]:
-        raise Refused(f"{missing[0]} is not there")
+        raise Refused(f"{missing[0]} does not exist")
     return max([check_one(archive, referee) for archive in asked.archives])
 
 

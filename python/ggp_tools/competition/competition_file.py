@@ -130,7 +130,7 @@ class Section:
     def refuse_others(self, keys: Iterable[str]) -> None:
         for key in self.table:
             if key not in keys:
-                self.mistake(key, f"this key is now {RENAMED[key]}" if RENAMED.get(key) in keys else f"no such key; there are {', '.join(keys)}")
+                self.mistake(key, f"this key is now {RENAMED[key]}" if RENAMED.get(key) in keys else f"no such key; expected one of {', '.join(keys)}")
 
     def value(self, key: str, kind: type, what: str, default: Any) -> Any:
         """Returns the value of the key, or the default if it is missing or of another kind. Without a default the key must exist."""

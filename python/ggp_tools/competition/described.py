@@ -40,7 +40,7 @@ def comparisons(path: pathlib.Path, records: Sequence[bytes]) -> list[str]:
     lines = run.stdout.decode("ascii", "replace").splitlines()
     if run.returncode not in (SAME, DIFFERENT, NOT_FOLLOWED) or len(lines) != len(records):
         last = (run.stderr.decode("ascii", "replace").strip().splitlines() or [ended_words(run.returncode)])[-1]
-        raise Unchecked(f"records can't be held against {path}: {last}")
+        raise Unchecked(f"records can't be compared with {path}: {last}")
     return lines
 
 

@@ -58,7 +58,7 @@ def held(path: pathlib.Path) -> Iterator[None]:
             raise Refused(f"{path}: another run plans, plays or publishes this competition") from None
         except OSError as why:
             # Some network file systems have no locks, so another run would not be noticed.
-            raise Refused(f"{path} can't be held for one run alone: {why.strerror}") from None
+            raise Refused(f"{path} can't be locked: {why.strerror}") from None
         yield
     finally:
         os.close(descriptor)
@@ -254,7 +254,7 @@ class Folder:
         try:
             os.fsencode(self.path.absolute()).decode("utf-8")
         except UnicodeDecodeError:
-            raise Refused(f"{self.path.absolute()}: the path of a competition has to be UTF-8, since the referee takes no other") from None
+            raise Refused(f"{self.path.absolute()}: the path of a competition must be UTF-8, because the referee accepts no other") from None
 
     def make(self, *folders: pathlib.Path) -> None:
         """Creates missing directories, so that they last like the files in them. Only the owner can read the directory of open matches."""

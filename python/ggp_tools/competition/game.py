@@ -59,7 +59,7 @@ def add_game(commands: Any) -> argparse.ArgumentParser:
 def read_description(path: pathlib.Path) -> bytes:
     try:
         if path.exists() and not path.is_file():
-            raise Refused(f"{path} is no plain file")
+            raise Refused(f"{path} is not a regular file")
         with open(path, "rb") as file:
             return file.read(MOST_BYTES + 1)
     except OSError as why:
@@ -88,7 +88,7 @@ def run_game(asked: argparse.Namespace, referee: Referee) -> int:
 def load(path: pathlib.Path, text: bytes, referee: Referee, limit: int) -> Rules:
     """Returns the rules of a description. Raises `Unchecked` if it could not be made ground for a reason that is not in the description."""
     if len(text) <= MOST_BYTES and has_variables(text) and not shutil.which("gringo"):
-        raise Unchecked(f"{path} can't be instantiated: the grounder gringo is not installed")
+        raise Unchecked(f"{path} can't be grounded: the grounder gringo is not installed")
     try:
         return load_description(path, referee, False, limit)
     except Stopped as why:

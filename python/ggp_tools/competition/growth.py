@@ -67,7 +67,7 @@ def refuse_unchanged(history: History, competition: Competition) -> None:
     """Refuses an earlier version that asks for the same matches as the version after it."""
     for (until, before), (_, after) in itertools.pairwise((*history.earlier, (None, competition))):
         if shape(before) == shape(after):
-            raise Misfit(f"earlier/{until}.toml asks for the same matches as the file after it, so it was not replaced; take it away")
+            raise Misfit(f"earlier/{until}.toml asks for the same matches as the file after it, so it was not replaced; delete it")
 
 
 def fixed(competition: Competition) -> dict[str, object]:
@@ -100,13 +100,13 @@ def refuse_changes(before: Competition, after: Competition) -> None:
     games = {game.name: game for game in after.games}
     for old in before.games:
         if not (game := games.get(old.name)):
-            raise Misfit(f"the game {old.name} is there no more")
+            raise Misfit(f"the game {old.name} is missing")
         if (game.start, game.play) != (old.start, old.play):
             raise Misfit(f"the clocks of {game.name} were {old.start} and {old.play}, and are {game.start} and {game.play}", game.line)
         if game.player_rules != old.player_rules:
             raise Misfit(f"player_rules of {game.name} was {old.player_rules!r} and is {game.player_rules!r}", game.player_rules_line)
     if gone := new_players(after, before):
-        raise Misfit(f"the player {gone[0]} is there no more")
+        raise Misfit(f"the player {gone[0]} is missing")
     if back := [name for name in before.withdrawn() if name not in after.withdrawn()]:
         raise Misfit(f"the player {back[0]} has withdrawn, and can't come back")
 
@@ -121,7 +121,7 @@ def added(before: Competition, after: Competition, roles: Mapping[str, int], pla
     wanted, new = asked(after, roles), set(new_players(before, after))
     shared = {game.name for game in before.games if new and roles[game.name] > 2 and after.form.lines == ()}
     if shared and before.form.rounds != after.form.rounds:
-        raise Misfit(f"{min(shared)} has more than two roles, so rounds and players are added one after the other: plan in between")
+        raise Misfit(f"{min(shared)} has more than two roles, so add rounds and players one after the other, and plan in between")
     known, found = Counter(asked(before, roles)), []
     for game, players in wanted:
         if game in shared:
@@ -133,7 +133,7 @@ def added(before: Competition, after: Competition, roles: Mapping[str, int], pla
     for (game, players), count in known.items():
         if count and game not in shared:
             gone = [match.id for match in planned if (match.game, match.players) == (game, players)][-count:]
-            raise Misfit(f"{gone[0]} ({game} {' '.join(players)}) was planned, and is asked for no more")
+            raise Misfit(f"{gone[0]} ({game} {' '.join(players)}) was planned, but is no longer among the matches")
     return found
 
 
@@ -211,10 +211,10 @@ class Growing:
             refuse_too_many(competition, len(self.matches) + 1)
             at = self.places.get(order.instead_of)
             if at is None or self.matches[at].again:
-                raise Misfit(f"{order.match} was ordered in the place of {order.instead_of}, which is no match that counts")
+                raise Misfit(f"{order.match} replaces {order.instead_of}, which is not a match that counts")
             old = self.matches[at]
             if old.round < len(self.rounds.found):
-                raise Misfit(f"{old.id} is of round {old.round}, by which the next one was paired, so it can't be played again")
+                raise Misfit(f"{old.id} is of round {old.round}, and the next one was paired by its results, so it can't be played again")
             self.matches[at] = replace(old, again=order.match, reason=order.reason)
             self.add(replace(old, id=order.match, instead_of=old.id))
 

@@ -61,7 +61,7 @@ def earlier_files(folder: Folder) -> list[Path]:
     found = [file for file in folder.earlier.iterdir() if not file.name.startswith(UNFINISHED)] if folder.earlier.is_dir() else []
     for file in found:
         if not EARLIER.fullmatch(file.name):
-            raise Refused(f"{file} is none of the files by which the competition was planned before")
+            raise Refused(f"{file} is not one of the earlier files of the competition")
     return sorted(found, key=lambda file: int(file.stem))
 
 

@@ -51,8 +51,8 @@ NO_PLAYER = """
 
 def add_init(command: argparse.ArgumentParser) -> None:
     """Adds the arguments of the command."""
-    command.add_argument("folder", metavar="FOLDER", help="the folder of the competition, which is made if it is not there")
-    command.add_argument("--name", metavar="NAME", help="the name of the competition (that of the folder)")
+    command.add_argument("folder", metavar="DIRECTORY", help="the directory of the competition, which is created if it does not exist")
+    command.add_argument("--name", metavar="NAME", help="the name of the competition (default: that of the directory)")
     command.add_argument("--games", metavar="A,B,..", help="names of games in examples/games, or paths of descriptions")
     forms = command.add_mutually_exclusive_group()
     for form, word in FORMS.items():
@@ -107,7 +107,7 @@ def write_first_file(asked: argparse.Namespace) -> pathlib.Path:
     """Writes the file, and returns its path. Refuses what `plan` would refuse in it, except that players are missing."""
     folder = Folder(asked.folder)
     if folder.competition.exists():
-        raise Refused(f"{folder.competition} is there already")
+        raise Refused(f"{folder.competition} already exists")
     if not asked.games and not chosen(asked) and sys.stdin.isatty():
         ask_for_the_rest(asked)
     if not asked.games or not chosen(asked):
@@ -117,7 +117,7 @@ def write_first_file(asked: argparse.Namespace) -> pathlib.Path:
         read_competition(text.encode())
     except Mistaken as why:
         if wrong := [mistake for mistake in why.mistakes if asked.players or mistake.key not in ("players", "form.one", "form.final")]:
-            raise Refused("what the options ask for is refused:\n" + mistake_lines(folder.competition, wrong)) from None
+            raise Refused("the options make an invalid file:\n" + mistake_lines(folder.competition, wrong)) from None
     folder.make()
     write_whole(folder.competition, text.encode())
     return folder.competition

@@ -126,9 +126,9 @@ def note_of(line: bytes) -> str | None:
 
 @dataclass
 class Seen:
-    """An open match. What is shown of it follows from the finished rounds, and from a clock that starts when the last of them is found finished. If
-    the state says whose turn it is, that role is shown as awaited. After half of the open round's time, all awaited roles are shown, and nothing else
-    of that round. `version` counts the changes of what is shown."""
+    """An open match. The pages show only what follows from the finished rounds, and from a clock that starts when the last of them is found finished.
+    If the state says whose turn it is, that role is shown as awaited. After half of the open round's time, all awaited roles are shown, and nothing
+    else of that round. `version` counts the changes of what is shown."""
 
     match: Match
     tail: Tail[Event]
@@ -338,7 +338,7 @@ class Reader:
         self.place = {match.id: at for at, match in enumerate(plan.matches)}
         self.open: dict[str, Seen] = {}
         self.results: dict[str, Result] = {}
-        # The matches that were open and have no result yet, and those that got it a moment ago, with that moment of the clock.
+        # The matches that were open and have no result yet. Then those that got their result a moment ago, with the time of the clock.
         self.ending: set[str] = set()
         self.ended: dict[str, float] = {}
         self.faults: dict[str, str] = {}
@@ -527,7 +527,7 @@ class Reader:
         ends = time.monotonic() + (READING if self.identities else READING / 5)
         while self.unread and time.monotonic() < ends:
             self.look_at_record(self.unread.popleft())
-            # What remains to be read is shown.
+            # The pages show how many remain to be read.
             self.version += 1
 
     def list_records(self) -> None:

@@ -160,7 +160,7 @@ class LiveSite:
         self.site = SiteOfShown(plan, self.reader)
         # The states of open matches as HTML, each with the version of its board.
         self.states: dict[str, tuple[int, "Markup"]] = {}
-        # What was made of matches and tables, by path, each with the data that it was made from.
+        # Pages and JSON of matches and tables, by path, each with the data that it was made from.
         self.kept: OrderedDict[str, tuple[object, bytes]] = OrderedDict()
         self.tables: list[Table] = []
         # The pages of results.
@@ -202,7 +202,7 @@ class LiveSite:
             raise faults[0]
 
     def look_at_plan(self) -> None:
-        """Reads the plan if it has changed. Starts again if the plan of the moment that is shown is another one."""
+        """Reads the plan if it has changed. Starts again if the plan had changed by the moment that is shown."""
         stamp = plan_stamp(self.plan.folder)
         if stamp != self.plan_stamp:
             self.plan_stamp = stamp

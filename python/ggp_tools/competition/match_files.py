@@ -87,7 +87,7 @@ def fault_of_files(record: bytes, account: bytes | None, rules: bytes) -> str | 
     if not account.endswith(b"\n"):
         return "its account is cut off"
     if len(record) - 1 > (most := most_of_record(rules, len(record) - 1)):
-        return f"its record has more than {most:,} bytes, and no match of its game has so many"
+        return f"its record has more than {most:,} bytes, the most that a match of its game can have"
     if record.count(b"\n") != 1 or not record.endswith(b"\n"):
         return "its record is not one line"
     if not record.startswith(b"{"):
@@ -125,7 +125,7 @@ def referee_faults(plan: "Plan", referee: Referee, game: str, records: Sequence[
     verdicts = referee.verdicts(rules, records)
     lawful = [at for at, verdict in enumerate(verdicts) if verdict == "lawful"]
     replays = dict(zip(lawful, referee.replays(rules, [accounts[at] for at in lawful], [records[at] for at in lawful])))
-    wrong = "its account does not give its record again"
+    wrong = "its account does not reproduce its record"
     return [None if replays.get(at) else wrong if at in replays else verdict for at, verdict in enumerate(verdicts)]
 
 
@@ -187,7 +187,7 @@ def check_records(plan: "Plan", referee: Referee, known: Known | None = None) ->
 
     parts = [(game, batch) for game, matches in by_game.items() for batch in batches(plan.folder, matches)]
     try:
-        # The referee takes most of the time, and each batch has its own process of it.
+        # The referee takes most of the time, and each batch has a separate process.
         with concurrent.futures.ThreadPoolExecutor(PROCESSORS) as pool:
             done = list(itertools.chain.from_iterable(pool.map(check_batch, parts)))
     except MemoryError:

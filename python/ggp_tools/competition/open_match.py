@@ -29,7 +29,7 @@ WHOLE, SOON = 10, 1
 FREE = ("available", "ready", "unknown")
 # At most this many bytes come from a launcher before a match, and this many are in the log for each message besides its texts.
 MOST_BEFORE, MOST_OF_MESSAGE = 1 << 20, 1 << 10
-TOO_MUCH = "it sent more than {:,} bytes, which no match has"
+TOO_MUCH = "it sent more than {:,} bytes, more than any match has"
 # The players of a match that was lost with its node must answer ABORT within this many seconds.
 ABORT_SECONDS = 5
 EVENT = b'{"event":'
@@ -122,7 +122,7 @@ class OpenMatch:
         if is_silent:
             # Only the time distinguishes a refused or lost connection from a player that let the seconds pass.
             is_refused = done.status is not None and done.seconds < WHOLE
-            answer = "its name is not known" if is_unknown else "refused" if is_refused else "silent"
+            answer = "its host name is unknown" if is_unknown else "refused" if is_refused else "silent"
         elif done.status:
             answer = done.message()
             self.why = self.why or f"{player} could not be asked: {answer}"

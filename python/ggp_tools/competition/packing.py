@@ -59,9 +59,9 @@ def pack(file: BinaryIO, contents: Iterable[tuple[str, bytes]]) -> None:
         for name, data in contents:
             size += len(data)
             if len(data) > (most := most_of_file(name)):
-                raise TooLarge(f"{name} has more than {most:,} bytes, which are the most of such a file in an archive")
+                raise TooLarge(f"{name} has more than {most:,} bytes, the limit of such a file in an archive")
             if size > MOST_BYTES:
-                raise TooLarge(f"it has more than {MOST_BYTES:,} bytes, which are the most of an archive")
+                raise TooLarge(f"it has more than {MOST_BYTES:,} bytes, the limit of an archive")
             archive.addfile(header(name, len(data)), io.BytesIO(data))
 
 
@@ -147,9 +147,9 @@ def unpack(path: pathlib.Path, empty: pathlib.Path) -> pathlib.Path:
                 if others > OTHER_FILES:
                     raise Spoilt(f"it has more than {OTHER_FILES:,} files that are of no match of its schedule")
                 if own > most_of_file(name):
-                    raise Spoilt(f"{name} has more than {most_of_file(name):,} bytes, which are the most of such a file in an archive")
+                    raise Spoilt(f"{name} has more than {most_of_file(name):,} bytes, the limit of such a file in an archive")
                 if size > MOST_BYTES:
-                    raise Spoilt(f"with {name!r} it has more than {MOST_BYTES:,} bytes, which are the most of an archive")
+                    raise Spoilt(f"with {name!r} it has more than {MOST_BYTES:,} bytes, the limit of an archive")
                 copy(stream, own, empty / name)
                 ids = planned_ids(empty / name) if count == len(FIRST) else ids
     except (EOFError, zlib.error, gzip.BadGzipFile) as why:

@@ -225,7 +225,7 @@ class Site:
         """Returns the list of the matches without a record."""
         missing = [(match, "") for match in without_record(self.plan, results)] if self.shows_gaps else []
         rest = len(missing[MOST_LISTED:]), ", which GAPS.tsv names"
-        return list_part("gaps", "Matches without a record", "These count for nobody.", missing[:MOST_LISTED], *rest)
+        return list_part("gaps", "Matches without a record", "They count for no player.", missing[:MOST_LISTED], *rest)
 
     def span(self, results: list[Result]) -> tuple[str, str]:
         """Returns when the first match began and the last one ended. The texts are empty if no log has the times."""

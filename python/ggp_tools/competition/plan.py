@@ -69,7 +69,7 @@ class Plan:
 
 
 class Unplanned(Refused):
-    """There is no plan, or it is not that of competition.toml as it is."""
+    """There is no plan, or it does not agree with competition.toml."""
 
 
 # ---- files of a plan
@@ -90,13 +90,13 @@ def read_toml_file(path: Path) -> bytes:
 def read_planned(path: Path) -> bytes:
     """Returns the bytes of a file that `plan` wrote."""
     if not path.exists():
-        raise Unplanned(f"{path} is not there", WRITES)
+        raise Unplanned(f"{path} does not exist", WRITES)
     return read_file(path)
 
 
 def not_planned(path: Path) -> Refused:
     """Returns the error of a file that was changed after `plan` wrote it."""
-    return Refused(f"{path} is not what `ggp_competition plan` wrote", f"take it away, and {WRITES} again")
+    return Refused(f"{path} is not what `ggp_competition plan` wrote", f"delete it, and {WRITES} again")
 
 
 def sums_text(sums: Mapping[str, str]) -> bytes:
@@ -142,11 +142,11 @@ def files_of_origin(plan: Plan) -> list[Path]:
 def refused_plan(folder: Folder, path: Path) -> Unplanned:
     """Returns the error of a file that `plan` has written for another competition.toml."""
     advice = "matches were played, so put back what was changed, or add to it and plan again" if is_played(folder) else f"{WRITES} anew"
-    return Unplanned(f"{path} is not what {folder.competition} says", advice)
+    return Unplanned(f"{path} does not agree with {folder.competition}", advice)
 
 
 def lost_key(folder: Folder) -> Refused:
-    return Refused(f"{folder.key} is not there", "put it back: the ids of the matches follow from it")
+    return Refused(f"{folder.key} is missing", "put it back: the ids of the matches follow from it")
 
 
 # ---- making a plan
@@ -174,7 +174,7 @@ def loaded_games(folder: Folder, competition: Competition, referee: Referee) -> 
     for game in competition.games:
         path, program = folder.given(game), referee.taking(game.large)
         if inside := [file for file in (path, folder.description(game)) if is_in_rules(folder, file)]:
-            mistakes.append(Mistake(game.line, "games.file", f"{inside[0]}: a description can't stand in {folder.rules}, where `plan` writes the rules"))
+            mistakes.append(Mistake(game.line, "games.file", f"{inside[0]}: a description must not be in {folder.rules}, where `plan` writes the rules"))
             continue
         try:
             if game.described:
@@ -188,10 +188,10 @@ def loaded_games(folder: Folder, competition: Competition, referee: Referee) -> 
             mistakes += [Mistake(game.line, "games.file", f"{path}: {line}") for line in str(why).splitlines()]
             continue
         if game.tells_variables() and rules.player_rules is None:
-            mistakes.append(Mistake(game.player_rules_line, "games.player_rules", f'{path} has no variables: "ground" is wanted'))
+            mistakes.append(Mistake(game.player_rules_line, "games.player_rules", f'{path} has no variables: use "ground"'))
         if not game.aborts:
             why, note = trial(rules.text, program.taking(rules.is_large), game.name)
-            mistakes += [Mistake(game.line, "games.file", f"{path}: {why}; with `aborts = true` it is planned all the same")] if why else []
+            mistakes += [Mistake(game.line, "games.file", f"{path}: {why}; with `aborts = true` it is planned anyway")] if why else []
             rules_by_name[game.name] = replace(rules, notes=(*rules.notes, *([note] if note else [])))
     if mistakes:
         raise Refused(mistake_lines(folder.competition, mistakes))
@@ -290,7 +290,7 @@ def write_plan(folder: Folder, is_begun: bool, files: dict[Path, bytes]) -> None
     """Writes the files of a plan. Once matches were played, they may only grow; missing ones are written again."""
     for file, data in files.items():
         if is_begun and file.exists() and not grows(folder, file, read_file(file), data):
-            raise Refused(f"{file} would change, and matches were played", "put back what was changed, or take another folder")
+            raise Refused(f"{file} would change, and matches were played", "put back what was changed, or use another directory")
     try:
         folder.make(folder.rules, *([folder.earlier] if any(file.parent == folder.earlier for file in files) else []))
         # The schedule is last, so that it never exists without its rules.
@@ -308,19 +308,19 @@ def faults_of_descriptions(plan: Plan, path_of: Callable[[Game], Path], advice: 
     checksums is missing."""
     path = plan.folder.description_sums()
     if not path.is_file():
-        yield f"{path} is missing: it has the sums of the descriptions{advice}"
+        yield f"{path} is missing: it has the checksums of the descriptions{advice}"
         return
     sums = sums_of(path)
     for game in plan.competition.games:
         file = path_of(game)
         if not file.is_file():
-            yield f"{file} is missing: it is the description of {game.name}, of which the archive has a copy"
+            yield f"{file} is missing: it is the description of {game.name}, and the archive needs a copy of it"
         elif sum_of(text := file.read_bytes()) != sums.get(f"{game.name}.kif"):
             yield f"{file} is not the description that the rules of {game.name} were made from"
         elif not has_variables(text) and text != plan.rules[game.name].text:
-            yield f"{file} has no variables, and is not the rules of {game.name}"
+            yield f"{file} has no variables, and differs from the rules of {game.name}"
     for name in sorted(sums.keys() - {f"{game.name}.kif" for game in plan.competition.games}):
-        yield f"{path} has a sum of {name}, which is no game of {plan.folder.competition}"
+        yield f"{path} has a checksum of {name}, which is not a game of {plan.folder.competition}"
 
 
 def read_rules(folder: Folder, competition: Competition, referee: Referee) -> dict[str, Rules]:
@@ -382,7 +382,7 @@ def refuse_lost_record(folder: Folder, growing: Growing, schedule: bytes) -> Non
     lost = [match.id for match in growing.of_round(number) if match.counts() and growing.result_of(match) is None]
     if lost and schedule.startswith(schedule_text(growing.matches)):
         fault = f"{folder.schedule} has round {number + 1}, which was paired by {lost[0]}, and that has no record of this match"
-        raise Refused(fault, f"put it back; where no match of a later round has a record, {WRITES} without these rounds")
+        raise Refused(fault, f"put it back; if no match of a later round has a record, {WRITES} without these rounds")
 
 
 def refuse_lost_results(plan: Plan, results: Mapping[str, Result]) -> None:
@@ -434,11 +434,11 @@ def replaceable_match(plan: Plan, referee: Referee, match_id: str) -> Match:
     if match is None:
         raise Refused(f"{plan.folder.schedule} has no match {match_id}")
     if match.again:
-        raise Refused(f"{match_id} was ordered again already, as {match.again}: {match.reason}")
+        raise Refused(f"{match_id} was already replaced by {match.again}: {match.reason}")
     if match.withdrawn:
         raise Refused(f"{match_id} does not count: {match.withdrawn}")
     if match.round < len(plan.rounds):
-        raise Refused(f"{match_id} is of round {match.round}, by which the next one was paired, so it can't be played again")
+        raise Refused(f"{match_id} is of round {match.round}, and the next one was paired by its results, so it can't be played again")
     if not plan.folder.record(match_id).exists():
         raise Refused(f"{match_id} has no record, so `ggp_competition play` plays it")
     (check,) = checks(plan, referee, match.game, [match])
@@ -450,7 +450,7 @@ def replaceable_match(plan: Plan, referee: Referee, match_id: str) -> Match:
 def order_again(path: str, referee: Referee, match_id: str, reason: str) -> Match:
     """Plans another match in place of this one, with the reason, and returns it."""
     if not REASON.fullmatch(reason):
-        raise Refused("--reason: 1 to 200 printable characters of ASCII are wanted, without a space at either end")
+        raise Refused("--reason: expected 1 to 200 printable ASCII characters, without a space at either end")
     with held(path):
         plan = read_plan(path, referee)
         match = replaceable_match(plan, referee, match_id)

@@ -32,7 +32,7 @@ ABORT_SECONDS = 3
 NOT_BEGUN, ENDED = "not begun", "broken off"
 # How many interrupts a signal counts as: after the first no more matches begin, the second ends the open ones.
 INTERRUPTS = {signal.SIGINT: 1, signal.SIGTERM: 2, signal.SIGHUP: 2}
-# The names and addresses of a match's players have fewer bytes.
+# An upper bound for the bytes of the names and addresses of a match's players.
 MOST_OF_PLACES = 1 << 20
 
 
@@ -107,7 +107,7 @@ class Playing:
 
     def stop_game(self, match: Match) -> None:
         """Lets no more matches of a game begin, because its rules are wrong. Open matches are played to their ends."""
-        self.stopped[match.game] = f"{match.game} is not played on, since {match.id} is no match of its description"
+        self.stopped[match.game] = f"{match.game} is not played any more, because {match.id} does not follow its description"
         others = [waiting for waiting in self.waiting if waiting.game == match.game]
         self.left.update((other.id, self.stopped[match.game]) for other in others)
         self.waiting = deque(waiting for waiting in self.waiting if waiting.game != match.game)
@@ -130,7 +130,7 @@ class Playing:
             self.interrupts = 1
         if (fault := self.reporter.journal.fault) and not self.is_full:
             self.is_full = True
-            self.reporter.line(f"{fault.filename} is not written, and no more matches begin: {fault.strerror}")
+            self.reporter.line(f"{fault.filename} can't be written, and no more matches begin: {fault.strerror}")
         return bool(self.open or self.waiting and self.may_begin())
 
     async def wait_for_news(self) -> None:
@@ -278,8 +278,8 @@ def set_all_aside(playing: Playing, faults: dict[str, str]) -> None:
         if match.id not in playing.results and set_aside(playing.plan, match.id):
             fault = faults.get(match.id)
             what = f"refused {match.id}: {fault}; its files" if fault else f"aside {match.id}: it has no record; its other files"
-            then = f"{match.again} stays in its place" if match.again else match.withdrawn or ("it is played again" if fault else "it is played")
-            playing.reporter.line(f"{what} are set aside, and {then}")
+            then = f"{match.again} still replaces it" if match.again else match.withdrawn or ("it is played again" if fault else "it is played")
+            playing.reporter.line(f"{what} are renamed, and {then}")
 
 
 def prepare(playing: Playing) -> None:
@@ -294,8 +294,8 @@ def prepare(playing: Playing) -> None:
         raise Refused(f"{folder.path} can't be written: {why.filename}: {os.strerror(why.errno)}") from None
     if others := unplanned_records(plan):
         more = f", and {len(others) - 1} more" if others[1:] else ""
-        advice = f"move what is of no match out of {folder.records}, and play again"
-        raise Refused(f"{folder.records / others[0]} is of no match of the schedule{more}", advice)
+        advice = f"move the files that belong to no match out of {folder.records}, and play again"
+        raise Refused(f"{folder.records / others[0]} belongs to no match of the schedule{more}", advice)
     directories = open_directories(plan)
     if count := sum(bool(places) and not folder.record(directory.name).exists() for directory, places in directories.items()):
         # The check of the records takes a while, and players that do not answer take longer.
@@ -304,7 +304,7 @@ def prepare(playing: Playing) -> None:
     playing.results, faults, misfits = check_records(plan, playing.referee)
     refuse_lost_results(plan, playing.results)
     for match, why in misfits.items():
-        raise Refused(f"{folder.record(match)} is lawful, and of another match: {why}")
+        raise Refused(f"{folder.record(match)} is lawful, but belongs to another match: {why}")
     set_all_aside(playing, faults)
     abort_open_matches(playing, directories)
     playing.waiting.extend(match for match in plan.matches if match.id not in playing.results and match.counts())
@@ -320,5 +320,5 @@ def play(playing: Playing) -> dict[str, str]:
     prepare(playing)
     asyncio.run(playing.play_rounds())
     matches = [match for match in playing.plan.matches if not match.withdrawn]
-    missing = {match.id: match.again and f"its record does not count, and {match.again} stays in its place" for match in matches}
+    missing = {match.id: match.again and f"its record does not count, and {match.again} still replaces it" for match in matches}
     return {match: playing.left.get(match) or why or NOT_BEGUN for match, why in missing.items() if match not in playing.results}

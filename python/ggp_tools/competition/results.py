@@ -111,7 +111,7 @@ def winner_words(result: Result) -> str:
 
 def again_words(match: Match) -> str:
     """Says why a match does not count any more."""
-    return f"{match.id} does not count: {match.withdrawn or f'{match.again} was ordered in its place: {match.reason}'}"
+    return f"{match.id} does not count: {match.withdrawn or f'{match.again} replaces it: {match.reason}'}"
 
 
 def remarks(result: Result) -> Iterator[str]:
@@ -121,7 +121,7 @@ def remarks(result: Result) -> Iterator[str]:
     if not result.match.counts():
         yield again_words(result.match)
     if result.match.instead_of:
-        yield f"{result.match.id} was ordered in the place of {result.match.instead_of}"
+        yield f"{result.match.id} replaces {result.match.instead_of}"
 
 
 def fault_of_record(record: dict, match: Match, strikes: int) -> str | None:

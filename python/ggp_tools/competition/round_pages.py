@@ -30,7 +30,7 @@ def rounds_words(plan: Plan) -> str:
     if not plan.rounds:
         return ""
     left = matches_to_come(plan.competition, plan.rounds)
-    later = f"; {left:,} matches of later rounds are to come, which are not planned yet" if left else ""
+    later = f"; {left:,} matches of later rounds are not planned yet" if left else ""
     return f" Round {len(plan.rounds)} of {rounds_of(plan.competition)}{later}."
 
 

@@ -20,7 +20,7 @@ HEADS = (
 )
 TABLE_FILES = "table.txt", "table.csv", "crosstable.csv", "table.json"
 METHOD = (
-    "the likeliest ones of Bradley and Terry's model, by Newton's method; a draw is half a win; "
+    "maximum likelihood in the model of Bradley and Terry, by Newton's method; a draw is half a win; "
     "intervals of 95% from the observed information; 400 points are odds of 10 to 1"
 )
 
@@ -145,7 +145,7 @@ def notes(table: Table) -> Iterator[str]:
             yield f"{line.player} made no move of its own in {line.absent} of its {line.matches} matches"
     lines = [line for line in table.standings() if line.rating and line.rating.rating is None] if table.is_of_pairs() else []
     if unrated := [line.player for line in lines if line.rating.group is None]:
-        yield f"no rating: {', '.join(unrated)} (no chain of points leads to and from the others)"
+        yield f"no rating: {', '.join(unrated)} (the results do not limit it)"
     if unlimited := [line.player for line in lines if line.rating.group]:
         yield f"no rating: {', '.join(unlimited)} (the results limit it so little that it can't be computed)"
 
@@ -218,11 +218,11 @@ def joined(plans: Sequence[Plan]) -> Plan:
     first, competitions, rules = plans[0].competition, [plan.competition for plan in plans], {}
     names = [competition.name for competition in competitions]
     if twice := [name for name in names if names.count(name) > 1]:
-        raise Refused(f"two of the folders have a competition of the name {twice[0]}: one table needs different ones")
+        raise Refused(f"two of the directories have a competition with the name {twice[0]}: one table needs different ones")
     for plan in plans:
         for name, ground in plan.rules.items():
             if rules.setdefault(name, ground).sum != ground.sum:
-                raise Refused(f"{name} has other rules in {plan.folder.path} than in a folder before it")
+                raise Refused(f"{name} has other rules in {plan.folder.path} than in an earlier directory")
     anchor = {name: rating for competition in competitions[::-1] for name, rating in competition.anchor.items()}
     # The table explains forfeits if they are the same in all competitions.
     has_same_forfeits = len({(competition.forfeit, competition.faults) for competition in competitions}) == 1

@@ -42,7 +42,7 @@ def read_toml(text: str) -> tuple[dict, dict[Path, int]]:
     except tomllib.TOMLDecodeError as why:
         raise fault_of(text, str(why)) from None
     except RecursionError:
-        raise TomlFault(1, "", "its arrays or tables stand too deep in one another") from None
+        raise TomlFault(1, "", "its arrays or tables are nested too deeply") from None
     except ValueError:
         # Python does not convert a number with that many digits.
         raise TomlFault(1, "", "a number in it has too many digits") from None
@@ -70,7 +70,7 @@ def fault_of(text: str, why: str) -> TomlFault:
     found = PLACE.search(why)
     line = min(int(found[1]), len(lines)) if found else len(lines)
     key = KEY.match(lines[line - 1])
-    return TomlFault(line, key[1] if key else "", f"this is no TOML: {why}")
+    return TomlFault(line, key[1] if key else "", f"this is not TOML: {why}")
 
 
 def statements(text: str) -> Iterator[Statement]:

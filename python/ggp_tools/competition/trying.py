@@ -22,7 +22,7 @@ def chosen(competition: Competition, path: pathlib.Path, name: str, game: str | 
     """Returns the player and the game of these names. Refuses a player without a command."""
     player = next((player for player in competition.players if player.name == name), None)
     if not player or not player.command:
-        raise Refused(f"{path}: {name} has no `command`; `ggp_manager check` tries a player that runs" if player else f"{path} has no player {name}")
+        raise Refused(f"{path}: {name} has no `command`; `ggp_manager check` tests a running player" if player else f"{path} has no player {name}")
     first = next((candidate for candidate in competition.games if game in (None, candidate.name)), None)
     if not first:
         raise Refused(f"{path} has no game {game}")

@@ -22,14 +22,14 @@ TIMED = re.compile(rf"({MOMENT}) (.*)")
 # The beginnings of the journal's rows about a match and about its round. Players, games and matches may have the same names.
 ROWS = (
     "(?:begin|end|no record|back|silent|info|abort|no answer to abort|lost|refused|aside|missing|start|restart|died|down) {match}[ :]"
-    r"|stopped \S+ is not played on, since {match} |round {round} of "
+    r"|stopped \S+ is not played any more, because {match} |round {round} of "
 )
 # The first words of rows that are about one player.
 OF_PLAYER = "info", "abort", "start", "restart", "died", "down"
 SET_BACK = "the clock was set back: it was {before} before"
 MARKS = {
-    "TO": "no whole answer within {seconds} s",
-    "CE": "no connection, or no whole reply",
+    "TO": "no complete answer within {seconds} s",
+    "CE": "no connection, or no complete reply",
     "RT": "not asked, since it is retired",
     "IL ?": "the answer is not one expression, or too long",
 }
@@ -140,7 +140,7 @@ class Explanation:
             text += f"; {self.mark_text(mark, message.kind)}"
         moment = message.moment()
         time = "" if moment is None else moment_at(moment)
-        return Entry(time, message.role, f"{text}. Message {message.number} to it: {message_of(message.message)}")
+        return Entry(time, message.role, f"{text}. Message {message.number}: {message_of(message.message)}")
 
     def mark_of(self, message: Message) -> str | None:
         """Returns the error that the record has for START or the last message. It is empty without an error, and None without a record."""
@@ -213,7 +213,7 @@ def explanation(plan: Plan, match_id: str, player: str | None) -> Iterator[str]:
     """Yields what happened in a match, to one player or to each."""
     match = next((planned for planned in plan.matches if planned.id == match_id), None)
     if match is None:
-        raise Refused(f"{match_id} is no match of {plan.folder.schedule}")
+        raise Refused(f"{match_id} is not a match of {plan.folder.schedule}")
     if player and player not in match.players:
-        raise Refused(f"{player} is no player of {match_id}: {', '.join(match.players)}")
+        raise Refused(f"{player} is not a player of {match_id}: {', '.join(match.players)}")
     yield from Explanation(plan, match).lines([player] if player else list(match.players))

@@ -12,7 +12,7 @@ MOST = {"sentences": 8192, "atomic sentences": 16384, "roles": 16, "moves": 4096
 # The limits of ggp_manager --large.
 LARGE = {**MOST, "sentences": 262144, "atomic sentences": 262144, "bytes": 16777216}
 # The first comment of a ground description that exceeds the usual limits.
-LARGE_NOTE = "large = true: this is past the usual limits of ggp_manager, which takes it with --large"
+LARGE_NOTE = "large = true: this exceeds the usual limits of ggp_manager, which accepts it with --large"
 # The longest argument of a command on Linux, without the final NUL byte.
 MOST_IN_A_WORD = 131071
 # A sentence of the output, with the number of the sentence that it comes from; and the name, the value and the limit of a quantity.

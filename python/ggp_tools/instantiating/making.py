@@ -175,7 +175,7 @@ class Making:
         first = next((rule.sentence for rule in rules if limits.is_high(rule.head)), None)
         rules, high = limits.without_high_goals(rules)
         if high:
-            self.notes.append(f"goals past 100 are left out ({high:,}, the first by {self.cited(first)}): {limits.WITHOUT_HIGH_GOALS}")
+            self.notes.append(f"goals above 100 are left out ({high:,}, the first by {self.cited(first)}): {limits.WITHOUT_HIGH_GOALS}")
         rules = grounding.in_order(rules)
         self.know(counted(len(rules), "ground sentence"))
         return rules
@@ -241,7 +241,7 @@ class Making:
             report(f"  {note}")
         wide = max(len(name) for name, _, _ in written.figures)
         for name, count, most in written.figures:
-            report(f"  {name:{wide}} {count:>9,} of {most:>9,}" + (": PAST THE LIMIT" if count > most else ""))
+            report(f"  {name:{wide}} {count:>9,} of {most:>9,}" + (": ABOVE THE LIMIT" if count > most else ""))
         if limits.MOST_IN_A_WORD < len(written.text) and not written.past():
             report(f"  this is too long for one argument of a command on Linux, which holds {limits.MOST_IN_A_WORD:,} bytes")
         if past := written.past():

@@ -51,8 +51,8 @@ def is_halved(circle: list[Expression], rules_for: RulesFor) -> bool:
 
 
 def has_all_halves(circle: list[Expression], rules_for: RulesFor) -> bool:
-    """Returns whether any two sentences of the cycle that are halves of a third have a rule for it, and the third is in the cycle. Otherwise some
-    paths are not made of halves."""
+    """Returns whether each two sentences of the cycle that are halves of a third one have a rule that derives it, and the third one is in the cycle.
+    Otherwise some paths are not made of halves."""
     begun, bodies, members = {}, {}, set(circle)
     for atom in circle:
         begun.setdefault(atom[1], []).append(atom)

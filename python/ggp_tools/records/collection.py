@@ -85,7 +85,7 @@ def game_of(path: pathlib.Path) -> KnownGame:
     data = path.read_bytes()
     text = data.decode("latin-1")
     if has_variables(text):
-        raise Refused("it has variables: `ggp-instantiate` makes ground rules of it")
+        raise Refused("it has variables: `ggp-instantiate` makes ground rules from it")
     try:
         game = Game(text)
     except Refused as why:
@@ -128,7 +128,7 @@ def line_of(file: str, number: int, data: bytes) -> Line:
         record = parsed(data)
     except NoRecord as why:
         return Line(file, number, data, None, str(why))
-    return Line(file, number, data, *((record, "") if isinstance(record, dict) else (None, "it is JSON, and not an object")))
+    return Line(file, number, data, *((record, "") if isinstance(record, dict) else (None, "it is JSON, but not an object")))
 
 
 class Pile:

@@ -66,7 +66,7 @@ def json_lines(data: bytes) -> list[str]:
     try:
         json.loads(data.decode("utf-8"), parse_int=float)
     except json.JSONDecodeError as why:
-        lines = [f"line {why.lineno}, column {why.colno}: {JSON_WORDS.get(why.msg, 'an escape is not one of JSON')}"]
+        lines = [f"line {why.lineno}, column {why.colno}: {JSON_WORDS.get(why.msg, 'an escape sequence is not valid JSON')}"]
         if why.msg == "Extra data" and FOLLOWS.match(why.doc, why.pos):
             return [*lines, "More text follows the first record. Pass one record, without its account, or use --lines if each line is a record."]
         return lines + cut_lines(why.doc, why)
@@ -200,7 +200,7 @@ def check_lengths(record: dict, is_cut: bool) -> None:
 def checked_record(record: object, is_cut: bool = False) -> dict:
     """Checks the shape of a record, as far as a page needs it, and fills in version 1. A cut record lacks its last states."""
     if not isinstance(record, dict):
-        raise NoRecord("it is JSON, and not an object")
+        raise NoRecord("it is JSON, but not an object")
     record.setdefault("version", 1)
     for key, (is_of_kind, _) in KEYS.items():
         if (key != "strikes" or record["version"] == 2) and not (key in record and is_of_kind(record[key])):

@@ -59,10 +59,10 @@ CAUSES = {
 }
 ERRORS = {
     "TO": "no answer came in time",
-    "CE": "the connection broke, or no whole reply came",
+    "CE": "the connection broke, or no complete reply came",
     "RT": "the role is retired: it was not asked",
     "IL ?": "the answer was not one expression",
-    "IL": "the answer was no legal move",
+    "IL": "the answer was not a legal move",
 }
 
 # Terms of a state that name the role whose turn it is.
@@ -274,7 +274,7 @@ def grouped_boards(grouped: dict[Group, dict[int, list[list[str]]]], named: Name
 
 
 def why_of(error: str) -> str:
-    return ERRORS["IL"] if error.startswith("IL ") and error != "IL ?" else ERRORS.get(error, "an error of no known form")
+    return ERRORS["IL"] if error.startswith("IL ") and error != "IL ?" else ERRORS.get(error, "an unknown error")
 
 
 def ending(record: dict) -> str:

@@ -201,6 +201,6 @@ def main() -> int:
     except MemoryError:
         say(b"ggp_manager: want of memory\n")
         status = 2
-    # A thread may still wait for input, and all is written.
+    # A thread may still wait for input, and everything is written.
     os._exit(status)
 
