@@ -281,7 +281,7 @@ class BadInput(InFolder):
             self.assertRegex(whole, rf"\n +{name} +{told}\n")
             of_command = said(name, "--help")
             self.assertIn(f"\n{told[0].upper()}{told[1:]}.\n", of_command)
-            self.assertRegex(of_command, r"\n +((FOLDER|DIRECTORY) +the (folder|directory) of the competition|ARCHIVE +the file of an archive|FILE +competition.toml)")
+            self.assertRegex(of_command, r"\n +(DIRECTORY +the directory of the competition|ARCHIVE +the file of an archive|FILE +competition.toml)")
             self.assertRegex(of_command, r"\n +--program FILE +the referee, ggp_manager \(")
 
     def test_no_referee_is_found(self):

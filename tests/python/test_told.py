@@ -103,7 +103,7 @@ class Told(InFolder):
         pages = {name: (self.folder / f"pages/games/{name}.html").read_text() for name in ("nim", "countdown", "nim.players")}
         for name, page in pages.items():
             is_told = name == "nim"
-            self.assertEqual(("Players are told these rules, with variables" in page, "?" in page), (is_told, is_told), name)
+            self.assertEqual(("Players get these rules, with variables" in page, "?" in page), (is_told, is_told), name)
             self.assertIn(sum_of(self.rules(f"{name}.kif")), page)
         self.assertIn(sum_of(self.rules("nim.players")), pages["nim"])
 

@@ -70,8 +70,8 @@ class Line:
 
 @dataclass
 class Table:
-    """The table of a game, or of all games: the lines by player; for each pair of players the points of the first against the second, and how often
-    they met; the order of the lines; and the matches that rematches replace. That of all games also has the rounds, and remarks about withdrawn
+    """The table of a game, or of all games: the lines by player and their order, and the matches that rematches replace. For each pair of players it
+    has the points of the first against the second, and how often they met. The table of all games also has the rounds, and remarks about withdrawn
     players."""
 
     game: str

@@ -1,17 +1,17 @@
 """Sorts files of mixed records by game, checks each record, and writes them as tables, pages, facts, matches of ggp-base, or text like PGN.
 
-    ggp-records --rules FOLDER check [--explain] PILE ..
-    ggp-records --rules FOLDER sqlite FILE PILE ..
-    ggp-records --rules FOLDER csv DIR PILE ..
-    ggp-records --rules FOLDER pages DIR PILE ..
-    ggp-records --rules FOLDER ggp-base [--log LOG ..] [--games URL] DIR PILE ..
-    ggp-records --rules FOLDER pgn [--log LOG ..] FILE PILE ..
-    ggp-records --rules FOLDER facts [--log LOG ..] [--descriptions FOLDER] [--refereed-by TEXT] FILE PILE ..
+    ggp-records --rules RULES check [--explain] PILE ..
+    ggp-records --rules RULES sqlite FILE PILE ..
+    ggp-records --rules RULES csv DIR PILE ..
+    ggp-records --rules RULES pages DIR PILE ..
+    ggp-records --rules RULES ggp-base [--log LOG ..] [--games URL] DIR PILE ..
+    ggp-records --rules RULES pgn [--log LOG ..] FILE PILE ..
+    ggp-records --rules RULES facts [--log LOG ..] [--descriptions DIR] [--refereed-by TEXT] FILE PILE ..
     ggp-records log LOG ..
 
-A PILE is a file with a record on each line, as written by `season` and `run`, or `-` for standard input. It may be compressed by gzip.
-Lines of accounts are skipped. Options may come anywhere. FOLDER has the ground rules of the games, each in a file NAME.kif. A record belongs
-to the game that has its roles and its first state. --large allows large rules.
+A PILE is a file with a record on each line, as written by `season` and `run`, or `-` for standard input. It may be compressed by gzip. Lines of
+call logs are skipped. Options may come anywhere. RULES is a directory with the ground rules of the games, each in a file NAME.kif. A record
+belongs to the game that has its roles and its first state. --large allows large rules.
 
 `check` prints a line for each record: the file, the number of the line, the match, the game and the verdict, separated by tabs. With --explain
 the lines below a record that is not lawful say what was expected and what was found.
@@ -22,13 +22,13 @@ database has the views `counted_players` and `counted_moves`, which have only la
 `ggp-base`, `pgn` and `facts` write only lawful records, and name the others. `ggp-base` writes a file for each match, in the format of ggp-base;
 URL/NAME/ is the address of the game NAME. `pgn` writes the headers and the moves of each match, with an empty line between two matches. `facts`
 writes a line of JSON for each record, with facts that the record itself does not have. LOG, a file or a directory such as `logs` of a
-competition, has the times of messages. The FOLDER of --descriptions has the descriptions that were grounded, by the same names. TEXT names the
+competition, has the times of messages. The DIR of --descriptions has the descriptions that were grounded, by the same names. TEXT names the
 program that refereed the matches.
 
 `log` prints logs as text, an event on each line, with at most 200 bytes of each message and each answer.
 
-FILE and DIR must not exist yet. docs/RECORDS.md explains the verdicts. examples/records/README.md describes the formats of `ggp-base`, `pgn` and
-`facts`.
+FILE, and the DIR for the output, must not exist yet. docs/RECORDS.md explains the verdicts. examples/records/README.md describes the formats of
+`ggp-base`, `pgn` and `facts`.
 
 The exit status is 0 if all records are lawful, 1 if not, 2 for a usage error, 3 if there is no verdict."""
 
@@ -115,14 +115,14 @@ def facts_for(given: argparse.Namespace, referee: Referee, logs: MatchLogs) -> F
 def arguments(words: list[str]) -> argparse.Namespace:
     reader = argparse.ArgumentParser(COMMAND, description=__doc__, formatter_class=argparse.RawDescriptionHelpFormatter)
     reader.add_argument("--program", metavar="FILE", help="ggp_manager, if it is not next to this program or on the path")
-    reader.add_argument("--rules", metavar="FOLDER", help="the games: ground rules in files NAME.kif")
+    reader.add_argument("--rules", metavar="RULES", help="a directory with the games: ground rules in files NAME.kif")
     reader.add_argument("--large", action="store_true", help="allow large rules")
     reader.add_argument("--jobs", type=whole(1, MOST_JOBS), default=len(os.sched_getaffinity(0)), metavar="N", help="at most N processes at a time")
     reader.add_argument("--explain", action="store_true", help="`check`: explain why a record is not lawful")
     reader.add_argument("--log", action="append", metavar="LOG", help="`ggp-base`, `pgn`, `facts`: a log of matches, or a directory of logs; may be given several times")
     reader.add_argument("--games", metavar="URL", help="`ggp-base`: where the games are published: the game NAME at URL/NAME/")
-    reader.add_argument("--descriptions", metavar="FOLDER", help="`facts`: the descriptions that were grounded, by the same names")
-    text = "`facts`: the program that refereed the matches (default: VERSION next to the FOLDER of --rules)"
+    reader.add_argument("--descriptions", metavar="DIR", help="`facts`: the descriptions that were grounded, by the same names")
+    text = "`facts`: the program that refereed the matches (default: VERSION next to RULES)"
     reader.add_argument("--refereed-by", metavar="TEXT", help=text)
     reader.add_argument("action", choices=OUTPUTS, help="what to do")
     reader.add_argument("files", metavar="FILE", nargs="*", help="the output, unless it is standard output; then each PILE, or each LOG of `log`")

@@ -347,8 +347,8 @@ def board_page(
 def states_of_page(
     states: list[list[str]], roles: Sequence[str], named: Named = Named(), since: int = 0, most: float = math.inf, is_played: bool = False
 ) -> Iterator[dict[str, Any]]:
-    """Yields each state from a number on: its boards, unless they have more than `most` places together; the terms that no board shows (current,
-    previous and removed ones); and the role whose turn it is, if the state has it."""
+    """Yields each state from a number on: its boards, unless they have more than `most` places together, and the role whose turn it is, if the state
+    has it. Also the terms that no board shows: current, previous and removed ones."""
     boards = boards_of(states, named)
     is_drawn = len(boards) * (len(states) - since) <= MOST_DRAWN and sum(board.size(is_played) for board in boards) <= most
     boards = boards if is_drawn else []
@@ -503,5 +503,5 @@ def perform(name: str) -> int:
 
 def main() -> int:
     reader = argparse.ArgumentParser("ggp-show-record", usage="ggp-show-record [RECORD] > page.html", description=ABOUT, epilog=STATUS)
-    reader.add_argument("record", metavar="RECORD", nargs="?", default="-", help="a file with one record, as printed by `run` and `desk`, also with its account (default: standard input, also as `-`)")
+    reader.add_argument("record", metavar="RECORD", nargs="?", default="-", help="a file with one record, as printed by `run` and `desk`, also with its call log (default: standard input, also as `-`)")
     return status_of("ggp-show-record", lambda: perform(reader.parse_args().record), 2)
