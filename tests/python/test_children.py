@@ -6,7 +6,7 @@ import os
 import sys
 
 import pytest
-from ggp_tools.competition import jobs
+from ggp_tools.competition import children, jobs
 from ggp_tools.competition.children import run
 from ggp_tools.competition.jobs import Job, Lost
 from ggp_tools.processes import ended_words
@@ -178,6 +178,13 @@ def test_a_command_that_is_not_there_is_an_error_of_its_file():
 def test_a_process_whose_time_is_over_is_ended():
     done = asyncio.run(run(["sh", "-c", "echo one; sleep 600"], seconds=0.2))
     assert (done.status, done.seconds >= 0.2) == (None, True)
+
+
+def test_what_a_process_has_said_in_time_is_read_late(monkeypatch):
+    """On a busy computer, the time may be over before this process has read what has come."""
+    monkeypatch.setattr(children, "SOON", 60)
+    done = asyncio.run(run(["echo", "one"], seconds=0))
+    assert (done.status, done.output) == (0, b"one\n")
 
 
 @pytest.mark.parametrize("is_starting", [False, True])

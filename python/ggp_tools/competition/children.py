@@ -18,6 +18,8 @@ from ggp_tools.referee import Referee
 MOST_AT_ONCE = 1 << 16
 # At most this many players are sent ABORT at the same time.
 MOST_ABORTS = 1_024
+# The seconds for what a process has sent in its time: some moments for one that seems to run, and more for one that has ended.
+SOON, LATE = 0.1, 10
 
 
 class Watched(asyncio.subprocess.SubprocessStreamProtocol):
@@ -77,11 +79,16 @@ class Done:
 
 async def run(words: list[str], given: bytes = b"", seconds: float | None = None) -> Done:
     """Runs a process to its end. It is killed when its time is over, or if this is cancelled."""
-    began, streams = time.monotonic(), (b"", b"")
+    began = time.monotonic()
     async with started(words) as (process, _):
-        with contextlib.suppress(TimeoutError):
-            async with asyncio.timeout(seconds):
-                streams = await process.communicate(given)
+        talk = asyncio.create_task(process.communicate(given))
+        try:
+            await asyncio.wait([talk], timeout=seconds)
+            # On a busy computer, this process may be late to notice that the other one has ended, or to read its output.
+            await asyncio.wait([talk], timeout=LATE if process.returncode is not None else SOON)
+            streams = talk.result() if talk.done() else (b"", b"")
+        finally:
+            talk.cancel()
         return Done(process.returncode, *streams, time.monotonic() - began)
 
 

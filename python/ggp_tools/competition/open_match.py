@@ -123,7 +123,7 @@ class OpenMatch:
             # Only the time distinguishes a refused or lost connection from a player that let the seconds pass.
             is_refused = done.status is not None and done.seconds < WHOLE
             answer = "its host name is unknown" if is_unknown else "refused" if is_refused else "silent"
-        elif done.status:
+        elif done.status or not answer:
             answer = done.message()
             self.why = self.why or f"{player} could not be asked: {answer}"
         self.reporter.note(f"info {self.match.id} {player}: {answer}, {done.seconds:.1f} s")
