@@ -113,7 +113,7 @@ SPOILINGS = {
     "a description and its sum are others": (nonsense, "games/odd.kif has no variables, and differs from the rules of odd"),
     "a description is missing": (without("cup/games/odd.kif"), "games/odd.kif is missing: it is the description of odd"),
     "the sums of the descriptions are missing": (without("cup/rules/DESCRIPTIONS.sha256"), "rules/DESCRIPTIONS.sha256 is missing: it has the checksums of the descriptions"),
-    "there is a sum of another description": (changed("cup/rules/DESCRIPTIONS.sha256", lambda text: text + b"0" * 64 + b"  more.kif\n"), "has a sum of more.kif, which is no game"),
+    "there is a sum of another description": (changed("cup/rules/DESCRIPTIONS.sha256", lambda text: text + b"0" * 64 + b"  more.kif\n"), "has a checksum of more.kif, which is not a game"),
     "the schedule is another": (changed("cup/schedule.tsv", lambda text: text.replace(b"ann bob", b"bob ann", 1)), "schedule.tsv does not agree with"),
     "the competition has other strikes": (changed("cup/competition.toml", lambda text: text.replace(b"strikes = 1", b"strikes = 2")), "competition.toml:4: strikes was 1 and is 2"),
     "the competition counts otherwise": (changed("cup/competition.toml", lambda text: text.replace(b"forfeit = true", b"forfeit = false")), "competition.toml:5: forfeit was true and is false"),

@@ -180,7 +180,7 @@ class CompetitionFile(unittest.TestCase):
         text = (TOP / "docs/COMPETITION.md").read_text()
         limits = [
             f"at most {MOST_OF_COMPETITION:,} bytes", f"at most {MOST_SIGNS:,} of the signs", f"at most {MOST_PLAYERS:,} players, {MOST_GAMES:,} games", f"at most {MOST_MATCHES:,} matches", f"`rounds` times, 1 to {MOST_ROUNDS:,} (1)", f"0 to {MOST_STRIKES}",
-            "before it is reported, 1 to 1,000 (5)", f"0 to {MOST_SECONDS:,} (10)", f"N matches at the same time, 1 to {MOST_AT_ONCE:,}, by default 4", "`concurrent = N`, 1 to 1,024",
+            "before it gives up the match, 1 to 1,000 (5)", f"0 to {MOST_SECONDS:,} (10)", f"N matches at the same time, 1 to {MOST_AT_ONCE:,}, by default 4", "`concurrent = N`, 1 to 1,024",
             "`name` | 1 to 40 letters", "`name`, 1 to 64 letters",
         ]
         self.assertEqual([limit for limit in limits if limit not in text], [])

@@ -78,7 +78,7 @@ class SideBySide(unittest.TestCase):
 
     def test_a_process_that_is_killed_is_a_shortage(self):
         # Other tests may have left a thread, with which the work would not be split.
-        with patch("threading.active_count", return_value=1), self.assertRaisesRegex(Unchecked, "a process was ended"):
+        with patch("threading.active_count", return_value=1), self.assertRaisesRegex(Unchecked, "a process was killed"):
             list(made_side_by_side(killed, [(1,), (2,)]))
 
 
