@@ -1,9 +1,9 @@
--- Which value a history leaves, and when a history is legal, for any object. An object is given by its reply to a call, its value
--- after a call, and its opening, the value before all calls.
+-- The value after a history, and when a history is legal, for any object. An object is given by its reply to a call, its value after a call,
+-- and its opening, which is its value before all calls.
 use Rattle.std.specs.Prelude.{◌≡◌, ℕ, List, [], ◌∷◌, ◌++◌}
 use Rattle.call_history.specs.declared.journal.Entry.{Entry}
 
--- what contracts see of a journal
+-- a journal as contracts see it
 pub record JournalValue (S C R : Type 0) : Type 0 where
   pub object : S
   pub history : List (Entry C R)

@@ -2,12 +2,12 @@
 use Rattle.std.specs.Prelude.{◌≡◌, ◌==◌, ℕ, ◌<◌, zero, suc, Bool, true, false, List, [], ◌∷◌, ◌++◌, map}
 use Rattle.std.specs.List.{list_any}
 
--- what contracts see of a line: its number, and the number of its calls that got a reply
+-- a line as contracts see it: its number, and the number of its calls that got a reply
 pub record LockLineValue : Type 0 where
   pub number : ℕ
   pub made : ℕ
 
--- what contracts see of a desk: the number of its lines
+-- a desk as contracts see it: the number of its lines
 pub record LockDeskValue : Type 0 where
   pub lines : ℕ
 

@@ -42,7 +42,7 @@ module _ {C R : Type 0} where
   abbrev pub HaveOwnReplies : List (Entry C R) → List (LineValue C R) → Type 0
   HaveOwnReplies history ends = (number : ℕ) (end : LineValue C R) → Contains ends end → end.number ≡ number → IsPrefix (taken_replies end) (replies_of (part number history))
 
-  -- What a closed desk leaves: its history, its object, and how many calls each line made.
+  -- The result of closing a desk: its history, its object, and how many calls each line made.
   pub record IsClosed {O : Type 0} (desk : RingDeskValue O C R) (ends : List (LineValue C R)) (history : List (Entry C R)) (object : O) (made_by_line : List ℕ) : Type 0 where
     pub history_is : history ≡ desk.journal.history
     pub object_is : object ≡ desk.journal.object
@@ -51,7 +51,7 @@ module _ {C R : Type 0} where
     pub lines : All (λ e. e.line < length desk.ports) history
     pub calls : HaveOwnCalls history ends
     pub replies : HaveOwnReplies history ends
-    -- therefore the parts of all lines together are the history
+    -- so the parts of all lines together have as many entries as the history
     pub entries : length history ≡ entries_below (length desk.ports) history
     -- the number of calls of each line; the index is the line's number
     pub one_each : length made_by_line ≡ length desk.ports
@@ -73,7 +73,7 @@ module _ {C R : Type 0} where
     pub count : length after ≡ length before
     pub each : (i : ℕ) (e : LineValue C R) → i < length before → SameEnd (slice_index_or before i e) (slice_index_or after i e)
 
-  -- A refusal gives the desk and the ends back as they were.
+  -- A refusal returns the desk and the ends as they were.
   pub record HandsBack {O : Type 0} (desk desk' : RingDeskValue O C R) (ends ends' : List (LineValue C R)) : Type 0 where
     pub journal : desk'.journal ≡ desk.journal
     pub ports : SamePorts desk.ports desk'.ports

@@ -6,11 +6,11 @@ use Rattle.call_history.specs.RingLines.{LineValue, SameLine, SamePorts, IsLineO
 use Rattle.call_history.specs.RingClosing.{end_numbers}
 
 module _ (C R : Type 0) where
-  -- a line of a desk stays one while the desk serves and the line posts and takes
+  -- a line of a desk stays a line of that desk while the desk serves and the line posts and takes
   abbrev pub LinesStay : Type 0
   LinesStay = (before after : List (Port C R)) (line line' : LineValue C R) → SamePorts before after → SameLine line line' → IsLineOf before line → IsLineOf after line'
 
-  -- ends of a desk's lines stay such ends while the desk serves
+  -- the ends of a desk's lines stay ends of its lines while the desk serves
   abbrev pub EndsStay : Type 0
   EndsStay = (before after : List (Port C R)) (ends : List (LineValue C R)) → SamePorts before after → AreEndsOf before ends → AreEndsOf after ends
 

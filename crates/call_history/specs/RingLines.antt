@@ -1,4 +1,4 @@
--- What contracts see of a line over rings: what it posted and took, and its rings.
+-- A line over rings as contracts see it: the calls that it posted, the replies that it took, and its rings.
 use Rattle.std.specs.Prelude.{◌≡◌, ℕ, ◌<◌, Bool, List, [], length, slice_index_or}
 use Rattle.std.specs.List.{All}
 use Rattle.std.specs.Global.{Global}
@@ -8,13 +8,13 @@ use Rattle.rtrb.specs.declared.consumer.Consumer.{Consumer}
 use Rattle.rtrb.specs.declared.producer.Producer.{Producer}
 use Rattle.call_history.specs.declared.port.Port.{Port}
 
--- what contracts see of a line, or of its end: its number, and its ends of the rings for calls and for replies
+-- a line, or its end, as contracts see it: the line's number, and its sides of the rings for calls and for replies
 pub record LineValue (C R : Type 0) : Type 0 where
   pub number : ℕ
   pub calls : Producer C Global AnyItems
   pub replies : Consumer R Global AnyItems
 
--- what contracts see of a wire over a line: the tries for each call, and whether the wire has stalled
+-- a wire over a line as contracts see it: the line, the tries for each call, and whether the wire has stalled
 pub record RingWireValue (C R : Type 0) : Type 0 where
   pub line : LineValue C R
   pub tries : ℕ

@@ -7,13 +7,13 @@ use Rattle.call_history.specs.declared.port.Port.{Port}
 use Rattle.call_history.specs.History.{JournalValue}
 use Rattle.call_history.specs.Parts.{part, calls_of, replies_of}
 
--- what contracts see of a desk over rings: its journal, and its ends of the rings, by the numbers of the lines
+-- a desk over rings as contracts see it: its journal, and its sides of the rings, by the numbers of the lines
 pub record RingDeskValue (S C R : Type 0) : Type 0 where
   pub journal : JournalValue S C R
   pub ports : List (Port C R)
 
--- From a line the desk has received the calls of the line's part of the history, and then the call that it keeps, if any. It has sent
--- the replies of that part.
+-- The desk has received from a line the calls in the line's part of the history, and then the call that the desk keeps, if any. It has sent
+-- the line the replies in that part.
 pub record Serves {C R : Type 0} (served : List (Entry C R)) (port : Port C R) : Type 0 where
   pub calls : received port.calls ≡ calls_of served ++ option_to_list port.kept
   pub replies : sent port.replies ≡ replies_of served
@@ -57,7 +57,7 @@ abbrev pub Visits : {C R : Type 0} → (before after : List (Entry C R)) → (po
 Visits {C} {R} before after ports ports' bound = (i : ℕ) (p : Port C R) → i < bound
     → IsPassedBy (slice_index_or ports i p) (slice_index_or ports' i p) ⊎ (length (part i before) < length (part i after))
 
--- A round stopped at this line, and the desk keeps the line's call. The cause was the history if and only if the history is full.
+-- A round stopped at this line, and the desk keeps the line's call. The statement `for_full` holds if and only if the history is full.
 pub record StopsAt {S C R : Type 0} (line : ℕ) (for_full : Type 0) (desk : RingDeskValue S C R) : Type 0 where
   pub within : line < length desk.ports
   pub kept : (p : Port C R) → IsSome (slice_index_or desk.ports line p).kept

@@ -7,8 +7,8 @@ const AWAKE: u64 = 0;
 
 const ASLEEP: u64 = 1;
 
-/// The bell of a desk over rings. A line rings it after it posts a call, and when it is done. The desk's thread sleeps on it
-/// while no call comes, and signals through it that it makes no further calls.
+/// The bell of a desk over rings. A line rings the bell after it posts a call, and when the line is done. The desk's thread
+/// sleeps on the bell while no call comes, and signals through it that the desk makes no further calls.
 ///
 /// No guarantee of a desk or a line depends on the bell.
 #[derive(Drop)]

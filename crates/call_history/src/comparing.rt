@@ -1,4 +1,4 @@
-//! When lines come back to a desk over rings: whether the desk has served all their calls.
+//! Whether a desk over rings has served all calls of the lines that come back to it.
 ghost use Rattle.std.specs.Prelude.{◌≡◌, ◌<◌, ℕ, slice_index_or, length, MatchBool, MatchOption, min};
 ghost use Rattle.std.specs.List.{All};
 ghost use Rattle.call_history.specs.Parts.{part};
@@ -13,7 +13,7 @@ use crate::port::Port;
 use crate::ring_line::LineEnd;
 
 /// Whether no call of a line is waiting. Both ends of each ring are now in one thread, so they can be compared. Only the
-/// clauses read the journal, for its history.
+/// contract uses the journal, for its history.
 fn compare<O: Object>(
     journal: &Journal<O>,
     port: &mut Port<O::Call, O::Reply>,
@@ -74,7 +74,7 @@ pub(crate) fn lowest_unserved<O: Object>(
     lowest
 }
 
-/// Stores how many calls each line made, by its number. Only the clauses read the journal, for its history.
+/// Stores how many calls each line made, by the line's number. Only the contract uses the journal, for its history.
 pub(crate) fn note_made<O: Object>(
     journal: &Journal<O>,
     made_by_line: &mut Vec<u64>,

@@ -35,7 +35,8 @@ fn note_numbers<N: Numbered>(lines: &[N], found: &mut [bool])
     }
 }
 
-/// The lowest number with a place in `found` that none of these lines has. If there is none, all of `found` is set to true.
+/// The lowest number with a place in `found` that none of these lines has. If there is no such number, all of `found` is
+/// set to true.
 pub(crate) fn lowest_missing<N: Numbered>(lines: &[N], found: &mut [bool]) -> Option<u32>
     requires { length found.old < 2 ^ 32 }
     ensures some { IfSome result (λ n. IsLowestMissing (map N.number lines.now) (length found.old) n) }
@@ -52,7 +53,7 @@ pub(crate) fn lowest_missing<N: Numbered>(lines: &[N], found: &mut [bool]) -> Op
 }
 
 /// Combines the shares of the lines, and stores how many calls each line made. A place of `awaited` is true until the line
-/// with its number has come. A second line with that number is dropped, and so is a line whose number has no place.
+/// with that number has come. A second line with the same number is dropped, and so is a line whose number has no place.
 pub(crate) fn gather<L: Ledger>(
     lines: Vec<LockLine<L>>,
     awaited: &mut [bool],

@@ -142,7 +142,7 @@ impl<O: Object> Journal<O> {
         &self.object
     }
 
-    /// Takes the journal apart: the object and its history.
+    /// Returns the object and its history.
     pub(crate) fn into_parts(self) -> (O, Vec<Entry<O::Call, O::Reply>>)
         ensures object { result.0 ≡ self.object }
         ensures history { result.1.items ≡ self.history }

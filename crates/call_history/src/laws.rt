@@ -1,10 +1,10 @@
 //! Laws of the definitions of this crate. Each is a function that does nothing.
 //!
-//! The definitions read a history from its front. Two laws say what they give at its end, and therefore, by induction, for
-//! each entry. One law says that the constants are the limits of the definitions.
+//! The definitions read a history from its front. Two laws say what these definitions give for one more entry at its end,
+//! and so, by induction, for each entry. One law says that the constants are the limits of the definitions.
 //!
-//! The laws on rings say that the lines of a desk stay its lines while the desk serves and the lines post and take, so a
-//! caller who keeps the lines can close the desk with their ends. These laws have no arguments, because they relate values
+//! The laws on rings say that the lines of a desk stay its lines while the desk serves and the lines post and take. So a
+//! caller that keeps the lines can close the desk with their ends. These laws have no arguments, because they relate values
 //! from before and after such calls: name the type of the desk's object when you call them.
 ghost use Rattle.std.specs.Prelude.{◌≡◌, ◌↔◌, [], ◌∷◌, ◌++◌};
 ghost use Rattle.call_history.specs.History.{run, IsLegalHistory};
@@ -16,7 +16,7 @@ use crate::lock::MAX_LINES;
 use crate::object::Object;
 use crate::ring_opening::MAX_ROOM;
 
-/// The run of a history with one more entry is the value that the last call leaves.
+/// The run of a history with one more entry is the value after the last call.
 pub fn run_with_one_more<O: Object>(
     object: &O,
     history: &[Entry<O::Call, O::Reply>],

@@ -1,8 +1,8 @@
 //! Objects that reply to calls, the history of their calls, and desks through which many threads share an object: behind a
 //! lock, or over rings.
 //!
-//! The history replays on one thread: each stored reply is the reply of the plain object at that point, and the object is
-//! what the calls leave, in order.
+//! One thread can replay the history: each stored reply is the reply of the plain object at that point, and making the
+//! calls in order leads to the object.
 #![tactic(auto)]
 
 mod bell;

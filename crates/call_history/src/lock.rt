@@ -64,12 +64,12 @@ impl<O: Object, L: Ledger> Locked<O, L> {
 
 /// An object with its history behind a lock. Each caller has a line.
 ///
-/// Contracts see only the number of a desk's lines. A contract cannot name the data under the lock, so only `close` says
-/// what is known about them.
+/// Contracts see only the number of a desk's lines. A contract cannot name the data under the lock, so only the contract of
+/// `close` describes it.
 #[derive(Drop)]
 pub struct LockDesk<O: Object, L: Ledger> {
     locked: Mutex<Locked<O, L>>,
-    // Both have a place for each line from the start, so `close` allocates nothing.
+    // Both vectors have a place for each line from the start, so `close` allocates nothing.
     found: Vec<bool>,
     made_by_line: Vec<u64>,
 }
@@ -88,7 +88,7 @@ impl<O: Object, L: Ledger> Model for LockDesk<O, L> {
         × (d.made_by_line.items ≡ replicate (length d.found.items) 0) };
 }
 
-/// What a desk leaves when it is closed, after all its lines have come back.
+/// The result of closing a desk, after all its lines have come back.
 #[derive(Drop)]
 pub struct Closed<O: Object> {
     /// The calls that got a reply, in order.
@@ -102,7 +102,7 @@ pub struct Closed<O: Object> {
 /// Why a desk was not closed.
 #[derive(Clone, Copy, Debug, PartialEq, Eq, Error)]
 pub enum CloseFault {
-    /// None of the given lines has this number. It is the lowest such number.
+    /// The lowest number that none of the given lines has.
     #[error("line {0} is missing")]
     MissingLine(u32),
 }
@@ -115,11 +115,11 @@ pub struct Unclosed<O: Object, L: Ledger> {
     pub cause: CloseFault,
 }
 
-/// Opens a desk with an empty history of at most `most` entries, and its lines. If an allocation is refused, the object
-/// comes back.
+/// Opens a desk with an empty history of at most `most` entries, and returns the desk and its lines. If an allocation is
+/// refused, returns the object.
 ///
-/// The blank has one part for each line. Call this function in a function over `L`, and call that one with `Brand`, as
-/// `sync::ledger` of std explains.
+/// The blank has one part for each line. Call this function in a function that is generic over `L`, and call the latter
+/// with `Brand`, as `sync::ledger` of std explains.
 pub fn open_lock<O: Object, L: Ledger>(
     alloc: Global,
     blank: Blank,
@@ -169,10 +169,10 @@ pub fn open_lock<O: Object, L: Ledger>(
 }
 
 impl<O: Object, L: Ledger> LockDesk<O, L> {
-    /// Makes a call on the line. It waits for the lock, and holds it only for this call.
+    /// Makes a call on the line. Waits for the lock, and holds it only for this call.
     ///
-    /// After `Ok` the history that `close` returns has the entry, and `Full` comes only if that history is full. No contract
-    /// says so, since none can name the data under the lock.
+    /// After `Ok`, the history that `close` returns has the entry. This returns `Full` only if that history is full. No
+    /// contract says so, because no contract can name the data under the lock.
     pub fn ask<R: Wait>(
         &self,
         rt: &R,
@@ -190,12 +190,12 @@ impl<O: Object, L: Ledger> LockDesk<O, L> {
         Ok(reply)
     }
 
-    /// Closes the desk if all its lines are given. Otherwise the desk and the lines come back. It allocates nothing, and
-    /// visits each line twice.
+    /// Closes the desk if all its lines are given. Otherwise returns the desk and the lines. Allocates nothing, and visits
+    /// each line twice.
     pub fn close(self, lines: Vec<LockLine<L>>) -> Result<Closed<O>, Unclosed<O, L>>
         ensures all { IsOk result ↔ HasAll (numbers lines.items) self.lines }
 
-        // The history replays on one thread.
+        // One thread can replay the history.
         ensures replay { IfOk result (λ c. IsReplay O.reply O.after O.opening c.object c.history.items) }
         ensures counted { IfOk result (λ c. sum c.made_by_line.items ≡ length c.history.items) }
         ensures lines { IfOk result (λ c. length c.made_by_line.items ≡ self.lines) }

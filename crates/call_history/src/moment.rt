@@ -1,11 +1,11 @@
 //! How a thread waits between two tries.
 use std::{hint, thread};
 
-/// One of so many tries in a row gives the processor to another thread.
+/// The thread yields its processor once in this many tries in a row.
 const YIELD_EACH: u64 = 64;
 
-/// Waits a moment after a try, counted from 0. Most moments are shorter than a call: on a busy computer, a thread that gives
-/// its processor away gets it back late.
+/// Waits a moment after the try with this number, counted from 0. Most of these waits are shorter than a call, because a
+/// thread that yields its processor on a busy computer gets it back late.
 pub fn back_off(tried: u64) {
     if tried % YIELD_EACH == YIELD_EACH - 1 {
         thread::yield_now();

@@ -4,14 +4,14 @@ use std::sync::Wait;
 use std::time::Duration;
 use std::{hint, thread};
 
-/// How many rests in a row only spin: about as long as a line needs for its next call.
+/// How many rests in a row only spin. Together they take about as long as a line needs for its next call.
 const SPINS: u32 = 64;
 
-/// How many further rests give the processor to another thread, before the thread sleeps.
+/// How many further rests yield the processor to another thread, before the thread sleeps.
 const YIELDS: u32 = 8;
 
-/// The rests in a row of the thread that serves a desk. It finds a call that comes soon without delay, and a long wait takes
-/// no processor time.
+/// Counts the rests in a row of the thread that serves a desk. The thread finds a call that comes soon without delay, and
+/// takes no processor time during a long wait.
 #[derive(Drop)]
 pub struct Pause<'a> {
     bell: &'a Bell,

@@ -17,7 +17,7 @@ use thiserror::Error;
 pub struct RingDesk<O: Object> {
     journal: Journal<O>,
     ports: Vec<Port<O::Call, O::Reply>>,
-    // Both have a place for each line from the start, so `close` allocates nothing.
+    // Both vectors have a place for each line from the start, so `close` allocates nothing.
     found: Vec<bool>,
     made_by_line: Vec<u64>,
 }
@@ -38,8 +38,8 @@ impl<O: Object> Model for RingDesk<O> {
         × (length d.journal.history ≤ d.journal.most) };
 }
 
-/// Why a round stopped at this line. The desk keeps the line's call for the next round. The calls that it served before stay
-/// made.
+/// Why a round stopped at this line. The desk keeps the line's call for the next round. The calls that the round served
+/// before stay in the history.
 #[derive(Clone, Copy, Debug, PartialEq, Eq, Error)]
 #[error("line {line}: {cause}")]
 pub struct DeskFault {
@@ -51,10 +51,10 @@ pub struct DeskFault {
 /// Why a desk over rings was not closed.
 #[derive(Clone, Copy, Debug, PartialEq, Eq, Error)]
 pub enum RingCloseFault {
-    /// None of the given ends has this number. It is the lowest such number.
+    /// The lowest number that none of the given ends has.
     #[error("line {0} is missing")]
     MissingLine(u32),
-    /// A call of the line with this number is waiting or kept. It is the lowest such number.
+    /// The lowest number of a line with a call that is waiting or kept.
     #[error("line {0} is not served")]
     Unserved(u32),
 }
@@ -100,7 +100,7 @@ impl<O: Object> RingDesk<O> {
         }
     }
 
-    /// The journal. Its history has, for each line, what the line's rings carried.
+    /// The journal. Its history has, for each line, the calls that the desk served and the replies that it sent.
     pub fn journal(&self) -> &Journal<O>
         ensures journal { result.now ≡ self.now.journal }
 
@@ -136,7 +136,7 @@ impl<O: Object> RingDesk<O> {
         serve_round(&mut self.journal, &mut self.ports)
     }
 
-    /// Serves rounds until one serves nothing. Each other round makes the history longer, so this comes to an end.
+    /// Serves rounds until one serves nothing. Each round before the last one makes the history longer, so this ends.
     pub fn serve_all(&mut self) -> Result<(), DeskFault>
         ensures lines { SamePorts self.old.ports self.new.ports }
         ensures most { self.new.journal.most ≡ self.old.journal.most }
@@ -152,14 +152,14 @@ impl<O: Object> RingDesk<O> {
         }
     }
 
-    /// Closes the desk if the ends of all its lines are given and all their calls were served. Otherwise the desk and the
-    /// ends come back. It allocates nothing.
+    /// Closes the desk if the ends of all its lines are given and all their calls were served. Otherwise returns the desk
+    /// and the ends. Allocates nothing.
     pub fn close(self, ends: Vec<LineEnd<O>>) -> Result<Closed<O>, RingUnclosed<O>>
         requires lines { AreEndsOf self.ports ends.items }
 
         ensures closed { IfOk result (λ c. IsClosed self ends.items c.history.items c.object c.made_by_line.items) }
 
-        // The history replays on one thread.
+        // One thread can replay the history.
         ensures replay { IfOk result (λ c. IsReplay O.reply O.after O.opening c.object c.history.items) }
         ensures counted { IfOk result (λ c. sum c.made_by_line.items ≡ length c.history.items) }
 

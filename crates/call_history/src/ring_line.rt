@@ -28,7 +28,7 @@ impl<O: Object> Model for RingLine<O> {
     ghost invariant = { λ l. (l.posted ≡ length (sent l.calls)) × (l.taken ≡ length (received l.replies)) };
 }
 
-/// The end of a line, which posts no more calls. The desk is closed with the ends of its lines. Contracts see the line.
+/// The end of a line: the line, which posts no more calls. A desk is closed with the ends of its lines. Contracts see the line.
 #[derive(Drop)]
 pub struct LineEnd<O: Object> {
     pub(crate) line: RingLine<O>,
@@ -86,7 +86,7 @@ impl<O: Object> RingLine<O> {
         self.taken
     }
 
-    /// Posts a call. The call comes back if its ring has no free slot, or if the line has posted 2^64 - 1 calls.
+    /// Posts a call. Returns the call if the ring has no free slot, or if the line has posted 2^64 - 1 calls.
     pub fn post(&mut self, call: O::Call) -> Result<(), O::Call>
         ensures line { SameLine self.old self.new }
         ensures taken { taken_replies self.new ≡ taken_replies self.old }

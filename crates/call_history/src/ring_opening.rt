@@ -16,8 +16,8 @@ use std::alloc::{AllocError, Global};
 /// The largest number of slots in a ring.
 pub const MAX_ROOM: u64 = 1_024;
 
-/// Opens a desk with an empty history of at most `most` entries, and its lines. Each line has two rings of `room` slots. If
-/// an allocation is refused, the object comes back.
+/// Opens a desk with an empty history of at most `most` entries, and returns the desk and its lines. Each line has two
+/// rings of `room` slots. If an allocation is refused, returns the object.
 pub fn open_rings<O: Object>(
     alloc: Global,
     object: O,

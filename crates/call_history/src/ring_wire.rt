@@ -10,7 +10,7 @@ use crate::wire::{AskFault, Wire};
 use std::marker::Model;
 use std::sync::Arc;
 
-/// A line of a desk over rings, and how often each call tries. Contracts do not see the bell.
+/// A line of a desk over rings, and the number of tries for each call. Contracts do not see the bell.
 #[derive(Drop)]
 pub struct RingWire<O: Object> {
     line: RingLine<O>,
@@ -55,7 +55,7 @@ impl<O: Object> RingWire<O> {
         wire
     }
 
-    /// Gives the line back.
+    /// Returns the line.
     pub fn end(self) -> RingLine<O>
         ensures { result ≡ self.line }
     {
@@ -144,7 +144,7 @@ fn post_within<O: Object>(
         ((posted_calls line.new ≡ posted_calls line.old ++ call ∷ []) × (left.new < left.old))
         (posted_calls line.new ≡ posted_calls line.old) }
 
-    // Without a bell it gives up only after the last try.
+    // Without a bell, the function gives up only after the last try.
     ensures gives_up { IfNone bell.now (IsFalse result → left.new ≡ 0) }
 {
     let mut call = call;
@@ -173,7 +173,7 @@ fn take_within<O: Object>(
     ensures some { IfSome result (λ r. taken_replies line.new ≡ taken_replies line.old ++ r ∷ []) }
     ensures none { IfNone result (taken_replies line.new ≡ taken_replies line.old) }
 
-    // Without a bell it gives up only after the last try.
+    // Without a bell, the function gives up only after the last try.
     ensures gives_up { IfNone bell.now (IfNone result (left.new ≡ 0)) }
 {
     for tried in 0..*left {

@@ -50,10 +50,10 @@ pub trait Wire {
 
     type Reply: Drop;
 
-    /// The calls that it made, in order: `None` if it does not show them.
+    /// The calls that the wire made, in order, or `None` if the wire does not show them.
     ghost calls: { Self → Option (List Self.Call) };
 
-    /// The replies that it took, in order: `None` if it does not show them.
+    /// The replies that the wire took, in order, or `None` if the wire does not show them.
     ghost replies: { Self → Option (List Self.Reply) };
 
     /// The two wires belong to the same line.

@@ -25,11 +25,11 @@ turn_rules =
     ∷ codes "(<= (goal blue 0) (true (heap 0)) (true (turn blue)))"
     ∷ []
 
--- the rule that a heap of `before` becomes one of `left` if this word is true of the moves
+-- the rule that a heap of `before` becomes a heap of `left` if this atom is true
 abbrev pub step_rule : ℕ → ℕ → List ℕ → List ℕ
 step_rule left before word = codes "(<= (next (heap " ++ (decimal left ++ (codes ")) (true (heap " ++ (decimal before ++ (codes ")) " ++ (word ++ (codes ")" ++ line_feed ∷ []))))))
 
--- the rules that make a heap of at most `size` one of `left`: a move takes one or two
+-- the rules by which heaps of at most `size` become a heap of `left`: a move takes one or two
 abbrev pub steps_to : ℕ → ℕ → List ℕ
 steps_to size left = step_rule left (left + 1) (codes "one") ++ (if nat_lt (left + 1) size then step_rule left (left + 2) (codes "two") else [])
 

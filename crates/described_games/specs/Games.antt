@@ -35,7 +35,7 @@ pub data DescribesNone (limits : Limits) (text : List ℕ) : Type 0 where
   unread : ((xs : Expressions) → ¬ SpellsUpTo (max_bytes limits) text xs) → DescribesNone limits text
   faulty : (sentences : List Expression) (fault : LoadFault) → SpellsUpTo (max_bytes limits) text (expressions sentences) → fault ≢ LoadMemory → IsLoadFault limits (map folded sentences) fault → DescribesNone limits text
 
--- Within these limits, the text has this first error of spelling, or its sentences, in lower case, have this first error of loading.
+-- Within these limits, the first error is this spelling error of the text, or this loading error of its sentences in lower case.
 abbrev pub IsRefusedAs : Limits → List ℕ → DescriptionFault → Type 0
 IsRefusedAs limits text (Unread fault) = (fault ≢ KifMemory) × IsFaultUpTo (max_bytes limits) any_number text fault
 IsRefusedAs limits text (Unfit fault) = (fault ≢ LoadMemory) × (sentences : List Expression) × SpellsUpTo (max_bytes limits) text (expressions sentences) × IsLoadFault limits (map folded sentences) fault

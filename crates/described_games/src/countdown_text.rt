@@ -26,7 +26,7 @@ const TURNS: &str = "(role red) (role blue) (init (turn red))
 (<= (goal blue 0) (true (heap 0)) (true (turn blue)))
 ";
 
-/// Appends the rule that a heap of `before` becomes one of `left` if this word is true of the moves.
+/// Appends the rule that a heap of `before` becomes a heap of `left` if the atom `word` is true.
 fn push_step(rules: &mut String, left: u16, before: u16, word: &str) -> fmt::Result
     ensures { OnOk result (string_bytes rules.new ≡ string_bytes rules.old ++ step_rule left before word.now) }
 {
@@ -37,7 +37,7 @@ fn push_step(rules: &mut String, left: u16, before: u16, word: &str) -> fmt::Res
     Ok(())
 }
 
-/// Appends the rules that make a heap of at most `size` one of `left`.
+/// Appends the rules by which heaps of at most `size` become a heap of `left`.
 fn push_steps_to(rules: &mut String, size: u8, left: u8) -> fmt::Result
     ensures { OnOk result (string_bytes rules.new ≡ string_bytes rules.old ++ steps_to size left) }
 {

@@ -13,7 +13,7 @@ use std::alloc::{AllocError, Global};
 pub enum DescriptionFault {
     /// The text is not KIF.
     Unread(KifFault),
-    /// Its sentences are not a ground description.
+    /// The sentences of the text are not a ground description.
     Unfit(LoadFault),
     /// Out of memory.
     Memory,

@@ -75,11 +75,11 @@ pub enum Refusal {
     NoGame,
     /// The number of players is not the number of roles.
     WrongPlayers,
-    /// A player's name breaks the rule of ids.
+    /// A player's name breaks the rule for ids.
     BadName,
     /// A clock is not 1 to 86,400 seconds.
     BadClock,
-    /// More than 255 strikes.
+    /// The number of strikes is above 255.
     BadStrikes,
     /// The desk has 1,024 matches.
     DeskFull,
@@ -89,7 +89,7 @@ pub enum Refusal {
     NoRole,
     /// The match is finished or aborted.
     Over,
-    /// The answer is not for the present round, which this is.
+    /// The answer is not for the present round, whose number this is.
     Stale(u64),
     /// The role has already answered this round.
     Twice,

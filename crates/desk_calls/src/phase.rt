@@ -2,7 +2,7 @@
 ghost use Rattle.std.specs.Prelude.{◌≡◌};
 ghost use Rattle.desk_calls.specs.Phases.{is_last, phase_text};
 
-/// How far a match has come.
+/// The progress of a match.
 #[derive(Clone, Copy, PartialEq, Eq)]
 pub enum Phase {
     /// Some role has not answered START.
@@ -23,8 +23,8 @@ pub enum Phase {
 #[derive(Clone, Copy, PartialEq, Eq)]
 pub struct Status {
     pub phase: Phase,
-    /// 0 while the match is starting; after that, the number of recorded turns plus one. An abort that was asked for adds
-    /// one more, or makes the round 1 if some role has not answered START.
+    /// 0 while the match is starting; after that, the number of recorded turns plus one. A requested abort adds one more,
+    /// or makes the round 1 if some role has not answered START.
     pub round: u64,
     /// The number of recorded turns.
     pub turns: u64,

@@ -1,4 +1,4 @@
--- What contracts see of a counted stream.
+-- A counted stream as contracts see it.
 use Rattle.std.specs.Prelude.{ℕ, ◌<◌, ◌≤◌, ◌+◌, ◌-◌, ◌^◌, min, List, length, Result, Ok, Err, if◌then◌else◌, ◌&&◌, ◌==◌, nat_lt}
 
 -- a stream, the number of its reads and writes, and the number of those that failed

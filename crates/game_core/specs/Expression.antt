@@ -1,4 +1,4 @@
--- The plain expression: a KIF expression as a tree, wherever it lies in memory.
+-- The plain expression: a KIF expression as a tree, independent of its place in memory.
 use Rattle.std.specs.Prelude.{ℕ, suc, ◌≡◌, ◌<◌, ◌≤◌, max, map, length, List, [], ◌∷◌, true}
 use Rattle.game_core.specs.Bytes.{is_atom_byte, lower}
 
@@ -21,7 +21,7 @@ abbrev mutual
   depth_all none = 0
   depth_all (more x xs) = max (depth x) (depth_all xs)
 
--- the expression with the ASCII capitals of its atoms turned to lower case
+-- the expression in lower case: the ASCII capitals in its atoms are converted
 abbrev mutual
   pub folded : Expression → Expression
   folded (atom w) = atom (map lower w)
@@ -51,6 +51,6 @@ abbrev mutual
 abbrev pub max_depth : ℕ
 max_depth = 64
 
--- some text spells the expression, and reading its own text gives it back
+-- all atoms are valid, and at most max_depth lists nest
 abbrev pub IsProper : Expression → Type 0
 IsProper x = HasAtoms x × (depth x ≤ max_depth)

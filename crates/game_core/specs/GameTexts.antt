@@ -1,5 +1,5 @@
--- Tests that show that the texts of a game are lawful, with a lemma for each about what it shows. If a test has no free variable,
--- `refl` proves that it passes. The proofs are in this file because the laws of a game may import only from specs.
+-- Tests that show that the texts of a game are lawful. For each test, a lemma says what it shows. If a test has no free variable, `refl`
+-- proves that it passes. The proofs are in this file because the laws of a game may import only from specs.
 use Rattle.std.specs.Prelude.{ℕ, ◌≡◌, ◌≢◌, ◌<◌, ◌%◌, ◌+◌, ◌^◌, ◌⊎◌, ◌==◌, ◌&&◌, ◌||◌, not, nat_lt, nat_le, bytes_eq, Bool, true, false, List, [], ◌∷◌, ◌++◌, length, map, max, All, AllPairs}
 use Rattle.std.specs.List.{list_all}
 use Rattle.std.specs.Fmt.{decimal}
@@ -17,7 +17,7 @@ use Rattle.game_core.specs.Expression.{Expression, Expressions, atom, list, none
 use Rattle.game_core.specs.Canonical.{canonical, later, IsCanonicalText, IsFoldedText}
 use Rattle.game_core.specs.Texts.{IsBefore, AreInByteOrder}
 
--- an atom byte that is no capital
+-- an atom byte that is not a capital letter
 abbrev pub is_folded_byte : ℕ → Bool
 is_folded_byte b = is_atom_byte b && lower b == b
 
@@ -42,19 +42,19 @@ after_atom (w ∷ ws) = space ∷ (w ++ after_atom ws)
 abbrev pub list_text : List ℕ → List (List ℕ) → List ℕ
 list_text w ws = left_parenthesis ∷ (w ++ after_atom ws)
 
--- the test that a text comes before another
+-- tests whether a text comes before another
 abbrev pub is_before : List ℕ → List ℕ → Bool
 is_before [] [] = false
 is_before [] (b ∷ bs) = true
 is_before (a ∷ as') [] = false
 is_before (a ∷ as') (b ∷ bs) = nat_lt a b || (a == b && is_before as' bs)
 
--- the test of each member with each later one
+-- tests each member with each later one
 abbrev pub test_pairs : {A : Type 0} → (A → A → Bool) → List A → Bool
 test_pairs p [] = true
 test_pairs p (x ∷ xs) = list_all (p x) xs && test_pairs p xs
 
--- what the test of an atom shows
+-- lemmas about the test of an atom
 
 atom_bytes : (w : List ℕ) → list_all is_folded_byte w ≡ true → AreAtomBytes w × (map lower w ≡ w)
 atom_bytes [] is = (tt, refl)
@@ -107,7 +107,7 @@ mutual
       let rest = all_are_folded xs both.1 in
       ((here.0, rest.0), cc (here.1, rest.1))
 
--- what a passed test shows of an expression, of an atom, and of a list of atoms
+-- lemmas about the tests of an expression, of an atom, and of a list of atoms
 
 pub expression_is_folded : (x : Expression) → (nat_le (depth x) max_depth && has_folded_atoms x) ≡ true → IsFoldedText (canonical x)
 expression_is_folded x is =
@@ -150,7 +150,7 @@ pub texts_are_canonical : (texts : List (List ℕ)) → AreFoldedTexts texts →
 texts_are_canonical [] folded = All-nil IsCanonicalText
 texts_are_canonical (t ∷ ts) folded = let here = folded.0 in All-cons IsCanonicalText t ts (here.0, here.1, here.3) (texts_are_canonical ts folded.1)
 
--- what the test of pairs shows: the texts are in order, or the members have different texts
+-- lemmas about the test of pairs: the texts are in order, or the members have different texts
 
 passed : {A : Type 0} (p : A → Bool) (P : A → Type 0) → ((x : A) → p x ≡ true → P x) → (xs : List A) → list_all p xs ≡ true → All P xs
 passed p P shows xs is k d within = shows _ (AllPass-from_list_all p xs is k d within)

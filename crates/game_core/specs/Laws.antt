@@ -11,6 +11,6 @@ NumbersAreAtoms = (n : ℕ) → n < 2 ^ 64 → IsAtom (decimal n)
 abbrev pub NumbersArePlain : Type 0
 NumbersArePlain = (n : ℕ) → n < 2 ^ 64 → (is_plain_numeral (decimal n) ≡ true) × (digits_value 10 (decimal n) ≡ n)
 
--- a word is read as a number up to a limit if and only if the number is within the limit and the word is its text
+-- a word is read as a number up to a limit if and only if the number is within the limit and the word is the decimal text of the number
 abbrev pub NumbersReadBack : Type 0
 NumbersReadBack = (word : List ℕ) (n limit : ℕ) → limit < 2 ^ 64 → (plain_number word limit ≡ Some n) ↔ ((n ≤ limit) × (word ≡ decimal n))

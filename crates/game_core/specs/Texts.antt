@@ -1,7 +1,7 @@
 -- The byte order of texts.
 use Rattle.std.specs.Prelude.{ℕ, ◌≡◌, ◌<◌, ◌⊎◌, List, [], ◌∷◌, AllPairs}
 
--- A text comes before another if it is a shorter prefix of it, or has the lower byte where they first differ.
+-- A text comes before another if it is a proper prefix of the other, or has the lower byte where they first differ.
 abbrev pub IsBefore : List ℕ → List ℕ → Type 0
 IsBefore [] [] = ⊥
 IsBefore [] (b ∷ bs) = Unit {0}

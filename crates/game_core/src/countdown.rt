@@ -10,8 +10,8 @@ const ROLES: usize = 2;
 
 const MAX_HEAP: u8 = 100;
 
-/// Two roles, `red` and `blue`, take one or two from a heap in turn; red begins. The role that must move when the heap is
-/// empty loses: its goal is 0, the other role's is 100.
+/// Two roles, `red` and `blue`, take turns to take one or two from a heap; red begins. The role that must move when the
+/// heap is empty loses: its goal is 0, and the other role's is 100.
 #[derive(Drop)]
 pub struct Countdown {
     pub size: u8,
@@ -22,7 +22,7 @@ pub struct Countdown {
 /// A move.
 #[derive(Clone, Copy, Debug, PartialEq, Eq)]
 pub enum Take {
-    /// `noop`: the only move of the role that is not on turn.
+    /// `noop`: the only legal move of the role whose turn it is not.
     Noop,
     /// `(take 1)`.
     One,
@@ -45,7 +45,7 @@ pub struct Position {
 }
 
 impl Countdown {
-    /// Returns the game whose heap has `size` at first, for a `size` of 1 to 100.
+    /// Returns the game whose heap has `size` at the start, or `None` if `size` is not 1 to 100.
     pub fn new(size: u8) -> Option<Countdown>
         ensures some { IsSome result ↔ ((1 ≤ size) × (size ≤ max_heap)) }
         ensures value { IfSome result (λ g. g.size ≡ size) }

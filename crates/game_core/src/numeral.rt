@@ -16,7 +16,7 @@ pub fn is_plain_numeral(word: &[u8]) -> bool
     are_digits(word) && (word.len() == 1 || word[0] != b'0')
 }
 
-/// The number that the digits write, or `None` if it exceeds the limit. Any number of digits is allowed.
+/// The number that the digits represent, or `None` if it exceeds the limit. Any number of digits is allowed.
 pub fn number_up_to(digits: &[u8], limit: usize) -> Option<usize>
     requires digits { IsTrue (are_digits digits.now) }
     requires small { limit < 2 ^ 32 }
@@ -32,7 +32,7 @@ pub fn number_up_to(digits: &[u8], limit: usize) -> Option<usize>
     Some(number)
 }
 
-/// The number that a word writes without leading zeros, or `None` if the word is not such a number or exceeds the limit.
+/// The number that the word represents, or `None` if the word is not a plain numeral or the number exceeds the limit.
 pub fn plain_number(word: &[u8], limit: usize) -> Option<usize>
     requires { limit < 2 ^ 32 }
     ensures { result ≡ plain_number word.now limit }

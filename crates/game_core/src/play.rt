@@ -19,7 +19,7 @@ pub enum PlayFault {
     /// The turn does not have exactly one move for each role.
     #[error("turn {turn} has not one move for each role")]
     WrongWidth { turn: usize },
-    /// This role's move is not legal, and all lower roles' moves are.
+    /// This role's move is not legal. The moves of all lower roles are legal.
     #[error("the move of role {role} in turn {turn} is not legal")]
     Illegal { turn: usize, role: usize },
     /// Out of memory.

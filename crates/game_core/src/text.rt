@@ -44,7 +44,7 @@ impl Text {
         }
     }
 
-    /// `clone`, for callers that pass an allocator.
+    /// Clones the text, for callers that pass an allocator.
     pub fn copy(&self, alloc: Global) -> Result<Text, AllocError>
         ensures { IfOk result (λ t. t ≡ self.now) }
     {

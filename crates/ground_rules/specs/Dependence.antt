@@ -5,7 +5,7 @@ use Rattle.rule_sentences.specs.declared.sentence.Derived.TheVariants.{Role, Ini
 use Rattle.numbered_rules.specs.Literals.{Literal, Literals, Holds, InState, Does, Distinct, Not, Or, End, More, Rule}
 use Rattle.rule_sentences.specs.Descriptions.{Description}
 
--- the literal contains a does sentence or, if of_state is set, a true sentence
+-- the literal contains a `does` sentence or, if of_state is set, a `true` sentence
 abbrev mutual
   pub speaks_of_given : {A T : Type 0} → Bool → Literal A T → Bool
   speaks_of_given of_state (Holds a) = false
@@ -42,7 +42,7 @@ pub data DependsOnGiven (A T : Type 0) (of_state : Bool) (rules : List (Rule A T
   at_once : (a : A) (r : Rule A T) → IsRuleOf r rules → r.head ≡ a → any_speaks_of_given of_state r.body ≡ true → DependsOnGiven A T of_state rules a
   through : (a b : A) (r : Rule A T) → IsRuleOf r rules → r.head ≡ a → AnySpeaksOf b r.body → DependsOnGiven A T of_state rules b → DependsOnGiven A T of_state rules a
 
--- a legal, goal or terminal head that depends on a does sentence, or an init head that depends on a true or does sentence
+-- a `legal`, `goal` or `terminal` head that depends on a `does` sentence, or an `init` head that depends on a `true` or `does` sentence
 abbrev pub IsBarred : Description → Derived → Type 0
 IsBarred d (Legal r m) = DependsOnGiven Derived (List ℕ) false d (Legal r m)
 IsBarred d (Goal r n) = DependsOnGiven Derived (List ℕ) false d (Goal r n)

@@ -1,4 +1,4 @@
--- The game of a description: what every assignment that fits says.
+-- The game of a description: the answers of every fit.
 use Rattle.std.specs.Prelude.{ℕ, zero, suc, ◌<◌, ◌≡◌, Bool, true, false, ◌&&◌, ◌||◌, List, [], ◌∷◌, ◌++◌, map, filter, bytes_eq, Option, Some, None}
 use Rattle.game_core.specs.Play.{Rules, IsJoint}
 use Rattle.rule_sentences.specs.declared.sentence.Derived.{Derived}
@@ -6,7 +6,7 @@ use Rattle.rule_sentences.specs.declared.sentence.Derived.TheVariants.{Init, Nex
 use Rattle.rule_sentences.specs.Descriptions.{Description, same_derived, is_among, role_names, heads, moves_in}
 use Rattle.numbered_rules.specs.Fit.{Situation, Fits}
 
--- role r makes move m; the first list has the roles' names, the second their moves, and if that is empty, no role has moved
+-- role r makes move m; the first list has the names of the roles, and the second list their moves, or no members if no role has moved
 abbrev pub makes : List (List ℕ) → List (List ℕ) → List ℕ → List ℕ → Bool
 makes [] moves r m = false
 makes (n ∷ ns) [] r m = false
@@ -38,12 +38,11 @@ at_rest g s = situation (g.state_text s) [] []
 abbrev pub at_turn : {S M : Type 0} → Rules S M → S → List M → Situation Derived (List ℕ)
 at_turn g s joint = situation (g.state_text s) (names_of g g.roles) (map g.move_text joint)
 
--- The game g is the game of the description: each of its answers is the answer of every fit. An acyclic description has exactly one
--- fit.
+-- The game g is the game of the description: every answer of g is the answer of every fit. An acyclic description has exactly one fit.
 pub record IsGameOf {S M : Type 0} (d : Description) (g : Rules S M) : Type 0 where
   pub roles : names_of g g.roles ≡ role_names d
   pub initial : (v : Derived → Bool) → Fits (situation [] [] []) d v → (t : List ℕ) → is_among (g.state_text g.initial) t ≡ v (Init t)
-  -- in the order of first appearance of the heads
+  -- the legal moves are in the order in which their heads first appear
   pub legal : (s : S) (r : ℕ) (v : Derived → Bool) → g.IsState s → r < g.roles → Fits (at_rest g s) d v
       → map g.move_text (g.legal s r) ≡ filter (λ m. v (Legal (g.role_name r) m)) (moves_in (g.role_name r) (heads d))
   pub next : (s : S) (joint : List M) (v : Derived → Bool) → g.IsState s → IsJoint g s joint → Fits (at_turn g s joint) d v

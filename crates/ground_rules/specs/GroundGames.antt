@@ -1,4 +1,4 @@
--- What a ground game consists of: the sentences of its description, and its tables.
+-- The parts of a ground game: the sentences of its description, and its tables.
 use Rattle.std.specs.Prelude.{ℕ, List, map}
 use Rattle.game_core.specs.Expression.{Expression}
 use Rattle.kif_text.specs.View.{view}

@@ -1,4 +1,4 @@
--- Why a loaded game is lawful: the tests that its tables pass, and the law that follows from them. Packed games use it too.
+-- Why a loaded game is lawful: the tests that its tables pass, and the law that follows from them. Packed games use the same tests.
 pub mod Bools
 pub mod Names
 pub mod TableTests

@@ -1,4 +1,4 @@
--- What loading returns.
+-- The results of loading.
 use Rattle.std.specs.Prelude.{ℕ, ◌≡◌, ◌≢◌, true, false, List, [], length}
 use Rattle.game_core.specs.Expression.{Expression}
 use Rattle.game_core.specs.declared.limits.Limits.{Limits}

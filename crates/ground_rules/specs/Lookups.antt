@@ -1,4 +1,4 @@
--- What the tables of a game give for a row of truth values.
+-- The answers that the tables of a game give for a row of truth values.
 use Rattle.std.specs.Prelude.{ℕ, Bool, true, if◌then◌else◌, List, [], ◌∷◌, map, filter, slice_set, Option, Some, None}
 use Rattle.ground_rules.specs.declared.tables.Mention.{Mention}
 use Rattle.ground_rules.specs.declared.tables.GoalHead.{GoalHead}

@@ -156,7 +156,7 @@ impl GroundGame {
         self.vocabulary.description.as_slice()
     }
 
-    /// The game without its rules: all the tables that it looks up.
+    /// The tables of the game, without the rules.
     pub fn vocabulary(&self) -> &Vocabulary
         ensures { result.now ≡ self.now.vocabulary }
     {
@@ -170,7 +170,7 @@ impl GroundGame {
         &self.rules
     }
 
-    /// Gives up the rules and returns the vocabulary, for another form of the game.
+    /// Drops the rules and returns the vocabulary, for another form of the game.
     pub fn into_vocabulary(self) -> Vocabulary
         ensures { result ≡ self.vocabulary }
     {

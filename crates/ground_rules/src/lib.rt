@@ -1,12 +1,12 @@
 //! Games that a ground GDL description defines.
 //!
-//! `load` makes a `Game` from a description, which is a list of KIF expressions, or names its first error. `load_within`
+//! `load` makes a `Game` from a description, which is a list of KIF expressions, or returns the first error. `load_within`
 //! does the same with limits that the caller gives.
 //!
-//! A state keeps the truth of the derived atoms that do not depend on moves, so `legal`, `terminal` and `goal` only look it
-//! up. `next` starts from these atoms and evaluates the other rules. In the new state it then evaluates the rules that do
-//! not depend on moves. Each rule is evaluated once, after the rules that it depends on, so a turn takes time linear in the
-//! description. `load` recurses into nested lists, so keep to the nesting that `kif_text::Expr` recommends.
+//! A state stores which of the derived atoms that do not depend on moves are true, so `legal`, `terminal` and `goal` only
+//! look them up. `next` starts from these atoms and evaluates the other rules. Then it evaluates the rules that do not
+//! depend on moves in the new state. Each rule is evaluated once, after the rules that it depends on, so a turn takes time
+//! linear in the description. `load` recurses into nested lists, so keep to the nesting that `kif_text::Expr` recommends.
 #![tactic(auto)]
 
 mod evaluate;

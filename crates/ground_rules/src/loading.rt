@@ -56,7 +56,8 @@ fn have_few_moves(roles: &[Role]) -> bool
     true
 }
 
-/// Whether the head may not depend on moves although it does (`on_moves`), or not on the state or moves (`on_given`).
+/// Whether the head depends on something that it may not depend on. `on_moves` says whether it depends on moves, and
+/// `on_given` whether it depends on the state or on moves.
 fn is_barred(head: &Derived, on_moves: bool, on_given: bool) -> bool
     ensures { result ≡ barred_by head.now on_moves on_given }
 {

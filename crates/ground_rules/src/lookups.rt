@@ -37,7 +37,7 @@ pub fn choose(alloc: Global, heads: &[Mention], row: &Row) -> Result<Vec<GroundM
     Ok(moves)
 }
 
-/// The value of the true head, or `None` unless exactly one head is true.
+/// The value of the true head if exactly one head is true, otherwise `None`.
 pub fn find_goal(heads: &[GoalHead], row: &Row) -> Option<u8>
     ensures { result ≡ only_goal row.now heads.now }
 {

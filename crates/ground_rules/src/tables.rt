@@ -24,7 +24,7 @@ pub struct GoalHead {
     pub atom: usize,
 }
 
-/// What the tables have about a role. Its legal heads are in the order of first appearance.
+/// The tables of a role. The `legal` heads are in the order of first appearance.
 #[derive(Drop)]
 pub struct Role {
     pub name: Text,

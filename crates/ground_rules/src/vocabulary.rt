@@ -1,4 +1,4 @@
-//! The tables that a game looks up, without its rules.
+//! The tables of a game, without its rules.
 ghost use Rattle.std.specs.Prelude.{◌≤◌, ◌<◌, ◌^◌, length, IsTrue, IfOk, map};
 ghost use Rattle.game_core.specs.Play.{max_roles};
 ghost use Rattle.kif_text.specs.View.{view as expression, views};

@@ -6,7 +6,7 @@ use Rattle.kif_text.specs.Spelling.{max_length}
 use Rattle.kif_text.specs.declared.fault.KifFault.{KifFault}
 use Rattle.kif_text.specs.declared.fault.KifFault.TheVariants.{BadByte, Unopened, TooDeep, Unclosed, Nothing, More, TooLong, Memory}
 
--- A text is read as one expression, or as any number of them. Its errors depend on this flag.
+-- This flag says whether a text is read as one expression or as any number of them. The errors of a text depend on it.
 abbrev pub one_expression : Bool
 one_expression = true
 
@@ -89,8 +89,8 @@ IsUnclosed t i = (0 < level t (length t)) × StaysOpen t i × ((k : ℕ) → Sta
 abbrev pub IsNothing : List ℕ → Type 0
 IsNothing t = (level t (length t) ≡ 0) × (started t (length t) ≡ 0)
 
--- the error of a text of at most `limit` bytes: its length, or else the error with the lowest offset, or else an error at its end; or
--- out of memory
+-- the error of a text, for this limit of bytes: too long, or else the error with the lowest offset, or else an error at the end of the text;
+-- or out of memory
 abbrev pub IsFaultUpTo : ℕ → Bool → List ℕ → KifFault → Type 0
 IsFaultUpTo limit one text (BadByte at) = (length text ≤ limit) × IsFirst one (bare text) (BadByte at)
 IsFaultUpTo limit one text (Unopened at) = (length text ≤ limit) × IsFirst one (bare text) (Unopened at)
@@ -101,6 +101,6 @@ IsFaultUpTo limit one text Nothing = (length text ≤ limit) × (one ≡ one_exp
 IsFaultUpTo limit one text TooLong = limit < length text
 IsFaultUpTo limit one text Memory = length text ≤ limit
 
--- the same for the usual largest number of bytes
+-- the error of a text, for the usual limit of bytes
 abbrev pub IsFault : Bool → List ℕ → KifFault → Type 0
 IsFault one text e = IsFaultUpTo max_length one text e

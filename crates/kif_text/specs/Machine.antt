@@ -1,5 +1,5 @@
--- The reader's steps as functions on plain values. `Reading` is computed by them. `Spelling` and `Faults` define what is read and what
--- is refused; `laws::reading_is_spelling` relates the two.
+-- The reader's steps as functions on plain values. `Reading` is defined with these functions. `Spelling` and `Faults` define which texts are
+-- read and which are refused; `laws::reading_is_spelling` relates `Reading` to `Spelling`.
 use Rattle.std.specs.Prelude.{ℕ, suc, List, [], ◌∷◌, ◌++◌, length, Bool, true, false, not, ◌==◌, ◌&&◌, ◌||◌, nat_le, if◌then◌else◌, Result, Ok, Err}
 use Rattle.game_core.specs.Bytes.{is_white, is_atom_byte, line_feed, semicolon, left_parenthesis, right_parenthesis}
 use Rattle.game_core.specs.Expression.{Expression, atom, list, Expressions, none, more, max_depth}

@@ -1,5 +1,5 @@
--- The reading of a text as a function, for definitions that compute with it. `laws::reading_is_spelling` says what it is: the one
--- expression that the text spells within the limits.
+-- The reading of a text as a function, for definitions that compute with it. `laws::reading_is_spelling` shows that it is the one expression
+-- that the text spells within the limits.
 use Rattle.std.specs.Prelude.{ℕ, nat_le, List, length, Option, None, if◌then◌else◌}
 use Rattle.std.specs.Result.{result_ok}
 use Rattle.game_core.specs.Expression.{Expression}

@@ -21,7 +21,7 @@ pub data Spells : List ℕ → Expressions → Type 0 where
   spells_atom : (word rest : List ℕ) (xs : Expressions) → IsAtom word → EndsAtom rest → Spells rest xs → Spells (word ++ rest) (more (atom word) xs)
   spells_list : (inner rest : List ℕ) (ys xs : Expressions) → Spells inner ys → Spells rest xs → Spells (left_parenthesis ∷ (inner ++ right_parenthesis ∷ rest)) (more (list ys) xs)
 
--- nothing, or a comment without its line feed
+-- an empty text, or a comment without its line feed
 abbrev pub IsLastComment : List ℕ → Type 0
 IsLastComment [] = Unit {0}
 IsLastComment (b ∷ bs) = (b ≡ semicolon) × HasNoLineFeed bs

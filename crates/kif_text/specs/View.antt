@@ -1,4 +1,4 @@
--- The expression that an `Expr` is.
+-- The expression that an `Expr` represents.
 use Rattle.std.specs.Prelude.{List, [], ◌∷◌, map}
 use Rattle.game_core.specs.Expression.{Expression, atom, list, Expressions, none, more}
 use Rattle.kif_text.specs.declared.expr.Expr.{Expr, fold-Expr}

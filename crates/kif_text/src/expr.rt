@@ -41,7 +41,7 @@ fn copy_all(alloc: Global, members: &Vec<Expr>) -> Result<Vec<Expr>, AllocError>
     Ok(copies)
 }
 
-/// Turns the ASCII capitals of the atoms to lower case.
+/// Converts the ASCII capitals in the atoms to lower case.
 #[cycle(fold)]
 pub fn fold(expr: &mut Expr)
     ensures { view expr.new ≡ folded (view expr.old) }
@@ -73,7 +73,7 @@ pub fn folded_copy(alloc: Global, expr: &Expr) -> Result<Expr, AllocError>
 /// Copies the expressions in lower case.
 pub fn folded_copies(alloc: Global, exprs: &[Expr]) -> Result<Vec<Expr>, AllocError>
     ensures each { IfOk result (λ v. map view v.items ≡ map folded (map view exprs.now)) }
-    // The same clause for the expressions as the members of a list.
+    // This clause treats the expressions as the members of a list.
     ensures members { IfOk result (λ v. views v.items ≡ all_folded (views exprs.now)) }
 {
     let mut copies = Vec::with_capacity(alloc, exprs.len())?;

@@ -41,17 +41,17 @@ pub fn bare_hides_comments()
     ensures { BareHidesComments }
 {}
 
-/// Printing a folded expression gives the expression's text in lower case.
+/// Converting to lower case and printing can be done in either order.
 pub fn folding_commutes_with_printing()
     ensures { FoldingCommutesWithPrinting }
 {}
 
-/// Folding keeps an expression proper.
+/// A proper expression is still proper in lower case.
 pub fn folding_keeps_proper()
     ensures { FoldingKeepsProper }
 {}
 
-/// Folding twice is the same as folding once.
+/// Converting to lower case twice is the same as converting once.
 pub fn folding_twice_is_once()
     ensures { FoldingTwiceIsOnce }
 {}
@@ -62,12 +62,12 @@ pub fn reading_is_spelling()
     ensures { ReadingIsSpelling }
 {}
 
-/// The reading of a text is proper, and its folded canonical text is a folded text.
+/// The reading of a text is proper, and so is the reading in lower case.
 pub fn reading_is_proper()
     ensures { ReadingIsProper }
 {}
 
-/// The canonical text of a reading, folded or not, is shorter than twice the text.
+/// The canonical text of a reading, in lower case or not, is shorter than twice the text.
 pub fn reading_under_double()
     ensures { ReadingUnderDouble }
 {}
@@ -77,7 +77,7 @@ pub fn canonical_reads_back()
     ensures { CanonicalReadsBack }
 {}
 
-/// Reading a folded text, if it is not too long, gives the folded expression that has this text.
+/// Reading a lower-case text gives the expression in lower case that has this canonical text, if the text is not too long.
 pub fn folded_text_reads_back()
     ensures { FoldedTextReadsBack }
 {}

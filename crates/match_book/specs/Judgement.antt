@@ -1,4 +1,4 @@
--- What an answer counts as in play.
+-- The judgement of an answer in play.
 use Rattle.std.specs.Prelude.{◌≡◌, ◌≢◌, ℕ, Bool, true, false, ◌<◌, ◌≤◌, List, [], ◌++◌, length, Option, Some, None, option_map, find, slice_get, bytes_eq, codes, Contains, All, ◌⊎◌}
 use Rattle.std.specs.List.{HoldsAt, AllWithin}
 use Rattle.game_core.specs.Canonical.{IsFoldedText}
@@ -31,7 +31,7 @@ error_text Unreadable = unreadable_text
 error_text (Illegal x) = illegal_prefix ++ x
 error_text Retired = retired_text
 
--- the first of these moves with its error, or None if there are no moves
+-- the first of these moves with the error for this reason, or None if there are no moves
 abbrev pub substitute : {M : Type 0} → List M → Substitution → Option (Judgement M)
 substitute moves why = option_map (λ m. record { taken = m; error = error_text why }) (slice_get moves 0)
 
@@ -65,7 +65,7 @@ judged_answer g moves Broken = substitute moves ConnectionError
 unfoldable pub judgement : {S M : Type 0} → Rules S M → S → ℕ → Answer → Option (Judgement M)
 judgement g s r answer = judged_answer g (g.legal s r) answer
 
--- with these legal moves, an answer may have been substituted for this reason
+-- given these legal moves, a move may have been substituted for this reason
 abbrev pub MayStand : {S M : Type 0} → Rules S M → List M → Substitution → Type 0
 MayStand g moves TimeOut = Unit {0}
 MayStand g moves ConnectionError = Unit {0}
@@ -73,7 +73,7 @@ MayStand g moves Unreadable = Unit {0}
 MayStand g moves (Illegal x) = IsFoldedText x × (length x ≤ max_reading) × NamesNone g moves x
 MayStand g moves Retired = ⊥
 
--- an error that an answer can cause for the first of these moves
+-- an error that an answer can cause, recorded with the first of these moves
 abbrev pub IsSubstitution : {S M : Type 0} → Rules S M → List M → List ℕ → Type 0
 IsSubstitution g moves e = (why : Substitution) × (e ≡ error_text why) × MayStand g moves why
 

@@ -9,8 +9,8 @@ use Rattle.match_book.specs.Phase.{stage, has_answered, still_answers, is_playin
 use Rattle.match_book.specs.declared.judgement.Judgement.{Judgement}
 use Rattle.match_book.specs.declared.turn.Turn.{Turn}
 
--- A turn that may follow the turns before it: the state is not terminal, some role is not retired, and each role's move is legal and
--- has an error that it can have.
+-- A turn that may follow the turns before it: the state is not terminal, some role is not retired, and each role's move and error are a
+-- lawful part of the turn.
 pub record IsLawfulTurn {S M : Type 0} (g : Rules S M) (strikes : ℕ) (before : List (Turn M)) (t : Turn M) : Type 0 where
   pub goes_on : g.terminal (state_after g before) ≡ false
   pub some_answer : every_role g.roles (retired_by strikes before) ≡ false
@@ -33,12 +33,12 @@ pub record IsLawfulMatch {S M : Type 0} (g : Rules S M) (m : MatchValue M) : Typ
   pub turns : AreLawful g m.setup.strikes m.turns
   pub few_turns : length m.turns ≤ max_turns
   pub turns_after_start : every_role g.roles (is_there m.start_marks) ≡ false → m.turns ≡ []
-  -- open answers exist only in play; they are answers of roles that are not retired, but not of all of these; each is a judgement in
+  -- open answers exist only in play, and only for roles that are not retired, but never for all of these roles; each one is a judgement in
   -- the present state
   pub judged : (r : ℕ) (j : Judgement M) → r < g.roles → at_role m.open_answers r ≡ Some j → (still_answers m r ≡ true) × IsJudged g (g.legal (state_after g m.turns) r) j.taken j.error
   pub answers_in_play : is_playing (stage g m) ≡ false → m.open_answers ≡ blank g.roles
   pub round_is_open : is_playing (stage g m) ≡ true → every_role g.roles (has_answered g m) ≡ false
   -- end marks exist only if the match is stopping or aborting
   pub ends_at_end : is_live (stage g m) ≡ true → m.end_marks ≡ blank g.roles
-  -- an abort was asked only while the match was starting or playing
+  -- an abort was requested only while the match was starting or playing
   pub asked_when_live : m.abort_asked ≡ true → is_live (stage g (record m { abort_asked = false })) ≡ true

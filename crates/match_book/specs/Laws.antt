@@ -45,14 +45,14 @@ Names g Broken m = ⊥
 abbrev pub NoErrorMeansNamed : {S M : Type 0} → Rules S M → Type 0
 NoErrorMeansNamed {S} {M} g = (s : S) (role : ℕ) (answer : Answer) (j : Judgement M) → judgement g s role answer ≡ Some j → (j.error ≡ []) ↔ Names g answer j.taken
 
--- The role's part of the turn made of the open answers is a judgement; its move and its error are at the role's index.
+-- The role's part of the turn made of the open answers is a judgement, whose move and error are at the role's index.
 pub record HasPart {S M : Type 0} (g : Rules S M) (m : MatchValue M) (r : ℕ) : Type 0 where
   pub judged : Judgement M
   pub is_part : part g m r ≡ Some judged
   pub move : slice_get (turn_of (parts g m)).moves r ≡ Some judged.taken
   pub error : slice_get (turn_of (parts g m)).errors r ≡ Some judged.error
 
--- What an answer that is taken in play does, given the role's judgement: it stays open, or is recorded with the others.
+-- An answer that is taken in play is judged. The judgement stays open, or is recorded with the others.
 pub record IsPlayed {S M : Type 0} (g : Rules S M) (m n : MatchValue M) (role : ℕ) (answer : Answer) : Type 0 where
   pub judged : Judgement M
   pub is_judgement : judgement g (state_after g m.turns) role answer ≡ Some judged
@@ -79,12 +79,12 @@ OwedAnswersAreTaken {S} {M} g = (m : MatchValue M) (role n : ℕ) (owed : Owed) 
 abbrev pub NoneIsAnswered : {S M : Type 0} → Rules S M → Type 0
 NoneIsAnswered {S} {M} g = (setup : Setup) (role : ℕ) → role < g.roles → answered_messages g (new_match {M = M} g setup) role ≡ []
 
--- when a role answers what it owes, the messages that it has answered gain exactly this one
+-- when a role answers a message that the match owes to it, the role's answered messages gain exactly this one
 abbrev pub OwedIsAnswered : {S M : Type 0} → Rules S M → Type 0
 OwedIsAnswered {S} {M} g = (m : MatchValue M) (role n : ℕ) (owed : Owed) (answer : Answer) → IsLawfulMatch g m → role < g.roles → due g m role ≡ Owe n owed
     → answered_messages g (after_answer g m role n answer) role ≡ answered_messages g m role ++ owed ∷ []
 
--- answers of others change neither the messages that a role has answered nor what it owes
+-- answers of other roles change neither the messages that a role has answered nor a message that the match owes to the role
 pub record IsUntouched {S M : Type 0} (g : Rules S M) (m after : MatchValue M) (role : ℕ) : Type 0 where
   pub answered : answered_messages g after role ≡ answered_messages g m role
   pub owed : (n : ℕ) (owed : Owed) → due g m role ≡ Owe n owed → due g after role ≡ Owe n owed
@@ -92,7 +92,7 @@ pub record IsUntouched {S M : Type 0} (g : Rules S M) (m after : MatchValue M) (
 abbrev pub OthersAreUntouched : {S M : Type 0} → Rules S M → Type 0
 OthersAreUntouched {S} {M} g = (m : MatchValue M) (role other n : ℕ) (answer : Answer) → IsLawfulMatch g m → role < g.roles → role ≢ other → IsUntouched g m (after_answer g m other n answer) role
 
--- once a match is over, each role has answered its messages, and no answer changes the match
+-- once a match is over, each role has answered all its messages, and no answer changes the match
 pub record IsAllAnswered {S M : Type 0} (g : Rules S M) (m : MatchValue M) : Type 0 where
   pub answered : (role : ℕ) → role < g.roles → answered_messages g m role ≡ role_messages g m role
   pub stays : (role n : ℕ) (answer : Answer) → after_answer g m role n answer ≡ m
@@ -120,16 +120,16 @@ StrikesOfOneMore M = (roles strikes : ℕ) (turns : List (Turn M)) (t : Turn M) 
     → ((r : ℕ) (d : RoleStrikes) → r < length kept → slice_index_or after r d ≡ after_turn strikes (slice_index_or kept r unstruck) (is_error (slice_index_or t.errors r [])))
     → AreStrikes roles strikes (turns ++ t ∷ []) after
 
--- no role has more strikes in a row than there are turns
+-- if there are at most max_turns turns, no role has more than max_turns strikes in a row
 abbrev pub FewStrikes : Type 0 → Type 0
 FewStrikes M = (roles strikes : ℕ) (turns : List (Turn M)) (kept : List RoleStrikes) → AreStrikes roles strikes turns kept → length turns ≤ max_turns → All (λ s. s.in_a_row ≤ max_turns) kept
 
--- a match is starting if and only if no abort was asked and some START mark is missing
+-- a match is starting if and only if no abort was requested and some START mark is missing
 abbrev pub StartingMeans : {S M : Type 0} → Rules S M → Type 0
 StartingMeans {S} {M} g = (m : MatchValue M) → (stage g m ≡ Starting) ↔ ((m.abort_asked ≡ false) × (every_role g.roles (is_there m.start_marks) ≡ false))
 
--- No abort was asked, all START marks are present, the state is not terminal, there are fewer turns than the limit, each role has a
--- legal move, and some role is not retired.
+-- No abort was requested, all START marks are present, the state is not terminal, there are fewer turns than the limit, each role has a legal
+-- move, and some role is not retired.
 pub record IsInPlay {S M : Type 0} (g : Rules S M) (m : MatchValue M) : Type 0 where
   pub not_asked : m.abort_asked ≡ false
   pub started : every_role g.roles (is_there m.start_marks) ≡ true
@@ -141,7 +141,7 @@ pub record IsInPlay {S M : Type 0} (g : Rules S M) (m : MatchValue M) : Type 0 w
 abbrev pub PlayingMeans : {S M : Type 0} → Rules S M → Type 0
 PlayingMeans {S} {M} g = (m : MatchValue M) → (stage g m ≡ Playing) ↔ IsInPlay g m
 
--- No abort was asked, all START marks are present, the state is terminal, and each role has a goal.
+-- No abort was requested, all START marks are present, the state is terminal, and each role has a goal.
 pub record HasStopped {S M : Type 0} (g : Rules S M) (m : MatchValue M) : Type 0 where
   pub not_asked : m.abort_asked ≡ false
   pub started : every_role g.roles (is_there m.start_marks) ≡ true

@@ -1,4 +1,4 @@
--- What a match stores of answers outside of play.
+-- The marks that a match stores for answers outside of play.
 use Rattle.std.specs.Prelude.{List, ℕ, [], codes}
 use Rattle.desk_calls.specs.declared.answer.Answer.{Answer}
 use Rattle.desk_calls.specs.declared.answer.Answer.TheVariants.{Text, Silent, Broken}

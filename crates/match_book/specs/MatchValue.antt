@@ -6,7 +6,7 @@ use Rattle.match_book.specs.declared.answer.Mark.{Mark}
 use Rattle.match_book.specs.declared.judgement.Judgement.{Judgement}
 use Rattle.match_book.specs.declared.turn.Turn.{Turn}
 
--- The setup, the answers, and whether an abort was asked. The state and the phase follow from these. The open answers are those of the
+-- The setup, the answers, and whether an abort was requested. The state and the phase follow from these. The open answers are those of the
 -- turn that is not yet recorded. Marks and open answers have one place for each role.
 pub record MatchValue (M : Type 0) : Type 0 where
   pub setup : Setup

@@ -38,7 +38,7 @@ unfoldable pub settled : {S M : Type 0} → Rules S M → ℕ → Bool → S →
 settled g t all_retired s = if g.terminal s then after_the_end (lowest_role g.roles (has_no_goal g s))
     else (if nat_le max_turns t then Aborting TooLong else before_the_end (lowest_role g.roles (has_no_move g s)) all_retired)
 
--- what a match does: an abort that was asked comes first, then missing START marks, then the settling rule
+-- the stage of a match: a requested abort comes first, then missing START marks, then the settling rule
 unfoldable pub stage : {S M : Type 0} → Rules S M → MatchValue M → Stage
 stage g m = if m.abort_asked then Aborting Asked else (if every_role g.roles (is_there m.start_marks) then settled g (length m.turns) (are_all_retired g.roles m) (state_after g m.turns) else Starting)
 
@@ -82,7 +82,7 @@ is_live Playing = true
 is_live Stopping = false
 is_live (Aborting c) = false
 
--- an abort that was asked ends the open round
+-- a requested abort ends the open round
 abbrev pub aborting_round : Cause → Bool → ℕ → ℕ
 aborting_round Asked all_started t = if all_started then t + 2 else 1
 aborting_round (NoLegal r) all_started t = t + 1

@@ -25,7 +25,7 @@ plays_before g strikes role turns (suc n) = plays_before g strikes role turns n 
 abbrev pub role_plays : {S M : Type 0} → Rules S M → MatchValue M → ℕ → List Owed
 role_plays g m role = plays_before g m.setup.strikes role m.turns (length m.turns)
 
--- The messages to a role in a match that is over and whose abort was not asked: START, PLAY before each turn, and STOP or ABORT.
+-- The messages to a role in a match that is over without a requested abort: START, PLAY before each turn, and STOP or ABORT.
 abbrev pub role_messages : {S M : Type 0} → Rules S M → MatchValue M → ℕ → List Owed
 role_messages g m role = Start ∷ (role_plays g m role ++ owed_in (stage g m) (last_move_texts g m.turns) ∷ [])
 
@@ -46,6 +46,6 @@ earlier_messages (Aborting c) plays = Start ∷ plays
 abbrev pub messages_in : {S M : Type 0} → Stage → Rules S M → MatchValue M → ℕ → List Owed
 messages_in at g m role = earlier_messages at (role_plays g m role) ++ (if is_answer_there at m role then owed_in at (last_move_texts g m.turns) ∷ [] else [])
 
--- the messages that the role has answered so far, if no abort was asked
+-- the messages that the role has answered so far, if no abort was requested
 abbrev pub answered_messages : {S M : Type 0} → Rules S M → MatchValue M → ℕ → List Owed
 answered_messages g m role = messages_in (stage g m) g m role

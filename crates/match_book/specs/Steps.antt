@@ -23,7 +23,7 @@ use Rattle.match_book.specs.declared.phase.Stage.TheVariants.{Starting, Playing,
 abbrev pub new_match : {S M : Type 0} → Rules S M → Setup → MatchValue M
 new_match g setup = record { setup = setup; start_marks = blank g.roles; turns = []; open_answers = blank g.roles; abort_asked = false; end_marks = blank g.roles }
 
--- why the match refuses an answer of the role r for the round n, or None if it takes it
+-- why the match refuses an answer of the role r for the round n, or None if the match takes the answer
 abbrev pub refusal : {S M : Type 0} → Rules S M → MatchValue M → ℕ → ℕ → Option AnswerRefusal
 refusal g m r n = if nat_lt r g.roles then (if is_over g m then Some Over else (if n == round g m then (if has_answered g m r then Some Twice else None) else Some (Stale (round g m)))) else Some NoRole
 
@@ -31,7 +31,7 @@ refusal g m r n = if nat_lt r g.roles then (if is_over g m then Some Over else (
 abbrev pub turn_of : {M : Type 0} → List (Option (Judgement M)) → Turn M
 turn_of parts = record { moves = map (λ j. j.taken) (present parts); errors = map (λ j. j.error) (present parts) }
 
--- the role's part of the turn: its open answer, or the first legal move if it is retired
+-- the role's part of the turn: the role's open answer, or its first legal move if the role is retired
 abbrev pub part : {S M : Type 0} → Rules S M → MatchValue M → ℕ → Option (Judgement M)
 part g m r = if still_answers m r then at_role m.open_answers r else substitute (g.legal (state_after g m.turns) r) Retired
 
@@ -77,7 +77,7 @@ after_abort g m = if is_live (stage g m) then with_abort g m else m
 abbrev pub IsLastToStart : {S M : Type 0} → Rules S M → MatchValue M → ℕ → Type 0
 IsLastToStart g m r = (stage g m ≡ Starting) × ((k : ℕ) → k < g.roles → k ≢ r → is_there m.start_marks k ≡ true)
 
--- Taking an answer of the role r may need memory: in play, and if it is the last START mark.
+-- Taking an answer of the role r may need memory: in play, or if the answer gives the last START mark.
 abbrev pub MayWantMemory : {S M : Type 0} → Rules S M → MatchValue M → ℕ → Type 0
 MayWantMemory g m r = (stage g m ≡ Playing) ⊎ IsLastToStart g m r
 
@@ -87,7 +87,7 @@ fault_of Over = FaultOver
 fault_of (Stale n) = FaultStale n
 fault_of Twice = FaultTwice
 
--- An answer is taken unless the match refuses it. Only then can the result be out of memory.
+-- An answer is taken unless the match refuses it. Only an answer that the match does not refuse can run out of memory.
 abbrev pub IsTakenUnless : Option AnswerRefusal → Result (Unit {0}) AnswerFault → Type 0
 IsTakenUnless o (Ok u) = o ≡ None
 IsTakenUnless o (Err FaultNoRole) = o ≡ Some NoRole

@@ -1,4 +1,4 @@
-//! What a match stores of an answer outside of play, and why it refuses an answer.
+//! The mark that a match stores for an answer outside of play, and why a match refuses an answer.
 ghost use Rattle.std.specs.Prelude.{◌≡◌};
 ghost use Rattle.match_book.specs.declared.answer.AnswerFault.TheVariants.{Memory};
 ghost use Rattle.match_book.specs.Marks.{mark_of, mark_text};
@@ -10,7 +10,7 @@ use std::alloc::AllocError;
 use std::error::Error;
 use std::fmt;
 
-/// What a match stores of an answer to START, STOP or ABORT. The text of the answer does not matter.
+/// The mark that a match stores for an answer to START, STOP or ABORT. The text of the answer does not matter.
 #[derive(Clone, Copy)]
 pub enum Mark {
     /// The player answered.
@@ -26,7 +26,7 @@ pub enum AnswerRefusal {
     NoRole,
     /// The match is finished or aborted.
     Over,
-    /// The answer is not for the present round, which this is.
+    /// The answer is not for the present round, whose number this is.
     Stale(u64),
     /// The role has already answered this round.
     Twice,
@@ -39,7 +39,7 @@ pub enum AnswerFault {
     NoRole,
     /// The match is finished or aborted.
     Over,
-    /// The answer is not for the present round, which this is.
+    /// The answer is not for the present round, whose number this is.
     Stale(u64),
     /// The role has already answered this round.
     Twice,

@@ -12,7 +12,8 @@ pub const MAX_ANSWER: usize = 4096;
 /// The largest number of bytes of a reading: printing adds at most one space for each byte.
 pub const MAX_READING: usize = 2 * MAX_ANSWER;
 
-/// The folded canonical text of the expression that the answer spells, or `None` if it does not spell exactly one.
+/// The canonical text, in lower case, of the expression that the answer spells, or `None` if the answer is too long or does
+/// not spell exactly one expression.
 #[tactic(auto, unfolding(crate::specs::AnswerReading::answer_reading))]
 pub fn read_answer(alloc: Global, text: &[u8]) -> Result<Option<Text>, AllocError>
     ensures { IfOk result (λ o. o ≡ answer_reading text.now) }

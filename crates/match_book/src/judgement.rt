@@ -34,7 +34,7 @@ pub enum Substitution {
     ConnectionError,
     /// The answer is too long, or does not spell exactly one expression.
     Unreadable,
-    /// The answer spells this text, but no legal move has it.
+    /// The answer spells this text, but no legal move has this text.
     Illegal(Text),
     /// The role is retired, so it was not asked.
     Retired,
@@ -122,8 +122,8 @@ fn judge_reading<G: Game>(
     }
 }
 
-/// Judges an answer with this text. Most answers are the canonical text of a legal move, and such a text is its own reading,
-/// so it is compared with the moves before it is read.
+/// Judges an answer with this text. Most answers are the canonical text of a legal move. So this first compares the text
+/// with the legal moves, and reads it only if no move has this text.
 fn judge_text<G: Game>(
     alloc: Global,
     game: &G,

@@ -69,15 +69,15 @@ pub fn one_more_turn<G: Game>()
     ensures { (game : G) → OneMoreTurn (G.rules game) }
 {}
 
-/// Which roles are retired, and how often in a row each was substituted, can be computed turn by turn from the errors of the
-/// turns.
+/// The retired roles, and the number of substitutions of each role in a row, can be computed turn by turn from the errors
+/// of the turns.
 pub fn strikes_follow_turns<G: Game>()
     ensures begin { StrikesBegin G.Move }
     ensures more { StrikesOfOneMore G.Move }
     ensures few { FewStrikes G.Move }
 {}
 
-/// When a match starts, plays or stops, by its marks, its state and its turns.
+/// The conditions on marks, state and turns under which a match starts, plays or stops.
 pub fn stages_are_settled<G: Game>()
     ensures starting { (game : G) → StartingMeans (G.rules game) }
     ensures playing { (game : G) → PlayingMeans (G.rules game) }
@@ -97,9 +97,10 @@ pub fn rounds_come_to_an_end<G: Game>()
     readings_are_folded();
 }
 
-/// Which messages a role has answered: none at first, then one more with each answer of the role to what it owes. Answers of
-/// others do not change this, nor what the role owes. Once a match is over, these are all messages to the role: START, PLAY
-/// before each turn until it is retired, and STOP or ABORT.
+/// At first, a role has answered no message. Each answer of the role to a message that the match owes to it adds exactly
+/// this message. Answers of other roles change neither the answered messages nor a message that the match owes to the role.
+/// Once a match is over, the role has answered all its messages: START, PLAY before each turn until the role is retired,
+/// and STOP or ABORT.
 pub fn messages_are_answered<G: Game>()
     ensures begin { (game : G) → NoneIsAnswered (G.rules game) }
     ensures own { (game : G) → OwedIsAnswered (G.rules game) }
@@ -116,7 +117,7 @@ pub fn matches_are_lawful<G: Game>(held: &Match<G>)
     held.state();
 }
 
-/// The reading of an answer is a folded text within the limit.
+/// The reading of an answer is a lower-case text within the limit.
 pub fn readings_are_folded()
     ensures { ReadingsAreFolded }
 {

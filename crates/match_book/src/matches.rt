@@ -34,7 +34,7 @@ use std::snapshot::Snapshot;
 /// A match: the answers so far, and values computed from them, so that no call goes over all turns.
 ///
 /// Contracts see a match as its value and its game. The caller keeps the game, and passes it to each call that needs it.
-/// Every match is lawful, as `state` says.
+/// Every match is lawful, as the contract of `state` says.
 #[derive(Drop)]
 pub struct Match<G: Game> {
     game: Snapshot<G>,
@@ -52,7 +52,7 @@ pub struct Match<G: Game> {
     past: Vec<G::State>,
     state: G::State,
     stage: Stage,
-    /// The number of roles that have answered this round. In play, retired roles count as if they had.
+    /// The number of roles that have answered this round. In play, retired roles count as if they had answered.
     answered: usize,
     /// The number of substituted moves.
     substituted: u64,
@@ -361,7 +361,8 @@ impl<G: Game> Match<G> {
         }
     }
 
-    /// Takes a role's answer for a round, as `answer` does. Returns why the match refuses it, or `None` if it took it.
+    /// Takes a role's answer for a round, as `answer` does. Returns why the match refuses the answer, or `None` if the
+    /// match took it.
     pub fn offer(
         &mut self,
         alloc: Global,
@@ -475,7 +476,7 @@ impl<G: Game> Match<G> {
         self.record_turn(alloc, game, role, judged)
     }
 
-    /// The turn made of the open answers, the last answer `judged`, and the first legal moves of the retired roles. It
+    /// The turn made of the open answers, the last answer `judged`, and the first legal moves of the retired roles. This
     /// copies the open answers, so that they are still there if a later allocation is refused.
     fn turn_with(
         &self,

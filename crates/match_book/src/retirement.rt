@@ -12,7 +12,7 @@ use std::alloc::{AllocError, Global};
 /// A role's strikes: its substitutions in a row, and whether they have retired it.
 #[derive(Clone, Copy)]
 pub struct RoleStrikes {
-    /// How many turns in a row, up to the last turn, had the role's move substituted.
+    /// The number of turns in a row, up to the last turn, in which the role's move was substituted.
     pub in_a_row: usize,
     pub is_retired: bool,
 }

@@ -46,8 +46,8 @@ abbrev pub taken_answers : List ℕ → ℕ → ℕ → List (Entry Call Reply) 
 taken_answers id role round [] = []
 taken_answers id role round (e ∷ es) = taken_answer id role round e ++ taken_answers id role round es
 
--- There is exactly one answer, and the role's part of the turn is its judgement in the state before the turn. The error is empty if
--- and only if the answer names the move.
+-- There is exactly one answer, and the role's part of the turn is the judgement of this answer in the state before the turn. The error is
+-- empty if and only if the answer names the move.
 pub record IsAnswered {S M : Type 0} (g : Rules S M) (turns : List (Turn M)) (turn role : ℕ) (answers : List Answer) : Type 0 where
   pub answer : Answer
   pub one : answers ≡ answer ∷ []
@@ -57,19 +57,19 @@ pub record IsAnswered {S M : Type 0} (g : Rules S M) (turns : List (Turn M)) (tu
   pub error_is : error_at turns turn role ≡ Some judged.error
   pub no_error : (judged.error ≡ []) ↔ Names g answer judged.taken
 
--- the answers taken from a role for a recorded turn: none if the earlier turns retire the role, or else the one that is judged
+-- the answers taken from a role for a recorded turn: none if the earlier turns retire the role, or else the one answer that is judged
 abbrev pub AreTaken : {S M : Type 0} → Bool → Rules S M → List (Turn M) → ℕ → ℕ → List Answer → Type 0
 AreTaken true g turns turn role answers = answers ≡ []
 AreTaken false g turns turn role answers = IsAnswered g turns turn role answers
 
--- For each recorded turn of the match and each role that the earlier turns do not retire, the history took one answer for the turn's
--- round, and the turn has its judgement. From a role that they retire it took no answer.
+-- For each recorded turn of the match and each role that the earlier turns do not retire, the history took exactly one answer for the turn's
+-- round, and the turn has the judgement of this answer. From a role that the earlier turns retire, the history took no answer.
 pub record IsAccounted {G S M : Type 0} (rules : G → Rules S M) (games : List G) (history : List (Entry Call Reply)) (m : DeskMatch M) : Type 0 where
   pub game : G
   pub is_game : slice_get games m.game ≡ Some game
   pub answered : (turn role : ℕ) → turn < length m.value.turns → role < (rules game).roles
       → AreTaken (retired_by m.value.setup.strikes (take turn m.value.turns) role) (rules game) m.value.turns turn role (taken_answers m.value.setup.id role (turn + 1) history)
 
--- the same for each match
+-- each match is accounted for
 abbrev pub AreAccounted : {G S M : Type 0} → (G → Rules S M) → ManagerValue G M → List (Entry Call Reply) → Type 0
 AreAccounted rules d history = All (IsAccounted rules d.games history) d.matches

@@ -1,4 +1,4 @@
--- The main theorem: what holds for a closed desk of matches, however its calls reached it.
+-- The main theorem on a closed desk of matches, whether its callers shared it behind a lock or over rings.
 use Rattle.std.specs.Prelude.{◌≡◌, ℕ, List, length, sum, Some, All, slice_get}
 use Rattle.game_core.specs.Play.{Rules, AreLegal}
 use Rattle.match_book.specs.MatchValue.{joint_moves}
@@ -16,7 +16,7 @@ pub record IsPlayedLegally {G S M : Type 0} (rules : G → Rules S M) (games : L
   pub is_game : slice_get games m.game ≡ Some game
   pub legal : AreLegal (rules game) (joint_moves m.value.turns)
 
--- the same for each match
+-- each match was played legally
 abbrev pub ArePlayedLegally : {G S M : Type 0} → (G → Rules S M) → ManagerValue G M → Type 0
 ArePlayedLegally rules d = All (IsPlayedLegally rules d.games) d.matches
 
@@ -31,6 +31,6 @@ pub record HasHeadline {G S M : Type 0} (rules : G → Rules S M) (lines : ℕ) 
   pub lawful : IsLawfulManager rules d
   -- each match's recorded joint moves are legal turns of its game
   pub legal : ArePlayedLegally rules d
-  -- For each recorded move of a role that the earlier turns do not retire, the history took exactly one answer of the role, and the
-  -- move and its error are the judgement of this answer. From a role that the earlier turns retire it took no answer.
+  -- For each recorded move of a role that the earlier turns do not retire, the history took exactly one answer of the role, and the move and
+  -- its error are the judgement of this answer. From a role that the earlier turns retire, the history took no answer.
   pub accounted : AreAccounted rules d history

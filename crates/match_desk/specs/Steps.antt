@@ -1,4 +1,4 @@
--- What a manager replies to a call, and how the call changes it.
+-- The reply of a manager to a call, and the manager after the call.
 use Rattle.std.specs.Prelude.{ℕ, Bool, true, false, nat_lt, if◌then◌else◌, List, map, Option, Some, None, option_map, unwrap_or}
 use Rattle.game_core.specs.Play.{Rules}
 use Rattle.match_book.specs.MatchValue.{MatchValue}
@@ -35,16 +35,16 @@ setup_of id start play strikes players = record { id = id; start = start; play =
 abbrev pub open_call : ℕ → Setup → Call
 open_call game setup = Open setup.id game setup.start setup.play setup.strikes setup.players
 
--- the answer that a `Miss` means
+-- the answer that a `Miss` reports
 abbrev pub missed : Bool → Answer
 missed broken = if broken then Broken else Silent
 
--- the refusal for this reason, or else this reply
+-- the refusal if there is a reason for one, or else this reply
 abbrev pub refused_or : Option Refusal → Reply → Reply
 refused_or None reply = reply
 refused_or (Some reason) reply = Refused reason
 
--- the refusal of a call, for a match's refusal of an answer
+-- converts a match's refusal of an answer to the refusal of a call
 abbrev pub answer_refused : Option AnswerRefusal → Option Refusal
 answer_refused None = None
 answer_refused (Some MatchNoRole) = Some NoRole

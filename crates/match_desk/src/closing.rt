@@ -15,13 +15,13 @@ use std::sync::ledger::Ledger;
 
 /// Closes a desk of matches behind a lock if all its lines are given.
 ///
-/// The history of the closed desk replays: a manager of the same games without matches, given these calls one by one on one
-/// thread, gives every stored reply and ends as this manager. The history has as many calls as the lines made. Each match is
-/// lawful, and its recorded joint moves were legal; `Match::state` guarantees that its state is the game's state after these
-/// moves.
+/// One thread can replay the history of the closed desk: a manager of the same games without matches that gets these calls
+/// one by one gives every stored reply and becomes this manager. The history has as many calls as the lines made. Each
+/// match is lawful, and its recorded joint moves were legal; `Match::state` guarantees that the match's state is the game's
+/// state after these moves.
 ///
 /// For each recorded move of a role that was not yet retired, the history took exactly one answer of the role, and the move
-/// and its error are the judgement of this answer. The error is empty if and only if the answer named the move. For a role
+/// and its error are the judgement of this answer. The error is empty if and only if the answer named the move. From a role
 /// that was already retired, the history took no answer.
 pub fn close_desk<G: Game, L: Ledger>(
     desk: LockDesk<Manager<G>, L>,
@@ -41,9 +41,9 @@ pub fn close_desk<G: Game, L: Ledger>(
 
 /// Closes a desk of matches over rings if the ends of all its lines are given and all their calls were served.
 ///
-/// All that `close_desk` says of a desk behind a lock holds for it too. In addition, each line's part of the history has
-/// exactly the calls that the line posted, and the replies that the line took are the first of the replies to its calls. The
-/// laws of `call_history` say that the ends of a desk's lines stay its ends.
+/// Everything that `close_desk` guarantees for a desk behind a lock also holds for this desk. In addition, each line's part
+/// of the history has exactly the calls that the line posted, and the replies that the line took are the first replies to
+/// its calls. The laws of `call_history` say that the ends of a desk's lines stay ends of its lines.
 pub fn close_rings<G: Game>(
     desk: RingDesk<Manager<G>>,
     ends: Vec<LineEnd<Manager<G>>>,

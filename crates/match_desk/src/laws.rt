@@ -29,10 +29,10 @@ pub(crate) fn match_laws<G: Game>()
 }
 
 /// Each recorded move comes from one accepted answer. Take a history that is legal from an opening, a recorded turn of a
-/// match, and a role that the earlier turns do not retire. Exactly one entry is an accepted answer for them: a `Submit` or a
-/// `Miss` for the match's id, the role and the turn's round, with the reply `Taken`. The recorded move and its error are the
-/// judgement of this answer in the state before the turn. If the earlier turns retire the role, no entry is an accepted
-/// answer for it.
+/// match, and a role that the earlier turns do not retire. Exactly one entry is an accepted answer for them: a `Submit` or
+/// a `Miss` for the match's id, the role and the turn's round, with the reply `Taken`. The recorded move and its error are
+/// the judgement of this answer in the state before the turn. If the earlier turns retire a role, no entry is an accepted
+/// answer for that role.
 pub fn answers_are_accounted<G: Game>(opening: &Manager<G>, history: &[Entry<Call, Reply>])
     requires opening { opening.now.matches ≡ [] }
     requires legal { IsLegalHistory (reply G.rules) (after G.rules) opening.now history.now }
@@ -48,7 +48,7 @@ pub fn managers_are_lawful<G: Game>(manager: &Manager<G>)
     manager.matches();
 }
 
-/// A legal history from an opening leaves a lawful manager.
+/// The manager after a history that is legal from an opening is lawful.
 pub fn histories_leave_lawful_managers<G: Game>(
     opening: &Manager<G>,
     history: &[Entry<Call, Reply>],

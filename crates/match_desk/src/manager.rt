@@ -264,7 +264,7 @@ impl<G: Game> Object for Manager<G> {
 
     fn answer(&self, alloc: Global, call: &Call) -> Result<Reply, AllocError>
         ensures reply { IfOk result (λ r. r ≡ reply G.rules self.now call.now) }
-        // A refused call needs no memory. Of the others, only those whose reply has the texts of moves need it.
+        // A refused call needs no memory. Of the accepted calls, only those whose reply has the texts of moves need memory.
         ensures accepted { OnErr result (is_refused (reply G.rules self.now call.now) ≡ false) }
         ensures memory { OnErr result (CarriesTexts (reply G.rules self.now call.now)) }
     {
@@ -291,7 +291,8 @@ impl<G: Game> Object for Manager<G> {
     fn apply(&mut self, alloc: Global, call: &Call) -> Result<(), AllocError>
         ensures ok { OnOk result (self.new ≡ after G.rules self.old call.now) }
         ensures err { OnErr result (self.new ≡ self.old) }
-        // A refused call needs no memory. Of the others, only those that open a match or take an answer into a turn need it.
+        // A refused call needs no memory. Of the accepted calls, only those that open a match or add an answer to a turn
+        // need memory.
         ensures accepted { OnErr result (is_refused (reply G.rules self.old call.now) ≡ false) }
         ensures memory { OnErr result (WantsMemory G.rules self.old call.now) }
     {

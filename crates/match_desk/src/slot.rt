@@ -67,7 +67,7 @@ pub fn abort_reply<G: Game>(held: &Match<G>) -> Reply
     }
 }
 
-/// Passes an answer to the match. If the match refuses it, the match stays as it is, and this is not an error.
+/// Passes an answer to the match. If the match refuses the answer, the match stays as it is, and this returns `Ok`.
 pub fn take_answer<G: Game>(
     alloc: Global,
     game: &G,
@@ -95,7 +95,7 @@ pub fn take_abort<G: Game>(held: &mut Match<G>)
     let _ = held.abort();
 }
 
-/// The answer that a `Miss` means.
+/// The answer that a `Miss` reports.
 pub fn missed<'a>(broken: bool) -> LentAnswer<'a>
     ensures { answer_lent result ≡ missed broken }
 {

@@ -2,7 +2,7 @@
 use Rattle.std.specs.Prelude.{◌≡◌, Bool, true, false, not, ◌&&◌, ◌||◌, List, [], ◌∷◌}
 use Rattle.numbered_rules.specs.Literals.{Literal, Holds, InState, Does, Distinct, Not, Or, Literals, End, More, Rule}
 
--- what is given: which names are equal, which terms the state has, and which move each role makes
+-- the given facts: which names are equal, which terms the state has, and which move each role makes
 pub record Situation (A T : Type 0) : Type 0 where
   pub same : A → A → Bool
   pub same_term : T → T → Bool

@@ -40,14 +40,14 @@ abbrev pub is_number : Option ℕ → ℕ → Bool
 is_number (Some n) m = nat_eq n m
 is_number None m = false
 
--- a state as a row over the terms, and each role's move as its term; an empty list of moves means that no role has moved
+-- a state as a row over the terms, and the moves of the roles as terms; if the list of moves is empty, no role has moved
 abbrev pub numbered : List Bool → List ℕ → Situation ℕ ℕ
 numbered state joint = record { same = nat_eq; same_term = nat_eq; in_state = bit state; does = λ r m. is_number (slice_get joint r) m }
 
 abbrev pub unset : ℕ → List Bool
 unset n = replicate n false
 
--- the row after a pass in which each rule sets its head
+-- the row after one pass over the rules, in which each rule whose body is true sets its head
 abbrev pub row_after : Situation ℕ ℕ → List Bool → List (Rule ℕ ℕ) → List Bool
 row_after w row [] = row
 row_after w row (r ∷ rs) = row_after w (if all_true w (bit row) r.body then slice_set row r.head true else row) rs

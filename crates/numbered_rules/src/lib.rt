@@ -1,8 +1,8 @@
 //! Rules of a ground description, with numbers instead of names.
 //!
-//! `rank` orders derived atoms so that each comes after the atoms that it needs, and `sort_by_rank` orders the rules by
-//! that. `dependence` finds, in one pass over the ordered rules, which atoms depend on the moves or on the state. `split`
-//! divides the rules by that.
+//! `rank` orders derived atoms so that each comes after the atoms that it needs, and `sort_by_rank` sorts the rules by this
+//! order of their heads. `dependence` finds, in one pass over the sorted rules, which atoms depend on the moves or on the
+//! state. `split` separates the rules of these atoms from the others.
 #![tactic(auto)]
 
 pub mod dependence;

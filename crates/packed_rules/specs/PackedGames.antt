@@ -1,4 +1,4 @@
--- What a packed game consists of, and what packing returns.
+-- The parts of a packed game, and the result of packing.
 use Rattle.std.specs.Prelude.{◌≡◌, List, map}
 use Rattle.game_core.specs.Expression.{Expression}
 use Rattle.kif_text.specs.View.{view}

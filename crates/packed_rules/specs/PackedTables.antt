@@ -1,4 +1,4 @@
--- What contracts see of packed rules.
+-- Packed rules as contracts see them.
 use Rattle.std.specs.Prelude.{ℕ, List}
 use Rattle.numbered_rules.specs.declared.split.SplitRules.{SplitRules}
 use Rattle.ground_rules.specs.Literals.{Rule}

@@ -50,7 +50,7 @@ pub fn choose(
     Ok(moves)
 }
 
-/// The value of the true head, or `None` unless exactly one head is true.
+/// The value of the true head if exactly one head is true, otherwise `None`.
 pub fn find_goal(heads: &[GoalHead], state: &PackedState) -> Option<u8>
     ensures { result ≡ only_goal state.now.kept heads.now }
 {

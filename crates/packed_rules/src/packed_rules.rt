@@ -1,4 +1,4 @@
-//! Both parts of a game's rules, with places in a row.
+//! Both parts of a game's rules, packed.
 ghost use Rattle.std.specs.Prelude.{◌≡◌, [], IfOk, take, drop};
 ghost use Rattle.ground_rules.specs.Numbered.{numbered, row_after};
 ghost use Rattle.packed_rules.specs.PackedTables.{rest_of, turn_of};

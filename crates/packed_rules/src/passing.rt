@@ -130,7 +130,7 @@ fn sweep(table: &RuleTable, words: &mut [u64], size: usize, terms: usize, joint:
     }
 }
 
-/// Goes over the rules in order, and sets the head of each rule whose tests pass. This loop, without other literals, is
+/// Goes over the rules in order, and sets the head of each rule whose tests pass. Without other literals, this loop is
 /// twice as fast.
 fn sweep_tests(rules: &[RuleSize], tests: &[Test], words: &mut [u64], size: usize, terms: usize)
     requires size { size ≤ length words.old * 64 }

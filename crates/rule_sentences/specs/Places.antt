@@ -7,7 +7,7 @@ use Rattle.rule_sentences.specs.declared.sentence.Atomic.TheVariants.{Derived as
 use Rattle.numbered_rules.specs.Literals.{Holds, InState, Does, Distinct, Not, Or, End, More}
 use Rattle.rule_sentences.specs.Sentences.{TextLiteral, TextLiterals, Sentence, TextRule}
 
--- init and next sentences may only be heads
+-- `init` and `next` sentences may only be heads
 abbrev pub stands_in_bodies : Derived → Bool
 stands_in_bodies (Role r) = true
 stands_in_bodies (Init t) = false
@@ -30,7 +30,7 @@ abbrev mutual
   are_placed End = true
   are_placed (More l ls) = is_placed l && are_placed ls
 
--- a role sentence may only be the head of a fact
+-- as a head, a `role` sentence may only be a fact
 abbrev pub is_head_of : Derived → TextLiterals → Bool
 is_head_of (Role r) End = true
 is_head_of (Role r) (More l ls) = false
@@ -41,7 +41,7 @@ is_head_of (Goal r n) body = true
 is_head_of Terminal body = true
 is_head_of (Other t) body = true
 
--- true and does sentences may only be in bodies
+-- `true` and `does` sentences may only be in bodies
 abbrev pub place_head : Atomic → TextLiterals → Option TextRule
 place_head (IsDerived a) body = if is_head_of a body && are_placed body then Some (record { head = a; body = body }) else None
 place_head (IsInState t) body = None

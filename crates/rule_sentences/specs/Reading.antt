@@ -1,4 +1,4 @@
--- Reads an expression as a sentence. The result is None if it does not have the form of a sentence.
+-- Reads an expression as a sentence. The result is None if the expression does not have the form of a sentence.
 use Rattle.std.specs.Prelude.{ℕ, nat_le, List, Option, Some, None, option_map, if◌then◌else◌}
 use Rattle.game_core.specs.Expression.{Expression, atom, list, Expressions, none, more, depth, max_depth}
 use Rattle.game_core.specs.Numerals.{plain_number}
@@ -29,14 +29,14 @@ head_word none = None
 head_word (more (atom w) xs) = Some (word_of w)
 head_word (more (list ys) xs) = None
 
--- the second member, if the list has two members and this one is a term
+-- the second member, if the list has two members and the second one is a term
 abbrev pub one_argument : Expressions → Option (List ℕ)
 one_argument none = None
 one_argument (more f none) = None
 one_argument (more f (more x none)) = term_text x
 one_argument (more f (more x (more y xs))) = None
 
--- the second and third members, if the list has three: the second if it is a term, the third as the function reads it
+-- the second and third members, if the list has three members, the second one is a term, and the function can read the third one
 abbrev pub two_arguments : {A : Type 0} → (Expression → Option A) → Expressions → Option (List ℕ × A)
 two_arguments read none = None
 two_arguments read (more f none) = None
@@ -115,11 +115,11 @@ abbrev pub read_list : Option Word → Expressions → Option Sentence
 read_list (Some IfWord) xs = read_rule xs
 read_list word xs = option_map fact (read_relation word xs)
 
--- a sentence of any depth
+-- reads a sentence of any depth
 abbrev pub read_form : Expression → Option Sentence
 read_form (atom w) = option_map fact (read_alone (word_of w) w)
 read_form (list xs) = read_list (head_word xs) xs
 
--- a sentence that some text spells
+-- reads a sentence in which at most max_depth lists nest
 abbrev pub read_sentence : Expression → Option Sentence
 read_sentence x = if nat_le (depth x) max_depth then read_form x else None

@@ -1,4 +1,4 @@
--- Which expressions are the sentences of a description, and which is the first that is not a sentence.
+-- Which expressions are the sentences of a description, and which expression is the first that is not.
 use Rattle.std.specs.Prelude.{ℕ, ◌≡◌, Bool, List, Option, Some, None, is_none, option_and_then, not, ◌&&◌}
 use Rattle.std.specs.List.{filter_map, position_from}
 use Rattle.game_core.specs.Expression.{Expression}
@@ -33,7 +33,7 @@ pub record AreSentences (xs : List Expression) : Type 0 where
   pub formed : first_place is_malformed xs ≡ None
   pub placed : first_place is_misplaced xs ≡ None
 
--- the error of expressions that are not such sentences
+-- the error of expressions that do not satisfy AreSentences
 abbrev pub IsSentenceFault : List Expression → LoadFault → Type 0
 IsSentenceFault xs (Variable i) = first_place has_variable xs ≡ Some i
 IsSentenceFault xs (BadForm i) = (first_place has_variable xs ≡ None) × (first_place is_malformed xs ≡ Some i)

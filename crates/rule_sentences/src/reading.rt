@@ -37,7 +37,7 @@ fn head_word(members: &[Expr]) -> Option<Word>
     }
 }
 
-/// The second member, if the list has two members and this one is a term.
+/// The second member, if the list has two members and the second one is a term.
 fn one_argument(alloc: Global, members: &[Expr]) -> Result<Option<Text>, AllocError>
     ensures { IfOk result (λ o. o ≡ one_argument (expressions members.now)) }
 {
@@ -63,7 +63,7 @@ fn two_terms(alloc: Global, members: &[Expr]) -> Result<Option<(Text, Text)>, Al
     Ok(Some((first, second)))
 }
 
-/// The second and third members, if the list has three members and these are a term and a goal value.
+/// The second and third members, if the list has three members and these two are a term and a goal value.
 fn goal_arguments(alloc: Global, members: &[Expr]) -> Result<Option<(Text, u8)>, AllocError>
     ensures { IfOk result (λ o. o ≡ two_arguments goal_value (expressions members.now)) }
 {

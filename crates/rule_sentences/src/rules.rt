@@ -14,7 +14,7 @@ use crate::terms::has_variable;
 use kif_text::{Expr, fold};
 use std::alloc::{AllocError, Global};
 
-/// Turns the capitals of the sentences to lower case, in place.
+/// Converts the sentences to lower case, in place.
 pub fn fold_each(sentences: &mut [Expr])
     ensures { map expression sentences.new ≡ map folded (map expression sentences.old) }
 {
@@ -35,7 +35,7 @@ fn first_variable(sentences: &[Expr]) -> Option<usize>
 }
 
 /// The sentences as rules, and the number of the first sentence in which an atomic sentence is misplaced. The error names
-/// the first sentence that does not have the form of one.
+/// the first expression that does not have the form of a sentence.
 fn read_each(alloc: Global, sentences: &[Expr]) -> Result<(Vec<Rule>, Option<usize>), LoadFault>
     ensures formed { IfOk result (λ _. first_place is_malformed (map expression sentences.now) ≡ None) }
     ensures misplaced { IfOk result (λ p. p.1 ≡ first_place is_misplaced (map expression sentences.now)) }

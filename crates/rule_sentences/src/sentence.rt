@@ -22,7 +22,7 @@ pub enum Atomic {
     Does(Text, Text),
 }
 
-/// A literal of a rule's body.
+/// A literal in the body of a rule.
 #[derive(Drop)]
 pub enum Literal {
     Atomic(Atomic),

@@ -69,7 +69,7 @@ pub fn count_atomic_sentences(alloc: Global, rules: &[Rule]) -> Result<usize, Al
     Ok(set.len())
 }
 
-/// What is left of `room` if each atomic sentence of the literal takes one, repeated ones too.
+/// What remains of `room` if each atomic sentence of the literal, including repeated ones, takes one.
 #[cycle(room_beside)]
 fn room_beside(literal: &Literal, room: usize) -> usize
     ensures { result ≡ room - length (atomics_in (view literal.now)) }
@@ -105,7 +105,7 @@ fn name_few_atomic_sentences(rules: &[Rule], limits: Limits) -> bool
 }
 
 /// Whether the rules are within the limit of distinct atomic sentences. If they are within it even with the repeated ones,
-/// this allocates no set. Otherwise it counts the distinct ones.
+/// the function allocates no set; otherwise it counts the distinct ones.
 pub fn have_few_atomic_sentences(
     alloc: Global,
     rules: &[Rule],

@@ -1,7 +1,7 @@
 //! The reserved words of GDL.
 ghost use Rattle.std.specs.Prelude.{◌≡◌};
 
-/// What a word at the head of a list, or a single word, means.
+/// The meaning of a word at the head of a list, or of a single word.
 #[derive(Clone, Copy)]
 pub enum Word {
     Role,
@@ -24,7 +24,7 @@ pub enum Word {
 impl Word {
     ghost use Rattle.rule_sentences.specs.Words.{word_of};
 
-    /// What the word with these bytes means.
+    /// The meaning of the word with these bytes.
     pub fn of(bytes: &[u8]) -> Word
         ensures { result ≡ word_of bytes.now }
     {

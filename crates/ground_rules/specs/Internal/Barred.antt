@@ -4,7 +4,7 @@ use Rattle.rule_sentences.specs.declared.sentence.Derived.{Derived}
 use Rattle.rule_sentences.specs.declared.sentence.Derived.TheVariants.{Role, Init, Next, Legal, Goal, Terminal, Other}
 use Rattle.numbered_rules.specs.Numbered.{bit}
 
--- whether the head is barred if it depends on does sentences (first flag), or on any given sentence (second flag)
+-- whether the head is barred; on_moves says whether it depends on a `does` sentence, and on_given whether it depends on any given sentence
 abbrev pub barred_by : Derived → Bool → Bool → Bool
 barred_by (Role r) on_moves on_given = false
 barred_by (Init t) on_moves on_given = on_given

@@ -25,14 +25,14 @@ pub record IsTableOf (d : Description) (t : NameTable) : Type 0 where
   pub states : (u : List ℕ) → is_among t.states u ≡ is_among (head_terms State d) u
   pub moves : (u : List ℕ) → is_among t.moves u ≡ is_among (head_terms Move d) u
 
--- the description is within the limits, apart from the number of moves
+-- the description is within all limits except the one on the number of moves, which is not tested
 abbrev pub is_small_so_far : Limits → ℕ → Description → Bool
 is_small_so_far limits n d = nat_le n (max_sentences limits) && nat_le (length (each_once same_atomic (atomics d))) (max_atomic_sentences limits) && nat_le (length (role_names d)) max_roles
 
 abbrev pub have_few_moves_by : List RoleTable → Bool
 have_few_moves_by rs = list_all (λ r. nat_le (length r.legal) max_moves) rs
 
--- the rules are the description's rules with numbers, in the order of a ranking
+-- the rules are the description's rules with numbers for names, in the order of a ranking
 pub record AreRankedOf (d : Description) (t : NameTable) (rules : List (Rule ℕ ℕ)) : Type 0 where
   pub moved : IsPermutation (resolved_rules t d) rules
   pub rank : ℕ → ℕ

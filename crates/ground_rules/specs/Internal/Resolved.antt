@@ -79,7 +79,7 @@ abbrev pub with_mention : List (List ℕ) → ℕ → Option (List ℕ) → List
 with_mention terms n (Some t) ms = record { term = place bytes_eq terms t; atom = n } ∷ ms
 with_mention terms n None ms = ms
 
--- the mentions in the heads, which are numbered from n; pick gives their terms
+-- the mentions in the heads; the heads are numbered from n, and pick returns the term of a head
 abbrev pub mentions_by : (Derived → Option (List ℕ)) → List (List ℕ) → ℕ → List Derived → List Mention
 mentions_by pick terms n [] = []
 mentions_by pick terms n (a ∷ as') = with_mention terms n (pick a) (mentions_by pick terms (n + 1) as')
@@ -93,7 +93,7 @@ state_term kind a = None
 abbrev pub state_mentions : StateHead → List (List ℕ) → ℕ → List Derived → List Mention
 state_mentions kind terms n hs = mentions_by (state_term kind) terms n hs
 
--- the legal heads of a role, numbered from n
+-- the `legal` heads of a role, as mentions; all heads are numbered from n
 abbrev pub legal_mentions : List (List ℕ) → List ℕ → ℕ → List Derived → List Mention
 legal_mentions terms role n [] = []
 legal_mentions terms role n (Legal r m ∷ as') = if bytes_eq r role then record { term = place bytes_eq terms m; atom = n } ∷ legal_mentions terms role (n + 1) as' else legal_mentions terms role (n + 1) as'

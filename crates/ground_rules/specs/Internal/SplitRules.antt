@@ -9,7 +9,7 @@ use Rattle.rule_sentences.specs.Descriptions.{Description}
 use Rattle.ground_rules.specs.Internal.Ranked.{AreRankedFrom}
 use Rattle.ground_rules.specs.Internal.Resolved.{NameTable, atom_number, resolved_rules}
 
--- the rules contain no does sentence
+-- the rules contain no `does` sentence
 abbrev pub SpeakOfNoMoves : List (Rule ℕ ℕ) → Type 0
 SpeakOfNoMoves [] = Unit {0}
 SpeakOfNoMoves (r ∷ rs) = (any_speaks_of_given false r.body ≡ false) × SpeakOfNoMoves rs
@@ -28,8 +28,8 @@ IsAnswer (Init t) = ⊥
 IsAnswer (Next t) = ⊥
 IsAnswer (Other t) = ⊥
 
--- the two parts are the description's rules with numbers, each in the order of a ranking; the first part contains no does sentence,
--- and no answer is a head of the second part
+-- the two parts are the description's rules with numbers for names, each in the order of a ranking; the first part contains no `does`
+-- sentence, and no answer is a head of the second part
 pub record AreSplitOf (d : Description) (t : NameTable) (rest turn : List (Rule ℕ ℕ)) : Type 0 where
   pub moved : IsPermutation (resolved_rules t d) (rest ++ turn)
   pub rank : ℕ → ℕ

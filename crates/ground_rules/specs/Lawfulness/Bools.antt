@@ -1,4 +1,4 @@
--- What tests with && and || show.
+-- Lemmas about tests with && and ||.
 use Rattle.std.specs.Prelude.{◌≡◌, Bool, true, false, not, ◌&&◌, ◌||◌, refl}
 use Rattle.std.proofs.Common.{sym}
 
@@ -42,7 +42,7 @@ pub not-false : (x : Bool) → x ≡ false → not x ≡ true
 not-false true e = absurd cc
 not-false false e = refl
 
--- two tests that imply one another are equal
+-- two tests that imply each other are equal
 pub bool-same : (x y : Bool) → (x ≡ true → y ≡ true) → (y ≡ true → x ≡ true) → x ≡ y
 bool-same true y f g = sym (f refl)
 bool-same false true f g = g refl

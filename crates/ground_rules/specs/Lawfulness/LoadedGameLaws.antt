@@ -49,7 +49,7 @@ moves_of hs = map (λ h. record { term = h.term }) hs
 below : (m n : ℕ) → nat_lt m n ≡ true → m < n
 below m n h = (Decides-ltb m n).0 h
 
--- the chosen moves are of the game
+-- the chosen moves belong to the game
 are-by : (terms : ℕ) (m : Mention) (fs : List Mention) (b : Bool) → m.term < terms → ((k : ℕ) (d : GroundMove) → k < length (moves_of fs) → (slice_index_or (moves_of fs) k d).term < terms) → (k : ℕ) (d : GroundMove) → k < length (moves_of (if b then m ∷ fs else fs)) → (slice_index_or (moves_of (if b then m ∷ fs else fs)) k d).term < terms
 are-by terms m fs false ok rest k d lt = rest k d lt
 are-by terms m fs true ok rest zero d lt = ok
@@ -190,7 +190,7 @@ ordered-different (t ∷ ts) h = rw (order-differs t ts (and-left (comes_before_
 folded-is-canonical : (t : List ℕ) → IsFoldedText t → IsCanonicalText t
 folded-is-canonical t is = (is.0, is.1, is.3)
 
--- each form of a game proves that it is lawful by this lemma; `xs` are the sentences of the description
+-- the proof that a form of a game is lawful uses this lemma; `xs` are the sentences of the description
 pub loaded_game_laws : (xs : Expressions) (g : GameTables) → 1 ≤ length g.roles → length g.roles ≤ max_roles → IsTrue (are_roles (length g.moves) g.roles) → IsTrue (are_different (names g.roles))
     → IsTrue (are_terms_in_any xs (names g.roles)) → IsTrue (are_in_order g.states) → IsTrue (are_terms_in_any xs g.states) → IsTrue (are_in_order g.moves) → IsTrue (are_terms_in_any xs g.moves) → IsLawful (loaded_game g)
 loaded_game_laws xs g some few tables names_differ names_spelled states_ordered states_spelled moves_ordered moves_spelled = record {

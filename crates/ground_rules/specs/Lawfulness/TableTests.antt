@@ -1,4 +1,4 @@
--- The tests of a game's tables from which its laws follow: terms differ, goals are in range, texts are in byte order.
+-- The tests of a game's tables that imply the laws of the game: terms differ, goals are in range, texts are in byte order.
 use Rattle.std.specs.Prelude.{ℕ, Bool, true, false, not, ◌&&◌, ◌||◌, List, [], ◌∷◌, map, nat_lt, nat_le, nat_eq}
 use Rattle.game_core.specs.Play.{max_goal}
 use Rattle.ground_rules.specs.declared.tables.Mention.{Mention}

@@ -1,4 +1,4 @@
--- The texts of the terms in expressions. Each is a folded text, and not the text of a variable.
+-- The texts of the terms in expressions. Each is a lower-case text, and not the text of a variable.
 use Rattle.std.specs.Prelude.{ℕ, zero, suc, ◌<◌, ◌≤◌, ◌≡◌, ◌≢◌, Bool, true, false, not, ◌&&◌, ◌||◌, ◌==◌, nat_le, bytes_eq, codes, List, [], ◌∷◌, map, length, refl, slice_index_or}
 use Rattle.std.proofs.Common.{arith, ap, sym, ◌∙◌}
 use Rattle.std.proofs.lemmas.Bool.Decides.{nat_tests}

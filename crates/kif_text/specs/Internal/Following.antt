@@ -1,4 +1,4 @@
--- How the fields of the reader correspond to a state of the machine, and a function of the reader to one of the machine.
+-- How the reader's fields correspond to a state of the machine, and the reader's functions to those of the machine.
 use Rattle.std.specs.Prelude.{◌≡◌, ℕ, suc, List, [], ◌∷◌, reverse, map, Result, Ok, Err}
 use Rattle.game_core.specs.Expression.{Expressions}
 use Rattle.kif_text.specs.Machine.{Open, State, with_word, flushed, count_of}

@@ -1,4 +1,4 @@
--- What the search for a ranking keeps true.
+-- The invariants of the search for a ranking.
 use Rattle.std.specs.Prelude.{ℕ, ◌<◌, ◌≤◌, ◌≡◌, ◌≢◌, ◌+◌, List, length, slice_index, slice_index_or, sum_by}
 use Rattle.numbered_rules.specs.declared.rank.Mark.{Mark}
 use Rattle.numbered_rules.specs.declared.rank.Mark.TheVariants.{New, Open, Done}
@@ -20,7 +20,7 @@ IsNeed needs n d = (i : ℕ) × (i < length (needs_at needs n)) × (slice_index 
 abbrev pub IsLinked : List (List ℕ) → List ℕ → ℕ → Type 0
 IsLinked needs path d = (k : ℕ) → k + 1 ≡ length path → IsNeed needs (slice_index path k) d
 
--- an atom that was met stays met
+-- an atom that the search has met is still met in the new marks
 abbrev pub AreOnlyOld : List Mark → List Mark → Type 0
 AreOnlyOld old marks = (n : ℕ) → mark old n ≢ New → mark marks n ≢ New
 
@@ -44,6 +44,6 @@ weight New = 2
 weight (Open k) = 0
 weight (Done r) = 0
 
--- how much is left to do: this decreases with each step
+-- the remaining work, which decreases with each step
 abbrev pub work : List Mark → List ℕ → ℕ
 work marks path = sum_by weight marks + length path

@@ -11,7 +11,7 @@ use Rattle.packed_rules.specs.declared.rules.RuleSize.{RuleSize}
 use Rattle.packed_rules.specs.declared.rule_table.RuleTable.{RuleTable}
 use Rattle.packed_rules.specs.Internal.PlacedRules.{PlacedRule, placed_rules, AreCut}
 
--- the row has the required value
+-- the row has the value that the test requires
 abbrev pub passes : List Bool → Test → Bool
 passes bits t = beq (bit bits t.place) t.value
 
@@ -27,7 +27,7 @@ abbrev pub all_agree : List ℕ → List MoveTest → Bool
 all_agree joint [] = true
 all_agree joint (t ∷ ts) = agrees joint t && all_agree joint ts
 
--- the literals are true in a row of this many terms and then the derived atoms
+-- the literals are true in a row that has this many terms and then the derived atoms
 abbrev pub all_fire : ℕ → List ℕ → List Bool → List Test → List MoveTest → List CodeLiteral → Bool
 all_fire terms joint bits tests moves others = all_agree joint moves && (all_pass bits tests && all_true (numbered (take terms bits) joint) (bit (drop terms bits)) (views others))
 
@@ -37,11 +37,11 @@ fires terms joint bits r = all_fire terms joint bits r.tests r.moves r.others
 abbrev pub rules_in : RuleTable → List PlacedRule
 rules_in t = placed_rules t.rules.items t.tests.items t.moves.items t.others.items
 
--- the rules of the table take exactly the table's literals
+-- the rules of the table use exactly the table's literals
 abbrev pub IsCut : RuleTable → Type 0
 IsCut t = AreCut t.rules.items t.tests.items t.moves.items t.others.items
 
--- the row after a pass in which each rule sets its head
+-- the row after one pass over the rules, in which each rule whose literals are true sets its head
 abbrev pub packed_after : ℕ → List ℕ → List Bool → List PlacedRule → List Bool
 packed_after terms joint bits [] = bits
 packed_after terms joint bits (r ∷ rs) = packed_after terms joint (if fires terms joint bits r then slice_set bits (terms + r.head) true else bits) rs
@@ -68,7 +68,7 @@ ArePacked terms [] (r ∷ rs) = ⊥
 ArePacked terms (p ∷ ps) [] = ⊥
 ArePacked terms (p ∷ ps) (r ∷ rs) = IsPacked terms p r × ArePacked terms ps rs
 
--- the rules of the table have the meaning of the rules at their indexes
+-- each rule of the table means the same as the rule with the same index in the list
 pub record IsPackedTable (terms : ℕ) (t : RuleTable) (rs : List (Rule ℕ ℕ)) : Type 0 where
   pub cut : IsCut t
   pub rules : ArePacked terms (rules_in t) rs
