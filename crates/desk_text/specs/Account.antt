@@ -67,12 +67,12 @@ entry_call text = fields_call (pieces tab text)
 abbrev pub IsRead : Entry Call Reply → Type 0
 IsRead e = entry_call (entry_text e) ≡ Some (e.line, e.call)
 
--- the lines are those of a history, and each can be read as its entry
+-- the lines are those of the history, and each line can be read as its entry
 pub record Tell (lines : List (List ℕ)) (history : List (Entry Call Reply)) : Type 0 where
   pub texts : lines ≡ map entry_text history
   pub are_read : AllByRecursion IsRead history
 
--- These are the lines of a legal history from this start: it has this many calls, and leaves this object.
+-- These are the lines of a history that is legal from this start, has this many calls, and leads to this object.
 pub record IsAccount {S : Type 0} (reply : S → Call → Reply) (after : S → Call → S) (start : S) (lines : List (List ℕ)) (object : S) (calls : ℕ) : Type 0 where
   pub history : List (Entry Call Reply)
   pub tell : Tell lines history

@@ -25,11 +25,11 @@ abbrev pub escaped_from : ℕ → List ℕ → List ℕ
 escaped_from least [] = []
 escaped_from least (byte ∷ more) = (if stands_from least byte then byte ∷ [] else escape byte) ++ escaped_from least more
 
--- a name, with its spaces escaped
+-- an escaped name; spaces are escaped too
 abbrev pub escaped_name : List ℕ → List ℕ
 escaped_name name = escaped_from exclamation_mark name
 
--- a text, whose spaces are not escaped
+-- an escaped text; spaces are not escaped
 abbrev pub escaped_text : List ℕ → List ℕ
 escaped_text text = escaped_from space text
 

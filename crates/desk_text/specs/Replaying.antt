@@ -16,7 +16,7 @@ RefusesLine reply s place text Memory = Unit {0}
 RefusesLine reply s place text (NoEntry at why) = (at ≡ place) × (entry_call text ≡ None)
 RefusesLine reply s place text (Differs at right) = (at ≡ place) × (e : Entry Call Reply) × (entry_call text ≡ Some (e.line, e.call)) × (e.reply ≡ reply s e.call) × (right.items ≡ entry_text e) × (text ≢ entry_text e)
 
--- the lines before this one have a legal history, and this one is refused
+-- the lines before some line are those of a legal history, and that line is refused with this error
 pub record IsFirstFault {S : Type 0} (reply : S → Call → Reply) (after : S → Call → S) (start : S) (lines : List (List ℕ)) (fault : ReplayFault) : Type 0 where
   pub history : List (Entry Call Reply)
   pub line : List ℕ

@@ -23,7 +23,7 @@ use Rattle.desk_text.specs.Words.{words, spaced, max_number, max_in_32_bits, max
 abbrev pub script : Grammar
 script = record { has_empty_names = false; largest = max_number }
 
--- in a call log, a call may have any name and any number of its types
+-- in a call log, names may be empty, and numbers are limited only by their types
 abbrev pub account : Grammar
 account = record { has_empty_names = true; largest = max_in_64_bits }
 
@@ -171,7 +171,7 @@ refusal_word (Stale round) = codes "stale"
 refusal_word Twice = codes "twice"
 refusal_word Ended = codes "ended"
 
--- the word of a refusal; for `stale` followed by the present round
+-- the word of a refusal; `stale` is followed by the present round
 abbrev pub refusal_text : Refusal → List ℕ
 refusal_text (Stale round) = codes "stale " ++ decimal round
 refusal_text reason = refusal_word reason

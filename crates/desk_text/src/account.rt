@@ -21,14 +21,14 @@ fn push_behind_space(out: &mut Vec<u8>, number: u64) -> Result<(), AllocError>
     push_number(out, number)
 }
 
-/// Appends a name to `out`, with its spaces escaped.
+/// Appends an escaped name to `out`. Spaces are escaped too.
 fn push_name(out: &mut Vec<u8>, name: &Text) -> Result<(), AllocError>
     ensures { OnOk result (out.new.items ≡ out.old.items ++ escaped_name name.now) }
 {
     push_escaped(out, name.as_slice(), b'!')
 }
 
-/// Appends a text to `out`. Its spaces are not escaped.
+/// Appends an escaped text to `out`. Spaces are not escaped.
 fn push_text(out: &mut Vec<u8>, text: &[u8]) -> Result<(), AllocError>
     ensures { OnOk result (out.new.items ≡ out.old.items ++ escaped_text text.now) }
 {

@@ -62,8 +62,8 @@ fn escaped_byte(high: u8, low: u8) -> Option<u8>
     Some(high * 16 + low)
 }
 
-/// The first byte of a text after its escape is removed, and the number of bytes that it takes in the text. `None` if a backslash is
-/// not followed by `xHH`.
+/// The first byte of a text without its escape, and the number of bytes that it takes in the text, or `None` if a backslash
+/// is not followed by `xHH`.
 fn first_byte(text: &[u8]) -> Option<(u8, usize)>
     requires { 0 < length text.now }
     ensures read { unescaped text.now ≡ before_rest (option_map (λ r. r.0) result) (unescaped (drop (bytes_taken result) text.now)) }

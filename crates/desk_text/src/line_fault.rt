@@ -18,7 +18,7 @@ pub enum FaultKind {
     MoreWords,
     /// A name is empty.
     NoName,
-    /// The word is not a number from 0 to this one.
+    /// The word is not a number from 0 to this number.
     NoNumber(u64),
     /// The word is neither `silent` nor `broken`.
     NoReason,

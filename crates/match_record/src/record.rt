@@ -258,7 +258,7 @@ pub fn record_json<G: Game>(alloc: Global, game: &G, held: &Match<G>) -> Result<
     ensures text { IfOk result (λ t. t ≡ record_text (G.rules game.now) held.now.value) }
     // Reading the text as JSON gives the record tree.
     ensures reads_back { IfOk result (λ t. read t ≡ Some (record_tree (G.rules game.now) held.now.value)) }
-    // `verify` refuses it only if it runs out of memory.
+    // `verify` refuses the text only if memory runs out.
     ensures lawful { IfOk result (λ t. IsLawfulRecord (G.rules game.now) t) }
 {
     records_are_lawful(game);
@@ -271,7 +271,7 @@ pub fn record_json<G: Game>(alloc: Global, game: &G, held: &Match<G>) -> Result<
     })
 }
 
-/// Appends to `out` what `record_json` returns, without an intermediate copy.
+/// Appends the text that `record_json` returns to `out`, without an intermediate copy.
 pub fn push_record<G: Game>(
     alloc: Global,
     out: &mut Vec<u8>,
@@ -280,7 +280,7 @@ pub fn push_record<G: Game>(
 ) -> Result<(), AllocError>
     requires game { held.now.game ≡ game.now }
     requires setup { IsLawfulSetup held.now.value.setup }
-    // Also after an error: what was in `out` stays at its front.
+    // Even after an error, `out` begins with its old content.
     ensures kept { IsPrefix out.old.items out.new.items }
     ensures text { OnOk result (out.new.items ≡ out.old.items ++ record_text (G.rules game.now) held.now.value) }
     ensures reads_back { OnOk result (read (record_text (G.rules game.now) held.now.value) ≡ Some (record_tree (G.rules game.now) held.now.value)) }

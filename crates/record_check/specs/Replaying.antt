@@ -25,12 +25,12 @@ GoesOn g retired s = (g.terminal s ≡ false) × (lowest_role g.roles (has_no_mo
 abbrev pub IsRightMove : {S M : Type 0} → Rules S M → Bool → List M → List ℕ → List ℕ → Type 0
 IsRightMove {S} {M} g retired moves text error = (m : M) × (g.move_text m ≡ text) × IsPart g retired moves m error
 
--- the error gives the text of one of these moves as the answer
+-- the error says that the answer was the text of one of these moves
 abbrev pub DeniesOne : {S M : Type 0} → Rules S M → List M → List ℕ → Type 0
 DeniesOne {S} {M} g moves error = (m : M) × Contains moves m × (error ≡ error_text (NotLegal (g.move_text m)))
 
--- The text is that of one of these moves, and the move cannot have the error: the error is not empty and the move is not the first, or
--- the error gives a legal move as the answer.
+-- The text is that of one of these moves, and the move cannot have the error: the error is not empty and the move is not the first, or the
+-- error says that the answer was a legal move.
 abbrev pub IsWrongError : {S M : Type 0} → Rules S M → List M → List ℕ → List ℕ → Type 0
 IsWrongError {S} {M} g moves text error =
     (m : M) × Contains moves m × (g.move_text m ≡ text) × (((error ≢ []) × (slice_get moves 0 ≢ Some m)) ⊎ DeniesOne g moves error)
@@ -52,7 +52,7 @@ turn_at lists t = slice_index_or lists t []
 abbrev pub text_at : List (List ℕ) → ℕ → List ℕ
 text_at texts r = slice_index_or texts r []
 
--- In the state s play continues, and of these moves and errors those of the roles below r are right, given which roles are retired.
+-- Play continues in the state s, and the moves and errors of the roles below r are right, given which roles are retired.
 pub record AreRightBelow {S M : Type 0} (g : Rules S M) (retired : ℕ → Bool) (s : S) (moves errors : List (List ℕ)) (r : ℕ) : Type 0 where
   pub goes_on : GoesOn g retired s
   pub within : r < g.roles
@@ -120,7 +120,7 @@ pub record IsRightEnd {S M : Type 0} (g : Rules S M) (p : RecordParts) (turns : 
   -- no turn until all START marks are present, and no end mark before the match stops or aborts
   pub turns_after_start : every_role g.roles (is_there p.start_marks) ≡ false → turns ≡ []
   pub ends_at_end : is_live (stage g (match_of g p turns)) ≡ true → p.end_marks ≡ blank g.roles
-  -- an abort was asked only while the match was starting or playing
+  -- an abort was requested only while the match was starting or playing
   pub asked_when_live : is_asked p.cause ≡ true → is_live (stage g (record (match_of g p turns) { abort_asked = false })) ≡ true
 
 -- the turns and states of the record are those of a match
@@ -128,7 +128,7 @@ pub record IsReplayed {S M : Type 0} (g : Rules S M) (p : RecordParts) (s : S) :
   pub leads : LeadsTo g p (length p.moves) s
   pub shown : ShowsState g p (length p.moves) s
 
--- this error is the first of the record: everything before it is right, and this is not
+-- this is the first error of the record: everything before it is right
 abbrev pub IsFirstFault : {S M : Type 0} → Rules S M → RecordParts → VerifyFault → Type 0
 IsFirstFault g p NotJson = ⊥
 IsFirstFault g p (BadShape key) = ⊥

@@ -61,7 +61,7 @@ fn is_blank(marks: &[Option<Mark>]) -> bool
     true
 }
 
-/// The stage of a match whose last state has this settlement. An abort that was asked comes first, then missing START marks.
+/// The stage of a match whose last state has this settlement. A requested abort comes first, then missing START marks.
 fn stage_by(asked: bool, started: bool, settled: Stage) -> Stage
     ensures { result ≡ stage_by asked started settled }
 {

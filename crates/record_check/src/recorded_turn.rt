@@ -30,14 +30,14 @@ enum RecordedMove<M> {
     WrongRetired,
 }
 
-/// The answer that the error calls illegal, if it gives one.
+/// The answer that the error calls illegal, if there is one.
 fn denied_answer(error: &[u8]) -> Option<&[u8]>
     ensures { MatchOption result ((x : List ℕ) → error.now ≢ error_text (Illegal x)) (λ x. error.now ≡ error_text (Illegal x.now)) }
 {
     error.strip_prefix(ILLEGAL_PREFIX)
 }
 
-/// Whether the error gives the text of one of these moves as the answer.
+/// Whether the error says that the answer was the text of one of these moves.
 fn denies_one<G: Game>(game: &G, moves: &[G::Move], error: &[u8]) -> bool
     requires { All (λ m. (G.rules game.now).IsMove m) moves.now }
     ensures { IsTrue result ↔ DeniesOne (G.rules game.now) moves.now error.now }
@@ -48,7 +48,7 @@ fn denies_one<G: Game>(game: &G, moves: &[G::Move], error: &[u8]) -> bool
     }
 }
 
-/// Checks a recorded move with this text and error, for a role with these legal moves that is retired or not.
+/// Checks a recorded move with this text and error, for a role with these legal moves. `retired` says whether the role is retired.
 fn recorded_move<G: Game>(
     alloc: Global,
     game: &G,
@@ -110,7 +110,7 @@ fn next_moves<G: Game>(
 }
 
 /// The joint move with these texts, or the error of the lowest role that is wrong. `strikes` has the roles' strikes after
-/// the earlier turns. Each role's moves are computed once, since that may take a game long.
+/// the earlier turns. Each role's moves are computed only once, because this may take long.
 fn recorded_joint<G: Game>(
     alloc: Global,
     game: &G,

@@ -11,7 +11,7 @@ use game_core::Game;
 use record_reading::{RecordParts, VerifyFault, read_record};
 use std::alloc::Global;
 
-/// What a record says, if `verify` would accept it.
+/// The values of a record, if `verify` would accept it.
 pub fn lawful_parts<G: Game>(
     alloc: Global,
     game: &G,

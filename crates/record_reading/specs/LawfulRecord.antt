@@ -40,7 +40,7 @@ AreLawfulParts {S} {M} g p = (m : MatchValue M) × IsLawfulMatch g m × (parts_i
 abbrev pub IsShaped : {S M : Type 0} → Rules S M → Data → Key → Type 0
 IsShaped g tree key = (x : (row_of key).Value) × (found_at tree key ≡ Some ((row_of key).written x)) × (row_of key).IsOfShape g x
 
--- x is the first of these that fails
+-- x is the first member of the list that fails
 abbrev pub IsFirstWithout : {A : Type 0} → (A → Type 0) → List A → A → Type 0
 IsFirstWithout {A} Passes xs x = (before after : List A) × (xs ≡ before ++ x ∷ after) × All Passes before × ¬ Passes x
 
@@ -48,7 +48,7 @@ IsFirstWithout {A} Passes xs x = (before after : List A) × (xs ≡ before ++ x 
 abbrev pub HasWrongLength : RecordParts → Key → Type 0
 HasWrongLength p key = ((key ≡ Errors) × (length p.errors ≢ length p.moves)) ⊎ ((key ≡ States) × (length p.errors ≡ length p.moves) × (length p.states ≢ suc (length p.moves)))
 
--- the first key whose value does not have its shape; or, if all have it, a key whose list has the wrong length
+-- the first key whose value does not have the key's shape; or, if all values have the right shape, a key whose list has the wrong length
 abbrev pub IsMisshapen : {S M : Type 0} → Rules S M → Data → Key → Type 0
 IsMisshapen g tree key = IsFirstWithout (IsShaped g tree) keys key ⊎ ((p : RecordParts) × Holds tree p × ((at : Key) → IsShapedAt g at p) × HasWrongLength p key)
 

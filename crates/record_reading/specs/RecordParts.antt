@@ -16,22 +16,22 @@ use Rattle.record_reading.specs.declared.record_parts.RecordParts.{RecordParts}
 use Rattle.record_reading.specs.declared.record_parts.Version.{Version}
 use Rattle.record_reading.specs.declared.record_parts.Version.TheVariants.{Second}
 
--- what f gives for each of n roles, in order
+-- the values of f for n roles, in order
 abbrev pub each_role : {A : Type 0} → ℕ → (ℕ → A) → List A
 each_role zero f = []
 each_role (suc n) f = each_role n f ++ f n ∷ []
 
--- the first members of a list: none, one, and so on up to all
+-- the prefixes of a list: no members, the first one, and so on up to all
 abbrev pub prefixes : {A : Type 0} → List A → List (List A)
 prefixes [] = [] ∷ []
 prefixes (x ∷ xs) = [] ∷ map (λ front. x ∷ front) (prefixes xs)
 
--- the goals of the roles: all roles have one if the match has stopped, and otherwise none has
+-- the goals of the roles: each role has one if the match has stopped, and otherwise no role has one
 abbrev pub goals_from : ℕ → (ℕ → Option ℕ) → List ℕ
 goals_from zero goal = []
 goals_from (suc n) goal = goals_from n goal ++ option_to_list (goal n)
 
--- The values of a match's record in the newest version. Its states are the one before the first turn and the one after each turn.
+-- The values of a match's record in the newest version. The states are the one before the first turn and the one after each turn.
 abbrev pub parts_of : {S M : Type 0} → Rules S M → MatchValue M → RecordParts
 parts_of g m = record {
   cause = cause g m;
@@ -62,7 +62,7 @@ NamesRole roles (NoGoal r) = r < roles
 NamesRole roles TooLong = Unit {0}
 NamesRole roles AllRetired = Unit {0}
 
--- a reason that a record may give for a substitution, with some legal moves and some retired roles
+-- a reason that a record may give for a substitution, for some legal moves and some retired roles
 abbrev pub MayBeGiven : Substitution → Type 0
 MayBeGiven TimeOut = Unit {0}
 MayBeGiven ConnectionError = Unit {0}

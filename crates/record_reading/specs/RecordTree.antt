@@ -79,7 +79,7 @@ as_whole d = option_and_then as_u64 (as_number d)
 abbrev pub version_numbered : ℕ → Option Version
 version_numbered n = if n == 1 then Some First else (if n == 2 then Some Second else None)
 
--- the version of a record, from the value at its key; a record without the key has the first version
+-- the version of a record, from the value at the key `version`; a record without this key has the first version
 abbrev pub version_said : Option Data → Option Version
 version_said None = Some First
 version_said (Some d) = option_and_then version_numbered (as_whole d)
@@ -88,20 +88,20 @@ version_said (Some d) = option_and_then version_numbered (as_whole d)
 abbrev pub in_each_version : Option Version → Option Data → Option Data
 in_each_version version there = there
 
--- or, for a key that was added in the second version: in other records always this value
+-- for a key that was added in the second version: in a record of any other version, this value counts
 abbrev pub since_second : Data → Option Version → Option Data → Option Data
 since_second before None there = Some before
 since_second before (Some First) there = Some before
 since_second before (Some Second) there = there
 
--- or, for a key that may be missing: this value if it is missing
+-- for a key that may be missing: if it is missing, this value counts
 abbrev pub unless_there : Data → Option Version → Option Data → Option Data
 unless_there absent version there = option_or there (Some absent)
 
 -- ---- The table
 
--- A key's text, the versions in which it counts, the value of a record there, how it is written, and which values have the key's shape
--- in a record of the game.
+-- A key's text, the versions in which it counts, its value in a record, the JSON of this value, and which values have the key's shape in a
+-- record of the game.
 pub record Row : Type 1 where
   pub Value : Type 0
   pub text : List ℕ
@@ -141,7 +141,7 @@ key_tree key p = (row_of key).written ((row_of key).said p)
 abbrev pub IsShapedAt : {S M : Type 0} → Rules S M → Key → RecordParts → Type 0
 IsShapedAt g key p = (row_of key).IsOfShape g ((row_of key).said p)
 
--- the version of the record that the tree is
+-- the version of the record with this tree
 abbrev pub version_of : Data → Option Version
 version_of tree = version_said (get (key_text AtVersion) tree)
 

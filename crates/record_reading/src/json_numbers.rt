@@ -1,4 +1,4 @@
-//! The numbers that JSON tokens write.
+//! The numbers that JSON tokens represent.
 ghost use Rattle.std.specs.Prelude.{◌≡◌, ◌==◌, ◌<◌, IsTrue, false, length, option_map, slice_index, true};
 ghost use Rattle.serde_json.specs.Read.{number_from, number_of};
 ghost use Rattle.serde_json.specs.View.{number_view};

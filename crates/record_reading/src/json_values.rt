@@ -1,4 +1,4 @@
-//! Texts, lists and numbers taken from JSON. If a value is missing, these return `None`.
+//! Texts, lists and numbers taken from JSON. If a value is missing, these functions return `None`.
 ghost use Rattle.std.specs.Prelude.{◌≡◌, IfOk, List, is_some, map, option_and_then, option_copied, option_map, ℕ};
 ghost use Rattle.serde_json.specs.Data.{Data, string};
 ghost use Rattle.serde_json.specs.Find.{as_array, as_null, as_str, get, get_member};
@@ -65,7 +65,7 @@ fn into_members(found: Option<Value>) -> Option<Vec<Value>>
     }
 }
 
-/// Takes the members, if the value is an object. Another value has none.
+/// Takes the members, if the value is an object. Any other value has no members.
 pub fn into_object(alloc: Global, tree: Value) -> Map<String, Value>
     ensures { (key : List ℕ) → get_member key (members_view result.entries) ≡ get key (view tree) }
 {
@@ -79,12 +79,12 @@ pub fn into_object(alloc: Global, tree: Value) -> Map<String, Value>
 pub trait FromJson: Sized + Drop {
     ghost written: { Self → Data };
 
-    /// Takes a value of this type, if this is the JSON of one.
+    /// Takes a value of this type, if `found` is the JSON of such a value.
     fn value_in(alloc: Global, found: Option<Value>) -> Result<Option<Self>, AllocError>
         ensures { IfOk result (λ o. Shows written AnyShape (data_of found) o) };
 }
 
-/// Takes a list of values of this type, if this is the JSON of one.
+/// Takes a list of values of this type, if `found` is the JSON of such a list.
 pub fn list_in<T: FromJson>(
     alloc: Global,
     found: Option<Value>,

@@ -38,7 +38,7 @@ fn next_key<'a>(reader: &mut Reader<'a>) -> Result<Option<&'a str>, VerifyFault>
     }
 }
 
-/// The items with one more at the end, if all are kept.
+/// The items and one more at the end, if all are kept.
 fn with_item(
     items: Option<Vec<Value>>,
     item: Option<Value>,
@@ -54,8 +54,8 @@ fn with_item(
     }
 }
 
-/// Reads the value that begins with the token. It is kept if its lists nest at most `lists` deep, if the innermost of these
-/// have only texts, and if it has no object and no truth value.
+/// Reads the value that begins with the token. The value is kept if its lists nest at most `lists` deep, the innermost
+/// lists have only texts, and it has no object and no truth value.
 #[cycle(kept)]
 fn value_of(
     alloc: Global,
@@ -101,7 +101,7 @@ fn value_of(
     }
 }
 
-/// Reads the items of a list. They are kept if each of them is.
+/// Reads the items of a list. The items are kept if each of them is.
 #[cycle(kept)]
 fn items_of(
     alloc: Global,
@@ -137,7 +137,7 @@ fn pass_members(alloc: Global, reader: &mut Reader<'_>, depth: usize) -> Result<
     Ok(())
 }
 
-/// How deep lists may nest in the value at this key of a record. At keys that no record has, nothing is kept.
+/// How deep lists may nest in the value at this key of a record. Lists at keys that no record has are not kept.
 fn lists_at(text: &str) -> usize
     ensures known { (key : AnyKey) → key_text key ≡ text.now → result ≡ 2 }
     ensures few { (result ≡ 2) ⊎ (result ≡ 0) }

@@ -1,7 +1,7 @@
-//! What the record of a match says, and how to read one.
+//! The values in the record of a match, and how to read them.
 //!
-//! A record is one JSON object with fifteen keys, and has only the recorded turns of a match. `read_record` reads a text
-//! that has the shape of a record of the game. Otherwise it names the first test of the shape that fails. `laws` has the
+//! A record is one JSON object with fifteen keys, and has only the recorded turns of a match. `read_record` reads a text if
+//! it has the shape of a record of the game. Otherwise it returns the first test of the shape that fails. `laws` has the
 //! laws of all records.
 #![tactic(auto)]
 

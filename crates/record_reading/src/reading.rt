@@ -261,14 +261,15 @@ fn keep<T: Drop>(part: &mut T, read: Option<T>) -> bool
     }
 }
 
-/// Stores the value, if it was read. Returns whether it was, or that memory ran out.
+/// Stores the value, if it was read. Returns whether it was read, or an error if memory ran out.
 fn keep_read<T: Drop>(part: &mut T, read: Result<Option<T>, AllocError>) -> Result<bool, AllocError>
     ensures { IfOk result (λ kept. read ≡ Ok (if kept then Some part.new else None)) }
 {
     Ok(keep(part, read?))
 }
 
-/// Reads the value at a key of a record of this version into `parts`, if it has the key's shape. Returns whether it has.
+/// Reads the value at a key of a record of this version into `parts`, if it has the key's shape. Returns whether it has
+/// this shape.
 fn read_into<G: Game>(
     alloc: Global,
     game: &G,
@@ -305,7 +306,7 @@ fn read_into<G: Game>(
     }
 }
 
-/// Reads the values of all keys, if each has its shape.
+/// Reads the values at all keys, if each value has the shape of its key.
 fn parts_in<G: Game>(alloc: Global, game: &G, tree: Value) -> Result<RecordParts, VerifyFault>
     ensures ok { IfOk result (λ p. Holds (view tree) p × ((key : Key) → IsShapedAt (G.rules game.now) key p)) }
     ensures err { IfErr result (λ fault. (fault ≡ Memory) ⊎ ((key : Key) × (fault ≡ BadShape key) × IsFirstWithout (IsShaped (G.rules game.now) (view tree)) keys key)) }

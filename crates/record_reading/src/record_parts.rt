@@ -1,4 +1,4 @@
-//! The keys of a record, and its value at each.
+//! The keys of a record, and the values at these keys.
 ghost use Rattle.std.specs.Prelude.{◌≡◌, ◌<◌, Some, length, slice_get};
 
 use desk_calls::Phase;

@@ -75,7 +75,7 @@ pub fn phase_in(found: Option<&Value>) -> Option<Phase>
     phase_of(bytes_in(found)?)
 }
 
-/// The number of a role, if the digits write one without leading zeros.
+/// The number of a role, if the digits represent one without leading zeros.
 fn role_of(digits: &[u8], roles: usize) -> Option<usize>
     requires { roles < 2 ^ 32 }
     ensures { Shows decimal (λ role. role < roles) (Some digits.now) result }

@@ -13,16 +13,17 @@ use std::fmt;
 pub enum VerifyFault {
     /// The text is not JSON.
     NotJson,
-    /// The first key, in the order of `Key`, that is missing or whose value has the wrong shape. If all have their shape:
-    /// `Errors` if it does not have as many turns as `Moves`, or else `States` if it does not have one state more than
-    /// `Moves` has turns.
+    /// The first key, in the order of `Key`, that is missing or whose value has the wrong shape. If all values have the
+    /// right shape: `Errors` if it does not have as many turns as `Moves`, or else `States` if its number of states is not
+    /// one more than this number of turns.
     BadShape(Key),
     /// The role's move in this turn is not legal.
     Illegal(usize, usize),
-    /// The role's move in this turn has an error, but it is not the first legal move, or the error names a legal move.
+    /// The role's move in this turn has an error, but the move is not the role's first legal move, or the error names a
+    /// legal move.
     NotFirst(usize, usize),
     /// The error of the role's move in this turn says that the role is retired, but the earlier turns do not retire it. Or
-    /// they do, and the error does not say so.
+    /// the earlier turns retire the role, and the error does not say so.
     WrongRetired(usize, usize),
     /// The state after this many turns is not the state of the game.
     WrongState(usize),
@@ -57,7 +58,7 @@ impl fmt::Display for VerifyFault {
     }
 }
 
-/// The same text.
+/// Writes the same text as `Display`.
 impl fmt::Debug for VerifyFault {
     fn fmt<W: fmt::Write>(&self, f: &mut fmt::Formatter<W>) -> fmt::Result {
         fmt::Display::fmt(self, f)

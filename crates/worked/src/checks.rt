@@ -11,7 +11,7 @@ use std::test::Fail;
 /// A text in a record, the text that replaces it, and the result of the check.
 type Change = (&'static str, &'static str, Result<(), VerifyFault>);
 
-/// Replaces the first such text in the record.
+/// Replaces the first occurrence of the text in the record.
 fn changed(alloc: Global, record: &str, change: Change) -> Result<String, Fail> {
     let (before, behind) = record.split_once(change.0).ok_or("no such text")?;
     let mut text = before.to_string(alloc)?;

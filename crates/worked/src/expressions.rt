@@ -1,4 +1,4 @@
-//! Expressions that are read, folded and printed, and texts that are refused.
+//! Expressions that are read, printed, and printed in lower case, and texts that are refused.
 use crate::holding::holds;
 use kif_text::{Expr, KifFault, copy, fold, print, read_all, read_one};
 use std::alloc::{AllocError, Global};
@@ -8,7 +8,7 @@ fn prints(alloc: Global, expr: &Expr, wanted: &str) -> Result<bool, AllocError> 
     Ok(print(alloc, expr)?.as_slice() == wanted.as_bytes())
 }
 
-/// Whether the expression prints as the first text, and its folded copy as the second.
+/// Whether the expression prints as the first text, and its copy in lower case as the second.
 fn prints_both(alloc: Global, expr: &Expr, wanted: (&str, &str)) -> Result<bool, AllocError> {
     let mut folded = copy(alloc, expr)?;
     fold(&mut folded);
@@ -52,7 +52,7 @@ fn first_fault_is_named(rt: HostRuntime) {
     }
 }
 
-/// Nested empty lists, `depth` of them.
+/// The text of `depth` nested lists.
 fn nested(alloc: Global, depth: usize) -> Result<Vec<u8>, AllocError> {
     let mut text = vec![in alloc; b'('; depth]?;
     for _ in 0..depth {

@@ -1,4 +1,4 @@
-//! The assertion of the tests. Proving one helper with `==` costs an eighth of proving an `assert_eq!`.
+//! The assertion of the tests. Proving a call of this helper with `==` costs an eighth of proving an `assert_eq!`.
 use std::process::Abort;
 
 /// Fails the test of the example `of` if `is_so` is false.

@@ -46,7 +46,7 @@ fn ask_in_threads<L: Ledger + Send + Sync, R: Threads + Wait + Sync>(
     thread::map_vec(rt, lines, &|line| make_calls(rt, alloc, desk, line))
 }
 
-/// Tries to close the desk without the last line, which leaves it open, and then closes it with all lines.
+/// Tries in vain to close the desk without the last line, and then closes it with all lines.
 fn close_without_the_last<L: Ledger, R: Abort>(
     rt: &R,
     desk: LockDesk<Manager<Countdown>, L>,

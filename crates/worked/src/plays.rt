@@ -1,4 +1,4 @@
-//! Turns that are played in Countdown, and its heaps.
+//! Turns that are played in Countdown, and the heaps of Countdown.
 use crate::holding::holds;
 use game_core::{Countdown, Joint, PlayFault, Position, Side, Take, play_list};
 use std::alloc::{AllocError, Global};

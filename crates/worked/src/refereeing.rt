@@ -12,10 +12,10 @@ use std::thread;
 use std::thread::Threads;
 use std::time::{Clock, Duration};
 
-/// How often a player checks for the other one.
+/// How many times a player checks for the other one.
 const LOOKS: u32 = 2_000;
 
-/// The largest number of questions for what is due to a role.
+/// The largest number of times that a thread asks what is due to its role.
 const TRIES: u64 = 100_000;
 
 /// What a player does when it must answer.

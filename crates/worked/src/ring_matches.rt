@@ -50,7 +50,7 @@ fn is_posted(line: &mut Line, call: Result<Call, AllocError>) -> bool {
     }
 }
 
-/// Whether the line can make the call while no other line has posted any.
+/// Whether the line can make the call while no other line has posted a call.
 fn is_made(desk: &mut Desk, line: &mut Line, call: Result<Call, AllocError>) -> bool {
     is_posted(line, call) && desk.round() == Ok(1) && line.take().is_some()
 }
@@ -76,7 +76,7 @@ fn check_first_round<R: Abort>(
     holds(rt, is_twice, "the second answer");
 }
 
-/// The call that the first role gave no answer in the first round.
+/// The call that reports that the first role gave no answer in the first round.
 fn late(alloc: Global) -> Result<Call, AllocError> {
     Ok(Call::Miss {
         id: text(alloc, "m1")?,

@@ -47,7 +47,7 @@ pub fn is_played<G: Game + Drop>(
     Ok(answers.text.as_slice() == replies.as_slice())
 }
 
-/// The same for Countdown with a heap of this size.
+/// Whether a desk of Countdown with a heap of this size gives the reply of each call, and then these records.
 pub fn is_counted_down(alloc: Global, heap: u8, text: &str, records: &str) -> Result<bool, Fail> {
     let game = Countdown::new(heap).ok_or("no such game")?;
     Ok(is_played(alloc, game, text, records)?)

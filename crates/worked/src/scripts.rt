@@ -45,7 +45,7 @@ const JUDGED_RECORD: &str =
     r#"{"cause":null,"endMarks":[null,null],"errors":[["IL (take 3)",""],["TO","IL ?"],["IL noop","CE"]],"goalValues":[],"matchId":"m","moves":[["(take 1)","noop"],["noop","(take 1)"],["(take 1)","noop"]],"phase":"playing","playClock":1,"players":["ann","bob"],"roles":["red","blue"],"startClock":1,"startMarks":["",""],"states":[["(heap 10)","(turn red)"],["(heap 9)","(turn blue)"],["(heap 8)","(turn red)"],["(heap 7)","(turn blue)"]],"strikes":0,"version":2}
 "#;
 
-/// Answers that spell legal moves in other ways, or two at once, with a heap of ten.
+/// Answers that spell legal moves in other ways, or two moves at once, with a heap of ten.
 const SPELLED: &str = "open m 0 1 1 ann bob -> opened
 submit m 0 0 READY -> taken
 submit m 1 0 READY -> taken

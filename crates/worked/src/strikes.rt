@@ -3,7 +3,7 @@ use crate::holding::holds;
 use crate::script::is_counted_down;
 use std::test::Fail;
 
-/// Red is retired after two turns, and later blue is, with a heap of ten.
+/// Red is retired after two turns, and blue later, with a heap of ten.
 const RETIRED: &str = "strict m 0 1 1 2 ann bob -> opened
 submit m 0 0 READY -> taken
 submit m 1 0 READY -> taken

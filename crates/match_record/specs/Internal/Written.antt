@@ -1,4 +1,4 @@
--- What has been written of a record, token by token.
+-- The written part of a record, token by token.
 use Rattle.std.specs.Prelude.{◌≡◌, List, [], ◌∷◌, ◌++◌}
 use Rattle.json.specs.Token.{Token, begin_array, begin_object, key}
 use Rattle.json.specs.Tree.{json_tokens}

@@ -17,7 +17,7 @@ use Rattle.record_check.specs.declared.recorded_turn.RecordedMove.TheVariants.{R
 use Rattle.record_reading.specs.declared.verify_fault.VerifyFault.{VerifyFault}
 use Rattle.record_reading.specs.declared.verify_fault.VerifyFault.TheVariants.{NotJson, BadShape, Illegal, NotFirst, WrongRetired, WrongState, WrongGoals, WrongEnd, Memory}
 
--- the result for a move with this text and error, for a role with these legal moves that is retired or not
+-- the result for a recorded move with this text and error; `retired` says whether the role with these legal moves is retired
 abbrev pub IsRecorded : {S M : Type 0} → Rules S M → Bool → List M → List ℕ → List ℕ → RecordedMove M → Type 0
 IsRecorded g retired moves text error (Right m) = (g.move_text m ≡ text) × IsPart g retired moves m error
 IsRecorded g retired moves text error NoMove = NamesNone g moves text
@@ -52,7 +52,7 @@ abbrev pub IsTurnAnswer : {S M : Type 0} → Rules S M → (ℕ → Bool) → S 
 IsTurnAnswer {S} {M} g retired s moves errors turn (Ok t) = (joint : List M) × IsRightJoint g retired s moves errors joint × (t ≡ g.next s joint)
 IsTurnAnswer g retired s moves errors turn (Err f) = IsTurnFault g retired s moves errors turn f
 
--- this number of retired roles is the number of all roles if and only if these turns retire all
+-- this number of retired roles is the number of all roles if and only if these turns retire all roles
 abbrev pub AreRetired : {S M : Type 0} → Rules S M → RecordParts → List (Turn M) → ℕ → Type 0
 AreRetired g p turns retired = every_role g.roles (retired_by p.strikes turns) ≡ (retired == g.roles)
 
@@ -61,7 +61,7 @@ abbrev pub IsReplayAnswer : {S M : Type 0} → Rules S M → RecordParts → Res
 IsReplayAnswer g p (Ok (s, retired)) = (played : IsReplayed g p s) × AreRetired g p played.leads.turns retired × g.IsState s
 IsReplayAnswer g p (Err f) = IsFirstFault g p f
 
--- given whether an abort was asked, whether all START marks are present, and the settling rule
+-- the stage, given whether an abort was requested, whether all START marks are present, and what the settling rule gives
 abbrev pub stage_by : Bool → Bool → Stage → Stage
 stage_by asked started settled = if asked then Aborting Asked else (if started then settled else Starting)
 

@@ -1,4 +1,4 @@
--- What is kept of the tree of a record's text: values that no record can have are left out.
+-- The part of the tree of a record's text that is kept. Values that no record can have are left out.
 use Rattle.std.specs.Prelude.{◌≡◌, ℕ, zero, suc, ◌&&◌, List, [], ◌∷◌, ◌++◌, Bool, true, false, if◌then◌else◌, Option, Some, None, option_map, ◌⊎◌}
 use Rattle.serde_json.specs.Data.{Data, null, boolean, number, string, array, object, Items, no_items, item, Members, put}
 use Rattle.serde_json.specs.Find.{get, get_member}
@@ -41,11 +41,11 @@ with_one None o = None
 with_one (Some ds) None = None
 with_one (Some ds) (Some d) = Some (ds ++ d ∷ [])
 
--- a member at a key; if it is not kept, a truth value replaces it, which no record has
+-- the member at a key; if it is not kept, it is replaced by a truth value, which no record has
 abbrev pub kept_at : Data → Data
 kept_at d = if is_kept 2 d then d else boolean false
 
--- the members and one more, if a record has its key
+-- the members, with one more if its key is a key of a record
 abbrev pub member_kept : List ℕ → ℕ → Option Data → Members → Members
 member_kept k zero o ms = ms
 member_kept k (suc n) None ms = put k (boolean false) ms

@@ -9,7 +9,7 @@ use Rattle.record_reading.specs.declared.record_parts.Key.{Key}
 use Rattle.record_reading.specs.declared.record_parts.RecordParts.{RecordParts}
 use Rattle.record_reading.specs.declared.record_parts.Version.{Version}
 
--- Whether a value of the key's shape counts as found in a record of this version. If it does, the parts have it.
+-- Whether a value of the key's shape counts as found in a record of this version. If so, the parts have this value.
 abbrev pub IsReadInto : {S M : Type 0} → Rules S M → Key → Option Version → Option Data → RecordParts → Bool → Type 0
 IsReadInto g key version found p read = Shows (row_of key).written ((row_of key).IsOfShape g) ((row_of key).counts version found) (if read then Some ((row_of key).said p) else None)
 
@@ -26,6 +26,6 @@ abbrev pub keys_before : Key → List Key → List Key
 keys_before key [] = []
 keys_before key (k ∷ ks) = if bytes_eq (key_text k) (key_text key) then [] else k ∷ keys_before key ks
 
--- at the key, the tree has the value of these parts, and it has the key's shape
+-- at the key, the tree has the value of these parts, and this value has the key's shape
 abbrev pub IsReadAt : {S M : Type 0} → Rules S M → Data → RecordParts → Key → Type 0
 IsReadAt g tree p key = (found_at tree key ≡ Some (key_tree key p)) × IsShapedAt g key p
