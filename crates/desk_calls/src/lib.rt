@@ -1,5 +1,5 @@
-//! The calls of a desk and their replies, with the types in them: names and clocks, the setup of a match, what a role is
-//! owed, a player's answer, and the status of a match.
+//! The calls of a desk and their replies, with the types in them: names and clocks, the setup of a match, the messages that
+//! a match owes to a role, a player's answer, and the status of a match.
 //!
 //! `match_desk` defines what each call does.
 #![tactic(auto)]

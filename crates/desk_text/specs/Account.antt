@@ -67,7 +67,7 @@ entry_call text = fields_call (pieces tab text)
 abbrev pub IsRead : Entry Call Reply → Type 0
 IsRead e = entry_call (entry_text e) ≡ Some (e.line, e.call)
 
--- the lines are those of the history, and each line can be read as its entry
+-- the lines are those of the history, and the call of each entry, with its line of the desk, can be read from the text of the entry
 pub record Tell (lines : List (List ℕ)) (history : List (Entry Call Reply)) : Type 0 where
   pub texts : lines ≡ map entry_text history
   pub are_read : AllByRecursion IsRead history
@@ -106,7 +106,7 @@ abbrev pub text_in : Call → List ℕ
 text_in (Submit id role round text) = text
 text_in _ = []
 
--- a call that can be made: its names and its text have bytes, and its numbers fit into their types
+-- a call that can be made: its names and its text consist of bytes, and its numbers fit into their types
 pub record IsCall (call : Call) : Type 0 where
   pub names : AllByRecursion AreBytes (names_in call)
   pub text : AreBytes (text_in call)

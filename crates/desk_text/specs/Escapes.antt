@@ -11,7 +11,7 @@ letter_x = 120
 abbrev pub exclamation_mark : ℕ
 exclamation_mark = 33
 
--- whether a byte is not escaped: it is between the least one and the tilde, and is not the backslash
+-- whether a byte is not escaped: it is from `least` to the tilde, and is not the backslash
 abbrev pub stands_from : ℕ → ℕ → Bool
 stands_from least byte = nat_le least byte && nat_lt byte 127 && not (byte == backslash)
 

@@ -27,8 +27,8 @@ fn ends_as_reply(text: &[u8]) -> bool
     }
 }
 
-/// Whether the line has the form of a line of a call log: decimal digits, a tab, a call, a tab, a reply. A line that ends with a record
-/// does not.
+/// Whether the line has the form of a line of a call log: decimal digits, a tab, a call, a tab, a reply. A line that ends
+/// with a record does not have this form.
 pub fn is_account_line(line: &[u8]) -> bool
     ensures { result ≡ is_account_line line.now }
 {

@@ -29,7 +29,7 @@ fn push_escape(out: &mut Vec<u8>, byte: u8) -> Result<(), AllocError>
     out.extend_from_slice(&[b'\\', b'x', hex_digit(byte / 16), hex_digit(byte % 16)])
 }
 
-/// Appends a text to `out`. It escapes the bytes below `least` and above the tilde, and the backslash.
+/// Appends a text to `out`, and escapes the bytes below `least` and above the tilde, and the backslash.
 pub fn push_escaped(out: &mut Vec<u8>, text: &[u8], least: u8) -> Result<(), AllocError>
     ensures { OnOk result (out.new.items ≡ out.old.items ++ escaped_from least text.now) }
 {

@@ -7,17 +7,19 @@ ghost use Rattle.desk_calls.specs.declared.call.Call.{Call};
 ghost use Rattle.desk_text.specs.Account.{IsCall, IsEntry, Tell, account_call, call_text, entry_text, history_text};
 ghost use Rattle.desk_text.specs.AccountLines.{HasReplyNumbers, is_account_line};
 
-/// A call can be read from its text, so different calls have different texts.
+/// A call whose fields fit their types can be read from its text, so different calls have different texts.
 pub fn calls_are_read()
     ensures { (call : Call) → IsCall call → account_call (call_text call) ≡ Some call }
 {}
 
-/// The lines of a history's text are the texts of its entries, and each entry can be read from its line.
+/// If all fields of the entries fit their types, the lines of a history's text are the texts of its entries, and the call
+/// of each entry, with its line of the desk, can be read from the text.
 pub fn histories_are_read()
     ensures { (history : List (Entry _ _)) → AllByRecursion IsEntry history → Tell (lines (history_text history)) history }
 {}
 
-/// The line of each entry has the form that `is_account_line` recognizes, so it is never taken for a record.
+/// The text of an entry whose fields fit their types has the form that `is_account_line` recognizes, so this text is never
+/// taken for a record.
 pub fn entries_have_their_form()
     ensures { (e : _) → IsEntry e → HasReplyNumbers e.reply → is_account_line (entry_text e) ≡ true }
 {}

@@ -20,6 +20,6 @@ abbrev mutual
 abbrev pub IsCanonicalText : List ℕ → Type 0
 IsCanonicalText text = (x : Expression) × IsProper x × (text ≡ canonical x)
 
--- a lower-case text: the canonical text of a proper expression in lower case
+-- a lower-case text: the canonical text of a proper expression that is in lower case
 abbrev pub IsFoldedText : List ℕ → Type 0
 IsFoldedText text = (x : Expression) × IsProper x × (folded x ≡ x) × (text ≡ canonical x)

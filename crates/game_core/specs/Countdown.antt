@@ -48,7 +48,7 @@ take_text Noop = codes "noop"
 take_text One = codes "(take 1)"
 take_text Two = codes "(take 2)"
 
--- only the move of the role whose turn it is counts
+-- the position after a joint move; only the role whose turn it is takes from the heap
 abbrev pub next_position : Position → List Take → Position
 next_position p joint = record { heap = p.heap - count_of (slice_index_or joint (role_of p.on_turn) Noop); on_turn = other_side p.on_turn }
 

@@ -57,7 +57,7 @@ play_from g s (j ∷ js) = play_from g (g.next s j) js
 abbrev pub play : {S M : Type 0} → Rules S M → List (List M) → S
 play g turns = play_from g g.initial turns
 
--- each turn, from the state s, is legal: the state before it is not terminal, and each role makes a legal move
+-- from the state s, each turn is legal: the state before the turn is not terminal, and each role makes a legal move
 abbrev pub AreLegalFrom : {S M : Type 0} → Rules S M → S → List (List M) → Type 0
 AreLegalFrom g s [] = Unit {0}
 AreLegalFrom g s (j ∷ js) = (g.terminal s ≡ false) × IsJoint g s j × AreLegalFrom g (g.next s j) js

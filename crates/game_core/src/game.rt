@@ -9,8 +9,8 @@ use std::borrow::CowSlice;
 /// A game with simultaneous moves and full information, as GDL describes them. In each state that is not terminal, each role
 /// makes one move, and the joint move leads to the next state.
 ///
-/// The methods return what the functions of `rules` say, so a result depends only on the arguments. Roles are numbered from
-/// 0. A method returns `AllocError` only if an allocation is refused.
+/// The methods return the values of the functions in `rules`, so a result depends only on the arguments. Roles are numbered
+/// from 0. A method returns `AllocError` only if an allocation is refused.
 pub trait Game {
     type State: Drop;
 

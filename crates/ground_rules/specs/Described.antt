@@ -6,7 +6,7 @@ use Rattle.rule_sentences.specs.declared.sentence.Derived.TheVariants.{Init, Nex
 use Rattle.rule_sentences.specs.Descriptions.{Description, same_derived, is_among, role_names, heads, moves_in}
 use Rattle.numbered_rules.specs.Fit.{Situation, Fits}
 
--- role r makes move m; the first list has the names of the roles, and the second list their moves, or no members if no role has moved
+-- role r makes move m; the first list has the names of the roles and the second their moves (it is empty if no role has moved)
 abbrev pub makes : List (List ℕ) → List (List ℕ) → List ℕ → List ℕ → Bool
 makes [] moves r m = false
 makes (n ∷ ns) [] r m = false
@@ -38,7 +38,7 @@ at_rest g s = situation (g.state_text s) [] []
 abbrev pub at_turn : {S M : Type 0} → Rules S M → S → List M → Situation Derived (List ℕ)
 at_turn g s joint = situation (g.state_text s) (names_of g g.roles) (map g.move_text joint)
 
--- The game g is the game of the description: every answer of g is the answer of every fit. An acyclic description has exactly one fit.
+-- The game g is the game of the description: g and every fit give the same answers. An acyclic description has exactly one fit.
 pub record IsGameOf {S M : Type 0} (d : Description) (g : Rules S M) : Type 0 where
   pub roles : names_of g g.roles ≡ role_names d
   pub initial : (v : Derived → Bool) → Fits (situation [] [] []) d v → (t : List ℕ) → is_among (g.state_text g.initial) t ≡ v (Init t)

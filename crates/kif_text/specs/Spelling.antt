@@ -12,8 +12,8 @@ abbrev pub HasNoLineFeed : List ℕ → Type 0
 HasNoLineFeed [] = Unit {0}
 HasNoLineFeed (b ∷ bs) = (b ≢ line_feed) × HasNoLineFeed bs
 
--- The text spells these expressions. White space, and comments with their line feed, spell nothing. A longest run of atom bytes spells
--- an atom. The text between parentheses spells the members of a list.
+-- The text spells these expressions. White space, and comments with their line feed, spell nothing. A maximal run of atom bytes spells an
+-- atom. The text between parentheses spells the members of a list.
 pub data Spells : List ℕ → Expressions → Type 0 where
   spells_none : Spells [] none
   spells_white : (b : ℕ) (rest : List ℕ) (xs : Expressions) → is_white b ≡ true → Spells rest xs → Spells (b ∷ rest) xs

@@ -72,7 +72,7 @@ pub fn reading_under_double()
     ensures { ReadingUnderDouble }
 {}
 
-/// Reading the canonical text of a proper expression, if it is not too long, gives back the expression.
+/// Reading the canonical text of a proper expression gives that expression, if the text is not too long.
 pub fn canonical_reads_back()
     ensures { CanonicalReadsBack }
 {}

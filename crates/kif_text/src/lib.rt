@@ -2,8 +2,8 @@
 //!
 //! A text is a sequence of expressions with white space and comments between them. White space is space, tab, carriage
 //! return and line feed. A comment runs from a semicolon to the next line feed or to the end of the text, and may contain
-//! any bytes. An atom is a longest run of the bytes 0x21 to 0x7E except parentheses and the semicolon. A list is enclosed in
-//! parentheses. This is the prefix syntax of KIF that the Game Description Language uses, without strings.
+//! any bytes. An atom is a maximal run of the bytes 0x21 to 0x7E, except parentheses and the semicolon. A list is enclosed
+//! in parentheses. This is the prefix syntax of KIF that the Game Description Language uses, without strings.
 #![tactic(auto)]
 
 mod expr;

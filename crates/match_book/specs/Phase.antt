@@ -46,7 +46,7 @@ stage g m = if m.abort_asked then Aborting Asked else (if every_role g.roles (is
 abbrev pub still_answers : {M : Type 0} → MatchValue M → ℕ → Bool
 still_answers m r = not (is_retired m r)
 
--- the role has answered this round, if the match is at this stage
+-- if the match is at this stage, the role has answered this round
 abbrev pub answered_in : {M : Type 0} → Stage → MatchValue M → ℕ → Bool
 answered_in Starting m r = is_there m.start_marks r
 answered_in Playing m r = if still_answers m r then is_there m.open_answers r else true

@@ -19,7 +19,7 @@ abbrev pub some_struck : {M : Type 0} → ℕ → ℕ → List (Turn M) → Bool
 some_struck k role [] = false
 some_struck k role (t ∷ ts) = if begin_struck k role (t ∷ ts) then true else some_struck k role ts
 
--- these turns retire the role, if this many substitutions in a row do; 0 means never
+-- these turns retire the role, if this many substitutions in a row retire a role; 0 means never
 unfoldable pub retired_by : {M : Type 0} → ℕ → List (Turn M) → ℕ → Bool
 retired_by strikes turns role = if strikes == 0 then false else some_struck strikes role turns
 

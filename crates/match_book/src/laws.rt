@@ -64,7 +64,7 @@ pub fn lawful_turns_are_of_the_game<G: Game>()
     ensures moves { (game : G) → TurnsHaveMoves (G.rules game) }
 {}
 
-/// Lawful turns followed by a turn that may follow them are lawful, and lead to the next state.
+/// Lawful turns and one more turn that may follow them are lawful, and lead to the next state.
 pub fn one_more_turn<G: Game>()
     ensures { (game : G) → OneMoreTurn (G.rules game) }
 {}

@@ -31,7 +31,7 @@ use std::marker::Model;
 use std::mem;
 use std::snapshot::Snapshot;
 
-/// A match: the answers so far, and values computed from them, so that no call goes over all turns.
+/// A match: the answers so far, and values computed from them, so that no call iterates over all turns.
 ///
 /// Contracts see a match as its value and its game. The caller keeps the game, and passes it to each call that needs it.
 /// Every match is lawful, as the contract of `state` says.
@@ -174,7 +174,7 @@ impl<G: Game> Match<G> {
         &self.state
     }
 
-    /// The state after the first `turns` recorded turns. The match stores it, so this replays nothing.
+    /// The state after the first `turns` recorded turns. The match stores this state, and replays nothing.
     pub fn state_after(&self, turns: usize) -> &G::State
         requires { turns ≤ length self.now.value.turns }
         ensures state { result.now ≡ state_after (G.rules self.now.game) (take turns self.now.value.turns) }
@@ -319,7 +319,7 @@ impl<G: Game> Match<G> {
         Ok(Some(move_texts(alloc, game, turn.moves.as_slice())?))
     }
 
-    /// Why `answer` would refuse the role's answer for a round, or `None` if it would take it.
+    /// Why `answer` would refuse the role's answer for a round, or `None` if it would take the answer.
     pub fn refusal(&self, role: usize, round: u64) -> Option<AnswerRefusal>
         ensures { result ≡ refusal (G.rules self.now.game) self.now.value role round }
     {

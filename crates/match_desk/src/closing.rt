@@ -1,4 +1,4 @@
-//! Closes a desk of matches, whose manager many threads shared, behind a lock or over rings.
+//! Closes a desk of matches after many threads have shared its manager, behind a lock or over rings.
 ghost use Rattle.std.specs.Prelude.{◌≡◌, ◌<◌, ◌↔◌, ℕ, length, slice_index, IsOk, IfOk, IfErr, Contains};
 ghost use Rattle.call_history.specs.Lines.{numbers, HasAll, IsLowestMissing};
 ghost use Rattle.call_history.specs.RingLines.{AreEndsOf};
@@ -15,8 +15,8 @@ use std::sync::ledger::Ledger;
 
 /// Closes a desk of matches behind a lock if all its lines are given.
 ///
-/// One thread can replay the history of the closed desk: a manager of the same games without matches that gets these calls
-/// one by one gives every stored reply and becomes this manager. The history has as many calls as the lines made. Each
+/// One thread can replay the history of the closed desk: if a manager of the same games, without matches, gets these calls
+/// one by one, it gives every stored reply and becomes this manager. The history has as many calls as the lines made. Each
 /// match is lawful, and its recorded joint moves were legal; `Match::state` guarantees that the match's state is the game's
 /// state after these moves.
 ///

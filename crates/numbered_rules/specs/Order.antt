@@ -1,4 +1,4 @@
--- Which atoms need which, and rankings of such a graph.
+-- The graph of the atoms and their needs, and its rankings.
 use Rattle.std.specs.Prelude.{ℕ, ◌<◌, ◌≡◌, List, [], length, slice_index, slice_index_or}
 
 abbrev pub needs_at : List (List ℕ) → ℕ → List ℕ

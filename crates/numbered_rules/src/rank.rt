@@ -83,7 +83,7 @@ impl Search {
         Ok(())
     }
 
-    /// The index of the first atom, from `from`, that has no place in the order.
+    /// The index of the first atom, at or after `from`, that has no place in the order.
     fn skip(&self, wants: &[usize], from: usize) -> usize
         requires graph { (i : ℕ) → i < length wants.now → slice_index wants.now i < length self.now.marks.items }
         requires from { from ≤ length wants.now }

@@ -48,7 +48,8 @@ fn denies_one<G: Game>(game: &G, moves: &[G::Move], error: &[u8]) -> bool
     }
 }
 
-/// Checks a recorded move with this text and error, for a role with these legal moves. `retired` says whether the role is retired.
+/// Checks a recorded move with this text and error, for a role with these legal moves. `is_retired` says whether the role
+/// is retired.
 fn recorded_move<G: Game>(
     alloc: Global,
     game: &G,

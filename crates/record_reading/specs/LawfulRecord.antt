@@ -32,7 +32,7 @@ pub record IsRecordOf {S M : Type 0} (g : Rules S M) (text : List ℕ) (tree : D
 abbrev pub IsLawfulRecord : {S M : Type 0} → Rules S M → List ℕ → Type 0
 IsLawfulRecord {S} {M} g text = (tree : Data) × (m : MatchValue M) × IsRecordOf g text tree m
 
--- these are the parts of some lawful match's record, in their version
+-- these are the parts of some lawful match's record in the same version
 abbrev pub AreLawfulParts : {S M : Type 0} → Rules S M → RecordParts → Type 0
 AreLawfulParts {S} {M} g p = (m : MatchValue M) × IsLawfulMatch g m × (parts_in g p.version m ≡ p)
 

@@ -137,7 +137,7 @@ fn pass_members(alloc: Global, reader: &mut Reader<'_>, depth: usize) -> Result<
     Ok(())
 }
 
-/// How deep lists may nest in the value at this key of a record. Lists at keys that no record has are not kept.
+/// How deep lists may nest in the value at this key of a record. Values at keys that no record has are not kept.
 fn lists_at(text: &str) -> usize
     ensures known { (key : AnyKey) → key_text key ≡ text.now → result ≡ 2 }
     ensures few { (result ≡ 2) ⊎ (result ≡ 0) }

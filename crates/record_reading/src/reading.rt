@@ -248,7 +248,7 @@ fn roles_in<G: Game>(
     }
 }
 
-/// Stores the value, if it was read. Returns whether it was.
+/// Stores the value, if it was read. Returns whether it was read.
 fn keep<T: Drop>(part: &mut T, read: Option<T>) -> bool
     ensures { read ≡ (if result then Some part.new else None) }
 {

@@ -30,7 +30,7 @@ abbrev mutual
   are_placed End = true
   are_placed (More l ls) = is_placed l && are_placed ls
 
--- as a head, a `role` sentence may only be a fact
+-- a `role` sentence may be a head only in a fact
 abbrev pub is_head_of : Derived → TextLiterals → Bool
 is_head_of (Role r) End = true
 is_head_of (Role r) (More l ls) = false

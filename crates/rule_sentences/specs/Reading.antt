@@ -82,7 +82,7 @@ disjunction (Some (More l ls)) = Some (Or (More l ls))
 disjunction (Some End) = None
 disjunction None = None
 
--- reads a list as a literal, by the word at its head; the rest has been read as literals already
+-- reads a list as a literal, according to the word at its head; the other members have already been read as literals
 abbrev pub read_compound : Option Word → Expressions → Option TextLiterals → Option TextLiteral
 read_compound (Some NotWord) xs read = negation read
 read_compound (Some OrWord) xs read = disjunction read

@@ -1,4 +1,4 @@
--- Which expressions are the sentences of a description, and which expression is the first that is not.
+-- Which expressions are sentences of a description, and which is the first expression that is not a sentence.
 use Rattle.std.specs.Prelude.{ℕ, ◌≡◌, Bool, List, Option, Some, None, is_none, option_and_then, not, ◌&&◌}
 use Rattle.std.specs.List.{filter_map, position_from}
 use Rattle.game_core.specs.Expression.{Expression}

@@ -6,7 +6,7 @@ use std::alloc::{AllocError, AllocFailed};
 use thiserror::Error;
 
 /// Why a list of expressions is not a ground description. The loader tests all sentences for one of these errors before it
-/// tests for the next. The first three errors name the lowest sentence that is wrong, counted from 0.
+/// tests for the next. The first three errors have the number of the first wrong sentence, counted from 0.
 #[derive(Clone, Copy, Debug, PartialEq, Eq, Error)]
 pub enum LoadFault {
     /// An atom in the sentence begins with `?`.

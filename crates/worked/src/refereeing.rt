@@ -15,7 +15,7 @@ use std::time::{Clock, Duration};
 /// How many times a player checks for the other one.
 const LOOKS: u32 = 2_000;
 
-/// The largest number of times that a thread asks what is due to its role.
+/// The largest number of tries of the thread that attends a role.
 const TRIES: u64 = 100_000;
 
 /// What a player does when it must answer.
@@ -26,8 +26,8 @@ enum Act {
     Wait,
 }
 
-/// A player that answers PLAY with `play`, and START and STOP as it should. It counts its messages where others can see the count. If it
-/// never sees that another player got a message, it does not answer START.
+/// A player that answers PLAY with `play`, and START and STOP as it should. It counts its messages in a counter that others
+/// can read. If it never sees that another player got a message, it does not answer START.
 #[derive(Drop)]
 struct ReadyPlayer<'a, C> {
     clock: &'a C,

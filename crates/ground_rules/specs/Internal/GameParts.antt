@@ -25,7 +25,7 @@ pub record IsTableOf (d : Description) (t : NameTable) : Type 0 where
   pub states : (u : List ℕ) → is_among t.states u ≡ is_among (head_terms State d) u
   pub moves : (u : List ℕ) → is_among t.moves u ≡ is_among (head_terms Move d) u
 
--- the description is within all limits except the one on the number of moves, which is not tested
+-- the description is within all limits except perhaps the limit on moves
 abbrev pub is_small_so_far : Limits → ℕ → Description → Bool
 is_small_so_far limits n d = nat_le n (max_sentences limits) && nat_le (length (each_once same_atomic (atomics d))) (max_atomic_sentences limits) && nat_le (length (role_names d)) max_roles
 

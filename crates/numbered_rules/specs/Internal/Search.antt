@@ -20,7 +20,7 @@ IsNeed needs n d = (i : ℕ) × (i < length (needs_at needs n)) × (slice_index 
 abbrev pub IsLinked : List (List ℕ) → List ℕ → ℕ → Type 0
 IsLinked needs path d = (k : ℕ) → k + 1 ≡ length path → IsNeed needs (slice_index path k) d
 
--- an atom that the search has met is still met in the new marks
+-- atoms that are met in the old marks are met in the new marks
 abbrev pub AreOnlyOld : List Mark → List Mark → Type 0
 AreOnlyOld old marks = (n : ℕ) → mark old n ≢ New → mark marks n ≢ New
 
