@@ -8,7 +8,7 @@ use Rattle.rtrb.specs.declared.consumer.Consumer.{Consumer}
 use Rattle.rtrb.specs.declared.producer.Producer.{Producer}
 use Rattle.call_history.specs.declared.port.Port.{Port}
 
--- a line, or its end, as contracts see it: the line's number, and its sides of the rings for calls and for replies
+-- a line, or its end, as contracts see it: the line's number, and its ends of the rings for calls and for replies
 pub record LineValue (C R : Type 0) : Type 0 where
   pub number : ℕ
   pub calls : Producer C Global AnyItems

@@ -7,7 +7,7 @@ use Rattle.call_history.specs.declared.port.Port.{Port}
 use Rattle.call_history.specs.History.{JournalValue}
 use Rattle.call_history.specs.Parts.{part, calls_of, replies_of}
 
--- a desk over rings as contracts see it: its journal, and its sides of the rings, by the numbers of the lines
+-- a desk over rings as contracts see it: its journal, and its ends of the rings, by the numbers of the lines
 pub record RingDeskValue (S C R : Type 0) : Type 0 where
   pub journal : JournalValue S C R
   pub ports : List (Port C R)

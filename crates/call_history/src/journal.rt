@@ -89,7 +89,7 @@ impl<O: Object> Journal<O> {
         }
     }
 
-    /// Makes a call for a line, and stores it with its reply.
+    /// Makes a call for a line, and stores the call with its reply.
     pub fn call(&mut self, line: u32, call: &O::Call) -> Result<O::Reply, CallFault>
         ensures reply { IfOk result (λ r. r ≡ O.reply self.old.object call.now) }
         ensures history { IfOk result (λ r. self.new.history ≡ self.old.history ++ record { line = line; call = call.now; reply = r } ∷ []) }

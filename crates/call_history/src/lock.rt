@@ -24,7 +24,7 @@ struct Locked<O: Object, L: Ledger> {
     calls: Book<L>,
     gathered: Share<L>,
     ghost counted: { length journal.history ≡ calls.total },
-    // `close` adds the shares of the lines to this one.
+    // `close` adds the shares of the lines to this share.
     ghost no_parts: { gathered.parts ≡ 0 },
     ghost no_amount: { gathered.amount ≡ 0 },
 }
@@ -118,8 +118,8 @@ pub struct Unclosed<O: Object, L: Ledger> {
 /// Opens a desk with an empty history of at most `most` entries, and returns the desk and its lines. If an allocation is
 /// refused, returns the object.
 ///
-/// The blank has one part for each line. Call this function in a function that is generic over `L`, and call the latter
-/// with `Brand`, as `sync::ledger` of std explains.
+/// The blank has one part for each line. Call this function from a function that is generic over `L`, and call that
+/// function with `Brand`, as `sync::ledger` of std explains.
 pub fn open_lock<O: Object, L: Ledger>(
     alloc: Global,
     blank: Blank,

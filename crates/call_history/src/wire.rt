@@ -44,7 +44,7 @@ impl From<CallFault> for AskFault {
 /// A caller's way to make calls within one process, one after another, and to take the reply to each. It is not a network
 /// connection. A wire always belongs to the same line of a desk.
 ///
-/// A wire may show contracts the calls that it made and the replies that it took. A wire over a lock shows neither.
+/// A wire may show its calls and its replies to contracts. A wire over a lock shows neither.
 pub trait Wire {
     type Call: Drop;
 

@@ -33,7 +33,7 @@ step_rule left before word = codes "(<= (next (heap " ++ (decimal left ++ (codes
 abbrev pub steps_to : ℕ → ℕ → List ℕ
 steps_to size left = step_rule left (left + 1) (codes "one") ++ (if nat_lt (left + 1) size then step_rule left (left + 2) (codes "two") else [])
 
--- the rules for each heap below this one, the smallest first
+-- the rules for each heap below this number, the smallest first
 abbrev pub steps_below : ℕ → ℕ → List ℕ
 steps_below size zero = []
 steps_below size (suc left) = steps_below size left ++ steps_to size left

@@ -41,7 +41,7 @@ is_name text = is_between 1 max_name (length text) && list_all is_name_byte text
 abbrev pub is_clock : ℕ → Bool
 is_clock seconds = is_between 1 max_clock seconds
 
--- the largest number of substitutions in a row after which a match can be set to retire a role
+-- the largest lawful number of substitutions in a row that retire a role
 abbrev pub max_strikes : ℕ
 max_strikes = 255
 

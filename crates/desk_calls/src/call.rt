@@ -89,7 +89,7 @@ pub enum Refusal {
     NoRole,
     /// The match is finished or aborted.
     Over,
-    /// The answer is not for the present round, whose number this is.
+    /// The answer is not for the present round, which has this number.
     Stale(u64),
     /// The role has already answered this round.
     Twice,

@@ -11,7 +11,7 @@ const MAX_NAME: usize = 64;
 /// The largest number of seconds on a clock.
 pub const MAX_CLOCK: u32 = 86_400;
 
-/// The largest number of substitutions in a row after which a match can be set to retire a role.
+/// The largest lawful number of substitutions in a row that retire a role.
 pub const MAX_STRIKES: u32 = 255;
 
 fn is_name_byte(byte: u8) -> bool

@@ -31,7 +31,7 @@ pub enum FaultKind {
 }
 
 impl LineFault {
-    /// An error at the beginning of these bytes, which are the last ones of a line.
+    /// An error at the beginning of `left`, the last bytes of a line.
     pub(crate) fn at(left: &[u8], kind: FaultKind) -> LineFault {
         LineFault {
             left: left.len(),

@@ -39,7 +39,8 @@ fn digits_value(digits: &[u8]) -> Option<u64>
     Some(number)
 }
 
-/// The number of a word, which must be decimal, without a sign or leading zeros, and at most `limit`.
+/// The number that the word represents, in decimal digits without leading zeros, or `None` if there is no such number or it
+/// exceeds `limit`.
 pub fn plain_number_up_to(word: &[u8], limit: u64) -> Option<u64>
     ensures { result ≡ plain_number word.now limit }
 {

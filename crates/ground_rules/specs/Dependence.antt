@@ -37,7 +37,7 @@ abbrev pub IsRuleOf : {A T : Type 0} → Rule A T → List (Rule A T) → Type 0
 IsRuleOf r [] = ⊥
 IsRuleOf r (q ∷ qs) = (r ≡ q) ⊎ IsRuleOf r qs
 
--- a depends on a given sentence: some rule with the head a contains one, or contains an atom that depends on one
+-- a depends on a given sentence: some rule with the head a contains a given sentence, or an atom that depends on a given sentence
 pub data DependsOnGiven (A T : Type 0) (of_state : Bool) (rules : List (Rule A T)) : A → Type 0 where
   at_once : (a : A) (r : Rule A T) → IsRuleOf r rules → r.head ≡ a → any_speaks_of_given of_state r.body ≡ true → DependsOnGiven A T of_state rules a
   through : (a b : A) (r : Rule A T) → IsRuleOf r rules → r.head ≡ a → AnySpeaksOf b r.body → DependsOnGiven A T of_state rules b → DependsOnGiven A T of_state rules a

@@ -11,7 +11,7 @@ use Rattle.ground_rules.specs.GroundGames.{sentences_of, tables_of}
 use Rattle.rule_sentences.specs.SentenceFaults.{AreSentences, description_of}
 use Rattle.ground_rules.specs.Loading.{IsSound, IsLoadFault}
 
--- the game of the expressions, which are in lower case and have no error within these limits
+-- the expressions are in lower case and have no error within these limits, and this is their game
 pub record IsLoaded (limits : Limits) (xs : List Expression) (g : GroundGame) : Type 0 where
   pub sentences : AreSentences xs
   pub sound : IsSound limits (length xs) (description_of xs)

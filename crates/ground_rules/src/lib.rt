@@ -1,12 +1,13 @@
 //! Games that a ground GDL description defines.
 //!
-//! `load` makes a `Game` from a description, which is a list of KIF expressions, or returns the first error. `load_within`
-//! does the same with limits that the caller gives.
+//! `load` makes a `Game` from a description (a list of KIF expressions), or returns the first error. `load_within` does the
+//! same with limits that the caller gives.
 //!
 //! A state stores which of the derived atoms that do not depend on moves are true, so `legal`, `terminal` and `goal` only
 //! look them up. `next` starts from these atoms and evaluates the other rules. Then it evaluates the rules that do not
-//! depend on moves in the new state. Each rule is evaluated once, after the rules that it depends on, so a turn takes time
-//! linear in the description. `load` recurses into nested lists, so keep to the nesting that `kif_text::Expr` recommends.
+//! depend on moves in the new state. Each rule is evaluated once, after the rules that it depends on, so the time for a
+//! turn is linear in the size of the description. `load` recurses into nested lists, so keep to the nesting that
+//! `kif_text::Expr` recommends.
 #![tactic(auto)]
 
 mod evaluate;

@@ -79,8 +79,8 @@ fn has_barred(heads: &[Derived], on_moves: &Row, on_given: &Row) -> bool
     false
 }
 
-/// The tables of names of a description with this number of sentences, or its first error in roles or size. The numbers of
-/// moves are tested later.
+/// The tables of names of a description with this number of sentences, or the first error in its roles or its size. The
+/// numbers of moves are tested later.
 fn names_of(
     alloc: Global,
     limits: Limits,

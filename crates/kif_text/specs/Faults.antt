@@ -13,7 +13,7 @@ one_expression = true
 abbrev pub any_number : Bool
 any_number = false
 
--- whether a comment continues after this byte, given whether one continues before it: a semicolon begins one, a line feed ends it
+-- whether a comment continues after this byte, given whether one continues before it: a semicolon begins a comment, and a line feed ends it
 abbrev pub is_inside : Bool → ℕ → Bool
 is_inside before b = (before || b == semicolon) && not (b == line_feed)
 

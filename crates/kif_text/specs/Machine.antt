@@ -68,7 +68,7 @@ count_of (more x xs) = suc (count_of xs)
 abbrev pub begins_here : State → ℕ → Bool
 begins_here s b = if s.comment then false else (if length s.levels == 0 then b == left_parenthesis || (is_atom_byte b && (length s.word == 0)) else false)
 
--- the byte begins an expression outside all lists, and not the first one
+-- the byte begins an expression outside all lists that is not the first one
 abbrev pub is_second : State → ℕ → Bool
 is_second s b = begins_here s b && not (count_of s.here == 0 && length s.word == 0)
 

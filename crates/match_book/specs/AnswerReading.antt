@@ -13,6 +13,6 @@ abbrev pub max_reading : ℕ
 max_reading = 2 * max_answer
 
 -- the canonical text, in lower case, of the one expression that the answer spells; None if the answer is too long or does not spell exactly
--- one
+-- one expression
 unfoldable pub answer_reading : List ℕ → Option (List ℕ)
 answer_reading text = if nat_le (length text) max_answer then option_map (λ x. canonical (folded x)) (reading text) else None

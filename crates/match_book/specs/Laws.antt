@@ -79,7 +79,7 @@ OwedAnswersAreTaken {S} {M} g = (m : MatchValue M) (role n : ℕ) (owed : Owed) 
 abbrev pub NoneIsAnswered : {S M : Type 0} → Rules S M → Type 0
 NoneIsAnswered {S} {M} g = (setup : Setup) (role : ℕ) → role < g.roles → answered_messages g (new_match {M = M} g setup) role ≡ []
 
--- when a role answers a message that the match owes to it, the role's answered messages gain exactly this one
+-- when a role answers a message that the match owes to it, the role's answered messages gain exactly this message
 abbrev pub OwedIsAnswered : {S M : Type 0} → Rules S M → Type 0
 OwedIsAnswered {S} {M} g = (m : MatchValue M) (role n : ℕ) (owed : Owed) (answer : Answer) → IsLawfulMatch g m → role < g.roles → due g m role ≡ Owe n owed
     → answered_messages g (after_answer g m role n answer) role ≡ answered_messages g m role ++ owed ∷ []

@@ -19,7 +19,8 @@ IsAfterDue g m role (Owe n owed) after = IsAfterAnswer g n m role after
 IsAfterDue g m role (Hold n) after = after ≡ m
 IsAfterDue g m role Over after = after ≡ m
 
--- All roles below this number have answered in turn: each for the round n, or the message that the match owed to it then.
+-- All roles below this number have answered in turn. Each one has answered for the round n, or has answered the message that the match owed
+-- to it then, if any.
 abbrev pub HaveAnswered : {S M : Type 0} → Rules S M → ℕ → MatchValue M → ℕ → MatchValue M → Type 0
 HaveAnswered g n m zero after = after ≡ m
 HaveAnswered {S} {M} g n m (suc role) after = (before : MatchValue M) × HaveAnswered g n m role before × (IsAfterAnswer g n before role after ⊎ IsAfterDue g before role (due g before role) after)

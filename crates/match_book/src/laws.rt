@@ -35,7 +35,7 @@ pub fn no_error_means_named<G: Game>()
     ensures { (game : G) → NoErrorMeansNamed (G.rules game) }
 {}
 
-/// An answer that is taken in play stays open, or it is recorded with the others as one turn, which has the part of each
+/// An answer that is taken in play stays open, or is recorded with the others as one turn. The turn has the part of each
 /// role at the role's index.
 pub fn answers_in_play<G: Game>()
     ensures { (game : G) → AnswersInPlay (G.rules game) }

@@ -9,7 +9,7 @@ use crate::phase::Stage;
 use game_core::Text;
 use std::alloc::{AllocError, Global};
 
-/// A role's strikes: its substitutions in a row, and whether they have retired it.
+/// A role's strikes: its substitutions in a row, and whether the role is retired.
 #[derive(Clone, Copy)]
 pub struct RoleStrikes {
     /// The number of turns in a row, up to the last turn, in which the role's move was substituted.

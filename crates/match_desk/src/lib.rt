@@ -1,5 +1,5 @@
-//! The desk of all matches: a manager of many matches, which six calls read and change. The contract of each call states
-//! its reply and its effect, so a history of calls can be replayed on one thread.
+//! The desk of all matches: a manager of many matches, with six calls that read and change them. The contract of each call
+//! states its reply and its effect, so a history of calls can be replayed on one thread.
 //!
 //! `close_desk` and `close_rings` state what holds for a manager that many threads shared, behind a lock or over rings.
 #![tactic(auto)]

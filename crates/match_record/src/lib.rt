@@ -1,7 +1,7 @@
 //! Writes the record of a match.
 //!
-//! `record_json` writes one JSON object with fifteen keys, which has only the recorded turns. `record_reading` defines
-//! records, their keys and errors, and has their laws; this crate re-exports them.
+//! `record_json` writes one JSON object with fifteen keys. A record has only the recorded turns of the match.
+//! `record_reading` defines records, their keys and errors, and has their laws; this crate re-exports them.
 #![tactic(auto)]
 
 pub mod laws;

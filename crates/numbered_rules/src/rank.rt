@@ -180,7 +180,7 @@ impl Search {
     }
 }
 
-/// The atoms in an order in which each comes after the atoms that it needs, and each atom's place in the order.
+/// An order of the atoms in which each one comes after the atoms that it needs, and the place of each atom in this order.
 #[derive(Drop)]
 pub struct Ranking {
     pub order: Vec<usize>,

@@ -101,7 +101,7 @@ fn fires(
         && all_hold(others, words, size, terms, joint)
 }
 
-/// Goes over the rules in order, and sets the head of each rule whose literals are true. Each rule takes its literals from
+/// Evaluates the rules in order, and sets the head of each rule whose literals are true. Each rule takes its literals from
 /// the front of the remaining ones.
 fn sweep(table: &RuleTable, words: &mut [u64], size: usize, terms: usize, joint: &[usize])
     requires size { size ≤ length words.old * 64 }
@@ -130,7 +130,7 @@ fn sweep(table: &RuleTable, words: &mut [u64], size: usize, terms: usize, joint:
     }
 }
 
-/// Goes over the rules in order, and sets the head of each rule whose tests pass. Without other literals, this loop is
+/// Evaluates the rules in order, and sets the head of each rule whose tests pass. Without other literals, this loop is
 /// twice as fast.
 fn sweep_tests(rules: &[RuleSize], tests: &[Test], words: &mut [u64], size: usize, terms: usize)
     requires size { size ≤ length words.old * 64 }
@@ -147,7 +147,7 @@ fn sweep_tests(rules: &[RuleSize], tests: &[Test], words: &mut [u64], size: usiz
     }
 }
 
-/// Goes over the rules of the table, with the faster loop if the rules have only tests.
+/// Evaluates the rules of the table, with the faster loop if the rules have only tests.
 fn sweep_table(table: &RuleTable, words: &mut [u64], size: usize, terms: usize, joint: &[usize])
     requires size { size ≤ length words.old * 64 }
     requires cut { IsCut table.now }
@@ -160,7 +160,7 @@ fn sweep_table(table: &RuleTable, words: &mut [u64], size: usize, terms: usize, 
     }
 }
 
-/// The row after a pass over the rules. The loop works on the words, which is faster.
+/// The row after a pass over the rules. The loop works on the words, because this is faster.
 pub fn pass(table: &RuleTable, bits: BitRow, terms: usize, joint: &[usize]) -> BitRow
     requires { IsCut table.now }
     ensures { result ≡ packed_after terms joint.now bits (rules_in table.now) }

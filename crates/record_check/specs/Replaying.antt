@@ -117,7 +117,7 @@ match_of g p turns = record {
 pub record IsRightEnd {S M : Type 0} (g : Rules S M) (p : RecordParts) (turns : List (Turn M)) : Type 0 where
   pub phase_is : phase g (match_of g p turns) ≡ p.phase
   pub cause_is : cause g (match_of g p turns) ≡ p.cause
-  -- no turn until all START marks are present, and no end mark before the match stops or aborts
+  -- there is no turn until all START marks are present, and no end mark before the match stops or aborts
   pub turns_after_start : every_role g.roles (is_there p.start_marks) ≡ false → turns ≡ []
   pub ends_at_end : is_live (stage g (match_of g p turns)) ≡ true → p.end_marks ≡ blank g.roles
   -- an abort was requested only while the match was starting or playing

@@ -25,8 +25,8 @@ enum RecordedMove<M> {
     NoMove,
     /// A legal move with an error that it cannot have.
     WrongError,
-    /// A legal move with an error that it can have, but not for this role: the error says that the role is retired and it is
-    /// not, or the other way round.
+    /// A legal move with an error that it can have, but not for this role: the error says that the role is retired but the
+    /// role is not, or the other way round.
     WrongRetired,
 }
 

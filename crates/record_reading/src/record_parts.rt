@@ -73,7 +73,7 @@ impl Key {
     }
 }
 
-/// The version of a record. A record of the first version has no strikes, which count as 0.
+/// The version of a record. A record of the first version has no strikes; they count as 0.
 #[derive(Clone, Copy, PartialEq, Eq)]
 pub enum Version {
     First,

@@ -93,7 +93,7 @@ fn room_beside_all(literals: &Vec<Literal>, room: usize) -> usize
     left
 }
 
-/// Whether the rules are within the limit of atomic sentences even if repeated ones count again.
+/// Whether the rules are within the limit of atomic sentences even if each repetition counts.
 fn name_few_atomic_sentences(rules: &[Rule], limits: Limits) -> bool
     ensures { result ≡ nat_le (length (atomics (rules_of rules.now))) (max_atomic_sentences limits) }
 {
@@ -104,8 +104,8 @@ fn name_few_atomic_sentences(rules: &[Rule], limits: Limits) -> bool
     left > 0
 }
 
-/// Whether the rules are within the limit of distinct atomic sentences. If they are within it even with the repeated ones,
-/// the function allocates no set; otherwise it counts the distinct ones.
+/// Whether the rules are within the limit of distinct atomic sentences. If this is so even with repeated sentences, the
+/// function allocates no set; otherwise it counts the distinct ones.
 pub fn have_few_atomic_sentences(
     alloc: Global,
     rules: &[Rule],

@@ -115,7 +115,7 @@ fn long_script(alloc: Global) -> Result<String, AllocError> {
     Ok(script)
 }
 
-/// The record of that match, which repeats the same turn and the same state.
+/// The record of that match: all turns are the same, and so are all states.
 fn long_record(alloc: Global) -> Result<String, AllocError> {
     let mut record = r#"{"cause":"toolong","endMarks":[null],"errors":["#.to_string(alloc)?;
     push_repeated(&mut record, "[\"\"]", MOST_TURNS)?;

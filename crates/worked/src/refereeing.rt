@@ -114,7 +114,7 @@ fn setup(alloc: Global) -> Result<Setup, AllocError> {
     })
 }
 
-/// Plays a match of Countdown with a heap of one, in which red and blue answer PLAY like this.
+/// Plays a match of Countdown with a heap of one, in which red and blue answer PLAY in this way.
 fn refereed<R: Threads + Wait + Clock + Abort + Sync>(
     rt: &R,
     alloc: Global,

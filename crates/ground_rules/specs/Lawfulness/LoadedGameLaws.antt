@@ -190,7 +190,7 @@ ordered-different (t ∷ ts) h = rw (order-differs t ts (and-left (comes_before_
 folded-is-canonical : (t : List ℕ) → IsFoldedText t → IsCanonicalText t
 folded-is-canonical t is = (is.0, is.1, is.3)
 
--- by this lemma, each form of a game is proved to be lawful; `xs` are the sentences of the description
+-- the lemma that shows that each form of a game is lawful; `xs` are the sentences of the description
 pub loaded_game_laws : (xs : Expressions) (g : GameTables) → 1 ≤ length g.roles → length g.roles ≤ max_roles → IsTrue (are_roles (length g.moves) g.roles) → IsTrue (are_different (names g.roles))
     → IsTrue (are_terms_in_any xs (names g.roles)) → IsTrue (are_in_order g.states) → IsTrue (are_terms_in_any xs g.states) → IsTrue (are_in_order g.moves) → IsTrue (are_terms_in_any xs g.moves) → IsLawful (loaded_game g)
 loaded_game_laws xs g some few tables names_differ names_spelled states_ordered states_spelled moves_ordered moves_spelled = record {

@@ -21,7 +21,7 @@ HoldsForEach P (key ∷ more) = P key × HoldsForEach P more
 abbrev pub SayTheSame : List Key → RecordParts → RecordParts → Type 0
 SayTheSame ks p q = HoldsForEach (λ key. (row_of key).said p ≡ (row_of key).said q) ks
 
--- the keys of a list that come before this one
+-- the keys of a list that come before this key
 abbrev pub keys_before : Key → List Key → List Key
 keys_before key [] = []
 keys_before key (k ∷ ks) = if bytes_eq (key_text k) (key_text key) then [] else k ∷ keys_before key ks

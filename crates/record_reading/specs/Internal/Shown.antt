@@ -1,4 +1,4 @@
--- The value that a text or a JSON value shows: the value that would be written in this way.
+-- The value that a text or a JSON value shows: the value that is written as this text or JSON value.
 use Rattle.std.specs.Prelude.{◌≡◌, ⊤, Option, Some, None}
 
 -- `found` shows x if x has the shape and is written as `found`. It shows no value if no value of the shape is written as `found`.
