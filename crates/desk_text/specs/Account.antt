@@ -67,7 +67,7 @@ entry_call text = fields_call (pieces tab text)
 abbrev pub IsRead : Entry Call Reply → Type 0
 IsRead e = entry_call (entry_text e) ≡ Some (e.line, e.call)
 
--- the lines are those of the history, and the call of each entry, with its line of the desk, can be read from the text of the entry
+-- the lines are those of the history, and each entry's call and line of the desk can be read from its text
 pub record Tell (lines : List (List ℕ)) (history : List (Entry Call Reply)) : Type 0 where
   pub texts : lines ≡ map entry_text history
   pub are_read : AllByRecursion IsRead history

@@ -12,8 +12,8 @@ pub fn calls_are_read()
     ensures { (call : Call) → IsCall call → account_call (call_text call) ≡ Some call }
 {}
 
-/// If all fields of the entries fit their types, the lines of a history's text are the texts of its entries, and the call
-/// of each entry, with its line of the desk, can be read from the text.
+/// If all fields of the entries fit their types, the lines of a history's text are the texts of its entries, and each
+/// entry's call and line of the desk can be read from its text.
 pub fn histories_are_read()
     ensures { (history : List (Entry _ _)) → AllByRecursion IsEntry history → Tell (lines (history_text history)) history }
 {}

@@ -18,7 +18,7 @@ pub enum FaultKind {
     MoreWords,
     /// A name is empty.
     NoName,
-    /// The word is not a number from 0 to this number.
+    /// The word is not a number from 0 to this limit.
     NoNumber(u64),
     /// The word is neither `silent` nor `broken`.
     NoReason,

@@ -5,7 +5,7 @@ use std::alloc::{AllocError, Global};
 use std::borrow::CowSlice;
 use std::marker::Model;
 
-/// A borrowed game, so that many matches share one game. Contracts see the game itself.
+/// A borrowed game. It lets many matches share one game. Contracts see the game itself.
 #[derive(Drop)]
 pub struct Lent<'a, G> {
     game: &'a G,

@@ -32,7 +32,7 @@ role_at g r = slice_index_or g.roles r no_role
 abbrev pub terms_of : List GroundMove → List ℕ
 terms_of joint = map (λ m. m.term) joint
 
--- the truth of the derived atoms that do not depend on moves
+-- the truth values of the derived atoms that do not depend on moves
 abbrev pub kept_row : GameTables → List Bool → List Bool
 kept_row g row = row_after (numbered row []) (unset g.atoms) g.rest
 
@@ -40,11 +40,11 @@ kept_row g row = row_after (numbered row []) (unset g.atoms) g.rest
 abbrev pub settled : GameTables → List Bool → StateRows
 settled g row = record { row = row; kept = kept_row g row }
 
--- the truth of all derived atoms
+-- the truth values of all derived atoms
 abbrev pub turn_row : GameTables → StateRows → List ℕ → List Bool
 turn_row g s joint = row_after (numbered s.row joint) s.kept g.turn
 
--- the state has a truth value for each term, and the truth of the derived atoms that do not depend on moves
+-- the state has a truth value for each term and for each derived atom that does not depend on moves
 pub record IsSettled (g : GameTables) (s : StateRows) : Type 0 where
   pub size : length s.row ≡ length g.states
   pub kept : s.kept ≡ kept_row g s.row

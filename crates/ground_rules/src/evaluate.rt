@@ -1,4 +1,4 @@
-//! The truth of the derived atoms in a state.
+//! The truth values of the derived atoms in a state.
 ghost use Rattle.std.specs.Prelude.{◌≡◌, ℕ, IfOk, []};
 ghost use Rattle.numbered_rules.specs.Fit.{truth, any_true, all_true, Fits};
 ghost use Rattle.numbered_rules.specs.Numbered.{bit, numbered, view, views, rules_of, row_after, unset};
@@ -8,8 +8,8 @@ use numbered_rules::Row;
 use numbered_rules::numbered::{Literal, Rule};
 use std::alloc::{AllocError, Global};
 
-/// Whether the literal is true. `row` has the truth of the derived atoms, `state` that of the terms, and `joint` the term of
-/// each role's move.
+/// Whether the literal is true. `row` has the truth values of the derived atoms, `state` has those of the terms, and
+/// `joint` has the term of each role's move.
 #[cycle(holds)]
 fn holds(literal: &Literal, row: &Row, state: &Row, joint: &[usize]) -> bool
     ensures { result ≡ truth (numbered state.now joint.now) (bit row.now) (view literal.now) }
@@ -71,8 +71,8 @@ pub fn pass(rules: &[Rule], row: Row, state: &Row, joint: &[usize]) -> Row
     row
 }
 
-/// The truth of each derived atom, from one pass over the rules. If the rules are in the order of a ranking of their heads,
-/// the result is the fit.
+/// The truth value of each derived atom, from one pass over the rules. If the rules are in the order of a ranking of their
+/// heads, the result is the fit.
 pub fn evaluate(
     alloc: Global,
     rules: &[Rule],

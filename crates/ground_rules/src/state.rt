@@ -2,8 +2,7 @@
 use numbered_rules::Row;
 use std::marker::Model;
 
-/// A state: a truth value for each term, and the truth of the derived atoms that do not depend on moves. Contracts see both
-/// rows.
+/// A state: a truth value for each term, and for each derived atom that does not depend on moves. Contracts see both rows.
 #[derive(Drop)]
 pub struct GroundState {
     pub(crate) row: Row,

@@ -9,7 +9,7 @@ pub record Situation (A T : Type 0) : Type 0 where
   pub in_state : T → Bool
   pub does : T → T → Bool
 
--- whether a literal is true if v gives the truth of the derived atoms
+-- whether a literal is true if v gives the truth values of the derived atoms
 abbrev mutual
   pub truth : {A T : Type 0} → Situation A T → (A → Bool) → Literal A T → Bool
   truth w v (Holds a) = v a

@@ -21,7 +21,7 @@ use Rattle.record_reading.specs.declared.verify_fault.VerifyFault.TheVariants.{N
 abbrev pub GoesOn : {S M : Type 0} → Rules S M → (ℕ → Bool) → S → Type 0
 GoesOn g retired s = (g.terminal s ≡ false) × (lowest_role g.roles (has_no_move g s) ≡ None) × (every_role g.roles retired ≡ false)
 
--- the text is that of one of these moves, and the move can have the error, given whether the role is retired
+-- one of these moves has this text, and the move can have the error, given whether the role is retired
 abbrev pub IsRightMove : {S M : Type 0} → Rules S M → Bool → List M → List ℕ → List ℕ → Type 0
 IsRightMove {S} {M} g retired moves text error = (m : M) × (g.move_text m ≡ text) × IsPart g retired moves m error
 
@@ -29,8 +29,8 @@ IsRightMove {S} {M} g retired moves text error = (m : M) × (g.move_text m ≡ t
 abbrev pub DeniesOne : {S M : Type 0} → Rules S M → List M → List ℕ → Type 0
 DeniesOne {S} {M} g moves error = (m : M) × Contains moves m × (error ≡ error_text (NotLegal (g.move_text m)))
 
--- The text is that of one of these moves, and the move cannot have the error: the error is not empty and the move is not the first, or the
--- error says that the answer was a legal move.
+-- One of these moves has this text, and the move cannot have the error: the error is not empty and the move is not the first, or the error
+-- says that the answer was a legal move.
 abbrev pub IsWrongError : {S M : Type 0} → Rules S M → List M → List ℕ → List ℕ → Type 0
 IsWrongError {S} {M} g moves text error =
     (m : M) × Contains moves m × (g.move_text m ≡ text) × (((error ≢ []) × (slice_get moves 0 ≢ Some m)) ⊎ DeniesOne g moves error)
@@ -40,8 +40,8 @@ abbrev pub IsWrongFor : Bool → List ℕ → Type 0
 IsWrongFor true error = error ≢ retired_text
 IsWrongFor false error = error ≡ retired_text
 
--- The text is that of one of these moves, and the move can have the error, but not for this role: the role is retired and the error does
--- not say so, or the error says so and the role is not retired.
+-- One of these moves has this text, and the move can have the error, but not for this role: the role is retired and the error does not say
+-- so, or the error says so and the role is not retired.
 abbrev pub IsWrongRetired : {S M : Type 0} → Rules S M → Bool → List M → List ℕ → List ℕ → Type 0
 IsWrongRetired {S} {M} g retired moves text error =
     (m : M) × Contains moves m × (g.move_text m ≡ text) × ((error ≡ []) ⊎ ((slice_get moves 0 ≡ Some m) × ¬ (DeniesOne g moves error))) × IsWrongFor retired error

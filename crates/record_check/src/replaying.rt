@@ -78,8 +78,8 @@ fn replay_turns<G: Game>(
     Ok((state, count_retired(strikes.as_slice())))
 }
 
-/// Checks that a record of the right shape is that of some lawful match of the game. It tests the turns in order, then the
-/// goals, then the end, and returns the first error.
+/// Checks that a record of the right shape is the record of some lawful match of the game. It tests the turns in order,
+/// then the goals, then the end, and returns the first error.
 pub fn replay_record<G: Game>(
     alloc: Global,
     game: &G,

@@ -19,7 +19,7 @@ abbrev mutual
   is_term_in_any none t = false
   is_term_in_any (more x xs) t = is_term_in x t || is_term_in_any xs t
 
--- whether each text is that of some term without variables in the expressions
+-- whether each text is the text of some term without variables in the expressions
 abbrev pub are_terms_in_any : Expressions → List (List ℕ) → Bool
 are_terms_in_any xs [] = true
 are_terms_in_any xs (t ∷ ts) = is_term_in_any xs t && are_terms_in_any xs ts
