@@ -1,8 +1,8 @@
 //! The values in the record of a match, and how to read them.
 //!
 //! A record is one JSON object with fifteen keys, and has only the recorded turns of a match. `read_record` reads a text if
-//! it has the shape of a record of the game. Otherwise it returns the first test of the shape that fails. `laws` has the
-//! laws of all records.
+//! it has the shape of a record of the game. Otherwise it returns the first shape test that fails. `laws` has the laws of
+//! all records.
 #![tactic(auto)]
 
 mod error_texts;
