@@ -28,10 +28,10 @@ DESCRIPTIONS = [
     (FACTS + "; a comment (\n(<= (next (x 1)) (init (x 1)))", "line 4, column 1: true or does as a head, init or next as a condition, or a role with conditions: (<= (next (x 1)) (init (x 1)))"),
     (FACTS + "(<= (legal a ?m) (not (move ?m)))", "line 3, column 1: ?m is unsafe"),
     (FACTS + "(<= p q)\n(<= q p)\n(<= terminal p)", "line 4, column 1: an atom that depends on itself: (<= q p)"),
-    ("(init x)", "no (role NAME), but a game has one at least"),
+    ("(init x)", "no (role NAME), but a game needs at least one"),
     (FACTS + "(role a)", "line 3, column 1: a role that is named twice: (role a)"),
     (FACTS + "(legal a go) (init s)\n(goal a 101)", "line 4, column 1: neither a fact nor a rule: (goal a 101)"),
-    (FACTS + "(" * 70 + "a" + ")" * 70, "line 3, column 65: a list inside 64 others, but 64 are the limit"),
+    (FACTS + "(" * 70 + "a" + ")" * 70, "line 3, column 65: a list nested more than 64 deep"),
     ("".join(f"(role r{number})" for number in range(17)), "line 1, column 151: more than 262144 sentences, 262144 different atomic sentences, 16 roles or 4096 moves of one role: (role r16)"),
 ]
 

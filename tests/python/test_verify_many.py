@@ -158,7 +158,7 @@ class All(WithProgram):
         text = b"ok\nno\n7\nok\n" * 9 + b"no"
         verdicts = b"lawful\nnot lawful: goals\nlawful\n" * 9 + b"not lawful: goals\n"
         for jobs, size in ((1, 1), (1, 999), (3, 1), (3, 20)):
-            self.assertEqual(self.all(text, jobs, size), (verdicts, b"ggp_manager: lines of accounts skipped 9\n", (b"ggp_manager: records not lawful 10\n", 1)))
+            self.assertEqual(self.all(text, jobs, size), (verdicts, b"ggp_manager: call log lines skipped: 9\n", (b"ggp_manager: records not lawful 10\n", 1)))
         self.assertEqual(self.all(b"ok\n" * 5), (b"lawful\n" * 5, b"", None))
         self.assertEqual(self.all(b""), (b"", b"", None))
         self.assertEqual(set((self.folder / "words").read_text().splitlines()), {"verify --lines --json"})
@@ -222,7 +222,7 @@ class Commands(WithProgram):
 
     def test_status_and_streams_are_those_of_one_process(self):
         self.assertEqual(self.run_command(self.program, "--", "x", text=b"ok\nno\n7\n"), (
-            1, b"lawful\nnot lawful: goals\n", b"ggp_manager: lines of accounts skipped 1\nggp_manager: records not lawful 1\n",
+            1, b"lawful\nnot lawful: goals\n", b"ggp_manager: call log lines skipped: 1\nggp_manager: records not lawful 1\n",
         ))
         self.assertEqual((self.folder / "words").read_text().splitlines()[-1], "verify --lines x --json")
         self.assertEqual(self.run_command(self.program, "--", text=b"ok\n"), (0, b"lawful\n", b""))

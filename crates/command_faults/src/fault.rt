@@ -111,7 +111,7 @@ impl fmt::Display for Fault {
             Fault::NotSent(shortage) | Fault::Shortage(shortage) => write!(f, "{shortage}"),
             Fault::NotLawful(fault) => write!(f, "{fault}"),
             Fault::BadSchedule(number, why) => write!(f, "{number}: {why}"),
-            Fault::NoEntry(number) => write!(f, "{number} is no entry"),
+            Fault::NoEntry(number) => write!(f, "{number} is not a valid entry"),
             Fault::Differs(number) => write!(f, "{number} differs"),
             Fault::NoRecords(number)
             | Fault::UnlawfulRecords(number)

@@ -131,7 +131,7 @@ impl FileFault {
             FileFault::NotRegular => "it is not a regular file",
             FileFault::InUse => "another program adds to the file",
             FileFault::Unmended => "its end is cut off, and can't be moved",
-            FileFault::Partial => "the account of a record is not whole",
+            FileFault::Partial => "the call log of a record is incomplete",
             FileFault::Shared => "another file or stream of this command is the same file",
         }
     }

@@ -53,15 +53,15 @@ fn words_of(kind: FaultKind) -> &'static str {
         FaultKind::NoKeyword => "no call begins with this word",
         FaultKind::FewerWords => "fewer words than in ",
         FaultKind::MoreWords => "more words than in ",
-        FaultKind::NoName => "an empty word, as two spaces together make",
+        FaultKind::NoName => "an empty word; one space separates words",
         FaultKind::NoNumber(u64::MAX) => {
-            "no number from 0 to 18446744073709551615 without leading zeros"
+            "not a number from 0 to 18446744073709551615 without leading zeros"
         }
-        FaultKind::NoNumber(_) => "no number from 0 to 1000000000 without leading zeros",
+        FaultKind::NoNumber(_) => "not a number from 0 to 1000000000 without leading zeros",
         FaultKind::NoReason => "neither silent nor broken",
         FaultKind::NoCall => "a byte escaped in another way, or a number too large",
         FaultKind::FewerFields => FEWER_FIELDS,
-        FaultKind::NoLine => "no number of a line",
+        FaultKind::NoLine => "not the number of a line",
     }
 }
 

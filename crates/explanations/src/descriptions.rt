@@ -144,12 +144,12 @@ impl Sentences {
 /// What is wrong with a sentence, or with several sentences together.
 fn words_of(fault: LoadFault) -> &'static str {
     match fault {
-        LoadFault::Variable(_) => "a variable, but rules have to be ground",
+        LoadFault::Variable(_) => "a variable, but the rules must be ground",
         LoadFault::BadForm(_) => "neither a fact nor a rule",
         LoadFault::Misplaced(_) => {
             "true or does as a head, init or next as a condition, or a role with conditions"
         }
-        LoadFault::NoRole => "no (role NAME), but a game has one at least",
+        LoadFault::NoRole => "no (role NAME), but a game needs at least one",
         LoadFault::RoleTwice => "a role that is named twice",
         LoadFault::TooLarge => "too large",
         LoadFault::Cyclic => "an atom that depends on itself",
@@ -171,14 +171,14 @@ fn push_kind(
             let byte = text.get(at).copied().unwrap_or(0);
             write!(
                 out,
-                "the byte 0x{byte:02X}, but it may stand in comments alone"
+                "the byte 0x{byte:02X}, which is allowed only in comments"
             )
         }
         DescriptionFault::Unread(KifFault::Unopened(_)) => {
             out.push_str("a parenthesis that closes no list")
         }
         DescriptionFault::Unread(KifFault::TooDeep(_)) => {
-            out.push_str("a list inside 64 others, but 64 are the limit")
+            out.push_str("a list nested more than 64 deep")
         }
         DescriptionFault::Unread(KifFault::Unclosed(_)) => {
             out.push_str("a list that is not closed")
@@ -213,7 +213,7 @@ fn remedy(text: &[u8], fault: DescriptionFault) -> &'static str {
             "ggp_manager: --rules takes the rules themselves, and --rules-file the name of their file\n"
         }
         DescriptionFault::Unfit(LoadFault::Variable(_)) => {
-            "ggp_manager: ggp-instantiate makes ground rules of rules with variables\n"
+            "ggp_manager: ggp-instantiate makes ground rules from rules with variables\n"
         }
         _ => "",
     }

@@ -19,6 +19,6 @@ pub fn push_several_lines(text: &[u8], out: &mut String) -> Result<(), AllocErro
 pub fn push_skipped_lines(count: u64, out: &mut String) -> Result<(), AllocError> {
     match count {
         0 => Ok(()),
-        _ => write!(out, "ggp_manager: lines of accounts skipped {count}\n"),
+        _ => write!(out, "ggp_manager: call log lines skipped: {count}\n"),
     }
 }

@@ -17,7 +17,7 @@ pub enum PlayFault {
     #[error("turn {turn} comes after the end of the game")]
     AfterEnd { turn: usize },
     /// The turn does not have exactly one move for each role.
-    #[error("turn {turn} has not one move for each role")]
+    #[error("turn {turn} does not have one move for each role")]
     WrongWidth { turn: usize },
     /// This role's move is not legal. The moves of all lower roles are legal.
     #[error("the move of role {role} in turn {turn} is not legal")]

@@ -69,7 +69,7 @@ pub fn allowed_form<F: Files, E: Write>(
     let mut pieces = Pieces { stream: errors };
     let _ = writeln!(
         pieces,
-        "ggp_manager: {descriptors} descriptors carry {} matches at once",
+        "ggp_manager: {descriptors} descriptors allow {} matches at once",
         smaller.at_once
     );
     smaller

@@ -50,11 +50,11 @@ fn tell_torn<E: Write>(errors: &mut E, path: &str, first: Option<u64>, torn: &st
     let _ = match first {
         Some(line) => writeln!(
             pieces,
-            "ggp_manager: the last account of {path} is cut off: its record, line {line}, is now in {torn}, and its match is played again"
+            "ggp_manager: the last call log of {path} is incomplete: moved it and its record (line {line}) to {torn}; its match is played again"
         ),
         None => writeln!(
             pieces,
-            "ggp_manager: the last line of {path} is cut off, and is now in {torn}"
+            "ggp_manager: the last line of {path} is incomplete: moved it to {torn}"
         ),
     };
 }
@@ -64,7 +64,7 @@ fn tell_partial<E: Write>(errors: &mut E, path: &str, line: u64) {
     let mut pieces = Pieces { stream: errors };
     let _ = writeln!(
         pieces,
-        "ggp_manager: line {line} of {}: the account of this record is not whole: take both out of the file, or leave --history out",
+        "ggp_manager: line {line} of {}: the call log of this record is incomplete: remove both from the file, or run without --history",
         Printable(path)
     );
 }
@@ -78,7 +78,7 @@ fn refused<E: Write>(errors: &mut E, path: &str, fault: RecordsFault) -> Fault
         Fault::File(_, _) if matches!(fault, RecordsFault::NoRecords) => tell(
             errors,
             path,
-            "is no file of records: it does not begin with {",
+            "is not a file of records: it does not begin with {",
         ),
         Fault::File(_, why) => tell_of_file(errors, path, why),
         _ => {}

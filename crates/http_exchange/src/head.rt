@@ -48,11 +48,11 @@ impl HeadPart {
     /// The text of the error.
     pub(crate) fn words(self) -> &'static str {
         match self {
-            HeadPart::Version => "it does not begin with HTTP/1.0 or HTTP/1.1 and a blank",
+            HeadPart::Version => "it does not begin with HTTP/1.0 or HTTP/1.1 and a space",
             HeadPart::Status => "its status is not three digits, or a control byte follows it",
-            HeadPart::Method => "its method is not POST, or its target is no text",
+            HeadPart::Method => "its method is not POST, or its target is not text",
             HeadPart::FieldName =>
-                "a line before the empty one has no name with a colon right behind it",
+                "a field does not begin with a name directly followed by a colon",
             HeadPart::FieldValue => "a field's value has a control byte",
             HeadPart::LineEnd => "a line ends with neither CR LF nor LF",
             HeadPart::FieldCount => "it has more than 64 fields",

@@ -54,15 +54,15 @@ impl Received {
     fn words(self) -> &'static str {
         match self {
             Received::Unconnected => "no connection was made",
-            Received::Unsent => "the request was not written whole",
+            Received::Unsent => "the request was not fully written",
             Received::Nothing => "nothing received",
             Received::Head(_) => "the head's bytes received",
             Received::Body(..) => "the body's ",
             Received::OpenBody(_) => "the body's bytes received, and no Content-Length",
-            Received::TransferEncoding => "a Transfer-Encoding, which is not taken",
-            Received::NoNumber => "a Content-Length that is no number",
-            Received::TwoLengths => "two lengths that differ",
-            Received::LongLength => "a Content-Length above ",
+            Received::TransferEncoding => "the Transfer-Encoding is not supported",
+            Received::NoNumber => "the Content-Length is not a number",
+            Received::TwoLengths => "two Content-Length fields differ",
+            Received::LongLength => "the Content-Length is above ",
             Received::Status(..) | Received::BadHead(..) | Received::Refused(_) => {
                 "the reply's bytes received"
             }

@@ -39,9 +39,9 @@ impl fmt::Display for WireFault {
         let words = match *self {
             WireFault::WriteFault => "a write failed",
             WireFault::ReadFault(kind) => return write!(f, "a read failed: {kind:?}"),
-            WireFault::BadHead => "the head is not of HTTP",
+            WireFault::BadHead => "the head is not valid HTTP",
             WireFault::BadStatus => "the status is not 200",
-            WireFault::BadLength => "the length of the body is not given rightly",
+            WireFault::BadLength => "the body length is invalid",
             WireFault::TooLong => "the head or the body is too long",
             WireFault::CutShort => "the stream ended too early",
             WireFault::TooManyReads => "too many reads or writes",

@@ -12,13 +12,13 @@ use thiserror::Error;
 #[derive(Clone, Copy, Debug, PartialEq, Eq, Error)]
 pub enum KifFault {
     /// The byte at this offset is outside comments, and is not white space, a parenthesis or an atom byte.
-    #[error("the byte at {0} is not of KIF text")]
+    #[error("the byte at {0} is not valid in KIF")]
     BadByte(usize),
     /// The parenthesis at this offset closes a list, but none is open.
     #[error("the parenthesis at {0} closes no list")]
     Unopened(usize),
     /// The parenthesis at this offset would open a list inside 64 others.
-    #[error("the list at {0} is nested too deep")]
+    #[error("the list at {0} is nested too deeply")]
     TooDeep(usize),
     /// No parenthesis closes the list that was opened at this offset. If several lists are open at the end of the text, this
     /// is the last one.

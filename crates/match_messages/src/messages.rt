@@ -50,7 +50,7 @@ impl fmt::Display for MessageFault {
     fn fmt<W: fmt::Write>(&self, f: &mut fmt::Formatter<W>) -> fmt::Result {
         f.write_str(match *self {
             MessageFault::Unreadable => "the text is not one expression",
-            MessageFault::BadMessage => "the expression is no message",
+            MessageFault::BadMessage => "the expression is not a message",
             MessageFault::BadClock => "a clock is out of range",
             MessageFault::Memory => "out of memory",
         })

@@ -50,12 +50,12 @@ fn tell_other_lines<E: Write>(errors: &mut E, path: &str, count: u64) {
         0 => Ok(()),
         1 => writeln!(
             pieces,
-            "ggp_manager: 1 line of {} is no lawful record",
+            "ggp_manager: 1 line of {} is not a lawful record",
             Printable(path)
         ),
         _ => writeln!(
             pieces,
-            "ggp_manager: {count} lines of {} are no lawful records",
+            "ggp_manager: {count} lines of {} are not lawful records",
             Printable(path)
         ),
     };
@@ -123,7 +123,7 @@ fn tell_partial<F: Files, E: Write>(
         let mut pieces = Pieces { stream: errors };
         let _ = writeln!(
             pieces,
-            "ggp_manager: line {line} of {}: the account of this record is not whole, but its match counts as over",
+            "ggp_manager: line {line} of {}: the call log of this record is incomplete, but its match counts as over",
             Printable(path)
         );
     }
@@ -135,7 +135,7 @@ fn tell_none_done<E: Write>(errors: &mut E, path: &str) {
     let mut pieces = Pieces { stream: errors };
     let _ = writeln!(
         pieces,
-        "ggp_manager: no match of the schedule is over by {}",
+        "ggp_manager: no match of the schedule is over according to {}",
         Printable(path)
     );
 }

@@ -108,7 +108,7 @@ pub fn fault_words(
             format!(in alloc; "the text has more than {MAX_ANSWER} bytes")
         }
         (Verdict::NoMove, Some(fault), _) => format!(in alloc; "{fault}"),
-        (Verdict::NoMove, None, _) => String::from_str(alloc, "? stands for no move"),
+        (Verdict::NoMove, None, _) => String::from_str(alloc, "? is not a move"),
         (Verdict::Illegal, _, Some(turn)) => String::from_str(alloc, turn.words.as_str()),
         _ => Ok(String::new(alloc)),
     }

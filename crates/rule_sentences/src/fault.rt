@@ -13,11 +13,11 @@ pub enum LoadFault {
     #[error("sentence {0} has a variable")]
     Variable(usize),
     /// The sentence is not proper, or is neither a fact nor a rule.
-    #[error("sentence {0} has not the form of a fact or a rule")]
+    #[error("sentence {0} is neither a fact nor a rule")]
     BadForm(usize),
     /// An atomic sentence is in a position that GDL does not allow: `init` and `next` may only be heads, `true` and `does`
     /// may only be in bodies, and `role` may only be in bodies or be a fact.
-    #[error("an atomic sentence of sentence {0} stands where it may not")]
+    #[error("sentence {0} has an atomic sentence in a position that GDL does not allow")]
     Misplaced(usize),
     /// There is no `role` fact.
     #[error("the description has no role")]
@@ -34,7 +34,7 @@ pub enum LoadFault {
     Cyclic,
     /// A `legal`, `goal` or `terminal` head depends on a `does` sentence, or an `init` head depends on a `true` or `does`
     /// sentence.
-    #[error("a head depends on what it may not depend on")]
+    #[error("a head depends on a sentence that it may not depend on")]
     Depends,
     /// Out of memory.
     #[error("out of memory")]

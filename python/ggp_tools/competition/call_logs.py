@@ -33,13 +33,13 @@ ESCAPED = re.compile(r"\\x([0-9a-f]{2})")
 # The parts of the referee's reasons for an error (docs/ERRORS.md), with N for numbers. The kind of a failed read is another part, of one word.
 REASONS = {
     *("the host has no address", "no connection", "no answer in time", "the answers of the match are too long", "a write failed", "a read failed"),
-    *("the head is not of HTTP", "the status is not N", "the status is N, not N", "the status is N, which announces an answer and is none"),
-    *("the length of the body is not given rightly", "the head or the body is too long", "the stream ended too early", "too many reads or writes"),
-    *("out of memory", "no connection was made", "the request was not written whole", "nothing received", "N of the head's bytes received"),
+    *("the head is not valid HTTP", "the status is not N", "the status is N, not N", "the status is N, which announces an answer and is none"),
+    *("the body length is invalid", "the head or the body is too long", "the stream ended too early", "too many reads or writes"),
+    *("out of memory", "no connection was made", "the request was not fully written", "nothing received", "N of the head's bytes received"),
     *("N of the body's N bytes received", "N of the body's bytes received, and no Content-Length", "N of the reply's bytes received"),
-    *("a Transfer-Encoding, which is not taken", "a Content-Length that is no number", "a Content-Length above N", "two lengths that differ"),
-    *("it does not begin with HTTP/N.N or HTTP/N.N and a blank", "its status is not three digits, or a control byte follows it"),
-    *("its method is not POST, or its target is no text", "a line before the empty one has no name with a colon right behind it"),
+    *("the Transfer-Encoding is not supported", "the Content-Length is not a number", "the Content-Length is above N", "two Content-Length fields differ"),
+    *("it does not begin with HTTP/N.N or HTTP/N.N and a space", "its status is not three digits, or a control byte follows it"),
+    *("its method is not POST, or its target is not text", "a field does not begin with a name directly followed by a colon"),
     *("a field's value has a control byte", "a line ends with neither CR LF nor LF", "it has more than N fields"),
 }
 NUMBER, KIND = re.compile("[0-9]+"), re.compile("[A-Z][A-Za-z]+")

@@ -157,7 +157,7 @@ def check_all(words: list[str], jobs: int, size: int) -> None:
             raise checked.fault
         skipped, unlawful = skipped + checked.skipped, unlawful + checked.unlawful
     if skipped:
-        say(f"ggp_manager: lines of accounts skipped {skipped}\n".encode())
+        say(f"ggp_manager: call log lines skipped: {skipped}\n".encode())
     if unlawful:
         raise Fault(f"ggp_manager: records not lawful {unlawful}\n".encode(), 1)
 
