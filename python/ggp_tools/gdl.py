@@ -69,7 +69,7 @@ def form_of(name: str) -> str:
 def must_be_atomic(atom: Expression, is_head: bool) -> None:
     """Refuses an atom that is not an atomic sentence, or that is not allowed in a head or in a body."""
     if isinstance(atom, str) and atom.startswith("?"):
-        raise Refused(f"{quoted(atom)} is not a sentence", advice="a variable stands only in the arguments of a sentence")
+        raise Refused(f"{quoted(atom)} is not a sentence", advice="a variable is allowed only in the arguments of a sentence")
     must_be_term(atom)
     name, arity = relation(atom)
     if is_head and (name, arity) in (("sees", 2), ("sees", 3)):

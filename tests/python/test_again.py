@@ -100,7 +100,7 @@ class OrderedAgain(unittest.TestCase):
         self.assert_refused(f"{self.folder.schedule} has no match cup-009", "cup-009")
         self.assert_refused("cup-002 has no record, so `ggp_competition play` plays it", "cup-002")
         self.folder.account("cup-001").unlink()
-        self.assert_refused("cup-001 does not count, so `ggp_competition play` plays it again: its account is missing", "cup-001")
+        self.assert_refused("cup-001 does not count, so `ggp_competition play` plays it again: its call log is missing", "cup-001")
         self.folder.account("cup-001").write_bytes(ACCOUNT)
         self.folder.record("cup-001").write_bytes(RECORD.replace(b'"playClock":5', b'"playClock":6'))
         self.assert_refused("cup-001 does not count, so `ggp_competition play` plays it again: its playClock is 6, and the schedule has 5", "cup-001")

@@ -98,16 +98,16 @@ SPOILINGS = {
     "the archive is cut off": (None, "can't be unpacked"),
     "it is no archive": (None, "can't be unpacked"),
     "goals are exchanged": (changed("cup/records/cup-002.json", better), "cup-002: not lawful: goals"),
-    "a record has another player's name": (changed("cup/records/cup-001.json", renamed), "cup-001: its account does not reproduce its record"),
+    "a record has another player's name": (changed("cup/records/cup-001.json", renamed), "cup-001: its call log does not reproduce its record"),
     "a move of the account is another one": (changed("cup/accounts/cup-001.txt", lambda text: text.replace(b"READY", b"BUSY").replace(b"(take 1)", b"(take 2)")), "cup-001: "),
     "two accounts are exchanged": (swapped("cup/accounts/cup-001.txt", "cup/accounts/cup-002.txt"), "does not reproduce its record"),
     "two whole matches are exchanged": (None, "cup-001: its matchId is 'cup-002'"),
-    "calls of one account stand in another": (moved_calls, "of its account is of another match: 0 strict cup-002 "),
+    "calls of one account stand in another": (moved_calls, "of its call log is of another match: 0 strict cup-002 "),
     "an account has a line that replay skips": (
-        changed("cup/accounts/cup-003.txt", lambda text: b'{"goalValues":[100,0]}\n' + text), 'cup-003: line 1 of its account does not open a match: {"goalValues":[100,0]}',
+        changed("cup/accounts/cup-003.txt", lambda text: b'{"goalValues":[100,0]}\n' + text), 'cup-003: line 1 of its call log does not open a match: {"goalValues":[100,0]}',
     ),
-    "a log tells of another answer": (changed("cup/logs/cup-001.jsonl", lambda text: re.sub(rb'("kind":"PLAY".*?"answer":)[^,]*,', rb'\1"(take 7)",', text, count=1)), "of its log is not what its account says"),
-    "a log tells of another player": (changed("cup/logs/cup-001.jsonl", lambda text: text.replace(b'"ann"', b'"cid"').replace(b'"bob"', b'"ann"')), " of its log is not what its account says"),
+    "a log tells of another answer": (changed("cup/logs/cup-001.jsonl", lambda text: re.sub(rb'("kind":"PLAY".*?"answer":)[^,]*,', rb'\1"(take 7)",', text, count=1)), "of its log does not agree with its call log"),
+    "a log tells of another player": (changed("cup/logs/cup-001.jsonl", lambda text: text.replace(b'"ann"', b'"cid"').replace(b'"bob"', b'"ann"')), " of its log does not agree with its call log"),
     "two logs are exchanged": (swapped("cup/logs/cup-001.jsonl", "cup/logs/cup-002.jsonl"), "cup-002: line 1 of its log is not a line that is published"),
     "the rules are others": (changed("cup/rules/countdown.kif", lambda text: text.replace(b"100", b"90")), "rules/countdown.kif is not what"),
     "a description and its sum are others": (nonsense, "games/odd.kif has no variables, and differs from the rules of odd"),
@@ -173,7 +173,7 @@ class Archive(unittest.TestCase):
         shutil.copy(self.archive, self.other)
         status, out, said = run(self.other, "check", "cup.tar.gz")
         self.assertEqual((status, said), (0, ""))
-        self.assertRegex(out, "the sums, the schedule, 12 records and accounts, the table and the pages are right; published with ggp_manager [0-9.]+, checked by ggp_manager [0-9.]+\n$")
+        self.assertRegex(out, "the checksums, the schedule, 12 records and call logs, the table and the pages are right; published with ggp_manager [0-9.]+, checked by ggp_manager [0-9.]+\n$")
         files = self.files()
         spoilt = dict(self.plain_spoilings(files))
         spoilt |= {name: spoil(dict(files)) for name, (spoil, _) in SPOILINGS.items() if spoil}
@@ -235,7 +235,7 @@ class Archive(unittest.TestCase):
         self.assertIn("cup: 11 of 12 matches", files["cup/table.txt"].decode())
         status, out, said = run(cup, "check", "cup.tar.gz")
         self.assertEqual((status, said), (0, ""))
-        self.assertIn("11 records and accounts, the table and the pages are right; 1 of 12 matches have no record, GAPS.tsv names them; published", out)
+        self.assertIn("11 records and call logs, the table and the pages are right; 1 of 12 matches have no record, GAPS.tsv names them; published", out)
         for change, words in (
             (without(*(f"cup/{name}" for name in ("records/cup-004.json", "accounts/cup-004.txt", "logs/cup-004.jsonl"))), "GAPS.tsv does not follow from the records"),
             (changed("cup/records/cup-002.json", better), "cup-002: not lawful: goals"),

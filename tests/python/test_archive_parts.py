@@ -101,7 +101,7 @@ class Checked(Made):
         self.assertEqual(self.publish(), hashlib.sha256(self.path.read_bytes()).hexdigest())
         faults, said = self.check()
         self.assertEqual(faults, [])
-        self.assertEqual(said, "the sums, the schedule, 3 records and accounts, the table and the pages are right; published with ggp_manager 1.2.3, checked by ggp_manager 1.2.3")
+        self.assertEqual(said, "the checksums, the schedule, 3 records and call logs, the table and the pages are right; published with ggp_manager 1.2.3, checked by ggp_manager 1.2.3")
 
     def test_each_file_is_looked_at(self):
         self.publish()
@@ -132,8 +132,8 @@ class Checked(Made):
             (changed("cup/CHECK.txt", more), "CHECK.txt does not follow from the records"),
             (without("cup/logs/cup-002.jsonl"), "cup-002: its log is missing"),
             (without("cup/records/cup-002.json"), "cup-002: it has no record"),
-            (without("cup/accounts/cup-002.txt"), "cup-002: its account is missing"),
-            (changed("cup/accounts/cup-001.txt", lambda data: data.replace(b"0 ready", b"0 go")), "cup-001: line 2 of its log is not what its account says"),
+            (without("cup/accounts/cup-002.txt"), "cup-002: its call log is missing"),
+            (changed("cup/accounts/cup-001.txt", lambda data: data.replace(b"0 ready", b"0 go")), "cup-001: line 2 of its log does not agree with its call log"),
             (changed("cup/games/heap.kif", more), "games/heap.kif is not the description that the rules of heap were made from"),
             (changed("cup/VERSION", lambda _: b"ggp_manager 9.9.9\n"), None),
             (changed("cup/VERSION", lambda _: b"ggp_manager 0.10.0\n"), None),
@@ -180,7 +180,7 @@ class Checked(Made):
             file.unlink()
         self.publish()
         faults, said = self.check()
-        self.assertEqual((faults, "; 1 of 3 matches have no record, GAPS.tsv names them; published" in said, "2 records and accounts" in said), ([], True, True))
+        self.assertEqual((faults, "; 1 of 3 matches have no record, GAPS.tsv names them; published" in said, "2 records and call logs" in said), ([], True, True))
         files = files_of(self.path)
         self.assertEqual(files["cup/GAPS.tsv"], b"id\tgame\tstart\tplay\tplayers\ncup-002\theap\t5\t5\tbob ann\n")
         self.assertEqual(self.check(without("cup/GAPS.tsv")(dict(files)))[0], ["cup-002: it has no record", "cup-002: its log is missing"])
@@ -340,7 +340,7 @@ class Parts(InFolder):
         self.assertEqual(list(archive.faults_of_sums(self.folder)), ["e is missing", "c/d has no sum", "b is not the one of its sum"])
         for text in (lines[0] * 2, "".join(lines) + "x\n"):
             (self.folder / SUMS).write_text(text)
-            self.assertEqual(list(archive.faults_of_sums(self.folder)), [f"{SUMS} has a file twice, or a line that is no sum"])
+            self.assertEqual(list(archive.faults_of_sums(self.folder)), [f"{SUMS} names a file twice, or has a line that is not a checksum"])
 
     def test_files_below_a_folder_are_in_order(self):
         self.write(b=b"", a__b=b"", a__a=b"", c=b"")

@@ -78,7 +78,7 @@ class LogFaults(unittest.TestCase):
 
     def test_a_match_that_began_again(self):
         before = LOG.replace("ready", "wrong")
-        self.assertEqual(self.fault(before), "line 2 of its log is not what its account says")
+        self.assertEqual(self.fault(before), "line 2 of its log does not agree with its call log")
         self.assert_foreign(LOG + LOG, 10)
         # Only the events after the second beginning are published.
         self.assert_foreign("".join([*LINES[:3], LINES[0], *LINES[3:]]), 2)
@@ -113,7 +113,7 @@ class LogFaults(unittest.TestCase):
     def test_no_line_is_there_twice(self):
         for at, text in enumerate(LINES):
             doubled = self.fault("".join([*LINES[: at + 1], *LINES[at:]]))
-            self.assertRegex(doubled or "", "^line [0-9]+ of its log is not ", text)
+            self.assertRegex(doubled or "", "^line [0-9]+ of its log (is|does) not ", text)
 
     def test_what_is_not_so(self):
         for old, new, number in (
@@ -138,7 +138,7 @@ class LogFaults(unittest.TestCase):
         ):
             with self.subTest(new):
                 self.assertIn(old, LOG)
-                self.assertEqual(self.fault(LOG.replace(old, new, 1)), f"line {number} of its log is not what its account says")
+                self.assertEqual(self.fault(LOG.replace(old, new, 1)), f"line {number} of its log does not agree with its call log")
 
 
     def test_only_an_error_has_a_reason_and_only_one_of_the_referee(self):
@@ -147,9 +147,9 @@ class LogFaults(unittest.TestCase):
             ("the status is 404, not 200: 91 of the reply's bytes received", True), ("no answer in time: ann was seen cheating", False), ("", False), ("it cheated", False),
         ):
             text = line(MATCH, 1, 1, "(START cup-001 (second 2) ... 5 6)", Missed(f"CE ({reason})")) if reason else LINES[2].replace('"no connection"', '""' if reason == "" else "null")
-            self.assertEqual(self.fault("".join([*LINES[:2], text, *LINES[3:]])), None if is_sound else "line 3 of its log is not what its account says", reason)
+            self.assertEqual(self.fault("".join([*LINES[:2], text, *LINES[3:]])), None if is_sound else "line 3 of its log does not agree with its call log", reason)
         answered = LINES[1].replace('"reason":null', '"reason":"no connection"')
-        self.assertEqual(self.fault("".join([LINES[0], answered, *LINES[2:]])), "line 2 of its log is not what its account says")
+        self.assertEqual(self.fault("".join([LINES[0], answered, *LINES[2:]])), "line 2 of its log does not agree with its call log")
 
     def test_the_reasons_are_those_of_the_referee(self):
         files = "http_exchange/src/wire_fault.rt", "http_exchange/src/received.rt", "http_exchange/src/head.rt", "network_players/src/contacting.rt"
@@ -171,7 +171,7 @@ class OfCompetition(unittest.TestCase):
             folder.account(name).write_bytes(ACCOUNT.replace(b"cup-001", name.encode()))
             results.append(types.SimpleNamespace(match=match))
         plan = types.SimpleNamespace(folder=folder, roles=lambda game: ROLES)
-        wrong = "cup-002: line 2 of its log is not what its account says"
+        wrong = "cup-002: line 2 of its log does not agree with its call log"
         self.assertEqual(faults_of_logs(plan, results, is_published=True), [wrong])
         with open(folder.log("cup-003"), "a") as file:
             file.write("Welcome\n")
@@ -208,7 +208,7 @@ class Accounts(unittest.TestCase):
     def test_what_a_referee_calls(self):
         self.assertIsNone(fault_of_account(CALLS))
         self.assertIsNone(fault_of_account(CALLS.replace(b"strict cup-001 0 5 5 2", b"open cup-001 0 5 5")))
-        self.assertRegex(self.fault(CALL_LINES[0]), "its account ends after line 1")
+        self.assertRegex(self.fault(CALL_LINES[0]), "its call log ends after line 1")
 
     def test_a_call_that_no_referee_makes_is_named_wherever_it_is(self):
         calls = (
@@ -219,12 +219,12 @@ class Accounts(unittest.TestCase):
         for call in calls:
             for at in range(1, len(CALL_LINES) + 1):
                 shown = call.decode().strip("\n").replace("\t", " ")
-                words = f"line {at + 1} of its account is not a call that a referee makes there: {shown}"
+                words = f"line {at + 1} of its call log is not a call that a referee makes there: {shown}"
                 self.assertEqual(self.fault(*CALL_LINES[:at], call, *CALL_LINES[at:]), words)
 
     def test_each_line_is_needed_where_another_follows_from_it(self):
         for at in (1, 2, 3, 6, 7, 8, 9, 10, 11, 12):
-            self.assertRegex(self.fault(*CALL_LINES[:at], *CALL_LINES[at + 1 :]), r"line \d+ of its account is not a call that a referee makes there: ")
+            self.assertRegex(self.fault(*CALL_LINES[:at], *CALL_LINES[at + 1 :]), r"line \d+ of its call log is not a call that a referee makes there: ")
 
     def test_a_role_that_waits_asks_as_often_as_its_clock_allows(self):
         head, most = CALL_LINES[0].replace(b"0 5 5", b"0 7 6"), MOST_HOLDS + 2 * 2
@@ -232,24 +232,24 @@ class Accounts(unittest.TestCase):
             before, after = (head, *CALL_LINES[1:at]), [line for line in CALL_LINES[at:] if line != hold]
             self.assertIsNone(self.fault(*before, *[hold] * (most + clock), *after))
             fault = self.fault(*before, *[hold] * (most + clock + 1), *after)
-            self.assertRegex(fault, f"line {at + most + clock + 1} of its account is not a call that a referee makes there: . next cup-001 . hold")
+            self.assertRegex(fault, f"line {at + most + clock + 1} of its call log is not a call that a referee makes there: . next cup-001 . hold")
 
     def test_a_history_has_a_greatest_length(self):
         with mock.patch.object(call_logs, "MOST_CALLS", len(CALL_LINES)):
             self.assertIsNone(fault_of_account(CALLS))
         with mock.patch.object(call_logs, "MOST_CALLS", len(CALL_LINES) - 1):
-            self.assertRegex(fault_of_account(CALLS), "line 17 of its account is not a call")
+            self.assertRegex(fault_of_account(CALLS), "line 17 of its call log is not a call")
 
     def test_the_part_of_each_role_comes_to_its_end(self):
-        self.assertEqual(self.fault(*CALL_LINES[:-1]), "its account ends after line 16, before each role's part is over")
+        self.assertEqual(self.fault(*CALL_LINES[:-1]), "its call log ends after line 16, before each role's part is over")
 
     def test_nothing_is_called_once_a_role_s_part_is_over(self):
-        self.assertRegex(self.fault(*CALL_LINES, CALL_LINES[-1]), "line 18 of its account is not a call")
+        self.assertRegex(self.fault(*CALL_LINES, CALL_LINES[-1]), "line 18 of its call log is not a call")
 
     def test_a_call_on_another_match(self):
         other = CALL_LINES[4].replace(b"cup-001", b"cup-002")
-        self.assertEqual(self.fault(*CALL_LINES[:5], other, *CALL_LINES[5:]), "line 6 of its account is of another match: 1 next cup-002 0 hold 0")
+        self.assertEqual(self.fault(*CALL_LINES[:5], other, *CALL_LINES[5:]), "line 6 of its call log is of another match: 1 next cup-002 0 hold 0")
 
     def test_the_first_line_opens_the_match(self):
         for lines, shown in ((CALL_LINES[1:], "1 next cup-001 0 owe 0 start"), ([CALL_LINES[0].replace(b"opened", b"refused deskfull")], "0 strict cup-001 0 5 5 2 ann bob refused deskfull"), ([], "")):
-            self.assertEqual(self.fault(*lines), f"line 1 of its account does not open a match: {shown}")
+            self.assertEqual(self.fault(*lines), f"line 1 of its call log does not open a match: {shown}")

@@ -169,7 +169,7 @@ class Commands(unittest.TestCase):
         self.assertEqual([row[0] for row in rows], ["1", "3", "4", "5", "6"])
         self.assertEqual([row[2] for row in rows], ["countdown"] * 3 + ["-"] * 2)
         self.assertEqual(said.returncode, 1)
-        self.assertEqual(said.stderr, "ggp-records: 2 lawful, 1 not lawful, 1 no record, 1 no game has its roles, 1 line of accounts skipped\n")
+        self.assertEqual(said.stderr, "ggp-records: 2 lawful, 1 not lawful, 1 no record, 1 no game has its roles, 1 call log line skipped\n")
 
     def test_why_is_said_below_a_record_that_is_not_lawful(self):
         for words in (["--explain", "check", self.pile], ["check", self.pile, "--explain"], ["check", "--explain", self.pile]):

@@ -238,7 +238,7 @@ class Demonstration(InFolder):
     def publish(self, page: Page) -> None:
         """Publishes and checks, and compares the pages of the archive with the live ones."""
         self.ran("publish", "--to", "published.tar.gz")
-        self.assertIn("43 records and accounts, the table and the pages are right", self.ran("check", "published.tar.gz")[0])
+        self.assertIn("43 records and call logs, the table and the pages are right", self.ran("check", "published.tar.gz")[0])
         standings = page.value("document.getElementById('standings').innerText")
         self.serving.terminate()
         page.until("!document.getElementById('lost').hidden")

@@ -159,7 +159,7 @@ class Faults(unittest.TestCase):
 
     def test_places_where_a_text_is_no_json(self):
         none = "The text is not JSON: a value is nested more than 127 deep, a number is invalid or outside the range of binary64, or a surrogate pair is incomplete."
-        more = "More text follows the first record. Pass one record, without its account, or use --lines if each line is a record."
+        more = "More text follows the first record. Pass one record, without its call log, or use --lines if each line is a record."
         for text, *lines in (
             (b'{\n"\xff"', "The text is not JSON: line 2, byte 2 of it: it is not UTF-8."), (b'\xff', "The text is not JSON: line 1, byte 1 of it: it is not UTF-8."),
             (b"\n\xff", "The text is not JSON: line 2, byte 1 of it: it is not UTF-8."), (b"{} x", "The text is not JSON: line 1, column 4: more follows the value."),
@@ -256,7 +256,7 @@ class Verdicts(WithStandIn):
         count, said = self.lines_of(account + record + record.replace(b"[0,100]", b"[100,0]") + b"{\n" + account + b'{"matchId":7}\n')
         self.assertEqual([line for line in said if not line.startswith("\t")], ["line 3, match m1: not lawful: goals", "line 4: not lawful: json", "line 6: not lawful: shape cause"])
         self.assertEqual(said[1], "\tA record of the phase finished has the goals of the last state.")
-        self.assertEqual(count, "1 lawful, 3 not lawful, 2 lines of accounts skipped")
+        self.assertEqual(count, "1 lawful, 3 not lawful, 2 call log lines skipped")
         self.assertEqual(self.asked()[1].count(b"\n"), 4)
 
     def test_a_line_that_is_too_long_is_no_record(self):
@@ -410,7 +410,7 @@ class Whole(unittest.TestCase):
         rest = [line for line in out[len(wanted) :] if not line.startswith("\t")]
         at = len(faulty) + 3
         self.assertEqual(rest, [f"line {at}: not lawful: json", f"line {at + 1}: not lawful: json", f"line {at + 2}: not lawful: json", f"line {at + 3}: not lawful: shape cause"])
-        self.assertEqual(said, f"ggp-explain-record: 1 lawful, {len(faulty) + 4} not lawful, 1 line of accounts skipped\n")
+        self.assertEqual(said, f"ggp-explain-record: 1 lawful, {len(faulty) + 4} not lawful, 1 call log line skipped\n")
 
     def test_without_a_verdict(self):
         for words, status, said in (

@@ -95,7 +95,7 @@ class Spoilt(InArchive):
         begun = sorted(line.split()[1] for line in self.ran("play") if line.startswith("begin"))
         self.assertEqual(begun, ["cup-003", "cup-004", "cup-005", "cup-006", "cup-007"])
         self.ran("publish")
-        self.assertIn("7 records and accounts", self.ran("check", "cup.tar.gz")[0])
+        self.assertIn("7 records and call logs", self.ran("check", "cup.tar.gz")[0])
         files = files_of(self.folder / "cup.tar.gz")
         self.assertEqual(files["cup/again.tsv"].splitlines()[1], b"cup-003\tcup-001\t" + REASON)
         first, _, third, *_ = map(json.loads, files["cup/matches.jsonl"].splitlines())
@@ -115,7 +115,7 @@ class Spoilt(InArchive):
         self.assertEqual([line.partition(";")[0] for line in out if line.startswith("round")], ["round 2 of 2: cup-003 to cup-004"])
         self.assertEqual(out[-1], "4 of 4 matches have a lawful record")
         self.ran("publish")
-        self.assertIn("4 records and accounts, the table and the pages are right; published", self.ran("check", "cup.tar.gz")[0])
+        self.assertIn("4 records and call logs, the table and the pages are right; published", self.ran("check", "cup.tar.gz")[0])
         files = files_of(self.folder / "cup.tar.gz")
         assert_spoilt(self, files, SWISS)
         # As if `play` was stopped after the first round.
@@ -126,7 +126,7 @@ class Spoilt(InArchive):
             file.unlink()
         self.assertEqual(run(self.folder, "publish")[2], "ggp_competition: nothing is published: 1 of 2 rounds are not planned yet; with `--gaps` the others are\n")
         self.ran("publish", "--gaps")
-        self.assertIn("2 records and accounts, the table and the pages are right; 1 of 2 rounds were not planned; published", self.ran("check", "cup.tar.gz")[0])
+        self.assertIn("2 records and call logs, the table and the pages are right; 1 of 2 rounds were not planned; published", self.ran("check", "cup.tar.gz")[0])
         self.assertEqual(files_of(self.folder / "cup.tar.gz")["cup/GAPS.tsv"], text.splitlines(keepends=True)[0])
         for file, data in kept.items():
             file.write_bytes(data)

@@ -355,6 +355,6 @@ class Histories(InFolder):
             self.assertIn(said, told)
         (self.folder / "records").mkdir()
         (self.folder / "records/cup-001.json").write_text("{}\n")
-        said = "ggp_competition: cup-001 does not count, so `ggp_competition play` plays it again: its account is missing\n"
+        said = "ggp_competition: cup-001 does not count, so `ggp_competition play` plays it again: its call log is missing\n"
         self.assertEqual(run(self.folder, "again", "cup-001", "--reason", "x"), (2, "", said))
         self.assertFalse((self.folder / "again.tsv").exists())

@@ -214,7 +214,7 @@ class Files(InCache):
         with mock.patch.object(Known, "__init__", side_effect=AssertionError):
             faults, said = check_archive(self.folder / "cup.tar.gz", self.referee)
         self.assertEqual((faults, self.referee.count), ([], 3))
-        self.assertIn("3 records and accounts", said)
+        self.assertIn("3 records and call logs", said)
 
     def test_the_commands_say_the_same_again(self):
         for words in (("table",), ("pages",), ("publish",)):

@@ -34,4 +34,4 @@ class Large(InFolder):
         self.assertEqual(run(self.folder, "publish")[0], 0)
         status, out, said = run(self.folder, "check", "cup.tar.gz")
         self.assertEqual((status, said), (0, ""), out)
-        self.assertIn(f"{len(schedule)} records and accounts", out)
+        self.assertIn(f"{len(schedule)} records and call logs", out)

@@ -173,7 +173,7 @@ class Kept(unittest.TestCase):
         self.matches(20)
         with self.assertRaises(Unchecked) as why:
             check_records(self.plan, Short())
-        self.assertEqual(str(why.exception), "records and accounts can't be checked: out of memory")
+        self.assertEqual(str(why.exception), "records and call logs can't be checked: out of memory")
 
 
 class Said(Counting):
@@ -237,14 +237,14 @@ class Looked(unittest.TestCase):
         self.assertEqual(sorted(json.loads(record)["matchId"] for _, record in self.referee.replayed), ["cup-0", "cup-2", "cup-3"])
         self.folder.account(other.id).unlink()
         self.write(first, account="wrong")
-        self.assertEqual(self.look()[1], {"cup-0": "its account does not reproduce its record", "cup-1": "not lawful: goals", "cup-3": "its account is missing"})
+        self.assertEqual(self.look()[1], {"cup-0": "its call log does not reproduce its record", "cup-1": "not lawful: goals", "cup-3": "its call log is missing"})
         self.folder.record(other.id).unlink()
         self.assertEqual(list(self.look()[1]), ["cup-0", "cup-1"])
         self.assertEqual(sorted(self.referee.counts), [3])
 
     def test_a_verdict_stands_before_what_a_replay_says(self):
         records = [b"{}\n", b'{"verdict":"not lawful: state 1"}\n', b"{}\n"]
-        self.assertEqual(referee_faults(self.plan, self.referee, "one", records, [b"right", b"right", b"wrong"]), [None, "not lawful: state 1", "its account does not reproduce its record"])
+        self.assertEqual(referee_faults(self.plan, self.referee, "one", records, [b"right", b"right", b"wrong"]), [None, "not lawful: state 1", "its call log does not reproduce its record"])
         self.assertEqual(self.referee.replayed, [(b"right", records[0]), (b"wrong", records[2])])
         self.assertEqual(referee_faults(self.plan, self.referee, "one", [], []), [])
 
@@ -323,7 +323,7 @@ class Looked(unittest.TestCase):
         self.assertEqual(self.known()[1], 1)
         account.unlink()
         known = Known(self.folder.path)
-        self.assertEqual((self.look(known)[1], self.referee.counts), ({"cup-0": "its account is missing"}, []))
+        self.assertEqual((self.look(known)[1], self.referee.counts), ({"cup-0": "its call log is missing"}, []))
 
     def test_a_file_that_can_not_be_read_is_not_missing(self):
         for file in (self.folder.account("cup-0"), self.folder.record("cup-1")):
@@ -395,7 +395,7 @@ class Lengths(Looked):
         with mock.patch.object(match_files, "LONGEST_ACCOUNT", size):
             self.assertEqual(self.faults(RECORD), [])
             account.write_bytes(account.read_bytes().replace(b"right", b"right!"))
-            self.assertEqual(self.faults(RECORD), [f"its account has more than {size} bytes"])
+            self.assertEqual(self.faults(RECORD), [f"its call log has more than {size} bytes"])
         self.assertEqual(LONGEST_ACCOUNT, 256 * 1024 * 1024)
 
 
@@ -405,8 +405,8 @@ class Files(InFolder):
     def test_what_is_not_handed_to_the_referee(self):
         account = b"0\topen cup-1 0 1 1\topened\n"
         for record, its, fault in (
-            (b"{}\n", None, "its account is missing"), (b"{}\n", account[:-1], "its account is cut off"), (b"{}\n", b"", "its account is cut off"),
-            (b"{}\n", b"\n", "line 1 of its account does not open a match: "), (b"{}", account, "its record is not one line"), (b"", account, "its record is not one line"),
+            (b"{}\n", None, "its call log is missing"), (b"{}\n", account[:-1], "its call log is cut off"), (b"{}\n", b"", "its call log is cut off"),
+            (b"{}\n", b"\n", "line 1 of its call log does not open a match: "), (b"{}", account, "its record is not one line"), (b"", account, "its record is not one line"),
             (b"{}\n{}\n", account, "its record is not one line"), (b"{\n}", account, "its record is not one line"), (b"[]\n", account, "its record does not begin with `{`"),
             (b" {}\n", account, "its record does not begin with `{`"), (b"{}\n", account, None),
         ):

@@ -319,7 +319,7 @@ class Checking(WithMatch):
     def test_what_does_not_count(self):
         self.assertEqual(self.checked(verdict="not lawful: goals"), ("not lawful: goals", []))
         self.begin(self.HEAD)
-        self.assertEqual(self.checked(is_replayed=False), ("its account does not reproduce its record", []))
+        self.assertEqual(self.checked(is_replayed=False), ("its call log does not reproduce its record", []))
 
     def test_where_there_is_no_verdict_the_files_are_kept_aside(self):
         short = Unchecked("`ggp_manager verify` came to no verdict: want of memory")
@@ -336,7 +336,7 @@ class Checking(WithMatch):
         self.assertEqual(self.checked(other + self.account), ("its matchId is 'cup-009', and the schedule has 'cup-001'", []))
         self.begin(self.HEAD)
         other = self.account.replace(b"cup-001", b"cup-002")
-        self.assertEqual(self.checked(self.record + self.account + other), ("line 2 of its account is of another match: 0 open cup-002 0 10 10 opened", []))
+        self.assertEqual(self.checked(self.record + self.account + other), ("line 2 of its call log is of another match: 0 open cup-002 0 10 10 opened", []))
 
     def log(self):
         return self.plan.folder.log("cup-001").read_text().removeprefix(OPENED)

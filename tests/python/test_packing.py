@@ -156,7 +156,7 @@ class Packing(InFolder):
         self.assertEqual(unpacked(tar_of(found)), found)
         wrong = "a/b", "rules", "pages", "earlier", "rules/a/b", "pages/other/a.html", "pages/matches/a/b", "xpages/index.html", "a b", "../a", "rules/..", "./a", "pages//a", "a\n"
         for name in ("cup", "/cup/a", *(f"cup/{name}" for name in wrong), f"cup/records/{'a' * 256}"):
-            self.assertEqual(unpacked(tar_of({**FIRST, name: b"1"})), f"{name!r} is no file of a competition")
+            self.assertEqual(unpacked(tar_of({**FIRST, name: b"1"})), f"{name!r} is not a file of a competition")
         self.assertEqual(unpacked(tar_of({**FIRST, "cap/a": b"1"})), "'cap/a' is not below cup")
         self.assertEqual(unpacked(tar_of([*FIRST.items(), ("cup/a", b""), ("cup/a", b"")])), "cup/a is there twice, or below a file")
         self.assertEqual(unpacked(tar_of({**FIRST, "cup/pages/games": b"1", "cup/pages/games/a": b"1"})), "cup/pages/games/a is there twice, or below a file")

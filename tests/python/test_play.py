@@ -401,7 +401,7 @@ class Play(InFolder):
             ("records/cup-001.json", lambda text: text.replace(b"(take 1)", b"(take 2)", 1), "not lawful"),
             ("records/cup-002.json", lambda text: text[:-20], "not one line"),
             ("accounts/cup-003.txt", lambda text: text.replace(b"taken", b"over", 1), "is not a call that a referee makes there"),
-            ("accounts/cup-004.txt", None, "its account is missing"),
+            ("accounts/cup-004.txt", None, "its call log is missing"),
             ("records/cup-005.json", lambda _: (self.folder / "records/cup-006.json").read_bytes(), "does not reproduce its record"),
         ]
         for name, change, _ in changes:
@@ -450,7 +450,7 @@ class Play(InFolder):
         damages = [
             (b"5\n", "its record does not begin with `{`"),
             (b"\n", "its record does not begin with `{`"),
-            (before["records/cup-001.json"][:-1] + b" " * (16 << 20) + b"\n", "its account does not reproduce its record"),
+            (before["records/cup-001.json"][:-1] + b" " * (16 << 20) + b"\n", "its call log does not reproduce its record"),
         ]
         for (data, words), ending in zip(damages, ("refused", "refused.2", "refused.3")):
             with self.subTest(words):

@@ -78,7 +78,7 @@ class Rules(InArchive):
         lines, notes = self.table()
         self.assertEqual(([lines[name]["matches"] for name in ("ann", "bob", "cid")], notes[0]), ([6, 6, 4], "cid has withdrawn: its disk is full; the matches that it has played count"))
         self.ran("publish")
-        self.assertIn("8 records and accounts", self.ran("check", "cup.tar.gz")[0])
+        self.assertIn("8 records and call logs", self.ran("check", "cup.tar.gz")[0])
         void = changed("cup/competition.toml", lambda text: b'withdrawn_results = "void"\n' + text)
         assert_spoilt(self, files_of(self.folder / "cup.tar.gz"), {
             "it has not withdrawn": (changed("cup/competition.toml", lambda text: text.replace(b"withdrawn = ", b"# ")), "earlier/12.toml asks for the same matches"),
@@ -108,7 +108,7 @@ class Rules(InArchive):
         absent = "eve has withdrawn: absent in 1 whole round; the matches that it has played do not count"
         self.assertEqual(notes[:2], [absent, "dan has withdrawn; the matches that it has played do not count"])
         self.ran("publish")
-        self.assertIn("8 records and accounts", self.ran("check", "cup.tar.gz")[0])
+        self.assertIn("8 records and call logs", self.ran("check", "cup.tar.gz")[0])
         assert_spoilt(self, files_of(self.folder / "cup.tar.gz"), {
             "they count": (changed("cup/competition.toml", lambda text: text.replace(b'"void"', b'"keep"')), "schedule.tsv does not agree with"),
             "one is not withdrawn": (changed("cup/competition.toml", lambda text: text.replace(b"withdrawn = true", b"")), "schedule.tsv does not agree with"),
@@ -132,7 +132,7 @@ class Rules(InArchive):
         self.assertEqual({name for row in rows for name in row.split()[2:]}, set(order[:2]))
         self.assertTrue(lines["ann"]["rating"] in (1500, None))
         self.ran("publish")
-        self.assertIn("6 records and accounts", self.ran("check", "cup.tar.gz")[0])
+        self.assertIn("6 records and call logs", self.ran("check", "cup.tar.gz")[0])
         self.assertIn("<h2>Bracket</h2>", (first / "pages/index.html").read_text())
         assert_spoilt(self, files_of(self.folder / "cup.tar.gz"), {
             "there is no final": (changed("cup/competition.toml", lambda text: text.replace(b"final = 2", b"")), "schedule.tsv does not agree with"),

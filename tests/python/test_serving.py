@@ -311,7 +311,7 @@ class Pages(Served):
             self.assertIn(str(fault), told.getvalue())
             for place in places:
                 text = self.page(place)
-                self.assertIn(f"what stands here is of the plan before: {said}", text, place)
+                self.assertIn(f"these pages show the previous plan: {said}", text, place)
                 self.assertFalse(str(path) in text or "/opt" in text, place)
 
     def test_a_plan_that_changes_while_it_is_read(self):

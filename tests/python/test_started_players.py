@@ -565,6 +565,6 @@ class Started(InFolder):
         path = f"{os.path.dirname(sys.executable)}:{os.environ['PATH']}"
         done = subprocess.run([TOP / "examples/hold-a-competition", program(), self.folder / "demo"], env={**os.environ, "PATH": path}, capture_output=True, text=True)
         self.assertEqual((done.returncode, done.stderr), (0, ""), done.stdout)
-        for words in ("12 of 12 matches have a lawful record\n", "demo: 12 of 12 matches\n", "http://127.0.0.1:", "12 records and accounts, the table and the pages are right"):
+        for words in ("12 of 12 matches have a lawful record\n", "demo: 12 of 12 matches\n", "http://127.0.0.1:", "12 records and call logs, the table and the pages are right"):
             self.assertIn(words, done.stdout)
         self.assertEqual(sorted(file.name for file in (self.folder / "demo/players").iterdir()), ["ann.log", "bob.log", "cid.log"])

@@ -153,7 +153,7 @@ def faults_of_sums(folder: pathlib.Path) -> Iterator[str]:
         return
     sums = read_sums(files.pop(SUMS).read_bytes())
     if sums is None:
-        yield f"{SUMS} has a file twice, or a line that is no sum"
+        yield f"{SUMS} names a file twice, or has a line that is not a checksum"
         return
     for name in sorted(sums.keys() - files.keys()):
         yield f"{name} is missing"
@@ -282,5 +282,5 @@ def what_is_right(path: pathlib.Path, empty: pathlib.Path, referee: Referee) -> 
     missing, left = len(without_record(plan, results)), rounds_left(plan)
     gaps = f"; {missing} of {len(plan.matches)} matches have no record, {GAPS} names them" if missing else ""
     gaps += f"; {left} of {left + len(plan.rounds)} rounds were not planned" if left else ""
-    right = f"the sums, the schedule, {counted(len(results), 'record')} and account{'s' * (len(results) != 1)}, the table and the pages are right{gaps}"
+    right = f"the checksums, the schedule, {counted(len(results), 'record')} and call log{'s' * (len(results) != 1)}, the table and the pages are right{gaps}"
     return f"{right}{compared}; published with {made_by}, checked by {referee.version()}"

@@ -101,14 +101,14 @@ def fault_of_account(account: bytes) -> str | None:
     first = next(lines, b"")
     opening = OPENING.fullmatch(first)
     if not opening:
-        return f"line 1 of its account does not open a match: {shown(first)}"
+        return f"line 1 of its call log does not open a match: {shown(first)}"
     asked, number = Asked(opening), 1
     for number, text in enumerate(lines, 2):
         if number > MOST_CALLS or not asked.is_next(text):
             named = MATCH.match(text)
             why = "is of another match" if named and named[1] != opening[2] else "is not a call that a referee makes there"
-            return f"line {number} of its account {why}: {shown(text)}"
-    return None if len(asked.over) == asked.roles else f"its account ends after line {number}, before each role's part is over"
+            return f"line {number} of its call log {why}: {shown(text)}"
+    return None if len(asked.over) == asked.roles else f"its call log ends after line {number}, before each role's part is over"
 
 
 # ---- the match log
@@ -187,7 +187,7 @@ def fault_of_run(match: "Match", roles: Sequence[str], run: Sequence[Event], acc
     for number, event in enumerate(run, 1):
         is_second = has_end and isinstance(event, End)
         if is_second or not is_confirmed(match, event, asked, last):
-            return f"line {number} of its log is not what its account says"
+            return f"line {number} of its log does not agree with its call log"
         has_end = has_end or isinstance(event, End)
     return None
 

@@ -68,7 +68,7 @@ def ask_for_the_rest(asked: argparse.Namespace) -> None:
     asked.games = input("Games, such as tictactoe,connectfour: ")
     form, _, more = input("Form: round-robin ROUNDS, swiss ROUNDS, gauntlet PLAYER or knockout: ").strip().partition(" ")
     if form not in FORMS:
-        raise Refused(f"{form!r} is none of {', '.join(FORMS)}")
+        raise Refused(f"{form!r} is not one of {', '.join(FORMS)}")
     setattr(asked, form.replace("-", "_"), more or True)
     asked.players = asked.players or input("Players, such as ann=192.0.2.7:9147,bob=192.0.2.8:9147 (none: add them to the file): ")
 

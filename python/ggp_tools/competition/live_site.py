@@ -212,7 +212,7 @@ class LiveSite:
                 # The person who serves gets the whole message.
                 print(f"ggp_competition: the plan has changed, and can't be read: {why}", file=sys.stderr)
                 said = reason_for_visitors(self.plan.folder, why)
-                trouble = f"The plan has changed, and can't be read, so what stands here is of the plan before: {said}"
+                trouble = f"The plan has changed, and can't be read, so these pages show the previous plan: {said}"
                 self.plans.append((live.clock(), trouble))
         while self.plans and self.plans[0][0] <= live.clock() - self.delay.seconds:
             _, plan = self.plans.pop(0)

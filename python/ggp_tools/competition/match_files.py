@@ -81,11 +81,11 @@ def account_bytes(folder: Folder, match: str) -> bytes | None:
 def fault_of_files(record: bytes, account: bytes | None, rules: bytes) -> str | None:
     """Returns why files are not even passed to the referee, or None. This finds everything that the referee would skip, or at which it would stop."""
     if account is None:
-        return "its account is missing"
+        return "its call log is missing"
     if len(account) > LONGEST_ACCOUNT:
-        return f"its account has more than {LONGEST_ACCOUNT:,} bytes"
+        return f"its call log has more than {LONGEST_ACCOUNT:,} bytes"
     if not account.endswith(b"\n"):
-        return "its account is cut off"
+        return "its call log is cut off"
     if len(record) - 1 > (most := most_of_record(rules, len(record) - 1)):
         return f"its record has more than {most:,} bytes, the most that a match of its game can have"
     if record.count(b"\n") != 1 or not record.endswith(b"\n"):
@@ -125,7 +125,7 @@ def referee_faults(plan: "Plan", referee: Referee, game: str, records: Sequence[
     verdicts = referee.verdicts(rules, records)
     lawful = [at for at, verdict in enumerate(verdicts) if verdict == "lawful"]
     replays = dict(zip(lawful, referee.replays(rules, [accounts[at] for at in lawful], [records[at] for at in lawful])))
-    wrong = "its account does not reproduce its record"
+    wrong = "its call log does not reproduce its record"
     return [None if replays.get(at) else wrong if at in replays else verdict for at, verdict in enumerate(verdicts)]
 
 
@@ -191,7 +191,7 @@ def check_records(plan: "Plan", referee: Referee, known: Known | None = None) ->
         with concurrent.futures.ThreadPoolExecutor(PROCESSORS) as pool:
             done = list(itertools.chain.from_iterable(pool.map(check_batch, parts)))
     except MemoryError:
-        raise Unchecked("records and accounts can't be checked: out of memory") from None
+        raise Unchecked("records and call logs can't be checked: out of memory") from None
     results = {check.match.id: check.result for check in done if check.result}
     return results, {check.match.id: check.fault for check in done if check.fault}, {check.match.id: check.misfit for check in done if check.misfit}
 

@@ -137,7 +137,7 @@ def unpack(path: pathlib.Path, empty: pathlib.Path) -> pathlib.Path:
             for count, (name, own) in enumerate(members(stream), 1):
                 size += own
                 if not NAME.fullmatch(name) or {".", ".."} & set(name.split("/")):
-                    raise Spoilt(f"{name!r} is no file of a competition")
+                    raise Spoilt(f"{name!r} is not a file of a competition")
                 folder = empty / name.partition("/")[0] if count == 1 else folder
                 if not (empty / name).is_relative_to(folder):
                     raise Spoilt(f"{name!r} is not below {folder.name}")

@@ -390,7 +390,7 @@ def refuse_lost_results(plan: Plan, results: Mapping[str, Result]) -> None:
     last = len(plan.rounds)
     lost = [match.id for match in plan.matches if match.round < last and match.counts() and match.id not in results]
     if last and lost:
-        raise Refused(f"{lost[0]} has no record that counts, and a later round was paired by it", "put its record, account and log back")
+        raise Refused(f"{lost[0]} has no record that counts, and a later round was paired by it", "put its record, call log and match log back")
 
 
 # ---- rounds, and matches that are played again

@@ -156,7 +156,7 @@ class Handler(BaseHTTPRequestHandler):
             values = json.loads(body)
             why = self.server.seat.move(values["move"], values["asked"])
         except (ValueError, KeyError, TypeError, RecursionError):
-            why = "that is no move"
+            why = "that is not a move"
         self.reply(HTTPStatus.CONFLICT if why else HTTPStatus.OK, "text/plain", (why or "taken").encode())
 
     def send_events(self) -> None:

@@ -75,7 +75,7 @@ class Count:
 
     def words(self, skipped: int) -> str:
         parts = [f"{count:,} {verdict}" for verdict, count in self.by_verdict.most_common()]
-        parts += [f"{counted(skipped, 'line')} of accounts skipped"] * bool(skipped)
+        parts += [f"{counted(skipped, 'call log line')} skipped"] * bool(skipped)
         return ", ".join(parts) or "no records"
 
     def are_all_lawful(self) -> bool:

@@ -246,7 +246,7 @@ def explain_lines(asked_for: argparse.Namespace) -> int:
                     match = f", match {shown(line.match_id, MOST_OF_VALUE)}" if line.match_id else ""
                     lines = [] if line.is_too_long else map(shown, explanation(word, game(), line.data))
                     say("\n\t".join([f"line {line.number}{match}: {'no record: ' if line.is_too_long else 'not lawful: '}{word}", *lines]))
-    skipped = f", {counted(pile.skipped, 'line')} of accounts skipped" if pile.skipped else ""
+    skipped = f", {counted(pile.skipped, 'call log line')} skipped" if pile.skipped else ""
     report(f"{COMMAND}: {counts[0]:,} lawful, {counts[1]:,} not lawful{skipped}")
     return int(counts[1] > 0)
 

@@ -68,7 +68,7 @@ def json_lines(data: bytes) -> list[str]:
     except json.JSONDecodeError as why:
         lines = [f"line {why.lineno}, column {why.colno}: {JSON_WORDS.get(why.msg, 'an escape sequence is not valid JSON')}"]
         if why.msg == "Extra data" and FOLLOWS.match(why.doc, why.pos):
-            return [*lines, "More text follows the first record. Pass one record, without its account, or use --lines if each line is a record."]
+            return [*lines, "More text follows the first record. Pass one record, without its call log, or use --lines if each line is a record."]
         return lines + cut_lines(why.doc, why)
     except UnicodeDecodeError as why:
         line, column = data.count(b"\n", 0, why.start) + 1, why.start - data.rfind(b"\n", 0, why.start)

@@ -87,7 +87,7 @@ def record_of(file: BinaryIO) -> bytes:
     if ACCOUNT_LINE.fullmatch(second.rstrip(b"\r\n")):
         for number, line in numbered_lines(file):
             if not ACCOUNT_LINE.fullmatch(line):
-                raise NoRecord(f"line {number + 2} is not a line of its account. {ONE_RECORD}")
+                raise NoRecord(f"line {number + 2} is not a line of its call log. {ONE_RECORD}")
         data = first
     elif first.startswith(RECORD_BEGINS) and second.startswith(RECORD_BEGINS):
         raise NoRecord(f"line 2 is another record. {ONE_RECORD}")
