@@ -9,7 +9,7 @@ use std::fmt;
 #[derive(Drop)]
 pub enum Call {
     /// Opens a match of a game. The clocks are in seconds, and the players are in the order of the roles. `strikes`
-    /// substitutions in a row retire a role; 0 means never.
+    /// replaced moves in a row retire a role; 0 means never.
     Open {
         id: Text,
         game: usize,

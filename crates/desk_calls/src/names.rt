@@ -11,7 +11,7 @@ const MAX_NAME: usize = 64;
 /// The largest number of seconds on a clock.
 pub const MAX_CLOCK: u32 = 86_400;
 
-/// The largest lawful number of substitutions in a row that retire a role.
+/// The largest lawful number of replaced moves in a row that retire a role.
 pub const MAX_STRIKES: u32 = 255;
 
 fn is_name_byte(byte: u8) -> bool
@@ -70,7 +70,7 @@ pub fn are_clocks(start: u32, play: u32) -> bool
     is_clock(start) && is_clock(play)
 }
 
-/// Whether a match may retire a role after this many substitutions in a row. 0 means never.
+/// Whether a match may retire a role after this many replaced moves in a row. 0 means never.
 pub fn is_strikes(strikes: u32) -> bool
     ensures { result ≡ is_strikes strikes }
 {

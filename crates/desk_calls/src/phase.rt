@@ -28,7 +28,7 @@ pub struct Status {
     pub round: u64,
     /// The number of recorded turns.
     pub turns: u64,
-    /// The number of recorded moves that were substituted, including those of retired roles.
+    /// The number of recorded moves that were replaced, including those of retired roles.
     pub substitutions: u64,
 }
 

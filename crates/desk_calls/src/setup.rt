@@ -1,7 +1,7 @@
 //! The setup of a match.
 use game_core::{Text, Texts};
 
-/// The match's id, the clocks for START and PLAY in seconds, how many substitutions in a row retire a role (0 means never),
+/// The match's id, the clocks for START and PLAY in seconds, how many replaced moves in a row retire a role (0 means never),
 /// and the players' names in the order of the roles.
 #[derive(Drop)]
 pub struct Setup {

@@ -65,7 +65,7 @@ judged_answer g moves Broken = substitute moves ConnectionError
 unfoldable pub judgement : {S M : Type 0} → Rules S M → S → ℕ → Answer → Option (Judgement M)
 judgement g s r answer = judged_answer g (g.legal s r) answer
 
--- given these legal moves, a move may have been substituted for this reason
+-- given these legal moves, a move may have been replaced for this reason
 abbrev pub MayStand : {S M : Type 0} → Rules S M → List M → Substitution → Type 0
 MayStand g moves TimeOut = Unit {0}
 MayStand g moves ConnectionError = Unit {0}

@@ -18,7 +18,7 @@ pub record IsLawfulTurn {S M : Type 0} (g : Rules S M) (strikes : ℕ) (before :
   pub one_error : length t.errors ≡ g.roles
   pub judged : (r : ℕ) (d : M) → r < g.roles → IsPart g (retired_by strikes before r) (g.legal (state_after g before) r) (slice_index_or t.moves r d) (slice_index_or t.errors r [])
 
--- each turn may follow the turns before it, if this many substitutions in a row retire a role
+-- each turn may follow the turns before it, if this many replaced moves in a row retire a role
 abbrev pub AreLawful : {S M : Type 0} → Rules S M → ℕ → List (Turn M) → Type 0
 AreLawful {S} {M} g strikes turns = (k : ℕ) (d : Turn M) → k < length turns → IsLawfulTurn g strikes (take k turns) (slice_index_or turns k d)
 

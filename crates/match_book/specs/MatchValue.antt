@@ -26,11 +26,11 @@ joint_moves turns = map (λ t. t.moves) turns
 abbrev pub state_after : {S M : Type 0} → Rules S M → List (Turn M) → S
 state_after g turns = play g (joint_moves turns)
 
--- a move is substituted if its error is not empty
+-- a move is replaced if its error is not empty
 abbrev pub is_error : List ℕ → Bool
 is_error e = not (length e == 0)
 
--- the number of recorded moves that were substituted
+-- the number of recorded moves that were replaced
 abbrev pub substitutions : {M : Type 0} → List (Turn M) → ℕ
 substitutions turns = sum_by (λ t. count_by is_error t.errors) turns
 

@@ -10,7 +10,7 @@ abbrev pub all_struck : {M : Type 0} → ℕ → List (Turn M) → Bool
 all_struck role [] = true
 all_struck role (t ∷ ts) = if is_struck role t then all_struck role ts else false
 
--- the number of turns in a row, up to the last turn, in which the role's move was substituted
+-- the number of turns in a row, up to the last turn, in which the role's move was replaced
 abbrev pub in_a_row : {M : Type 0} → ℕ → List (Turn M) → ℕ
 in_a_row role [] = 0
 in_a_row role (t ∷ ts) = if all_struck role (t ∷ ts) then suc (length ts) else in_a_row role ts
@@ -18,7 +18,7 @@ in_a_row role (t ∷ ts) = if all_struck role (t ∷ ts) then suc (length ts) el
 abbrev pub role_strikes : {M : Type 0} → ℕ → List (Turn M) → ℕ → RoleStrikes
 role_strikes strikes turns role = record { in_a_row = in_a_row role turns; is_retired = retired_by strikes turns role }
 
--- this many substitutions in a row retire a role
+-- this many replaced moves in a row retire a role
 abbrev pub is_enough : ℕ → ℕ → Bool
 is_enough strikes n = if strikes == 0 then false else nat_le strikes n
 

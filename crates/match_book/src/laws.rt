@@ -69,7 +69,7 @@ pub fn one_more_turn<G: Game>()
     ensures { (game : G) → OneMoreTurn (G.rules game) }
 {}
 
-/// The retired roles, and the number of substitutions of each role in a row, can be computed turn by turn from the errors
+/// The retired roles, and the number of replaced moves of each role in a row, can be computed turn by turn from the errors
 /// of the turns.
 pub fn strikes_follow_turns<G: Game>()
     ensures begin { StrikesBegin G.Move }

@@ -54,7 +54,7 @@ pub struct Match<G: Game> {
     stage: Stage,
     /// The number of roles that have answered this round. In play, retired roles count as if they had answered.
     answered: usize,
-    /// The number of substituted moves.
+    /// The number of replaced moves.
     substituted: u64,
     strikes: Vec<RoleStrikes>,
     /// In play, the legal moves of each role in the present state.
@@ -153,7 +153,7 @@ impl<G: Game> Match<G> {
         &self.setup
     }
 
-    /// The phase, the round, and the numbers of turns and substitutions.
+    /// The phase, the round, and the numbers of turns and replaced moves.
     pub fn status(&self) -> Status
         ensures { result ≡ status (G.rules self.now.game) self.now.value }
     {

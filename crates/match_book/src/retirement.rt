@@ -1,4 +1,4 @@
-//! Which roles are retired because too many of their moves in a row were substituted.
+//! Which roles are retired because too many of their moves in a row were replaced.
 ghost use Rattle.std.specs.Prelude.{◌≡◌, ◌==◌, ◌<◌, ◌≤◌, ℕ, All, IfOk, length, replicate, slice_index_or, []};
 ghost use Rattle.match_book.specs.MatchValue.{is_error};
 ghost use Rattle.match_book.specs.Phase.{max_turns};
@@ -9,10 +9,10 @@ use crate::phase::Stage;
 use game_core::Text;
 use std::alloc::{AllocError, Global};
 
-/// A role's strikes: its substitutions in a row, and whether the role is retired.
+/// A role's strikes: its replaced moves in a row, and whether the role is retired.
 #[derive(Clone, Copy)]
 pub struct RoleStrikes {
-    /// The number of turns in a row, up to the last turn, in which the role's move was substituted.
+    /// The number of turns in a row, up to the last turn, in which the role's move was replaced.
     pub in_a_row: usize,
     pub is_retired: bool,
 }
@@ -24,7 +24,7 @@ const UNSTRUCK: RoleStrikes = RoleStrikes {
 };
 
 impl RoleStrikes {
-    /// The strikes after one more turn. `limit` substitutions in a row retire a role; 0 means never.
+    /// The strikes after one more turn. `limit` replaced moves in a row retire a role; 0 means never.
     fn after_turn(self, limit: u8, is_struck: bool) -> RoleStrikes
         requires { self.in_a_row ≤ max_turns }
         ensures { result ≡ after_turn limit self is_struck }
@@ -50,8 +50,8 @@ pub fn all_unstruck(alloc: Global, roles: usize) -> Result<Vec<RoleStrikes>, All
     vec![in alloc; UNSTRUCK; roles]
 }
 
-/// Each role's strikes after one more turn with these errors. `kept` has the strikes before the turn. `limit` substitutions
-/// in a row retire a role; 0 means never.
+/// Each role's strikes after one more turn with these errors. `kept` has the strikes before the turn. `limit` replaced
+/// moves in a row retire a role; 0 means never.
 pub fn strikes_after(
     alloc: Global,
     limit: u8,

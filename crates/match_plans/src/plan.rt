@@ -2,7 +2,7 @@
 
 use crate::addresses::PlayerAddress;
 
-/// A match between players on the network. The clocks are in seconds. After `strikes` substituted moves in a row a role is
+/// A match between players on the network. The clocks are in seconds. After `strikes` replaced moves in a row a role is
 /// retired; 0 means never. The players are in the order of the roles.
 #[derive(Drop)]
 pub struct MatchPlan<'a> {

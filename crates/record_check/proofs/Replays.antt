@@ -84,7 +84,7 @@ turn-fault g p t s WrongGoals comes fault = absurd fault
 turn-fault g p t s WrongEnd comes fault = inl (t, s, comes, fault)
 turn-fault g p t s Memory comes fault = tt
 
--- ---- Which roles are retired, by their substitutions so far
+-- ---- Which roles are retired, by their replaced moves so far
 
 every_role-same : (n : ℕ) (p q : ℕ → Bool) → ((k : ℕ) → k < n → q k ≡ p k) → every_role n q ≡ every_role n p
 every_role-same zero p q same = refl

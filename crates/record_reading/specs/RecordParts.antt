@@ -62,7 +62,7 @@ NamesRole roles (NoGoal r) = r < roles
 NamesRole roles TooLong = Unit {0}
 NamesRole roles AllRetired = Unit {0}
 
--- a reason that a record may give for a substitution, for some legal moves and some retired roles
+-- a reason that a record may give for a replaced move, for some legal moves and some retired roles
 abbrev pub MayBeGiven : Substitution → Type 0
 MayBeGiven TimeOut = Unit {0}
 MayBeGiven ConnectionError = Unit {0}

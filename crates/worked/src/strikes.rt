@@ -1,4 +1,4 @@
-//! Matches in which substitutions in a row retire a role.
+//! Matches in which replaced moves in a row retire a role.
 use crate::holding::holds;
 use crate::script::is_counted_down;
 use std::test::Fail;
@@ -39,7 +39,7 @@ const RETIRED_AT_THE_END_RECORD: &str =
     r#"{"cause":null,"endMarks":[null,null],"errors":[["TO","TO"]],"goalValues":[100,0],"matchId":"m","moves":[["(take 1)","noop"]],"phase":"stopping","playClock":1,"players":["ann","bob"],"roles":["red","blue"],"startClock":1,"startMarks":["",""],"states":[["(heap 1)","(turn red)"],["(heap 0)","(turn blue)"]],"strikes":1,"version":2}
 "#;
 
-/// Two substitutions that are not in a row retire no role, with a heap of ten.
+/// Two replaced moves that are not in a row retire no role, with a heap of ten.
 const NOT_IN_A_ROW: &str = "strict m 0 1 1 2 ann bob -> opened
 submit m 0 0 READY -> taken
 submit m 1 0 READY -> taken

@@ -18,7 +18,7 @@ pub record ArePast {S M : Type 0} (g : Rules S M) (turns : List (Turn M)) (past 
   pub before : (k : ℕ) → k < length turns → slice_get past k ≡ Some (state_after g (take k turns))
 
 -- The match is lawful. The other arguments are the match's past states, its present state, its stage, the number of roles that have answered
--- this round, the number of substitutions, each role's strikes, each role's legal moves in play, and the goals.
+-- this round, the number of replaced moves, each role's strikes, each role's legal moves in play, and the goals.
 pub record IsKept {S M : Type 0} (g : Rules S M) (m : MatchValue M) (past : List S) (s : S) (at : Stage) (answered substituted : ℕ) (strikes : List RoleStrikes) (legal : List (List M)) (goals : List (Option ℕ)) : Type 0 where
   pub lawful : IsLawfulMatch g m
   pub past_are : ArePast g m.turns past
