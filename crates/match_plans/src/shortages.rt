@@ -23,9 +23,6 @@ pub enum Shortage {
     /// This computer's network is down, has no route to the player or no address of its family, or forbids the connection.
     #[error("no network")]
     Network,
-    /// The program was not running when the time of a message ended, so it cannot know what the player had answered by then.
-    #[error("the referee was not running")]
-    NotRunning,
 }
 
 /// Reports which resource the referee lacked in a match. Such a match has no record, since an answer in it may not be the

@@ -9,7 +9,7 @@ use Rattle.http_exchange.specs.declared.received.Received.TheVariants.{Unconnect
 use Rattle.http_exchange.specs.declared.wire_fault.WireFault.{WireFault}
 use Rattle.http_exchange.specs.declared.wire_fault.WireFault.TheVariants as exchange_faults
 use Rattle.match_plans.specs.declared.shortages.Shortage.{Shortage}
-use Rattle.match_plans.specs.declared.shortages.Shortage.TheVariants.{Ports, Memory, Network, NotRunning}
+use Rattle.match_plans.specs.declared.shortages.Shortage.TheVariants.{Ports, Memory, Network}
 use Rattle.network_players.specs.Shortages.{system_shortage}
 use Rattle.network_players.specs.declared.contacting.ContactFault.{ContactFault}
 use Rattle.network_players.specs.declared.contacting.ContactFault.TheVariants as faults
@@ -76,14 +76,6 @@ fault_so_far faults.NoAddress last = last
 fault_so_far before (faults.Shortage Ports) = before
 fault_so_far before (faults.Shortage Network) = before
 fault_so_far before last = last
-
--- The error of an exchange that failed with this error. If the message's seconds have passed while the program was not running for a part of
--- them, a player that closed the connection may have waited long enough.
-abbrev pub fault_after_stall : Bool → ContactFault → ContactFault
-fault_after_stall true (faults.Exchange exchange_faults.CutShort received) = faults.Shortage NotRunning
-fault_after_stall true (faults.Exchange (exchange_faults.ReadFault kind) received) = faults.Shortage NotRunning
-fault_after_stall true (faults.Exchange exchange_faults.WriteFault received) = faults.Shortage NotRunning
-fault_after_stall is_over fault = fault
 
 -- What follows a try to connect: another one if the referee lacked a resource, even if the player has accepted no connection for some
 -- seconds; another one after a player that accepts no connection, if the flag is set. A try without time does not count, so the earlier

@@ -3,7 +3,7 @@ use Rattle.std.specs.Prelude.{◌≡◌, ◌⊎◌, ℕ, ℤ, unsigned_abs, ◌=
 use Rattle.std.specs.declared.io.ErrorKind.{ErrorKind}
 use Rattle.std.specs.declared.io.ErrorKind.TheVariants.{WouldBlock, TimedOut, AddrNotAvailable, OutOfMemory, NetworkDown}
 use Rattle.match_plans.specs.declared.shortages.Shortage.{Shortage}
-use Rattle.match_plans.specs.declared.shortages.Shortage.TheVariants.{Descriptors, Ports, Memory, Clock, Resolver, Network, NotRunning}
+use Rattle.match_plans.specs.declared.shortages.Shortage.TheVariants.{Descriptors, Ports, Memory, Clock, Resolver, Network}
 use Rattle.http_exchange.specs.declared.received.Received.TheVariants.{Unconnected}
 use Rattle.network_players.specs.declared.contacting.ContactFault.{ContactFault}
 use Rattle.network_players.specs.declared.contacting.ContactFault.TheVariants as faults
@@ -78,7 +78,7 @@ failed_halt kind number = short_halt (system_shortage kind number)
 
 -- the codes by which threads share what the referee lacks
 abbrev pub shortage_codes : List (ℕ × Shortage)
-shortage_codes = (1, Descriptors) ∷ (2, Ports) ∷ (3, Memory) ∷ (4, Clock) ∷ (5, Resolver) ∷ (6, Network) ∷ (7, NotRunning) ∷ []
+shortage_codes = (1, Descriptors) ∷ (2, Ports) ∷ (3, Memory) ∷ (4, Clock) ∷ (5, Resolver) ∷ (6, Network) ∷ []
 
 abbrev pub coded_shortage : ℕ → Option Shortage
 coded_shortage code = shortage_in shortage_codes code

@@ -82,6 +82,10 @@ impl<H: Routes> Routes for Beside<'_, H> {
     fn lack_of_route(&self, address: &SocketAddr) -> Option<Shortage> {
         self.rt.lack_of_route(address)
     }
+
+    fn probe(&self, address: &SocketAddr) -> io::Result<()> {
+        self.rt.probe(address)
+    }
 }
 
 impl<H: Routes> Resolves for Beside<'_, H> {

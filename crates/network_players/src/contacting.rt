@@ -2,11 +2,11 @@
 ghost use Rattle.std.specs.Prelude.{◌≡◌, ◌-◌};
 ghost use Rattle.std.specs.Duration.{as_nanos};
 ghost use Rattle.std.specs.IoError.{error_kind, raw_os_error};
-ghost use Rattle.network_players.specs.Contacts.{address_fault, after_try, connect_fault, fault_at_end, fault_at_refusal, fault_so_far, fault_after, fault_after_stall, is_of_network, outcome_of};
+ghost use Rattle.network_players.specs.Contacts.{address_fault, after_try, connect_fault, fault_at_end, fault_at_refusal, fault_so_far, fault_after, is_of_network, outcome_of};
 
-use crate::deadline::{Deadline, LATE, TimedStream, first_limit};
+use crate::deadline::{Deadline, LATE, Step, TimedStream, first_limit, take_step};
 use crate::lookup::{Lookup, Resolves};
-use crate::routes::{Routes, any_address, lacks_family, outside};
+use crate::routes::{Routes, lacks_route, outside};
 use crate::shortage::{is_of_either, shortage_of};
 use desk_calls::MAX_CLOCK;
 use game_core::{Counted, Text};
@@ -16,7 +16,7 @@ use shared_text::SharedText;
 use std::alloc::Global;
 use std::error::Error;
 use std::io::ErrorKind;
-use std::net::{IpAddr, Net, SocketAddr, TcpStream, UdpSocket};
+use std::net::{IpAddr, Net, SocketAddr, TcpStream};
 use std::time::{Clock, Duration};
 use std::{fmt, io, thread};
 
@@ -131,49 +131,37 @@ fn is_of_a_host(address: &SocketAddr) -> bool {
     }
 }
 
-/// Tries to send an empty datagram to the address. Only this computer's interfaces, routes and firewall can make this fail: the socket is
-/// new, so no reply can have come.
-fn send_nothing<N: Net>(net: &N, address: &SocketAddr) -> io::Result<()> {
-    let socket = UdpSocket::bind(net, any_address(address))?;
-    if socket.connect(*address).is_err() {
-        // Without this, the system refuses a broadcast address. With it, only a missing route makes the system refuse.
-        socket.set_broadcast(true)?;
-        return socket.connect(*address);
-    }
-    match socket.send(&[]) {
-        Err(error) if shortage_of(&error).is_some() => Err(error),
-        _ => Ok(()),
-    }
-}
-
 /// Whether the error says that this computer's firewall stopped a datagram.
 fn is_forbidden(error: &io::Error) -> bool {
     error.raw_os_error() == Some(EPERM)
 }
 
-/// Whether this computer's firewall stops all datagrams of the address's family. If so, a stopped datagram says nothing about connections.
-fn stops_datagrams<N: Net>(net: &N, address: &SocketAddr) -> bool {
-    match send_nothing(net, &outside(address.ip().to_canonical().is_ipv4())) {
-        Ok(()) => false,
-        Err(error) => is_forbidden(&error),
+/// Sends the probe to an address outside of the computer's network, of the version of IP in which packets travel to the address.
+fn probe_outside<N: Routes>(net: &N, address: &SocketAddr) -> io::Result<()> {
+    net.probe(&outside(address.ip().to_canonical().is_ipv4()))
+}
+
+/// Whether a probe that this computer refused with this error says nothing about its network: the address alone is the cause, or the firewall
+/// passes only connections. The owner of the player chooses the address, and a router of the player can take away its family.
+fn is_of_address<N: Routes>(net: &N, address: &SocketAddr, error: &io::Error) -> bool {
+    match probe_outside(net, address) {
+        Ok(()) => true,
+        Err(outside) => {
+            (is_forbidden(error) && is_forbidden(&outside)) || lacks_route(net, address)
+        }
     }
 }
 
-/// What this computer lacks to send anything to the address. `None` if it can send, if no computer could, if it lacks only the address's
-/// family, which a router of the player can remove, or if its firewall passes only connections.
+/// What this computer lacks to send anything to the address. `None` if it can send, if no computer could, or if it lacks no network.
 fn refusal<N: Routes>(net: &N, address: &SocketAddr) -> Option<Shortage> {
     if !is_of_a_host(address) {
         return None;
     }
-    let Err(error) = send_nothing(net, address) else {
+    let Err(error) = net.probe(address) else {
         return None;
     };
     let shortage = shortage_of(&error).unwrap_or(Shortage::Network);
-    let is_of_network = shortage == Shortage::Network;
-    if is_of_network && is_forbidden(&error) && stops_datagrams(net, address) {
-        return None;
-    }
-    if is_of_network && lacks_family(net, address) {
+    if shortage == Shortage::Network && is_of_address(net, address, &error) {
         return None;
     }
     Some(shortage)
@@ -200,7 +188,8 @@ fn connect_fault(error: &io::Error, may_be_own: bool, refusal: Option<Shortage>)
 }
 
 /// The error of an address to which no connection was made. If the player or a router on the way can cause it too, this probes what this
-/// computer lacks. If the computer has lost the family of the address, each address of that family gives the error for a lack of ports.
+/// computer lacks. If the computer has lost the family of the address, each address of that family gives the error for a lack of ports. A
+/// computer that can send to others does not lack a network.
 fn fault_of<N: Routes>(net: &N, address: &SocketAddr, error: &io::Error) -> ContactFault {
     let may_be_own = is_of_either(error.raw_os_error());
     let refusal = if may_be_own {
@@ -208,11 +197,15 @@ fn fault_of<N: Routes>(net: &N, address: &SocketAddr, error: &io::Error) -> Cont
     } else {
         None
     };
-    let fault = connect_fault(error, may_be_own, refusal);
-    if fault == ContactFault::Shortage(Shortage::Ports) && lacks_family(net, address) {
-        return ContactFault::NoConnection;
+    match connect_fault(error, may_be_own, refusal) {
+        ContactFault::Shortage(Shortage::Ports) if lacks_route(net, address) => {
+            ContactFault::NoConnection
+        }
+        ContactFault::Shortage(Shortage::Network) if probe_outside(net, address).is_ok() => {
+            ContactFault::NoConnection
+        }
+        fault => fault,
     }
-    fault
 }
 
 /// Whether a message failed in the network, and not because of what the player sent.
@@ -295,7 +288,8 @@ fn outcome_of(
     }
 }
 
-/// Connects to an address within the time that is left. If the first try gets no reply, a second one follows.
+/// Connects to an address within the time that is left. If the first try gets no reply, a second one follows. A connection that the player
+/// closed while the program was not running counts as none.
 fn connect_to<N: Routes + Clock>(
     net: &N,
     address: &SocketAddr,
@@ -307,7 +301,16 @@ fn connect_to<N: Routes + Clock>(
         // The next step finds out whether time is left.
         let _ = deadline.after(net, limit);
         match tried {
-            Ok(stream) => return Ok(stream),
+            Ok(stream) => {
+                // A player says nothing before the request, so there is something to read only if it closed or broke the connection.
+                let is_gone = deadline.has_stalled
+                    && !matches!(take_step(net, &stream, &Step::Looks), Ok(false));
+                return if is_gone {
+                    Err(ContactFault::NoConnection)
+                } else {
+                    Ok(stream)
+                };
+            }
             Err(error) => match fault_of(net, address, &error) {
                 ContactFault::Late(_) => {}
                 fault => return Err(fault),
@@ -397,7 +400,8 @@ fn patience_from(left: Duration) -> Duration
 }
 
 /// Connects to the player within the time that is left. Tries again while the referee lacks a resource, and stores this in `waited`. If the
-/// player accepts no connection, tries again for some seconds, counted from the start of the message or from such a lack.
+/// player accepts no connection, tries again for some seconds, counted from the start of the message, from such a lack, or from a try during
+/// which the program was not running.
 fn connect<N: Resolves + Clock>(
     net: &N,
     alloc: Global,
@@ -409,6 +413,7 @@ fn connect<N: Resolves + Clock>(
     let mut patient_to = patience_from(deadline.left);
     let mut before = LATE;
     for _ in 0..MAX_CONNECTS {
+        deadline.has_stalled = false;
         let connected = match lookup.look_up(net, alloc, player, deadline) {
             Ok(()) => connect_once(net, lookup, deadline),
             Err(fault) => Err(fault),
@@ -417,6 +422,9 @@ fn connect<N: Resolves + Clock>(
             Ok(stream) => return Ok(stream),
             Err(fault) => fault,
         };
+        if deadline.has_stalled {
+            patient_to = patience_from(deadline.left);
+        }
         match after_try(fault, before, deadline.left > patient_to) {
             AfterTry::Waits(shortage) => {
                 *waited = Some(shortage);
@@ -429,23 +437,6 @@ fn connect<N: Resolves + Clock>(
         before = fault;
     }
     Err(before)
-}
-
-/// The error of an exchange that failed with `fault`. If the message's seconds have passed while the program was not running for a part of
-/// them (`is_over`), a player that closed the connection may have waited long enough.
-fn fault_after_stall(is_over: bool, fault: ContactFault) -> ContactFault
-    ensures { result ≡ fault_after_stall is_over fault }
-{
-    match (is_over, fault) {
-        (
-            true,
-            ContactFault::Exchange(
-                WireFault::CutShort | WireFault::ReadFault(_) | WireFault::WriteFault,
-                _,
-            ),
-        ) => ContactFault::Shortage(Shortage::NotRunning),
-        (_, fault) => fault,
-    }
 }
 
 /// Sends the player the message over the connection, and reads its answer.
@@ -466,11 +457,7 @@ fn exchange_over<N: Net + Clock>(
         message,
         &mut received,
     );
-    let stream = stream.end();
-    match outcome_of(stream.halt, received, exchanged) {
-        Ok(text) => Ok(text),
-        Err(fault) => Err(fault_after_stall(stream.deadline.is_over_for_players(), fault)),
-    }
+    outcome_of(stream.end().halt, received, exchanged)
 }
 
 /// Sends a player a message and returns the body of its answer. The lookup of the host, connecting, writing and reading have `seconds`

@@ -1,6 +1,6 @@
 //! One deadline for all steps of a message.
-ghost use Rattle.std.specs.Prelude.{◌≡◌, ◌⊎◌, ◌+◌, ◌-◌, ◌*◌, ◌/◌, max, min, ◌<◌, ◌≤◌, ◌↔◌, Err, IfErr, IfOk, IsOkAnd, IsSome, IsTrue, None, OnOk};
-ghost use Rattle.std.specs.Duration.{as_nanos, max_nanos};
+ghost use Rattle.std.specs.Prelude.{◌≡◌, ◌⊎◌, ◌-◌, ◌*◌, ◌/◌, max, min, ◌<◌, ◌≤◌, ◌↔◌, Err, IfErr, IfOk, IsOkAnd, IsSome, IsTrue, None, OnOk};
+ghost use Rattle.std.specs.Duration.{as_nanos};
 ghost use Rattle.std.specs.Io.{ReadsAtMost, WritesAtMost};
 ghost use Rattle.std.specs.Io.KnownBytes.{ReadConsumes, WriteAppends};
 ghost use Rattle.std.specs.IoError.{error_kind, raw_os_error};
@@ -67,8 +67,8 @@ pub struct Deadline {
     /// When the clock was last read. `left` is the time that was left then.
     seen: Instant,
     pub(crate) left: Duration,
-    /// The time of the message that was not charged, because the program was not running.
-    stalled: Duration,
+    /// Whether the program was not running for a part of the last try to connect.
+    pub(crate) has_stalled: bool,
     /// How many reads may still take the bytes that are there when the time is over.
     looks: u32,
 }
@@ -83,29 +83,23 @@ impl Deadline {
             Ok(seen) => Ok(Deadline {
                 seen,
                 left: Duration::from_secs(u64::from(seconds)),
-                stalled: Duration::ZERO,
+                has_stalled: false,
                 looks: LOOKS,
             }),
             Err(_) => Err(NO_CLOCK),
         }
     }
 
-    /// Subtracts the cost of a step that took the time `passed`.
+    /// Subtracts the cost of a step that took the time `passed`. If it cost less, the program was not running.
     fn charge(&mut self, charged: Duration, passed: Duration)
         ensures left { as_nanos self.new.left ≡ as_nanos self.old.left - as_nanos charged }
-        ensures stalled { as_nanos self.new.stalled ≡ min (as_nanos self.old.stalled + (as_nanos passed - as_nanos charged)) max_nanos }
+        ensures stalled { IsTrue self.new.has_stalled ↔ (IsTrue self.old.has_stalled) ⊎ (as_nanos charged < as_nanos passed) }
         ensures looks { self.new.looks ≡ self.old.looks }
     {
         self.left = self.left.saturating_sub(charged);
-        self.stalled = self.stalled.saturating_add(passed.saturating_sub(charged));
-    }
-
-    /// Whether the message's seconds have passed although the program was not running for a part of them. A player that closes the
-    /// connection only now may have waited long enough.
-    pub(crate) fn is_over_for_players(&self) -> bool
-        ensures { IsTrue result ↔ (0 < as_nanos self.now.stalled) × (as_nanos self.now.left ≤ as_nanos self.now.stalled) }
-    {
-        !self.stalled.is_zero() && self.left.saturating_sub(self.stalled).is_zero()
+        if !passed.saturating_sub(charged).is_zero() {
+            self.has_stalled = true;
+        }
     }
 
     /// The time that is left after a step for which the time `asked` was requested, 0 if the step does not wait. The error is `Late` if no
@@ -144,7 +138,7 @@ impl Deadline {
 
 /// What a read of a message does next, until its bytes are there.
 #[derive(Clone, Copy)]
-enum Step {
+pub(crate) enum Step {
     /// It waits for bytes.
     Waits(Duration),
     /// It sleeps to the end of the time.
@@ -196,7 +190,11 @@ pub(crate) fn is_time_out(error: &io::Error) -> bool
 }
 
 /// Takes the step. Returns whether bytes or the end of the stream are there.
-fn take_step<C: Clock, S: OpenStream>(clock: &C, stream: &S, step: &Step) -> io::Result<bool> {
+pub(crate) fn take_step<C: Clock, S: OpenStream>(
+    clock: &C,
+    stream: &S,
+    step: &Step,
+) -> io::Result<bool> {
     let mut byte = [0];
     let peeked = match *step {
         Step::Waits(time) => {
@@ -266,7 +264,7 @@ fn failed_halt(kind: ErrorKind, number: Option<i32>) -> Option<ContactFault>
 #[derive(Drop)]
 pub struct TimedStream<'a, C, S> {
     clock: &'a C,
-    pub(crate) deadline: Deadline,
+    deadline: Deadline,
     stream: S,
     /// The halt of the last read or write. `None` if it counts, or if the player made it fail.
     pub(crate) halt: Option<ContactFault>,

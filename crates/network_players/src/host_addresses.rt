@@ -1,6 +1,6 @@
 //! Looks up the addresses of a host. This takes as long as the resolver of this computer takes.
 
-use crate::routes::{Routes, lack_of_network, lacks_family};
+use crate::routes::{Routes, lack_of_network, lacks_route};
 use crate::shortage::{lookup_shortage, shortage_of};
 use match_plans::Shortage;
 use std::alloc::{AllocError, Global};
@@ -93,7 +93,7 @@ pub(crate) fn addresses<N: Routes>(
     for _ in 0..DENIALS {
         let found = told_addresses(net, alloc, host, port)?;
         for address in &found {
-            if !lacks_family(net, address) {
+            if !lacks_route(net, address) {
                 return Ok(found);
             }
         }

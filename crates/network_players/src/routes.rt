@@ -1,4 +1,4 @@
-//! The routes of this computer. Finding them sends nothing.
+//! The routes of this computer.
 ghost use Rattle.std.specs.Prelude.{◌≡◌, ◌↔◌, IsTrue, None, Some};
 ghost use Rattle.std.specs.IoError.{error_kind, raw_os_error};
 ghost use Rattle.std.specs.Net.Addr.{is_ipv4};
@@ -48,6 +48,10 @@ fn route_shortage(error: &io::Error) -> Shortage
 pub trait Routes: Net {
     /// What this computer lacks to have a route to the address. Sends nothing.
     fn lack_of_route(&self, address: &SocketAddr) -> Option<Shortage>;
+
+    /// Tries to send an empty datagram to the address. Only this computer's interfaces, routes and firewall can make this fail: the socket is
+    /// new, so no reply can have come.
+    fn probe(&self, address: &SocketAddr) -> io::Result<()>;
 }
 
 /// The network of a runtime.
@@ -62,6 +66,19 @@ impl<R: Net + Copy + Send + 'static> Routes for R {
             Err(error) => Some(route_shortage(&error)),
         }
     }
+
+    fn probe(&self, address: &SocketAddr) -> io::Result<()> {
+        let socket = UdpSocket::bind(self, any_address(address))?;
+        if socket.connect(*address).is_err() {
+            // Without this, the system refuses a broadcast address. With it, only a missing route makes the system refuse.
+            socket.set_broadcast(true)?;
+            return socket.connect(*address);
+        }
+        match socket.send(&[]) {
+            Err(error) if shortage_of(&error).is_some() => Err(error),
+            _ => Ok(()),
+        }
+    }
 }
 
 /// What this computer lacks to have a default route, of IPv4 or of IPv6.
@@ -70,31 +87,15 @@ pub(crate) fn lack_of_network<N: Routes>(net: &N) -> Option<Shortage> {
     net.lack_of_route(&outside(false))
 }
 
-/// Whether this computer lacks the family of an address, given what it lacks for a route to the address, for a default route of the same
-/// family, and for one of the other family.
-fn is_without_family(
-    to_address: Option<Shortage>,
-    by_family: Option<Shortage>,
-    by_other: Option<Shortage>,
-) -> bool
-    ensures { IsTrue result ↔ (to_address ≡ Some Network) × (by_family ≡ Some Network) × (by_other ≡ None) }
+/// Whether this computer has a network but no route to an address, given what it lacks for that route and for a default route.
+fn is_without_route(to_address: Option<Shortage>, by_default: Option<Shortage>) -> bool
+    ensures { IsTrue result ↔ (to_address ≡ Some Network) × (by_default ≡ None) }
 {
-    matches!(
-        (to_address, by_family, by_other),
-        (Some(Shortage::Network), Some(Shortage::Network), None)
-    )
+    matches!((to_address, by_default), (Some(Shortage::Network), None))
 }
 
-/// Whether this computer has a network, but neither a route to the address nor a default route of its family.
-pub(crate) fn lacks_family<N: Routes>(net: &N, address: &SocketAddr) -> bool {
+/// Whether this computer has a default route of IPv4 or IPv6, but no route to the address.
+pub(crate) fn lacks_route<N: Routes>(net: &N, address: &SocketAddr) -> bool {
     let to_address = net.lack_of_route(address);
-    if to_address.is_none() {
-        return false;
-    }
-    let is_of_ipv4 = address.ip().to_canonical().is_ipv4();
-    is_without_family(
-        to_address,
-        net.lack_of_route(&outside(is_of_ipv4)),
-        net.lack_of_route(&outside(!is_of_ipv4)),
-    )
+    to_address.is_some() && is_without_route(to_address, lack_of_network(net))
 }

@@ -82,7 +82,6 @@ fn shortage_word(shortage: Shortage) -> &'static str
         Shortage::Clock => "clock",
         Shortage::Resolver => "resolver",
         Shortage::Network => "network",
-        Shortage::NotRunning => "not_running",
     }
 }
 
