@@ -136,7 +136,7 @@ fn only_player<'a>(found: &ArgMatches<'a>) -> Result<PlayerAddress<'a>, WrongVal
     player(found.get_str("player").unwrap_or(""))
 }
 
-/// The input file, or `None` for standard input, which a dash also means.
+/// The input file, or `None` for standard input. A dash also means standard input.
 fn input_file<'a>(found: &ArgMatches<'a>) -> Option<&'a str> {
     match found.get_str("file") {
         Some("-") => None,
@@ -282,7 +282,7 @@ fn task<'a>(
     }
 }
 
-/// The task or the error for an error of `clap`. For `clap`, help and version are errors too.
+/// The task or the error for a `clap` error. `clap` also returns the help and the version as errors.
 fn shown<'a>(alloc: Global, error: clap::Error) -> Result<Task<'a>, ArgumentFault<'a>> {
     if !error.use_stderr() {
         return Ok(Task::Show(error.to_string(alloc)?));

@@ -41,8 +41,8 @@ pub fn has_own_word(words: &[String]) -> bool {
     }
 }
 
-/// Whether a command line has `--why` or `--json`. With them the program prints the explanation even if standard error is not a terminal, and
-/// its exit status says whether the answer is no. Arguments after `--` are not options.
+/// Whether a command line has `--why` or `--json`. With either, the program prints the explanation even if standard error
+/// is not a terminal, and its exit status says whether the answer is no. Arguments after `--` are not options.
 pub fn asks_why(words: &[String]) -> bool {
     for word in words {
         match word.as_str() {

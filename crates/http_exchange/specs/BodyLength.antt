@@ -12,7 +12,7 @@ use Rattle.http_exchange.specs.declared.wire_fault.FrameFault.TheVariants.{Trans
 abbrev pub Header : Type 0
 Header = List ℕ × List ℕ
 
--- the name is this one, in upper or lower case; it is given in lower case
+-- the name is `small`, in upper or lower case; `small` is in lower case
 abbrev pub has_name : List ℕ → List ℕ → Bool
 has_name small name = bytes_eq (map to_ascii_lowercase name) small
 
@@ -35,7 +35,7 @@ pub data BodyLength : Type 0 where
 abbrev pub lengths : List Header → List (List ℕ)
 lengths fields = map (λ (field : Header). field.1) (filter (λ (field : Header). has_name content_length field.0) fields)
 
--- Lengths agree if all are digits of the same number. Leading zeros do not matter.
+-- Lengths agree if all consist of digits and give the same number. Leading zeros do not matter.
 abbrev pub agreed : List (List ℕ) → BodyLength
 agreed [] = unsaid
 agreed (value ∷ values) =
@@ -57,12 +57,12 @@ is_wrong unsaid = false
 is_wrong (said n) = false
 is_wrong wrong = true
 
--- why the fields, after the ones in the first list, have no usable length
+-- why there is no usable length: the error of the first field of the second list after which there is none
 abbrev pub fault_behind : List Header → List Header → FrameFault
 fault_behind before [] = NoLength
 fault_behind before (field ∷ fields) =
     if is_wrong (body_length (before ++ (field ∷ []))) then field_fault field else fault_behind (before ++ (field ∷ [])) fields
 
--- Why the fields have no usable length: the reason is the first field after which they have none.
+-- Why the fields have no usable length: the error of the first field after which there is none.
 abbrev pub length_fault : List Header → FrameFault
 length_fault fields = fault_behind [] fields

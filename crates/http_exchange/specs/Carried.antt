@@ -5,8 +5,8 @@ use Rattle.http_exchange.specs.HttpHead.{Parts, Reads, max_head, max_fields, max
 use Rattle.http_exchange.specs.declared.head.HttpKind.{HttpKind}
 use Rattle.http_exchange.specs.declared.head.HttpKind.TheVariants.{Reply, Request}
 
--- The bytes after the head are that body: as many as the fields say. If the fields have no length, a reply's body is everything up to
--- the end of the stream, and a request carries no body.
+-- The bytes after the head carry this body. If the fields have a length, the body is that many bytes. If the fields have no length, a
+-- reply's body is everything up to the end of the stream, and a request carries no body.
 abbrev pub Follows : HttpKind → BodyLength → List ℕ → Bool → List ℕ → Type 0
 Follows kind wrong rest ended body = ⊥
 Follows kind (said n) rest ended body = (n ≤ max_body kind) × (n ≤ length rest) × (body ≡ take n rest)

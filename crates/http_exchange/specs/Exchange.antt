@@ -16,7 +16,8 @@ use Rattle.http_exchange.specs.declared.wire_fault.FrameFault.{FrameFault}
 use Rattle.http_exchange.specs.declared.wire_fault.WireFault.{WireFault}
 use Rattle.http_exchange.specs.declared.wire_fault.WireFault.TheVariants.{Memory}
 
--- The bytes that the stream gave between two moments, from the bytes that are left at each. A stream that has ended has none left.
+-- The stream gave these bytes between two moments; `old` and `new` are the bytes that were left to read then. A stream that has ended
+-- has none left.
 pub record Gives (old new : Option (List ℕ)) (given : List ℕ) (ended : Bool) : Type 0 where
   pub consumed : Consumes old new given
   pub at_end : ended ≡ true → IsAtEnd new
@@ -43,8 +44,8 @@ TakesNone kind remaining old new fault =
     (given : List ℕ) × (ended : Bool) × Gives (remaining old.stream) (remaining new.stream) given ended
     × ReadStops kind fault given ended old new
 
--- The bytes from the stream are refused with this error, and this much was received, according to what they say about the head. So a
--- status in these is exactly the head's status.
+-- The bytes from the stream are refused with this error, and `received` follows from what they say about the head. So a status in
+-- `received` is exactly the status of the head.
 abbrev pub TellsRefusal : {S : Type 0} → HttpKind → (S → Option (List ℕ)) → Counting S → Counting S → WireFault → Received → Type 0
 TellsRefusal kind remaining old new fault received =
     (given : List ℕ) × (ended : Bool) × Gives (remaining old.stream) (remaining new.stream) given ended
@@ -61,8 +62,8 @@ abbrev pub BringsRefusal : {S : Type 0} → (S → Option (List ℕ)) → (S →
 BringsRefusal {S} contents remaining old new request fault received =
     (sent : Counting S) × WritesText contents old sent request × TellsRefusal Reply remaining sent new fault received
 
--- The exchange failed: there was no memory and nothing was done, or only a part of the request was written, or all of it was, and the
--- bytes of the reply explain the error.
+-- The exchange failed. Either memory ran out and nothing was done, or the request was not written completely, or it was and the bytes
+-- of the reply explain the error.
 abbrev pub BringsNone : {S : Type 0} → (S → Option (List ℕ)) → (S → Option (List ℕ)) → Counting S → Counting S → List ℕ → WireFault → Type 0
 BringsNone {S} contents remaining old new request fault =
     ((fault ≡ Memory) × (new ≡ old))

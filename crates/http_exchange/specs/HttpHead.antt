@@ -33,7 +33,7 @@ good_status = 200
 abbrev pub post : List ℕ
 post = codes "POST"
 
--- The parts of a head: its size in bytes, why its first line is refused, if it is, and its fields.
+-- The parts of a head: its size in bytes, the error if its first line is refused, and its fields.
 pub record Parts : Type 0 where
   pub size : ℕ
   pub refusal : Option FrameFault
@@ -62,7 +62,7 @@ Reads Request bytes parts rest = (head : RequestHead) × ReadsRequest bytes head
 abbrev pub HasNoHead : HttpKind → List ℕ → Type 0
 HasNoHead kind bytes = (parts : Parts) (rest : List ℕ) → ¬ (Reads kind bytes parts rest)
 
--- Some further bytes complete a head, or the bytes end inside a request's target, which is tested at its end.
+-- Some further bytes complete a head. Or the bytes end inside a request's target, which is not tested before it is complete.
 abbrev pub MayBecomeHead : HttpKind → List ℕ → Type 0
 MayBecomeHead Reply bytes = MayBecomeResponse bytes
 MayBecomeHead Request bytes = MayBecomeRequest bytes
@@ -97,7 +97,7 @@ framed_by kind size fault (said n) =
 framed_by Reply size fault unsaid = Whole (record { start = size; length = None })
 framed_by Request size fault unsaid = Refused NoLength
 
--- a first line that is not valid HTTP has the error `Method`
+-- the head, unless its first line is refused; a request that is refused because of its method is bad in the part `Method`
 abbrev pub unless_refused : Option FrameFault → Head → Head
 unless_refused None head = head
 unless_refused (Some BadHead) head = Bad Method
@@ -111,8 +111,8 @@ framed kind parts = unless_refused parts.refusal (framed_by kind parts.size (len
 abbrev pub front : List ℕ → List ℕ
 front bytes = take max_head bytes
 
--- What the bytes so far say about the head. The three cases exclude one another, with one exception: bytes that begin a head and are
--- hopeless are only refused.
+-- What the bytes so far say about the head. The three cases exclude one another, with one exception: if the bytes may become a head and
+-- are hopeless, the last two cases may both apply.
 abbrev pub HeadIs : HttpKind → List ℕ → Head → Type 0
 HeadIs kind bytes head =
     ((parts : Parts) × (rest : List ℕ) × Reads kind (front bytes) parts rest × (length parts.fields ≤ max_fields)

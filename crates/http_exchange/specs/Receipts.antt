@@ -15,7 +15,7 @@ abbrev pub body_receipt : Option ℕ → ℕ → Received
 body_receipt (Some n) come = receipts.Body (min n come) n
 body_receipt None come = receipts.OpenBody come
 
--- how far a reply came, from what its bytes say about the head and from their number
+-- how much of a reply came, from what its bytes say about the head and from their number
 abbrev pub receipt : Head → ℕ → Received
 receipt heads.Unfinished have = head_receipt have
 receipt (heads.Whole frame) have = body_receipt frame.length (have - frame.start)

@@ -21,7 +21,7 @@ fault_of refusals.NoLength = BadLength
 fault_of refusals.TooLong = TooLong
 fault_of refusals.CutShort = CutShort
 
--- the error is that of bytes that are refused
+-- the error means that the bytes are refused
 abbrev pub IsRefusal : WireFault → Type 0
 IsRefusal WriteFault = ⊥
 IsRefusal (ReadFault cause) = ⊥
@@ -33,12 +33,12 @@ IsRefusal fault = ⊤
 abbrev pub HasFailed : ℕ → ℕ → Type 0
 HasFailed old new = new < last_count → old < new
 
--- there are no bytes yet, or the bytes need more
+-- there are no bytes yet, or more bytes are needed
 abbrev pub WantsMore : HttpKind → List ℕ → Type 0
 WantsMore kind given = (given ≡ []) ⊎ Looks kind given false More
 
--- The meaning of an error of reading, for the bytes, the stream's end, and its counts before and after. All errors except the first
--- three are those of a refusal.
+-- The meaning of a read error, from the bytes, whether the stream ended, and its counts before and after. All errors except the first
+-- three mean that the bytes are refused.
 abbrev pub ReadStops : {S : Type 0} → HttpKind → WireFault → List ℕ → Bool → Counting S → Counting S → Type 0
 ReadStops kind (ReadFault cause) given ended old new =
     (cause ≢ Interrupted) × (ended ≡ false) × WantsMore kind given × HasFailed old.faults new.faults
@@ -48,7 +48,7 @@ ReadStops kind Memory given ended old new = ⊤
 ReadStops kind fault given ended old new =
     (refusal : FrameFault) × (fault ≡ fault_of refusal) × Looks kind given ended (Refused refusal)
 
--- the meaning of an error of writing, for the stream's counts before and after
+-- the meaning of a write error, from the stream's counts before and after
 abbrev pub WriteStops : {S : Type 0} → WireFault → Counting S → Counting S → Type 0
 WriteStops WriteFault old new = HasFailed old.faults new.faults
 WriteStops TooManyReads old new = CallsMade max_stream_calls old.calls new.calls

@@ -34,7 +34,7 @@ FoundIsCarried =
     (kind : HttpKind) (given : List ℕ) (ended : Bool) (start end : ℕ)
     → Looks kind given ended (Body start end) → Carried kind given ended (slice_range given start end)
 
--- the result is the place of this body
+-- the result says where this body is
 abbrev pub IsFound : Look → List ℕ → List ℕ → Type 0
 IsFound More given body = ⊥
 IsFound (Body start end) given body = body ≡ slice_range given start end
@@ -55,7 +55,7 @@ CarriedHasNoFault S =
     (kind : HttpKind) (given : List ℕ) (ended : Bool) (body : List ℕ) (fault : WireFault) (old new : Counting S)
     → Carried kind given ended body → ReadStops kind fault given ended old new → fault ≡ Memory
 
--- The reply that is written carries its body, whatever follows it.
+-- A reply carries its body, whatever follows the reply, if the body is within the limit.
 abbrev pub ReplyIsCarried : Type 0
 ReplyIsCarried =
     (body more : List ℕ) (ended : Bool) → length body ≤ max_body Reply → Carried Reply (reply_text body ++ more) ended body
@@ -64,8 +64,8 @@ ReplyIsCarried =
 abbrev pub long_name : ℕ
 long_name = 16000
 
--- The request that is written carries its body, whatever follows it, if the player's name is within the limit and has no control byte
--- except tabs.
+-- A request carries its body, whatever follows the request, if the body and the player's name are within their limits and the name has
+-- no control byte except tabs.
 abbrev pub RequestIsCarried : Type 0
 RequestIsCarried =
     (player body more : List ℕ) (ended : Bool) → AllPass is_value_byte player → length player ≤ long_name → length body ≤ max_body Request

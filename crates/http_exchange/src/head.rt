@@ -28,7 +28,7 @@ pub struct Frame {
 /// The part of a head that is not valid HTTP.
 #[derive(Clone, Copy, PartialEq, Eq)]
 pub enum HeadPart {
-    /// The version is neither 1.0 nor 1.1, or a reply does not begin with it and a space.
+    /// The version is neither 1.0 nor 1.1, or a reply does not begin with a version and a space.
     Version,
     /// After the version there is no status of three digits, or there is a control byte after the status.
     Status,
@@ -186,7 +186,8 @@ fn head_at(kind: HttpKind, bytes: &[u8]) -> Head
     }
 }
 
-/// What the bytes so far say about the head, if `before` is what fewer bytes said. Only an unfinished head is parsed again.
+/// What the bytes so far say about the head. `before` is what fewer bytes said; the head is parsed again only if it was
+/// unfinished.
 pub(crate) fn head_after(kind: HttpKind, before: Head, bytes: &[u8]) -> Head
     requires { IsKnown kind bytes.now before }
     ensures head { HeadIs kind bytes.now result }

@@ -11,7 +11,7 @@ pub fn found_is_carried()
     ensures { FoundIsCarried }
 {}
 
-/// If the bytes carry a body, the only possible result is the place of that body.
+/// If the bytes carry a body, the only possible result is where that body begins and ends.
 pub fn carried_is_found()
     ensures { CarriedIsFound }
 {}
@@ -26,12 +26,12 @@ pub fn carried_has_no_fault<S>()
     ensures { CarriedHasNoFault S }
 {}
 
-/// The reply that `give_reply` writes carries its body.
+/// The reply that `give_reply` writes carries its body, if that is within the limit.
 pub fn reply_is_carried()
     ensures { ReplyIsCarried }
 {}
 
-/// The request that `exchange` writes carries its body.
+/// The request that `exchange` writes carries its body, if the body and the player's name are within their limits.
 pub fn request_is_carried()
     ensures { RequestIsCarried }
 {}

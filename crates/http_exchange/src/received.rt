@@ -7,7 +7,7 @@ use crate::head::{Head, HeadPart, MAX_REPLY_BODY};
 use crate::wire_fault::FrameFault;
 use std::fmt;
 
-/// How far an exchange came that brought no body.
+/// How far an exchange got that returned no body.
 #[derive(Clone, Copy, PartialEq, Eq)]
 pub enum Received {
     /// There was no connection for the exchange.
@@ -17,7 +17,7 @@ pub enum Received {
     Nothing,
     /// This many bytes came, without the end of the head.
     Head(usize),
-    /// This many bytes of the body came, out of the second number.
+    /// The first number of bytes of the body came; the second number is its length.
     Body(usize, usize),
     /// This many bytes came of a body that continues to the end of the stream.
     OpenBody(usize),
@@ -28,7 +28,7 @@ pub enum Received {
     TwoLengths,
     /// A `Content-Length` exceeds the limit of a body.
     LongLength,
-    /// A complete head with this status, which is not 200, in this many bytes.
+    /// This many bytes came, with a complete head whose status is this one and not 200.
     Status(u16, usize),
     /// This many bytes came, and this part of their head is not valid HTTP.
     BadHead(HeadPart, usize),
@@ -87,14 +87,14 @@ impl fmt::Display for Received {
     }
 }
 
-/// The same text.
+/// The same text as `Display`.
 impl fmt::Debug for Received {
     fn fmt<W: fmt::Write>(&self, f: &mut fmt::Formatter<W>) -> fmt::Result {
         fmt::Display::fmt(self, f)
     }
 }
 
-/// How far a reply came, from what its bytes say about the head and from their number.
+/// How much of a reply came, from what its bytes say about the head and from their number.
 pub(crate) fn received_of(head: Head, have: usize) -> Received
     requires { StartsWithin have head }
     ensures { result ≡ receipt head have }

@@ -12,23 +12,23 @@ use std::io::ErrorKind;
 /// are lost, and bytes that were written stay written.
 #[derive(Clone, Copy, PartialEq, Eq)]
 pub enum WireFault {
-    /// A write failed other than by an interruption, or took none of some bytes.
+    /// A write failed and was not only interrupted, or it took none of the bytes that it was given.
     WriteFault,
-    /// A read failed other than by an interruption.
+    /// A read failed and was not only interrupted.
     ReadFault(ErrorKind),
-    /// No further bytes can make the bytes a head, the head has more than 64 fields, or a request's method is not `POST`.
+    /// No further bytes can complete a head, the head has more than 64 fields, or a request's method is not `POST`.
     BadHead,
     /// A reply's status is not 200.
     BadStatus,
     /// The fields do not have one length: there is a `Transfer-Encoding`, a length is not a number, two lengths are
     /// different, or a request has no length.
     BadLength,
-    /// The head has more than 16,384 bytes. Or the body has more than 65,536 in a reply or 2,097,152 in a request, according
-    /// to its length or as it came.
+    /// The head has more than 16,384 bytes. Or the body has more than 65,536 bytes in a reply or 2,097,152 in a request,
+    /// as the head says or as the bytes came.
     TooLong,
     /// The stream ended inside the head, or before the body was complete.
     CutShort,
-    /// After 200,000 reads more are needed, or after 200,000 writes some bytes are left.
+    /// 200,000 reads did not bring enough bytes, or 200,000 writes did not write all.
     TooManyReads,
     /// Out of memory.
     Memory,
@@ -51,7 +51,7 @@ impl fmt::Display for WireFault {
     }
 }
 
-/// The same text.
+/// The same text as `Display`.
 impl fmt::Debug for WireFault {
     fn fmt<W: fmt::Write>(&self, f: &mut fmt::Formatter<W>) -> fmt::Result {
         fmt::Display::fmt(self, f)

@@ -10,7 +10,7 @@ is_visible byte = nat_le 32 byte && nat_le byte 126
 abbrev pub shown_byte : ℕ → ℕ
 shown_byte byte = if is_visible byte then byte else 63
 
--- a report may have several text lines
+-- the same, except that line feeds stay, since a report may have several text lines
 abbrev pub reported_byte : ℕ → ℕ
 reported_byte byte = if byte == line_feed then byte else shown_byte byte
 

@@ -3,7 +3,7 @@ use Rattle.std.specs.Prelude.{◌≡◌, ℕ, ◌≤◌, Bool, false, List, [], 
 use Rattle.game_core.specs.Counting.{one_more}
 use Rattle.match_log.specs.declared.notices.Waiting.{Waiting}
 
--- nothing waits, whether the reports have ended or not
+-- nothing waits; `closed` says whether the reports have ended
 abbrev pub IsNothing : Waiting → Bool → Type 0
 IsNothing waiting closed = (waiting.reports.items ≡ []) × (waiting.log.items ≡ []) × (waiting.left_out ≡ 0)
     × (waiting.has_moved ≡ false) × (waiting.is_closed ≡ closed)
@@ -16,6 +16,6 @@ max_waiting = 8388608
 abbrev pub Waits : Waiting → Waiting → List ℕ → Type 0
 Waits old new line = (new.log.items ≡ old.log.items ++ line) × (length new.log.items ≤ max_waiting) × (new.left_out ≡ old.left_out)
 
--- the text line is counted, and none of its bytes waits
+-- the text line is counted as left out, and none of its bytes waits
 abbrev pub IsLeftOut : Waiting → Waiting → Type 0
 IsLeftOut old new = (new.log.items ≡ old.log.items) × (new.left_out ≡ one_more old.left_out)

@@ -138,7 +138,7 @@ pub enum Event<'a> {
     Absent(Addressee<'a>),
     /// The match with this id has no record, for this reason.
     NoRecord(Json<'a>, Json<'a>),
-    /// The log lacks this many objects.
+    /// This many objects were left out of the log.
     LeftOut(u64),
 }
 

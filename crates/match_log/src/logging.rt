@@ -22,14 +22,14 @@ pub struct Logging<'a, H, S> {
     /// The progress of the matches, if it is shown.
     pub progress: Option<&'a Progress>,
     pub notices: &'a Notices,
-    /// Whether only one player of each match is logged. That player then counts for the match, whatever its role. Otherwise the
-    /// player of the first role does.
+    /// Whether only one player of each match is logged. If so, that player counts for the match, whatever its role;
+    /// otherwise the player of the first role counts.
     pub is_alone: bool,
     /// Whether the program reports on standard error the players whose messages all failed.
     pub names_absent: bool,
 }
 
-/// What the log needs of a player of a match.
+/// What the log needs to know about a player of a match.
 #[derive(Drop)]
 struct PlayerLog<'a> {
     alloc: Global,
@@ -41,7 +41,7 @@ struct PlayerLog<'a> {
     /// The number of messages to the player, and of those that asked for a move.
     messages: u64,
     plays: u64,
-    /// Whether all of them failed although the referee lacked nothing.
+    /// Whether all these messages failed although the referee lacked no resource.
     is_absent: bool,
     names_absent: bool,
     progress: Option<&'a Progress>,
@@ -119,7 +119,7 @@ impl PlayerLog<'_> {
         }
     }
 
-    /// Adds an object to the log, if there is one.
+    /// If there is a log, adds an object to it.
     fn add<R: Wait>(&self, rt: &R, event: &Event<'_>) {
         if self.notices.is_logged {
             self.notices.log(rt, event.to_string(self.alloc));

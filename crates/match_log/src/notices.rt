@@ -56,7 +56,8 @@ impl Waiting {
         is_empty && !self.has_moved && !self.is_closed
     }
 
-    /// Appends a text line to the log. If too much waits, or there was or is no memory for it, counts it as left out.
+    /// Appends a text line to the log. If too much waits, or if there was or is no memory for the line, counts the line
+    /// as left out.
     fn log(&mut self, line: Result<String, AllocError>)
         ensures line { IfOk line (λ line. Waits self.old self.new (string_bytes line) ⊎ IsLeftOut self.old self.new) }
         ensures none { OnErr line (IsLeftOut self.old self.new) }
@@ -94,7 +95,7 @@ fn unwritten<W: Write>(stream: &mut W, lines: &[u8]) -> u64 {
     0
 }
 
-/// What the log lacks. After a failed write nothing more is written to it.
+/// What is missing from the log. After a failed write, nothing more is written to the log.
 #[derive(Drop)]
 struct LogState {
     /// The number of objects that were left out and that the log does not report yet.
@@ -121,7 +122,7 @@ impl LogState {
         };
     }
 
-    /// Reports what the log lacks. Ignores a failed write.
+    /// Reports what is missing from the log. Ignores a failed write.
     fn end<E: Write>(&self, errors: &mut E) {
         let missing = self.missing.saturating_add(self.left_out);
         if missing > 0 {
@@ -155,7 +156,8 @@ impl Notices {
         }
     }
 
-    /// Adds a text line to the log. If there is no memory for it, or too much waits already, it is left out and counted.
+    /// Adds a text line to the log. If there is no memory for the line, or too much waits already, the line is left out
+    /// and counted.
     pub fn log<R: Wait>(&self, rt: &R, line: Result<String, AllocError>) {
         self.waiting.lock(rt).log(line);
         self.changed.notify_one();
@@ -199,7 +201,7 @@ impl Notices {
         self.changed.notify_one();
     }
 
-    /// Takes the reports, and waits for some if there are none, for at most this time if it is given.
+    /// Takes the reports. If there are none, waits for some, but not longer than `at_most`, if that is given.
     fn take<H: Clock + Wait>(&self, rt: &H, at_most: Option<Duration>) -> Waiting {
         let at_most = at_most.unwrap_or(Duration::from_secs(LONGEST_WAIT_SECONDS));
         let mut waiting = self
@@ -215,8 +217,9 @@ impl Notices {
         mem::replace(&mut *waiting, nothing)
     }
 
-    /// Writes the reports and the log until they end. If the log has no stream of its own, it goes to the stream of the reports. Rewrites
-    /// the status line when the matches have progressed: at once, or when the line has been visible for a moment.
+    /// Writes the reports and the log until they end. If the log has no separate stream, it is written to the stream of
+    /// the reports. When the matches have progressed, rewrites the status line, but not before the line has been visible
+    /// for a moment.
     pub fn write_until_closed<H: Clock + Wait, E: Write, L: Write + Drop>(
         &self,
         rt: &H,
@@ -252,8 +255,8 @@ impl Notices {
     }
 }
 
-/// A stream of reports. Its text lines are added to the notices, without a limit. `?` replaces bytes outside 0x20 to 0x7E, because an id
-/// may have any bytes.
+/// A stream of reports. Its text lines are added to the notices, without a limit. `?` replaces bytes outside 0x20 to
+/// 0x7E, because an id may contain any bytes.
 #[derive(Drop)]
 pub struct ReportStream<'a, R> {
     rt: &'a R,

@@ -13,7 +13,7 @@ use std::sync::{Mutex, Wait};
 use std::time::{Clock, Duration, Instant};
 use whole_streams::Pieces;
 
-/// The least time between two writes of the line, in milliseconds.
+/// The shortest time between two writes of the line, in milliseconds.
 const PERIOD_MILLIS: u64 = 100;
 
 /// Moves the cursor to the beginning of its line, and erases the line: `EL` of ECMA-48.
@@ -99,7 +99,7 @@ impl<E: Write> StatusStream<E> {
         }
     }
 
-    /// Rewrites the line, unless that was done a moment ago. Then this returns how long to wait.
+    /// Rewrites the line. If the line was rewritten a moment ago, only returns how long to wait.
     pub(crate) fn show(&mut self, clock: &impl Clock, progress: &Progress) -> Option<Duration>
         ensures shown { IfNone result (IsTrue self.new.is_shown) }
         ensures waits { IfSome result (λ _. self.new ≡ self.old) }
@@ -149,8 +149,8 @@ impl WriterBrand for Brand {
     ghost name = { 0 };
 }
 
-/// An output through the chosen reference. If the status line may be on the same terminal, it is erased before each write. Otherwise
-/// writing waits for no report.
+/// An output through the chosen reference. If the status line may be on the same terminal, it is erased before each
+/// write. Otherwise a write does not wait for reports.
 #[derive(Drop)]
 pub struct ClearedOutput<'a, 'w, N: WriterBrand, R, W, E> {
     pub rt: &'a R,

@@ -5,14 +5,14 @@ use Rattle.desk_calls.specs.declared.due.Owed.TheVariants.{Start, Play, Stop, Ab
 use Rattle.desk_calls.specs.declared.answer.Answer.{Answer}
 use Rattle.match_messages.specs.BriefValue.{BriefValue}
 
--- a message that a player received with these seconds, and its answer
+-- a message that a player received, the seconds that it had for the answer, and the answer
 pub record Handed : Type 0 where
   pub seconds : ℕ
   pub body : List ℕ
   pub answer : Answer
 
--- From `before` to `after` the player received these messages. It shows them after those that it showed before, or it shows none any
--- more because it had no memory to store them.
+-- Between `before` and `after`, the player received these messages. It shows them after the messages that it showed before, or it no
+-- longer shows any, because it had no memory to store them.
 abbrev pub MayKeep : Option (List Handed) → Option (List Handed) → List Handed → Type 0
 MayKeep before after messages = (after ≡ option_map (λ shown. shown ++ messages) before) ⊎ (after ≡ None)
 

@@ -6,7 +6,7 @@ use Rattle.kif_text.specs.Reading.{reading}
 use Rattle.match_messages.specs.declared.info.Info.{Info}
 use Rattle.match_messages.specs.declared.info.Info.TheVariants.{Available, Ready, Busy, Unknown}
 
--- Below, expressions are folded.
+-- All expressions below are in lower case.
 
 abbrev pub status_named : Expression → Info
 status_named (atom word) = if bytes_eq word (codes "available") then Available
@@ -20,7 +20,7 @@ abbrev pub is_key : Expression → Bool
 is_key (atom word) = bytes_eq word (codes "status")
 is_key (list xs) = false
 
--- the status of members `status S`, or None for other members
+-- the status S if the members are `status S`, otherwise None
 abbrev pub status_pair : Expressions → Option Info
 status_pair (more key (more status none)) = if is_key key then Some (status_named status) else None
 status_pair _ = None
@@ -38,6 +38,6 @@ abbrev pub info_in : Expression → Info
 info_in (atom word) = status_named (atom word)
 info_in (list xs) = unwrap_or (first_status xs) Unknown
 
--- the status in the one expression of a text
+-- the status that a text gives if it is one expression, otherwise `Unknown`
 abbrev pub info_reading : List ℕ → Info
 info_reading text = unwrap_or (option_map (λ x. info_in (folded x)) (reading text)) Unknown

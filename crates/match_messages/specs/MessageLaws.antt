@@ -12,13 +12,13 @@ use Rattle.match_messages.specs.MessageValue.{MessageValue, info, start, play, s
 use Rattle.match_messages.specs.MessageText.{message_text}
 use Rattle.match_messages.specs.MessageReading.{message_reading}
 
--- no moves, or at least one; the atoms of the moves can be spelled by a text
+-- None, or at least one move; a text can spell the atoms of the moves
 abbrev pub AreMoves : Option Expressions → Type 0
 AreMoves None = Unit {0}
 AreMoves (Some none) = ⊥
 AreMoves (Some (more x xs)) = AllHaveAtoms (more x xs)
 
--- a message with a lawful id and lawful clocks, whose atoms can be spelled by a text
+-- a message with a lawful id, lawful clocks, and atoms that a text can spell
 abbrev pub IsLawfulMessage : MessageValue → Type 0
 IsLawfulMessage info = Unit {0}
 IsLawfulMessage (start id role rules s p) = (is_name id ≡ true) × HasAtoms role × AllHaveAtoms rules × (is_clock s ≡ true) × (is_clock p ≡ true)
@@ -47,7 +47,7 @@ MovesHaveTexts None (Some texts) = ⊥
 MovesHaveTexts (Some moves) None = ⊥
 MovesHaveTexts (Some moves) (Some texts) = HaveTexts moves texts
 
--- The owed message says this to the role. The expressions have the texts of the role's name, the rules and the moves.
+-- The owed message says this to the role. The texts of its expressions are the role's name, the rules and the moves of the match.
 abbrev pub Says : BriefValue → ℕ → Owed → MessageValue → Type 0
 Says b role Start (start id name rules s p) = (id ≡ b.id) × (slice_index_or b.roles role [] ≡ canonical name) × (b.rules ≡ rules_text rules) × (s ≡ b.start) × (p ≡ b.play)
 Says b role (Play texts) (play id moves) = (id ≡ b.id) × MovesHaveTexts moves texts

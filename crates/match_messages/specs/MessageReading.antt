@@ -15,7 +15,7 @@ use Rattle.match_messages.specs.declared.messages.MessageFault.TheVariants.{Unre
 abbrev pub Read : Type 0
 Read = Result MessageValue MessageFault
 
--- the expression is this word, in upper or lower case; the word is given in lower case
+-- the expression is the word `small`, in upper or lower case; `small` is in lower case
 abbrev pub is_word : List ℕ → Expression → Bool
 is_word small (atom word) = bytes_eq (map lower word) small
 is_word small (list xs) = false
@@ -85,7 +85,7 @@ message_in (atom word) = if is_word (codes "info") (atom word) then Ok info else
 message_in (list none) = Err BadMessage
 message_in (list (more keyword rest)) = message_of keyword rest
 
--- the message in the one expression of a text
+-- the message that an expression gives, or `Unreadable` if there is no expression
 abbrev pub in_expression : Option Expression → Read
 in_expression None = Err Unreadable
 in_expression (Some x) = message_in x
@@ -93,7 +93,7 @@ in_expression (Some x) = message_in x
 abbrev pub message_reading : List ℕ → Read
 message_reading text = in_expression (reading text)
 
--- the result is the message that is read, or its error, or out of memory
+-- the result is what was read, a message or an error, unless memory ran out
 abbrev pub Gives : Result Message MessageFault → Read → Type 0
 Gives (Ok m) read = read ≡ Ok (message_value m)
 Gives (Err Unreadable) read = read ≡ Err Unreadable

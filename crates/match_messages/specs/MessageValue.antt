@@ -36,7 +36,7 @@ message_form (play id moves) = list (more (atom (codes "PLAY")) (more (atom id) 
 message_form (stop id moves) = list (more (atom (codes "STOP")) (more (atom id) (more (moves_form moves) none)))
 message_form (abort id) = list (more (atom (codes "ABORT")) (more (atom id) none))
 
--- the message with role, rules and moves folded
+-- the message with its role, rules and moves in lower case
 abbrev pub folded_message : MessageValue → MessageValue
 folded_message info = info
 folded_message (start id role rules s p) = start id (folded role) (all_folded rules) s p

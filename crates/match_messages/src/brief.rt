@@ -7,8 +7,8 @@ use crate::start_rules::StartRules;
 use game_core::{Text, Texts};
 use kif_text::Expr;
 
-/// What the players of a match get: the match's id, the names of the roles in order, the rules of the game, and the clocks
-/// for START and PLAY in seconds.
+/// The data that the players of a match get: the match's id, the names of the roles in order, the rules of the game, and
+/// the clocks for START and PLAY in seconds.
 #[derive(Drop)]
 pub struct Brief {
     pub id: Text,

@@ -53,7 +53,7 @@ fn status_member(member: &Expr) -> Option<Info>
     }
 }
 
-/// The status of members `status S`.
+/// The status S if the members are `status S`.
 fn status_pair(members: &[Expr]) -> Option<Info>
     ensures { result ≡ status_pair (views members.now) }
 {
@@ -82,7 +82,7 @@ fn first_status(members: &[Expr]) -> Option<Info>
     None
 }
 
-/// The status in a folded answer.
+/// The status in an answer, which is in lower case.
 fn info_in(expr: &Expr) -> Info
     ensures { result ≡ info_in (view expr.now) }
 {

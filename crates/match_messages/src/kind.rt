@@ -4,7 +4,7 @@ ghost use mathlib.Core.List.{IsPrefix};
 
 use shared_text::SharedText;
 
-/// What a message tells a player to do.
+/// The kind of a message.
 #[derive(Clone, Copy, PartialEq, Eq)]
 pub enum MessageKind {
     Info,
@@ -38,7 +38,7 @@ impl MessageKind {
     ghost use Rattle.match_messages.specs.MessageKinds.{kind_word};
     ghost use Rattle.match_messages.specs.declared.kind.MessageKind.{MessageKind};
 
-    /// The kind of a message, by its first word. `None` if that is not the word of a kind.
+    /// The kind of a message, by its first word, or `None` if that word belongs to no kind.
     pub fn of(message: &SharedText<'_>) -> Option<MessageKind>
         ensures { MatchOption result ((kind : MessageKind) → ¬ (IsPrefix (kind_word kind) message.now)) (λ kind. IsPrefix (kind_word kind) message.now) }
     {

@@ -5,8 +5,8 @@ use desk_calls::laws::names_are_atoms;
 use game_core::laws::numerals_read_back;
 use kif_text::laws::canonical_reads_back;
 
-/// Reading the text of a lawful message gives the message with its role, rules and moves folded, if the text is within the
-/// limits of length and depth.
+/// Reading the text of a lawful message gives the message with its role, rules and moves in lower case, if the text is
+/// within the limits of length and depth.
 pub fn messages_read_back()
     ensures { MessagesReadBack }
 {
@@ -15,8 +15,8 @@ pub fn messages_read_back()
     canonical_reads_back();
 }
 
-/// Reading the text of an owed message gives what it says to the role, with role, rules and moves folded. The role's name
-/// and the texts of the moves must be canonical texts, and the message's text within the limits.
+/// Reading the text of an owed message gives what the message says to the role, with its role, rules and moves in lower
+/// case. The role's name and the texts of the moves must be canonical, and the message's text must be within the limits.
 pub fn owed_messages_read_back()
     ensures { OwedMessagesReadBack }
 {

@@ -8,8 +8,8 @@ use std::alloc::{AllocError, AllocFailed};
 use std::error::Error;
 use std::fmt;
 
-/// The content of a message. Role, rules and moves are in lower case, the id is as it was sent. The moves are those of the
-/// last turn, in the order of the roles, or `None` before the first turn.
+/// The content of a message. The role, the rules and the moves are in lower case; the id is as it was sent. The moves are
+/// those of the last turn, in the order of the roles, or `None` before the first turn.
 #[derive(Drop)]
 pub enum Message {
     Info,
@@ -33,7 +33,7 @@ pub enum Message {
     },
 }
 
-/// Why a text is not a message: the first of these that holds.
+/// Why a text is not a message: the first of these reasons that applies.
 #[derive(Clone, Copy, Debug, PartialEq, Eq)]
 pub enum MessageFault {
     /// The text is not one expression within the limits of length and depth.

@@ -8,10 +8,10 @@ use std::alloc::{AllocError, Global};
 
 /// The player of a role: it receives messages and answers them.
 ///
-/// A player may show contracts the messages that it received. A player in memory does; a player on the network does not. If
-/// a player has no memory left to store a message, it shows no messages from then on.
+/// A player may show the messages that it received to contracts. A player in memory does; a player on the network does
+/// not. If a player has no memory left to store a message, it shows no messages from then on.
 pub trait Player {
-    /// The messages that it received with its answers, in order, or `None` if it does not show them.
+    /// The messages that the player received, with its answers, in order, or `None` if the player does not show them.
     ghost handed: { Self → Option (List Handed) };
 
     /// Sends the player a message and waits for the answer. If the player takes longer than `seconds` seconds, the answer is
@@ -19,8 +19,8 @@ pub trait Player {
     fn ask(&mut self, seconds: u32, body: &[u8]) -> Answer
         ensures { MayKeep (handed self.old) (handed self.new) (record { seconds = seconds; body = body.now; answer = result } ∷ []) };
 
-    /// Does the same with a message of which other messages share a part. If the player needs the message in one piece, it
-    /// joins the parts first; if it is out of memory for that, it received nothing.
+    /// Does the same with a message that shares a part with other messages. A player that needs the message in one piece
+    /// joins the parts first; if memory runs out for that, the player received nothing.
     fn ask_shared(
         &mut self,
         alloc: Global,
@@ -34,7 +34,7 @@ pub trait Player {
         Ok(self.ask(seconds, body.as_slice()))
     }
 
-    /// Waits a while, if the match owes nothing to the role.
+    /// Waits a while. Called when the match owes nothing to the role.
     fn rest(&mut self)
         ensures { handed self.new ≡ handed self.old };
 

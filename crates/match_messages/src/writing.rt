@@ -41,7 +41,7 @@ fn list_text(alloc: Global, members: &[Text]) -> Result<Text, AllocError>
     Ok(Text { bytes })
 }
 
-/// The moves in a list, or `NIL`.
+/// The moves as a list, or `NIL`.
 fn moves_text(alloc: Global, moves: &Option<Texts>) -> Result<Text, AllocError>
     ensures { IfOk result (λ t. t ≡ canonical (moves_form (option_map as_printed moves.now))) }
 {

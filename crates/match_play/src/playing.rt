@@ -205,8 +205,8 @@ fn ran_out_of_memory<G: Game>(refereed: &Refereed<G>) -> bool
     ended_match_of(refereed).is_none() && !had_memory(&refereed.ends)
 }
 
-/// Referees a match, and returns the closed desk. The error is `Shortage` if the referee lacked a resource in the match, and `Memory`
-/// also if the match did not end because a role's worker ran out of memory.
+/// Referees a match, and returns the closed desk. The error is `Shortage` if the referee lacked a resource in the match.
+/// It is `Memory` even if memory ran out only for a role's worker, and the match did not end for that reason.
 fn refereed_match<'g, R, S: Reach + ReportsShortages>(
     rt: &R,
     alloc: Global,
@@ -221,10 +221,10 @@ where
     ensures refereed { IfOk result (λ r. (left : List _) × IsRefereed ⟦<PackedGame as Game>⟧.rules S.Player.handed game.entry.game.now prepared.setup game.entry.rules.now max_tries prepared.players.items left
         r.closed.object r.closed.history.items r.closed.made_by_line.items r.ends.items) }
 
-    // If a role's worker ran out of memory, the match is over nevertheless.
+    // Even if a role's worker ran out of memory, the match is over.
     ensures whole { IfOk result (λ r. HasNoEndedMatch ⟦<PackedGame as Game>⟧.rules r.closed.object → All (λ end. end ≢ Err AttendFault.Memory) r.ends.items) }
 
-    // If the desk refuses the match, the error has the same reason, or is out of memory. No other error is a refusal.
+    // If the desk refuses the match, the error has the desk's reason, or is out of memory. No other error is a refusal.
     ensures opens { OnOk result (packed_refusal game.entry.game.now prepared.setup ≡ None) }
     ensures refused { IfErr result (λ fault. fault ≢ MatchFault.Memory → reason_of fault ≡ packed_refusal game.entry.game.now prepared.setup) }
 {
@@ -299,7 +299,7 @@ where
     ensures clear { IfOk result (λ told. S.is_clear reach.now prepared.place) }
     ensures told { IfOk result (λ told. IsEndedWith S.Player.handed game.entry.game.now game.entry.rules.now max_tries prepared.setup prepared.players.items (λ held. T.is_told reader.now held told)) }
 
-    // If the desk refuses the match, the error has the same reason, or is out of memory. No other error is a refusal.
+    // If the desk refuses the match, the error has the desk's reason, or is out of memory. No other error is a refusal.
     ensures opens { OnOk result (packed_refusal game.entry.game.now prepared.setup ≡ None) }
     ensures refused { IfErr result (λ fault. fault ≢ MatchFault.Memory → reason_of fault ≡ packed_refusal game.entry.game.now prepared.setup) }
 {
@@ -339,7 +339,7 @@ where
     ensures clear { IfOk result (λ e. S.is_clear reach.now prepared.place) }
     ensures played { IfOk result (λ e. (line : List ℕ) × (history : List (Entry DeskCall DeskReply)) × IsPlayedMatch S.Player.handed game.entry.game.now game.entry.rules.now max_tries prepared.setup prepared.players.items line history × (e.text ≡ match_text line history has_account)) }
 
-    // If the desk refuses the match, the error has the same reason, or is out of memory. No other error is a refusal.
+    // If the desk refuses the match, the error has the desk's reason, or is out of memory. No other error is a refusal.
     ensures opens { OnOk result (packed_refusal game.entry.game.now prepared.setup ≡ None) }
     ensures refused { IfErr result (λ fault. fault ≢ MatchFault.Memory → reason_of fault ≡ packed_refusal game.entry.game.now prepared.setup) }
 {

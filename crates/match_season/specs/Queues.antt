@@ -27,11 +27,12 @@ number_of addresses player = position_or_len (is_at player) addresses
 abbrev pub Lengthens : Addresses → Addresses → Type 0
 Lengthens old new = (more : Addresses) × (new ≡ old ++ more)
 
--- Each of these players has fewer running matches than the limit. The list has their counts, by the number of the player.
+-- Each of these players has fewer running matches than the limit. The list has the count of each player's running matches, by the
+-- player's number.
 abbrev pub are_free : List ℕ → ℕ → List ℕ → Bool
 are_free sitting concurrent players = list_all (λ player. nat_lt (get_or sitting player 0) concurrent) players
 
--- one of the match's players has its limit of running matches
+-- one of the match's players has reached its limit of running matches
 abbrev pub IsBusy : MatchQueue → WaitingMatch → Type 0
 IsBusy queue waiting_match = are_free queue.sitting.items queue.concurrent waiting_match.players.items ≡ false
 
@@ -61,8 +62,8 @@ pub record AllWait (queue : MatchQueue) (plans : List MatchPlan) : Type 0 where
   pub numbered : AllZip (λ plan waiting_match. AreNumbersOf addresses plan.players.items waiting_match.players.items) plans queue.waiting.items
   pub nobody_sits : queue.sitting.items ≡ replicate (length addresses) 0
 
--- The first waiting match whose players are all free begins. The others stay in their order, and its players have one more running
--- match.
+-- The first waiting match whose players are all free begins. The others stay in their order, and each player of this match has one more
+-- running match.
 pub record Begins (old new : MatchQueue) (first : WaitingMatch) : Type 0 where
   pub at : ℕ
   pub waited : slice_get old.waiting.items at ≡ Some first

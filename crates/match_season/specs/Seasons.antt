@@ -31,7 +31,7 @@ is_open settled place = not (get_or settled place true)
 abbrev pub mark : List Bool → ℕ → ℕ
 mark settled place = if get_or settled place false then 1 else 0
 
--- the index of a match with this result in a list, if the match has a record and is not settled yet; else an empty list
+-- a list with this index, if the result of the match is a record and the match is not settled yet; otherwise an empty list
 abbrev pub places_of : {T E : Type 0} → Written → ℕ → Result T E → List ℕ
 places_of written place outcome = if is_ok outcome && is_open written.is_settled.items place then place ∷ [] else []
 
@@ -39,7 +39,7 @@ places_of written place outcome = if is_ok outcome && is_open written.is_settled
 abbrev pub Counts : Written → Written → ℕ → Type 0
 Counts old new more = old.records + more < 2 ^ 64 → new.records ≡ old.records + more
 
--- the match with this index is settled, no other one is, and this many more records are counted
+-- the match with this index and no other becomes settled, and this many more records are counted
 pub record Settles (old new : Written) (place more : ℕ) : Type 0 where
   pub settled : new.is_settled.items ≡ slice_set old.is_settled.items place true
   pub counted : Counts old new more
@@ -63,13 +63,13 @@ AreSettled written = All (λ it. it ≡ true) written.is_settled.items
 abbrev pub HasAll : Bool → Written → Type 0
 HasAll is_closed written = AreSettled written ⊎ (is_closed ≡ true)
 
--- the indices rise, from the first bound up to below the second
+-- the indices rise; all are at least `low` and less than `high`
 abbrev pub Rises : ℕ → List ℕ → ℕ → Type 0
 Rises low [] high = low ≤ high
 Rises low (place ∷ places) high = (low ≤ place) × Rises (place + 1) places high
 
--- The outputs of matches were written in this order, each once. These matches were not settled before, and are settled afterwards. As
--- many more records are counted.
+-- The outputs of matches were written in this order, each once. These matches were not settled before, and are settled afterwards. The
+-- count of records grows by their number.
 pub record WritesMore (IsOutput : ℕ → List ℕ → Type 0) (InOrder : List ℕ → Type 0) (before after : Written) (old new : Option (List ℕ)) : Type 0 where
   pub places : List ℕ
   pub in_order : InOrder places
@@ -79,7 +79,8 @@ pub record WritesMore (IsOutput : ℕ → List ℕ → Type 0) (InOrder : List �
   pub counted : Counts before after (length places)
   pub same_places : length after.is_settled.items ≡ length before.is_settled.items
 
--- The same, and then a prefix of the output of one more match was written. It was not settled before. The order includes its index.
+-- The same, and then a prefix of the output of one more match was written. That match was not settled before. The order includes its
+-- index.
 pub record WritesMoreAndPart (IsOutput : ℕ → List ℕ → Type 0) (InOrder : List ℕ → Type 0) (before : Written) (old new : Option (List ℕ)) : Type 0 where
   pub last : ℕ
   pub between : Written
@@ -107,12 +108,12 @@ pub record WritesSomeAndPart (IsOutput : ℕ → List ℕ → Type 0) (order : R
   pub written : WritesMatches IsOutput places old middle
   pub part : WritesPart IsOutput last middle new
 
--- before a write fault, whole outputs and a part of one more were written; before out of memory, nothing
+-- before a write fault, whole outputs and a part of one more were written; before an out-of-memory error, nothing was written
 abbrev pub WritesUpTo : (ℕ → List ℕ → Type 0) → RecordOrder → ℕ → Option (List ℕ) → Option (List ℕ) → SeasonFault → Type 0
 WritesUpTo IsOutput order all old new WriteFault = WritesSomeAndPart IsOutput order all old new
 WritesUpTo IsOutput order all old new Memory = new ≡ old
 
--- a write fault counts one more failed write; out of memory counts none
+-- a write fault counts one more failed write; an out-of-memory error counts none
 abbrev pub faults_by : SeasonFault → ℕ → ℕ
 faults_by WriteFault faults = one_more faults
 faults_by Memory faults = faults

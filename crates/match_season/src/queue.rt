@@ -90,7 +90,7 @@ fn are_free(sitting: &[usize], concurrent: usize, players: &[usize]) -> bool
         .all(|&player| sits_in(sitting, player) < concurrent)
 }
 
-/// Counts one more running match of a player.
+/// Counts one more running match for a player.
 fn seat(sitting: &mut [usize], player: usize)
     ensures { sitting.new ≡ slice_set sitting.old player (min (get_or sitting.old player 0 + 1) (2 ^ 64 - 1)) }
 {
@@ -99,7 +99,7 @@ fn seat(sitting: &mut [usize], player: usize)
     }
 }
 
-/// Counts one running match less of a player.
+/// Counts one running match less for a player.
 fn unseat(sitting: &mut [usize], player: usize)
     ensures { sitting.new ≡ slice_set sitting.old player (get_or sitting.old player 0 - 1) }
 {
@@ -195,7 +195,7 @@ impl MatchQueue {
     }
 
     /// Removes the first waiting match whose players are all free, and counts it as running. Returns `None` if there is
-    /// none.
+    /// no such match.
     pub fn take(&mut self) -> Option<WaitingMatch>
         ensures some { IfSome result (Begins self.old self.new) }
         ensures none { IfNone result (All (IsBusy self.old) self.old.waiting.items × (self.new ≡ self.old)) }

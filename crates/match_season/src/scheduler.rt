@@ -27,7 +27,8 @@ pub enum AfterMatch {
 struct SchedulerState {
     queue: MatchQueue,
     threads: usize,
-    /// Whether the only thread has paused because memory or threads ran out, and no match has ended since without running out of them.
+    /// Whether the only thread has paused because memory or threads ran out, and every match that has ended since then
+    /// ran out of them too.
     has_rested: bool,
     /// Whether no more matches may begin.
     is_closed: bool,

@@ -242,7 +242,7 @@ where
     ensures faults { writer.new.faults ≡ faults_after result writer.old.faults }
 {
     let scheduler = Scheduler::of(MatchQueue::of(around.alloc, plans, form)?);
-    // The channel has a slot for every result, so no thread waits until a record is written.
+    // The channel has a slot for every result, so threads do not wait for records to be written.
     let (sender, receiver) = bounded(around.alloc, plans.len())?;
     let season: Season<'f, 'a, S, N> = Season {
         alloc: around.alloc,
@@ -259,10 +259,11 @@ where
 /// Plays the matches of a schedule, which are all of the same game, in threads. Writes the record of each, followed by its call log if the
 /// form asks for it. Returns the number of matches without a record.
 ///
-/// A match begins when all earlier matches of the schedule have begun, except those with a player that has its limit of running matches. A
-/// match that runs out of memory or threads waits again, and from then on one match less is played at once. If only one is played at once,
-/// the season pauses for half a second before it tries a match again. After this pause, a match that runs out again has no record. The
-/// season pauses again only after a match that did not run out.
+/// A match begins when all earlier matches of the schedule have begun, except those with a player that has reached its
+/// limit of running matches. A match that runs out of memory or threads waits again, and from then on one match less is
+/// played at once. If only one is played at once, the season pauses for half a second before it tries a match again.
+/// After this pause, a match that runs out again has no record. The season pauses again only after a match that did not
+/// run out.
 ///
 /// If there is no memory for counting the records, or not even one thread can be started, no match begins and the result is `Memory`.
 /// Otherwise each match without a record is reported. After a failed write no more matches begin, and the output ends with a part of the

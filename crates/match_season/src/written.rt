@@ -17,7 +17,7 @@ impl Written {
     ghost use Rattle.std.specs.Prelude.{◌≡◌, ◌-◌, ◌↔◌, false, true, IfOk, IsTrue, replicate, slice_set, vec_len};
     ghost use Rattle.match_season.specs.Seasons.{AreSettled, is_open};
 
-    /// Of `count` matches none is settled.
+    /// None of `count` matches is settled.
     pub fn nothing(alloc: Global, count: usize) -> Result<Written, AllocError>
         ensures { IfOk result (λ written. (written.records ≡ 0) × (written.is_settled.items ≡ replicate count false)) }
     {

@@ -13,8 +13,8 @@ use Rattle.role_workers.specs.Events.{telling}
 use Rattle.role_workers.specs.RoleLines.{line_of}
 use Rattle.role_workers.specs.Places.{EachAt}
 
--- A worker attended the role with this player over a line that has these entries of the history. This was the result, and the player
--- afterwards.
+-- A worker attended the role with this player over a line that has these entries in the history. `end` was the result, and
+-- `player_left` is the player afterwards.
 pub record IsEndOf {P : Type 0} (handed : P → Option (List Handed)) (brief : BriefValue) (tries role : ℕ) (player player_left : P) (entries : List (Entry Call Reply)) (end : Result ℕ AttendFault) : Type 0 where
   -- the replies to the worker: the first replies to its calls, and all of them if it found the end of the match
   pub replies : List Reply
@@ -32,7 +32,7 @@ pub record IsEndAt {P : Type 0} (handed : P → Option (List Handed)) (brief : B
   pub is_left : slice_get left role ≡ Some player_left
   pub is_end : IsEndOf handed brief tries role player player_left (part (line_of role) history) end
 
--- For each role, a worker attended it with the player at its index, over its line. The results and the players afterwards are in the
+-- A worker attended each role with the player at its index, over the role's line. The results and the players afterwards are in the
 -- order of the roles.
 pub record AreEndsOf {P : Type 0} (handed : P → Option (List Handed)) (brief : BriefValue) (tries : ℕ) (players left : List P) (history : List (Entry Call Reply)) (ends : List (Result ℕ AttendFault)) : Type 0 where
   pub one_each : length left ≡ length ends

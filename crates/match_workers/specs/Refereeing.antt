@@ -16,7 +16,7 @@ use Rattle.match_workers.specs.LineParts.{OpensMatch, AreRoleLines, AreCounts}
 use Rattle.match_workers.specs.OneMatch.{HasOneMatch}
 
 -- A match of this game with this setup was played between these players, who got these rules, with at most this many tries for each
--- role. These are the players afterwards; the desk closed with this manager, this history and these numbers of calls of the lines.
+-- role. `left` are the players afterwards. The desk closed with this manager and this history; its lines made these numbers of calls.
 pub record IsRefereed {G S M P : Type 0} (rules : G → Rules S M) (handed : P → Option (List Handed)) (game : G) (setup : Setup) (printed : List ℕ) (tries : ℕ) (players left : List P)
     (d : ManagerValue G M) (history : List (Entry Call Reply)) (made_by_line : List ℕ) (ends : List (Result ℕ AttendFault)) : Type 0 where
   pub headline : HasHeadline rules ((rules game).roles + 1) d history made_by_line

@@ -33,7 +33,7 @@ use std::sync::Wait;
 use std::thread::Threads;
 use thiserror::Error;
 
-/// Why a match did not get to a closed desk.
+/// Why the desk of a match was not opened, or not closed.
 #[derive(Clone, Copy, Debug, PartialEq, Eq, Error)]
 pub enum RefereeFault {
     /// The desk refused to open the match, for this reason. No player received anything.
@@ -118,7 +118,8 @@ fn brief_of<'r>(
     }
 }
 
-/// Opens a desk with only this game. It has a line for the calling thread, which has the desk, and one for each role.
+/// Opens a desk with only this game. The desk has a line for the calling thread, which holds the desk, and one for each
+/// role.
 fn open_desk<G: Game + Drop>(
     alloc: Global,
     game: G,
@@ -237,8 +238,8 @@ where
 /// Referees a match of the game between these players to its end. There is one player for each name in the setup.
 ///
 /// It opens a desk with only this game, a line for the calling thread, and a line for each role. The calling thread opens
-/// the match. Then a separate thread attends each role, in at most `tries` tries. These threads serve the desk, and so does
-/// the calling thread. START has these rules. At the end the desk is closed.
+/// the match. Then a separate thread attends each role, in at most `tries` tries. These threads and the calling thread
+/// serve the desk. START contains these rules. At the end the desk is closed.
 ///
 /// The result is that of any closed desk of matches. Its history replays: a manager of the same game without matches, given
 /// these calls one by one on one thread, gives every stored reply and ends as this manager. The history has as many calls as

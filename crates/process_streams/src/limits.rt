@@ -41,7 +41,7 @@ pub fn limit_of<F: Files>(files: &F, alloc: Global, name: &str) -> Option<u64> {
     }
 }
 
-/// Whether a file is as large as its size limit. Writing one more byte would end the process by a signal.
+/// Whether a file has reached its size limit. If so, writing one more byte would end the process by a signal.
 pub(crate) fn is_full(limit: u64, found: io::Result<Metadata>) -> bool {
     match found {
         Ok(found) => found.is_file() && found.len() >= limit,

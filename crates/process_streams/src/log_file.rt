@@ -42,8 +42,8 @@ pub(crate) fn is_torn<F: Read + Seek>(file: &mut F, length: u64) -> io::Result<b
     Ok(last[0] != b'\n')
 }
 
-/// Opens the log file at this path for appending, and creates it if it does not exist. Ends its last line if that has no
-/// line feed.
+/// Opens the log file at this path for appending, and creates it if it does not exist. If the last line of the file has
+/// no line feed, ends that line.
 pub fn open_log<R: Files>(
     files: &R,
     path: &str,

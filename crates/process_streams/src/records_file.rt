@@ -102,7 +102,7 @@ impl<R: Files, F> RecordsFile<'_, R, F> {
         length_of(&self.opened, fs::metadata(self.files, self.path))
     }
 
-    /// Compares the file with what it was after the last write.
+    /// Compares the file with its state after the last write.
     pub fn state(&self) -> RecordsState {
         match self.length_now() {
             Err(_) => RecordsState::Lost,
@@ -112,7 +112,8 @@ impl<R: Files, F> RecordsFile<'_, R, F> {
         }
     }
 
-    /// Ends the last line of the file, which another program has changed to this length. Returns an error if it is shorter than before.
+    /// Ends the last line of the file after another program has changed the file to this length. Returns an error if the
+    /// file is shorter than before.
     fn end_line(&self, length: u64) -> io::Result<()> {
         if length < self.length {
             return Err(Error::from(ErrorKind::UnexpectedEof));
@@ -278,8 +279,9 @@ fn move_beside<F: Files>(
 }
 
 impl<'a, R: Files> RecordsFile<'a, R, <R as Files>::File> {
-    /// Cuts off the incomplete end of the file, if there is one, and moves it to a new file, whose name is returned. The end begins with
-    /// the line number `first`, counted from 1. If `first` is `None`, the end is a last line without its line feed.
+    /// Cuts off the incomplete end of the file, if there is one, and moves it to a new file. Returns the name of that
+    /// file. The end begins with the line number `first`, counted from 1. If `first` is `None`, the end is a last line
+    /// without its line feed.
     pub fn mend(
         &mut self,
         alloc: Global,
@@ -319,8 +321,8 @@ fn is_special<F: Files>(files: &F, path: &str) -> bool {
     }
 }
 
-/// Opens the file at this path for appending, and creates it if it does not exist. The file stays locked until it is closed. A file that
-/// does not begin as a record does is refused unchanged.
+/// Opens the file at this path for appending, and creates it if it does not exist. The file stays locked until it is
+/// closed. A file that does not begin like a record is refused and left unchanged.
 pub fn open_records<'a, R: LockedFiles>(
     files: &'a R,
     path: &'a str,

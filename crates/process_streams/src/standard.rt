@@ -17,8 +17,8 @@ pub const ERRORS: &str = "/proc/self/fd/2";
 /// The pause, in milliseconds, before a non-blocking stream is tried again.
 const REST: u64 = 5;
 
-/// A standard stream. If it would block, reads and writes pause and try again as often as needed, because its other end may
-/// take any time.
+/// A standard stream. If it would block, reads and writes pause and try again as often as needed, because the other end
+/// may take any length of time.
 #[derive(Drop)]
 pub struct Standard<'a, R, S> {
     rt: &'a R,

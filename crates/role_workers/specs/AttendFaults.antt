@@ -21,8 +21,8 @@ next_fault (Due due) = None
 next_fault (Refused reason) = Some (StopsRefused reason)
 next_fault _ = Some StopsStalled
 
--- The error at which a worker stops if its player's answer gets this reply: none if the answer is taken, or is late, repeated or after
--- the end.
+-- The error at which a worker stops if its player's answer gets this reply: none if the desk takes the answer, or refuses it because it
+-- is late, repeated or after the end.
 abbrev pub answer_fault : Reply → Option AttendFault
 answer_fault Taken = None
 answer_fault (Refused (Stale round)) = None

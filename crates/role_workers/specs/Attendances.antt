@@ -9,7 +9,7 @@ use Rattle.match_messages.specs.declared.player.Player as Player
 use Rattle.role_workers.specs.Events.{Telling, telling}
 use Rattle.role_workers.specs.Attending.{Attends, StopsEarly}
 
--- at the end of the match after this many messages, or with an error
+-- the worker found the end of the match after sending this many messages, or stopped early with this error
 abbrev pub HasEnded : BriefValue → ℕ → ℕ → Telling → Telling → Result ℕ AttendFault → Type 0
 HasEnded brief role tries before after (Ok messages) = Attends brief role tries before after messages
 HasEnded brief role tries before after (Err fault) = StopsEarly brief role tries before after fault

@@ -16,8 +16,8 @@ use Rattle.role_workers.specs.Steps.{Step, finds_the_end, events_of, goes_on, fa
 abbrev pub events_of_all : BriefValue → ℕ → List Step → List Event
 events_of_all brief role steps = flat_map (events_of brief role) steps
 
--- The worker attended the role to the end of the match, in at most this many tries: some steps after which it continues, and the step
--- that finds the end. It sent this many messages.
+-- The worker attended the role to the end of the match, in at most this many tries: it made some steps after which a worker continues,
+-- and then the step that finds the end. It sent this many messages.
 pub record Attends (brief : BriefValue) (role tries : ℕ) (before after : Telling) (messages : ℕ) : Type 0 where
   pub steps : List Step
   pub go_on : All (λ step. goes_on step ≡ true) steps
@@ -25,7 +25,7 @@ pub record Attends (brief : BriefValue) (role tries : ℕ) (before after : Telli
   pub told : Tells before after (events_of_all brief role (steps ++ finds_the_end ∷ []))
   pub count : messages ≡ length (filter_map message_in (events_of_all brief role steps))
 
--- a player that shows its messages shows as many more as were counted
+-- if a player still shows its messages, it shows as many new ones as the worker counted
 abbrev pub MessagesAreCounted : Type 0
 MessagesAreCounted = (brief : BriefValue) (role tries : ℕ) (before after : Telling) (messages : ℕ) (old new : List Handed)
     → Attends brief role tries before after messages → before.messages ≡ Some old → after.messages ≡ Some new → length new ≡ length old + messages
@@ -38,7 +38,7 @@ pub data StopsAmid (whole : List Event) (last_fault : Option AttendFault) (fault
   at_a_call : (cause : AskFault) (front : List Event) (call : Call) (reply : Reply) (others : List Event)
       → fault ≡ attend_fault cause → front ++ makes call ∷ takes reply ∷ others ≡ whole
       → (events ≡ front) ⊎ (events ≡ front ++ makes call ∷ []) → StopsAmid whole last_fault fault events
-  -- the events before one that needs more memory than there is
+  -- the events before the one for which memory ran out
   for_memory : (next : Event) (others : List Event) → fault ≡ Memory → events ++ next ∷ others ≡ whole → StopsAmid whole last_fault fault events
 
 -- The worker stopped after these steps, and after these events of one more step.
@@ -57,8 +57,8 @@ pub record StopsEarly (brief : BriefValue) (role tries : ℕ) (before after : Te
   pub told : Tells before after (events_of_all brief role steps ++ events)
   pub why : StopsAfter brief role tries steps fault events
 
--- A call stopped the worker with this error: there is no memory for the call, or no reply came, whether or not the call was made, or
--- the reply causes the error.
+-- A call stopped the worker with this error: there is no memory for the call; or no reply came, and the call may or may not have been
+-- made; or the reply causes the error.
 pub data CallStops (call : Call) (fault_at : Reply → Option AttendFault) (fault : AttendFault) (calls calls' : Option (List Call)) (replies replies' : Option (List Reply)) : Type 0 where
   not_made : fault ≡ Memory → calls' ≡ calls → replies' ≡ replies → CallStops call fault_at fault calls calls' replies replies'
   without_reply : (cause : AskFault) → fault ≡ attend_fault cause → (calls' ≡ calls) ⊎ (calls' ≡ told_with calls (call ∷ [])) → replies' ≡ replies

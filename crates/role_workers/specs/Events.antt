@@ -37,8 +37,8 @@ pub record Telling : Type 0 where
 abbrev pub telling : Option (List Call) → Option (List Reply) → Option (List Handed) → Telling
 telling calls replies messages = record { calls = calls; replies = replies; messages = messages }
 
--- From `before` to `after` these events were shown: the calls that were made, the replies that came, and the messages that were sent,
--- unless the player shows none any more.
+-- Between `before` and `after`, the wire and the player showed these events: the calls that were made, the replies that came, and the
+-- messages that were sent. If the player has stopped showing messages, the messages are not shown.
 pub record Tells (before after : Telling) (events : List Event) : Type 0 where
   pub calls : after.calls ≡ told_with before.calls (filter_map call_in events)
   pub replies : after.replies ≡ told_with before.replies (filter_map reply_in events)

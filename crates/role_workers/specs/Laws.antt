@@ -21,7 +21,7 @@ abbrev pub CallsHaveReplies : Type 0
 CallsHaveReplies = (brief : BriefValue) (role tries : ℕ) (calls : List Call) (replies : List Reply) (handed handed' : Option (List Handed)) (end : Result ℕ AttendFault) → IsOk end
     → HasEnded brief role tries (telling (Some []) (Some []) handed) (telling (Some calls) (Some replies) handed') end → length replies ≡ length calls
 
--- The messages that a worker sent until it found the end, if these replies came.
+-- The messages that a worker sent before it found the end, given these replies.
 pub record AreHandedOver (brief : BriefValue) (role count : ℕ) (replies : List Reply) (handed handed' : Option (List Handed)) : Type 0 where
   -- the last reply says that the match is over
   pub front : List Reply
@@ -31,7 +31,7 @@ pub record AreHandedOver (brief : BriefValue) (role count : ℕ) (replies : List
   pub count_is : length messages ≡ count
   pub seconds_are : map (λ m. m.seconds) messages ≡ map (seconds_for brief) (filter_map owed_of front)
   pub bodies_are : map (λ m. m.body) messages ≡ map (message_text brief role) (filter_map owed_of front)
-  -- the player shows them, unless it shows none any more
+  -- the player shows them, unless it no longer shows any messages
   pub kept : MayKeep handed handed' messages
 
 -- a worker that found the end sent each message that a reply owed, once and in order

@@ -20,7 +20,7 @@ module _ {C R : Type 0} where
   abbrev pub AreSeatLines : List (Port C R) → List (LineValue C R) → Type 0
   AreSeatLines ports lines = (role : ℕ) (line : LineValue C R) → slice_get lines role ≡ Some line → IsNewLine ports (line_of role) line
 
-  -- the end of this line: it posted no more, and may have taken more replies
+  -- the end of this line: the line posted no more calls, and may have taken more replies
   pub record IsFinishedOf (line : LineValue C R) (end : LineValue C R) : Type 0 where
     pub same : SameLine line end
     pub posted : posted_calls end ≡ posted_calls line
@@ -55,10 +55,10 @@ module _ {P : Type 0} (handed : P → Option (List Handed)) (brief : BriefValue)
         (telling (Some []) (Some []) (handed player))
         (telling (Some (posted_calls line)) (Some replies) (handed player_left)) end
 
-  -- each role was attended over a line with one of these ends
+  -- each role that has one of these results was attended over one of these lines
   pub record AreLeftLines (lines : List (LineValue Call Reply)) (ends : List (Result ℕ AttendFault)) : Type 0 where
     pub one_each : length left ≡ length ends
     pub each : (role : ℕ) (end : Result ℕ AttendFault) → slice_get ends role ≡ Some end
         → (line : LineValue Call Reply) × Contains lines line × IsLeftLine role line end
-    -- each line belongs to a role that was attended
+    -- each line belongs to a role that was attended, or is the first line
     pub within : All (λ line. line.number ≤ length ends) lines

@@ -52,8 +52,8 @@ where
     Ok(wires)
 }
 
-/// Attends each role of a match over its line of the desk. The desk is under a lock meanwhile. Afterwards no line posts any
-/// more.
+/// Attends each role of a match over its line of the desk. The desk is under a lock meanwhile. Afterwards no line posts
+/// another call.
 pub fn attend_match<N, O, P, R>(
     rt: &R,
     alloc: Global,

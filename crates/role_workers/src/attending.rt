@@ -73,8 +73,8 @@ pub(crate) fn answer_call(
     })
 }
 
-/// The error of a worker if its player's answer gets this reply. A worker ignores the refusal of an answer that is late,
-/// repeated or after the end.
+/// The error of a worker if its player's answer gets this reply. A worker ignores refusals of answers that come late, a
+/// second time, or after the end.
 fn answer_fault(reply: &Reply) -> Option<AttendFault>
     ensures { result ≡ answer_fault reply.now }
 {
@@ -174,8 +174,8 @@ pub fn attend_shared<W: Wire<Call = Call, Reply = Reply>, P: Player>(
 /// Attends one role of a match to its end: asks the desk what it owes to the role, sends each owed message to the player
 /// once, and gives the desk the answer for its round. Returns how many messages it sent.
 ///
-/// Each question is one try, also if the player then has to wait. After the last try this stops with `Stalled`. An error
-/// undoes nothing: the messages were sent, the calls were made, and the player has waited.
+/// Each question is one try, even if the player must then wait. After the last try this stops with `Stalled`. An error
+/// undoes nothing: messages that were sent and calls that were made remain so.
 pub fn attend<W: Wire<Call = Call, Reply = Reply>, P: Player>(
     alloc: Global,
     wire: &mut W,

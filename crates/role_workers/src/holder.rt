@@ -12,7 +12,7 @@ pub struct DeskHolder<O: Object> {
     pub line: RingLine<O>,
 }
 
-/// Makes a call over the holder's line. If the desk cannot make the call, it keeps it.
+/// Makes a call over the holder's line. If the desk cannot make the call, it keeps the call.
 pub fn ask_own<O: Object>(holder: &mut DeskHolder<O>, call: O::Call) -> Result<O::Reply, AskFault>
     ensures line { SameLine holder.old.line holder.new.line }
     ensures ports { SamePorts holder.old.desk.ports holder.new.desk.ports }

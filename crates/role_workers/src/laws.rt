@@ -2,7 +2,8 @@
 ghost use Rattle.role_workers.specs.Attending.{MessagesAreCounted};
 ghost use Rattle.role_workers.specs.Laws.{CallsAreOfTheRole, CallsHaveReplies, OwedAreHandedOver};
 
-/// If a worker found the end of the match, and the player shows its messages, it shows as many more as were counted.
+/// If a worker found the end of the match, and the player still shows its messages, the player shows as many new ones as
+/// the worker counted.
 pub fn messages_are_counted()
     ensures { MessagesAreCounted }
 {}

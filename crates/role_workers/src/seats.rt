@@ -71,8 +71,8 @@ pub fn seat_players<'a, P: Drop, W: Drop>(
     Ok(seats)
 }
 
-/// Attends the role of a seat over its wire, and then signals the end. If it runs out of memory, it stops the desk: the
-/// match cannot end without this role, and the other workers would ask until the history is full.
+/// Attends the role of a seat over its wire, and then signals the end. If memory runs out, it stops the desk: the match
+/// cannot end without this role, and the other workers would ask until the history is full.
 fn attend_seat<P: Player + Drop, W: Wire<Call = Call, Reply = Reply>>(
     alloc: Global,
     seat: Seat<'_, P, W>,
@@ -174,8 +174,8 @@ fn join_seats<'a, P: Player + Drop, W: Wire<Call = Call, Reply = Reply> + Drop, 
     Ok(attended)
 }
 
-/// Starts a thread for each seat, in order, which attends it in at most `tries` tries. If a thread cannot be created, it
-/// starts no more.
+/// For each seat, in order, starts a thread that attends the seat in at most `tries` tries. If a thread cannot be
+/// created, it starts no more.
 fn start_seats<'s, 'a: 's, E, P, W>(
     alloc: Global,
     scope: &'s Scope<'s, E>,
@@ -221,8 +221,8 @@ where
     Ok(handles)
 }
 
-/// Ends these threads when the other roles have none: gives the other roles up over the calling thread's wire, and joins the
-/// threads. Their results are dropped.
+/// Ends these threads if the other roles have no threads: gives those roles up over the calling thread's wire, and joins
+/// the threads. The results of the threads are dropped.
 fn end_seats<O, N, W, P, R>(
     rt: &R,
     alloc: Global,
@@ -251,11 +251,12 @@ where
     given_up
 }
 
-/// Attends each seat in a separate thread, in at most `tries` tries. The calling thread also serves the desk until all have
-/// ended. Its wire comes back with the results, which are in the order of the seats.
+/// Attends each seat in a separate thread, in at most `tries` tries. The calling thread also serves the desk until all
+/// these threads have ended. The calling thread's wire comes back with the results, which are in the order of the seats.
 ///
 /// If a thread cannot be created, no more are started. A match waits for all its roles, so this aborts the matches of the
-/// remaining seats over the calling thread's wire. When the running threads have ended, it returns out of memory.
+/// remaining seats over the calling thread's wire. When the running threads have ended, this returns an out-of-memory
+/// error.
 pub fn attend_all<O, N, W, P, R>(
     rt: &R,
     alloc: Global,

@@ -10,8 +10,8 @@ use desk_calls::{Call, Reply};
 /// After this many checks for a reply, a wire gives up.
 const TURNS: u64 = 1_000_000_000;
 
-/// A line of a desk that any thread can serve. It has at most one unfinished call, so its ring always has a slot for the
-/// next one.
+/// A line of a desk that any thread can serve. The line has at most one unfinished call, so its ring always has a slot
+/// for the next call.
 #[derive(Drop)]
 pub struct ServedWire<'a, O: Object<Call = Call, Reply = Reply>, N: DeskBrand<O>> {
     line: RingLine<O>,
@@ -54,9 +54,9 @@ impl<'a, O: Object<Call = Call, Reply = Reply>, N: DeskBrand<O>> Wire for Served
     ghost same_line = { λ v w. SameLine v.line w.line };
 
     /// Posts the call and takes one reply. This is the reply to the call if the line had taken as many replies as it had
-    /// posted calls. The wire stalls after `TURNS` checks without a reply, or if the desk has stopped. A stalled wire does
-    /// nothing more, but a call that it has posted stays posted. If the desk has stopped because it ran out of memory, that
-    /// is the error.
+    /// posted calls. The wire stalls after `TURNS` checks without a reply, or if the desk has stopped. A stalled wire
+    /// does nothing more, but a call that it has posted stays posted. If the desk has stopped because memory ran out, the
+    /// error is `Memory`.
     fn ask(&mut self, call: Call) -> Result<Reply, AskFault>
         ensures line { SameLine self.old.line self.new.line }
         ensures call { OnOk result (Some (posted_calls self.new.line) ≡ told_with (Some (posted_calls self.old.line)) (call ∷ [])) }

@@ -23,7 +23,8 @@ const LONGEST_SLEEP: u64 = 1_000;
 /// How many rounds in a row may lack memory for a call.
 const MAX_SHORT_ROUNDS: u64 = 10_000;
 
-/// Which desk is under the lock. A contract cannot name what is under a lock, so each match has a type for it.
+/// Which desk is under the lock. A contract cannot name a value under a lock, so each match has a type that names its
+/// desk.
 pub trait DeskBrand<O> {
     ghost desk: { Option (RingDeskValue O Call Reply) };
 }
@@ -108,10 +109,10 @@ impl<O: Object<Call = Call, Reply = Reply>, N: DeskBrand<O>> SharedDesk<O, N> {
         }
     }
 
-    /// Serves a round, unless another thread is serving one. Returns whether it served a complete round. The next round
-    /// tries a call again that could not be made, until the history is full or `MAX_SHORT_ROUNDS` rounds in a row had no
-    /// memory for it. Then the desk stops, since the threads that wait for its reply would otherwise do nothing else for
-    /// minutes.
+    /// Serves a round, unless another thread is serving one. Returns whether it served a complete round. If a call could
+    /// not be made, the next round tries it again, until the history is full or `MAX_SHORT_ROUNDS` rounds in a row had no
+    /// memory for a call. Then the desk stops, because the threads that wait for a reply would otherwise do nothing else
+    /// for minutes.
     pub fn serve(&self) -> bool {
         let Some(mut named) = self.locked.try_lock() else {
             return false;
@@ -139,7 +140,8 @@ impl<O: Object<Call = Call, Reply = Reply>, N: DeskBrand<O>> SharedDesk<O, N> {
         self.is_short.load(Ordering::SeqCst)
     }
 
-    /// Whether the desk has stopped: a round found the history full, too many had no memory, or `stop` was called.
+    /// Whether the desk has stopped: a round found the history full, too many rounds in a row had no memory for a call,
+    /// or `stop` was called.
     pub fn has_stopped(&self) -> bool {
         self.bell.has_stopped()
     }
@@ -162,7 +164,7 @@ impl<O: Object<Call = Call, Reply = Reply>, N: DeskBrand<O>> SharedDesk<O, N> {
         }
     }
 
-    /// Takes the desk out of the lock, when no thread serves it any more.
+    /// Takes the desk out of the lock. No thread serves it any more.
     pub fn into_desk(self) -> RingDesk<O>
         ensures { ForSome N.desk (λ first. IsDeskAfter O.opening first result) }
     {

@@ -1,7 +1,8 @@
 //! The rest of a text in several parts.
 ghost use Rattle.std.specs.Prelude.{◌≡◌, ◌<◌, ◌≤◌, ◌++◌, ℕ, List, length, drop};
 
-/// The rest of the first part from `place`, or else the rest of the second part. `place` counts the bytes of both.
+/// The first part from `place` to its end, or, if `place` is after the first part, the second part from there. `place`
+/// counts the bytes of both parts.
 pub(crate) fn rest_of<'a>(first: &'a [u8], second: &'a [u8], place: usize) -> &'a [u8]
     requires { place ≤ length (first.now ++ second.now) }
     ensures front { (more : List ℕ) × (result.now ++ more ≡ drop place (first.now ++ second.now)) }

@@ -51,7 +51,7 @@ impl<'a> SharedText<'a> {
         }
     }
 
-    /// The shared text between two others. The first is taken, the second is copied.
+    /// The shared text between two other texts. This takes `before` and copies `after`.
     pub fn around(
         before: Vec<u8>,
         shared: &'a [u8],
@@ -80,7 +80,7 @@ impl<'a> SharedText<'a> {
         self.own.len() + self.shared.len()
     }
 
-    /// The text from `place` to the end of the part that has this place.
+    /// The text from `place` to the end of the part that contains `place`.
     pub fn rest(&self, place: usize) -> &[u8]
         requires { place ≤ length self.now }
         ensures front { (more : List ℕ) × (result.now ++ more ≡ drop place self.now) }

@@ -87,7 +87,7 @@ fn push_within(line: &mut Vec<u8>, piece: &[u8], limit: usize) -> Result<(), Inp
 }
 
 impl LineBuffer {
-    /// A buffer for an input of which nothing was read yet.
+    /// A buffer for an input that was not read yet.
     pub fn new() -> LineBuffer
         ensures { result ≡ [] }
     {
@@ -150,8 +150,8 @@ impl LineBuffer {
         }
     }
 
-    /// The next line of the input. It may have at most `limit` bytes before its line feed, and take at most 200,000 reads. On an
-    /// error, the part of it that was read is lost.
+    /// The next line of the input. It may have at most `limit` bytes before its line feed, and take at most 200,000
+    /// reads. On an error, the part of the line that was read is lost.
     pub fn next_line<R: Read>(
         &mut self,
         alloc: Global,

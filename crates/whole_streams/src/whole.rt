@@ -8,7 +8,7 @@ use game_core::{Counted, MAX_STREAM_CALLS};
 use std::alloc::Global;
 use std::io::{Read, Write};
 
-/// Why an input was not read. The first failure counts.
+/// Why an input was not read: the first failure.
 #[derive(Clone, Copy, PartialEq, Eq)]
 pub enum InputFault {
     /// A read failed or was interrupted, or 200,000 reads did not reach the end of the input.

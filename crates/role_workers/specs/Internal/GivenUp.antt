@@ -12,12 +12,12 @@ use Rattle.role_workers.specs.Steps.{answer_call, asking}
 use Rattle.role_workers.specs.RoleCalls.{due_round}
 use Rattle.role_workers.specs.declared.seats.Unattended.{Unattended}
 
--- if a message for such a round is due, a broken connection is reported, and this reply comes
+-- if a message is due, a broken connection is reported for its round, and this reply comes
 abbrev pub answering : BriefValue → ℕ → Option ℕ → Reply → List Event
 answering brief role None reply = []
 answering brief role (Some round) reply = makes (answer_call brief.id role round Broken) ∷ takes reply ∷ []
 
--- a role that is given up, with the replies to the calls for that; the last one counts only if a message is due
+-- a role that is given up, and the replies to the three calls that do this; the last call is made only if a message is due
 pub record GivenUp : Type 0 where
   pub of : Unattended
   pub aborted : Reply

@@ -1,4 +1,4 @@
--- Rounds of a desk without memory for a call.
+-- Rounds of a desk that have no memory for a call.
 use Rattle.std.specs.Prelude.{ℕ, ◌-◌, ◌==◌, Bool, true, Result, Ok, Err}
 use Rattle.call_history.specs.declared.journal.CallFault.{CallFault}
 use Rattle.call_history.specs.declared.journal.CallFault.TheVariants.{Full, Memory}
