@@ -12,7 +12,7 @@ import types
 import unittest
 from unittest import mock
 
-from ggp_tools.competition import archive, command, packing
+from ggp_tools.competition import archive, command, history, packing
 from ggp_tools.competition.archive import SUMS, check_archive, files_below, publish
 from ggp_tools.competition.files import Refused
 from ggp_tools.competition.match_files import check_records
@@ -207,6 +207,29 @@ class Checked(Made):
         self.publish()
         files = files_of(self.path)
         self.assertEqual((files["cup/earlier/2.toml"], files["cup/again.tsv"]), (b"before", b"again"))
+
+    def test_plan_keeps_as_many_earlier_files_as_check_accepts(self):
+        file = self.plan.folder.competition
+        texts = [file.read_text()]
+        for _ in range(2):
+            texts.append(texts[-1].replace('bob"]', 'bob", "heap ann bob"]'))
+        file.write_text(texts[1])
+        most = len(texts[0]) + len(texts[1])
+        with mock.patch.multiple(history, MOST_EARLIER=1, MOST_OF_EARLIER=most):
+            self.plan = make_plan(str(self.folder), self.referee)
+            self.end(self.plan.matches[-1], [100, 0])
+            self.publish()
+            self.assertEqual(self.check()[0], [])
+        file.write_text(texts[2])
+        for number, size, found in ((1, most, f"2 with {most}"), (2, most - 1, f"2 with {most}"), (0, most, f"1 with {len(texts[0])}")):
+            with mock.patch.multiple(history, MOST_EARLIER=number, MOST_OF_EARLIER=size):
+                with self.assertRaises(Refused) as why:
+                    make_plan(str(self.folder), self.referee)
+                words = f"{{}}/earlier: expected at most {number} files with {size} bytes together, found {found}"
+                self.assertEqual(str(why.exception), f"{words.format(self.folder)}: the schedule can't grow any more; begin another competition")
+        with mock.patch.object(history, "MOST_EARLIER", 0):
+            self.assertEqual(self.check()[0], [f"cup/earlier: expected at most 0 files with 67,108,864 bytes together, found 1 with {len(texts[0])}"])
+        self.assertEqual(len(make_plan(str(self.folder), self.referee).history.earlier), 2)
 
     def test_beside_ground_rules_the_description_is_in_the_archive(self):
         competition = self.plan.competition

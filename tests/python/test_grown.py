@@ -39,6 +39,9 @@ GROWN = {
     "there is one more file before, and nothing has replaced it": (
         lambda files: packed({**files, "cup/earlier/7.toml": files["cup/competition.toml"]}), "earlier/7.toml asks for the same matches as the file after it",
     ),
+    "there are more files before than `plan` writes": (
+        lambda files: packed({**files, **{f"cup/earlier/{at}.toml": b"" for at in range(9, 1_009)}}), "cup/earlier: expected at most 1,000 files with 67,108,864 bytes together, found 1,001 with",
+    ),
     "a forfeit is taken away": (changed("cup/table.json", lambda text: text.replace(b'"lost_by_forfeit": 4', b'"lost_by_forfeit": 0')), "table.json does not follow"),
 }
 SWISS = {

@@ -1,5 +1,6 @@
 """The files that record how a competition grew."""
 
+import os
 import pathlib
 import tempfile
 import unittest
@@ -53,6 +54,22 @@ class Histories(unittest.TestCase):
                 read_history(self.folder)
             self.assertEqual(str(why.exception), f"{self.folder.earlier / name} is not one of the earlier files of the competition")
             (self.folder.earlier / name).unlink()
+
+    def test_the_earlier_files_have_a_limit_together(self):
+        self.folder.earlier.mkdir()
+        for count, size in ((1_000, 1), (16, 4 << 20)):
+            files = [self.folder.earlier / f"{at}.toml" for at in range(1, count + 1)]
+            for file in files:
+                file.touch()
+                os.truncate(file, size)
+            self.assertEqual(earlier_files(self.folder), files)
+            (self.folder.earlier / "9999.toml").write_bytes(b"x" * 1_600_000)
+            with self.assertRaises(Refused) as why:
+                read_history(self.folder)
+            words = f"{self.folder.earlier}: expected at most 1,000 files with 67,108,864 bytes together, found {count + 1:,} with {count * size + 1_600_000:,}"
+            self.assertEqual(str(why.exception), f"{words}: the schedule can't grow any more; begin another competition")
+            for file in self.folder.earlier.iterdir():
+                file.unlink()
 
     def test_an_earlier_file_that_says_no_competition_is_named_with_its_line(self):
         self.add_earlier("6.toml")

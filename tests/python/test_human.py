@@ -2,7 +2,9 @@
 
 import contextlib
 import http.client
+import io
 import json
+import select
 import socket
 import threading
 import time
@@ -10,7 +12,7 @@ import unittest
 from unittest import mock
 
 from ggp_tools.holding.game import Game
-from ggp_tools.human import server
+from ggp_tools.human import seat, server
 from ggp_tools.human.game import Shown
 from ggp_tools.human.seat import MOST_MESSAGE, Seat, Unread, head_of, members_of
 from ggp_tools.human.server import MOST_CONNECTIONS, Server
@@ -146,6 +148,59 @@ class Seats(unittest.TestCase):
         asked.join(SECONDS)
         self.assertEqual((self.answers, self.seat.view["phase"]), ([None], "aborted"))
 
+    def test_the_person_leaves_a_match(self):
+        self.begin()
+        asked = self.ask("(PLAY M NIL)")
+        self.await_phase("moving")
+        self.assertEqual(self.seat.leave("N"), "that match is over")
+        self.assertIsNone(self.seat.leave("M"))
+        asked.join(SECONDS)
+        self.assertEqual((self.answers, self.seat.view["phase"], self.seat.view["note"]), ([None], "waiting", "You have left match M: its referee plays your first legal moves."))
+        for message in ("(PLAY M NIL)", "(STOP M NIL)", "(ABORT M)", f"(START M xplayer ({RULES}) 60 60)"):
+            self.assertEqual(self.seat.answer(message), "busy", message)
+        self.assertEqual(self.seat.answer(f"(START N oplayer ({RULES}) 60 60)"), "ready")
+        self.assertEqual(self.seat.answer("(PLAY M NIL)"), "busy")
+        self.assertEqual(self.seat.answer("(PLAY N NIL)"), "noop")
+
+    def test_rules_that_take_forever_do_not_keep_the_seat(self):
+        is_read, is_over = threading.Event(), threading.Event()
+        self.addCleanup(is_over.set)
+
+        def game_of(rules):
+            is_read.set()
+            is_over.wait(SECONDS)
+            return Game(RULES)
+
+        with mock.patch.object(seat, "game_of", game_of):
+            endless = self.ask("(START N xplayer () 60 86400)")
+            self.assertTrue(is_read.wait(SECONDS))
+        self.assertEqual(self.seat.answer(f"(START M xplayer ({RULES}) 60 60)"), "busy")
+        self.assertIsNone(self.seat.leave(""))
+        self.begin("oplayer")
+        is_over.set()
+        endless.join(SECONDS)
+        self.assertEqual((self.answers, self.seat.answer("(PLAY M NIL)")), (["busy"], "noop"))
+
+    def test_what_ends_late_does_not_end_another_match(self):
+        self.begin()
+        is_asked, is_over = threading.Event(), threading.Event()
+        self.addCleanup(is_over.set)
+        goals = self.seat.shown.goals
+
+        def late_goals():
+            is_asked.set()
+            is_over.wait(SECONDS)
+            return goals()
+
+        self.seat.shown.goals = late_goals
+        stop = self.ask("(STOP M NIL)")
+        self.assertTrue(is_asked.wait(SECONDS))
+        self.seat.leave("M")
+        self.assertEqual(self.seat.answer(f"(START N oplayer ({RULES}) 60 60)"), "ready")
+        is_over.set()
+        stop.join(SECONDS)
+        self.assertEqual((self.seat.match, self.seat.view["phase"]), ("N", "ready"))
+
     def test_another_match_begins_only_once_the_referee_is_lost(self):
         self.begin()
         asked = self.ask("(PLAY M NIL)")
@@ -224,8 +279,8 @@ class Pages(unittest.TestCase):
         self.serve()
 
     def serve(self, *referees):
-        self.seat = Seat()
-        self.server = Server(("127.0.0.1", 0), self.seat, referees)
+        self.seat = Seat(referees)
+        self.server = Server(("127.0.0.1", 0), self.seat)
         threading.Thread(target=self.server.serve_forever, args=(0.01,), daemon=True).start()
         self.addCleanup(self.server.server_close)
         self.addCleanup(self.server.shutdown)
@@ -313,6 +368,53 @@ class Pages(unittest.TestCase):
             self.assertEqual(self.request("POST", "/", start, source=theirs).read(), b"busy")
             self.assertEqual(self.request("POST", "/", "(PLAY M NIL)", source=theirs).read(), b"noop")
 
+    def leave(self, match):
+        return self.request("POST", self.of_page("move"), json.dumps({"leave": match})).status
+
+    def view(self):
+        """Returns what a page that is opened now shows."""
+        events = self.request("GET", self.of_page("events"))
+        self.addCleanup(events.close)
+        return json.loads(events.fp.readline().removeprefix(b"data: "))
+
+    def test_who_took_the_seat_is_shown_and_loses_it(self):
+        self.seat.page_opens(1)
+        self.assertEqual((self.view()["referee"], self.view()["playing"]), ("", ""))
+        with contextlib.redirect_stderr(io.StringIO()) as said:
+            self.assertEqual(self.request("POST", "/", f"(START N xplayer ({RULES}) 86400 86400)", source="127.0.0.2").read(), b"ready")
+        self.assertRegex(said.getvalue(), "^ggp-human: .* only from 127.0.0.2, .* restart it with --referee ADDRESS\n$")
+        self.assertEqual((self.view()["referee"], self.view()["playing"]), ("127.0.0.2", "N"))
+        start = f"(START M oplayer ({RULES}) 60 60)"
+        self.assertEqual(self.request("POST", "/", start).read(), b"busy")
+        for path in ("/move", "/leave"):
+            self.assertEqual(self.request("POST", path, '{"leave": "N"}').status, 404)
+        self.assertEqual([self.leave(match) for match in ("M", "", ["N"], "N", "N")], [409, 409, 409, 200, 409])
+        for message in ("(PLAY N NIL)", f"(START N xplayer ({RULES}) 60 60)"):
+            self.assertEqual(self.request("POST", "/", message, source="127.0.0.2").read(), b"busy")
+        self.assertEqual((self.view()["referee"], self.view()["playing"]), ("", ""))
+        self.assertEqual(self.request("POST", "/", start).read(), b"ready")
+        self.assertEqual(self.request("POST", "/", "(PLAY M NIL)").read(), b"noop")
+        self.assertEqual(self.request("POST", "/", "(INFO)", source="127.0.0.2").read(), b"busy")
+        self.assertEqual((self.view()["referee"], self.view()["playing"]), ("127.0.0.1", "M"))
+
+    def test_another_referee_is_accepted_before_a_match(self):
+        self.seat.page_opens(1)
+        self.request("POST", "/", "(INFO)", source="127.0.0.2")
+        self.assertEqual(self.request("POST", "/", "(INFO)").read(), b"busy")
+        self.assertEqual(self.leave(""), 200)
+        self.assertEqual(self.request("POST", "/", "(INFO)").read(), b"available")
+
+    def test_a_match_of_a_given_referee_is_left(self):
+        self.serve("127.0.0.1", "127.0.0.3")
+        self.seat.page_opens(1)
+        for match in ("M", "N"):
+            start = f"(START {match} oplayer ({RULES}) 60 60)"
+            self.assertEqual(self.request("POST", "/", start).read(), b"ready")
+            self.assertEqual((self.view()["referee"], self.view()["playing"]), ("", match))
+            self.assertEqual(self.leave(match), 200)
+            for source in ("127.0.0.1", "127.0.0.2", "127.0.0.3"):
+                self.assertEqual(self.request("POST", "/", start, source=source).read(), b"busy")
+
     def test_a_long_message_of_a_stranger_is_not_read(self):
         self.serve("127.0.0.3")
         line = http.client.HTTPConnection(*self.server.server_address[:2], timeout=SECONDS, source_address=("127.0.0.2", 0))
@@ -338,12 +440,12 @@ class Pages(unittest.TestCase):
             with contextlib.suppress(OSError, http.client.HTTPException):
                 answered = self.request("GET", self.of_page(), source="127.0.0.2").status
 
-    def half(self, source, count):
+    def half(self, source, count, size=60_000):
         """Opens connections, each with the beginning of a message."""
         for _ in range(count):
             line = socket.create_connection(self.server.server_address[:2], SECONDS, (source, 0))
             self.addCleanup(line.close)
-            line.sendall(b"POST / HTTP/1.0\r\nContent-Length: 60000\r\n\r\n")
+            line.sendall(b"POST / HTTP/1.0\r\nContent-Length: %d\r\n\r\n(" % size)
         return line
 
     def test_half_requests_give_way(self):
@@ -353,6 +455,43 @@ class Pages(unittest.TestCase):
                 self.half(source, -(-200 // len(sources)))
             self.assertEqual(self.request("POST", "/", "(INFO)").read(), b"available")
             self.assertLessEqual(len(self.server.requests), MOST_CONNECTIONS)
+
+    def test_long_bodies_that_trickle_in_keep_no_long_start_out(self):
+        self.seat.page_opens(1)
+        start = f"(START M xplayer ({RULES} {' ' * MOST_MESSAGE}) 60 60)".encode()
+        with mock.patch.object(server, "REQUEST_SECONDS", 10 * SECONDS):
+            trickling = [self.half(f"127.0.0.{address}", 1, server.MOST_BYTES) for address in range(2, 14)]
+            self.await_ended(trickling, 4)
+            # A long START arrives in two parts, over a slow link.
+            honest = self.half("127.0.0.1", 1, len(start))
+            honest.sendall(start[1:100_000])
+            while not any(reader.received > 100_000 for reader in list(self.server.readers)):
+                time.sleep(0.01)
+            trickling += [self.half(f"127.0.0.{address}", 1, server.MOST_BYTES) for address in range(14, 18)]
+            self.await_ended(trickling, 9)
+            honest.sendall(start[100_000:])
+            self.assertTrue(honest.makefile("rb").read().endswith(b"\r\n\r\nready"))
+
+    def await_ended(self, lines, count):
+        """Waits until the server has ended this many of the connections."""
+        while len(select.select(lines, [], [], 0.01)[0]) < count:
+            pass
+
+    def test_the_slowest_body_of_the_client_with_most_gives_way(self):
+        def reader(client, rate):
+            return mock.Mock(client=client, rate=lambda: rate)
+
+        readers = [reader("a", 1), reader("b", 9), reader("b", 8), *(reader(at, 7) for at in range(server.MOST_LONG - 3))]
+        with contextlib.ExitStack() as entered:
+            for one in readers:
+                entered.enter_context(self.server.reading(one))
+            # A second one of client 4 takes the place of the first one.
+            for new, gone in ((reader("c", 6), readers[2]), (reader(4, 6), readers[7]), (reader("d", 0), readers[0])):
+                entered.enter_context(self.server.reading(new))
+                gone.end.assert_called_once()
+                self.assertNotIn(gone, self.server.readers)
+            self.assertEqual(len(self.server.readers), server.MOST_LONG)
+        self.assertFalse(self.server.readers)
 
     def test_a_request_that_is_not_finished_is_ended(self):
         with mock.patch.object(server, "REQUEST_SECONDS", 0):

@@ -24,7 +24,7 @@ CELLS = "[...document.querySelectorAll('.board button')]"
 
 class InBrowser(unittest.TestCase):
     def setUp(self) -> None:
-        self.seat, self.answers = Seat(), []
+        self.seat, self.answers, self.sender = Seat(), [], ""
         server = Server(("127.0.0.1", 0), self.seat)
         threading.Thread(target=server.serve_forever, daemon=True).start()
         self.addCleanup(server.server_close)
@@ -34,7 +34,7 @@ class InBrowser(unittest.TestCase):
 
     def ask(self, text: str) -> threading.Thread:
         """Lets the seat answer a message in another thread, like the referee's."""
-        thread = threading.Thread(target=lambda: self.answers.append(self.seat.answer(text)), daemon=True)
+        thread = threading.Thread(target=lambda: self.answers.append(self.seat.answer(text, sender=self.sender)), daemon=True)
         thread.start()
         return thread
 
@@ -115,6 +115,27 @@ class InBrowser(unittest.TestCase):
         page.until("document.querySelectorAll('#moves button').length === 2")
         page.click(MOVE)
         self.assertIn(self.answered(asked), ("(move 1 1 2 2 queen)", "(move 1 1 2 2 rook)"))
+
+    def test_the_person_leaves_a_match_and_a_referee(self) -> None:
+        self.sender = "192.0.2.9"
+        page = self.begin("xplayer", RULES)
+        asked = self.ask("(PLAY M NIL)")
+        self.leave(page, "Referee: 192.0.2.9 (leave this match)")
+        self.assertIsNone(self.answered(asked))
+        self.assertIn("You have left match M", page.text())
+        self.assertEqual(self.answered(self.ask("(INFO)")), "available")
+        self.leave(page, "Referee: 192.0.2.9")
+        self.assertEqual(self.browser.said, [])
+
+    def leave(self, page: Page, shown: str) -> None:
+        """Leaves the match, or the referee, by the button below the line that is shown."""
+        page.until(f"document.getElementById('sender').textContent === '{shown}' && !document.getElementById('referee').hidden")
+        page.click("document.getElementById('sender')")
+        self.assertIn("restart ggp-human with --referee ADDRESS", page.text())
+        self.assertEqual(page.unreadable(), [])
+        page.click("document.getElementById('leave')")
+        page.until("document.getElementById('referee').hidden")
+        self.assertEqual((self.seat.match, self.seat.referees), ("", set()))
 
     def test_a_board_of_hexagons(self) -> None:
         self.seat.is_hex = True

@@ -160,7 +160,8 @@ class Growing:
         found = asked(competition, self.roles) if before is None else added(before, competition, self.roles, self.matches)
         self.width = self.width or len(str(len(found)))
         # A player that has withdrawn plays no further match.
-        self.add_all(competition, [(game, players) for game, players in found if not competition.withdrawn().keys() & players])
+        withdrawn = competition.withdrawn()
+        self.add_all(competition, [(game, players) for game, players in found if withdrawn.keys().isdisjoint(players)])
         self.add_again(competition, until)
 
     def next_round(self, competition: Competition, most: Until = None) -> Round | None:

@@ -7,7 +7,7 @@ import re
 from dataclasses import replace
 from pathlib import Path
 
-from ggp_tools.competition.competition_file import MOST_OF_COMPETITION, RANDOM_IDS, Competition, Mistaken, read_competition, mistake_lines
+from ggp_tools.competition.competition_file import MOST_OF_COMPETITION, MOST_PLAYERS, RANDOM_IDS, Competition, Mistaken, read_competition, mistake_lines
 from ggp_tools.competition.files import UNFINISHED, Folder, Refused, file_bytes
 from ggp_tools.competition.growth import Again, History
 from ggp_tools.competition.table import ALL
@@ -16,6 +16,9 @@ HEAD = b"match\tinstead of\treason\n"
 LINE = re.compile(rb"([A-Za-z0-9_.-]{1,60})\t([A-Za-z0-9_.-]{1,60})\t([\x20-\x7e]{1,200})\n")
 KEY = re.compile(rb"[0-9a-f]{32}\n")
 EARLIER = re.compile(r"([1-9][0-9]{0,5})\.toml")
+# The greatest number of earlier versions, and of their bytes together. Each takes seconds to read, and `plan` writes one whenever the schedule grows:
+# these are enough to add the greatest number of players one by one.
+MOST_EARLIER, MOST_OF_EARLIER = MOST_PLAYERS, 64 << 20
 
 
 def again_text(orders: tuple[Again, ...]) -> bytes:
@@ -56,12 +59,16 @@ def seeded(competition: Competition, path: Path) -> Competition:
     return replace(competition, players=tuple(sorted(competition.players, key=lambda player: seeds.get(player.name, len(rows)))))
 
 
-def earlier_files(folder: Folder) -> list[Path]:
-    """Returns the earlier versions of competition.toml, the oldest first."""
+def earlier_files(folder: Folder, *new: int) -> list[Path]:
+    """Returns the earlier versions of competition.toml, the oldest first. Refuses too many or too large ones, together with a new one of this size."""
     found = [file for file in folder.earlier.iterdir() if not file.name.startswith(UNFINISHED)] if folder.earlier.is_dir() else []
     for file in found:
         if not EARLIER.fullmatch(file.name):
             raise Refused(f"{file} is not one of the earlier files of the competition")
+    sizes = [*(file.stat().st_size for file in found), *new]
+    if len(sizes) > MOST_EARLIER or sum(sizes) > MOST_OF_EARLIER:
+        words = f"{folder.earlier}: expected at most {MOST_EARLIER:,} files with {MOST_OF_EARLIER:,} bytes together"
+        raise Refused(f"{words}, found {len(sizes):,} with {sum(sizes):,}", "the schedule can't grow any more; begin another competition")
     return sorted(found, key=lambda file: int(file.stem))
 
 

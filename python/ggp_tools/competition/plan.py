@@ -13,7 +13,7 @@ from ggp_tools.competition.competition_file import MOST_OF_COMPETITION, REASON, 
 from ggp_tools.competition.files import UNFINISHED, Folder, Refused, file_bytes, held, write_whole
 from ggp_tools.competition.game import trial
 from ggp_tools.competition.growth import Again, Growing, History, Misfit, grown, refuse_changes, refuse_unchanged, shape
-from ggp_tools.competition.history import again_text, competition_of_file, history_files, read_history, read_key, seeded
+from ggp_tools.competition.history import again_text, competition_of_file, earlier_files, history_files, read_history, read_key, seeded
 from ggp_tools.competition.match_files import check_records, checks, record_bytes, unverified_result
 from ggp_tools.competition.results import Result
 from ggp_tools.competition.rounds import Round, is_by_rounds, rounds_of
@@ -260,7 +260,9 @@ def history_of(folder: Folder, competition: Competition, rules: Mapping[str, Rul
     until = len(schedule_of(folder, before, rules, history, count_of_matches(folder)).matches)
     if history.earlier and history.earlier[-1][0] == until:
         return history, {}
-    return replace(history, earlier=(*history.earlier, (until, before))), {folder.earlier / f"{until}.toml": read_file(folder.planned)}
+    text = read_file(folder.planned)
+    earlier_files(folder, len(text))
+    return replace(history, earlier=(*history.earlier, (until, before))), {folder.earlier / f"{until}.toml": text}
 
 
 def planned_before(folder: Folder, competition: Competition) -> Competition | None:

@@ -32,7 +32,7 @@ def main() -> int:
     environment()
     sys.setrecursionlimit(MOST_CALLS)
     try:
-        server = Server((options.bind, options.port), Seat(is_hex=options.board == "hex"), options.referee)
+        server = Server((options.bind, options.port), Seat(options.referee, is_hex=options.board == "hex"))
     except (OSError, OverflowError) as why:
         print(f"ggp-human: {options.bind}:{options.port}: {getattr(why, 'strerror', None) or why}", file=sys.stderr)
         return 1

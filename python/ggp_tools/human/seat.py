@@ -1,9 +1,12 @@
 """Plays one match at a time for a person: answers the referee's messages with the person's moves."""
 
+import contextlib
 import math
 import re
+import sys
 import threading
 import time
+from collections.abc import Iterable
 
 from ggp_tools.holding.game import Game
 from ggp_tools.human.game import Shown
@@ -16,6 +19,9 @@ SPARE = 0.5
 # A referee that is this many seconds late with its next message is considered lost. Then a START of another referee is accepted.
 PATIENCE = 10.0
 NO_MOVES = ("nil", ())
+# A referee introduces itself with one of these messages.
+INTRODUCES = "info", "start"
+NO_MATCH = "No match yet: the referee has not sent START."
 # All messages but START have at most 16 moves of 4,096 bytes.
 MOST_MESSAGE = 131_072
 CLOCK = re.compile("[0-9]{1,5}")
@@ -75,18 +81,23 @@ def joint_move(moves: object, count: int) -> tuple:
 class Seat:
     """The state of the match that the page shows, and the person's pending move. Each change increases `version` and wakes the waiting threads."""
 
-    def __init__(self, waits_for_page: bool = True, is_hex: bool = False) -> None:
+    def __init__(self, referees: Iterable[str] = (), waits_for_page: bool = True, is_hex: bool = False) -> None:
         self.changed = threading.Condition()
         # One START is read at a time, because its rules may be long.
         self.reading = threading.Lock()
         self.version, self.pages, self.waits_for_page, self.is_hex = 0, 0, waits_for_page, is_hex
         self.match, self.receiver = "", ""
+        # The addresses that may send messages: the given ones, or else the one that sent the first INFO or START.
+        self.given = frozenset(referees)
+        self.referees = set(self.given)
+        # The matches that the person has left, each with the address of a referee.
+        self.left: set[tuple[str, str]] = set()
         # The number of the current message, counted over all matches. Threads that wait for an earlier one give up.
         self.asked = 0
         # When the next message of the match must arrive.
         self.expected = 0.0
         self.shown: Shown | None = None
-        self.view: dict = {"phase": "waiting", "note": "No match yet: the referee has not sent START."}
+        self.view: dict = {"phase": "waiting", "note": NO_MATCH}
         self.roles: list[str] = []
         self.role: object = None
         self.legal: list[str] = []
@@ -96,9 +107,11 @@ class Seat:
 
     # ---- the referee's messages
 
-    def answer(self, text: str, receiver: str = "") -> str | None:
+    def answer(self, text: str, receiver: str = "", sender: str = "") -> str | None:
         """Answers a message to a receiver. Returns None if the person made no move in time, or if a later message came."""
         keyword, match = head_of(text)
+        if (match, sender) in self.left or not self.is_referee(sender, keyword):
+            return "busy"
         is_own = match == self.match and receiver == self.receiver
         if keyword == "info":
             return "available" if not self.match and self.is_person_there() else "busy"
@@ -112,10 +125,27 @@ class Seat:
             case "stop", (moves,):
                 return self.stop(moves)
             case "abort", ():
-                self.next_message()
-                self.end("aborted", "The referee has given the match up.")
+                self.end(self.next_message(), "aborted", "The referee has given the match up.")
                 return "aborted"
         return "busy"
+
+    def may_be_referee(self, sender: str) -> bool:
+        """Returns whether messages from this address are read: it is a referee's, or there is no referee yet."""
+        return not self.referees or sender in self.referees
+
+    def is_referee(self, sender: str, keyword: str) -> bool:
+        """Returns whether messages from this address are answered. If there is no referee yet, the sender of INFO or START becomes the referee."""
+        with self.changed:
+            is_first = not self.referees and keyword in INTRODUCES
+            if is_first:
+                self.referees = {sender}
+                self.say(**self.view)
+        if is_first:
+            words = f"it accepts matches only from {sender}, which sent the first INFO or START"
+            # Nobody may read standard error any more.
+            with contextlib.suppress(OSError):
+                print(f"ggp-human: {words}; if this is not your referee, restart it with --referee ADDRESS", file=sys.stderr, flush=True)
+        return sender in self.referees
 
     def is_free(self) -> bool:
         """Returns whether another match may begin, because there is none or its referee is lost."""
@@ -136,14 +166,14 @@ class Seat:
 
     def start(self, match: str, receiver: str, text: str) -> str:
         """Begins a match after a page was opened. While another START is read, answers `busy`."""
-        began = time.monotonic()
-        if not self.reading.acquire(blocking=False):
+        began, reading = time.monotonic(), self.reading
+        if not reading.acquire(blocking=False):
             return "busy"
         try:
             members = members_of(text)
             asked = self.begin(match, receiver, *members) if len(members) == 4 else None
         finally:
-            self.reading.release()
+            reading.release()
         if asked is None:
             return "busy"
         left = began + clock_of(members[2]) - SPARE - time.monotonic()
@@ -206,11 +236,11 @@ class Seat:
 
     def stop(self, moves: object) -> str:
         made = joint_move(moves, len(self.roles))
-        self.next_message()
+        asked = self.next_message()
         note = self.advance(made)
         goals = self.shown.goals() if self.shown else {}
         text = ", ".join(f"{role} {'no goal' if goal is None else goal}" for role, goal in goals.items())
-        self.end("over", f"{note} The match is over: {text}.".strip())
+        self.end(asked, "over", f"{note} The match is over: {text}.".strip())
         return "done"
 
     def advance(self, moves: tuple) -> str:
@@ -235,10 +265,22 @@ class Seat:
             self.view, self.version = view, self.version + 1
             self.changed.notify_all()
 
-    def end(self, phase: str, note: str) -> None:
+    def end(self, asked: int, phase: str, note: str) -> None:
         with self.changed:
-            self.show(phase, [], note)
-            self.match, self.receiver = "", ""
+            if self.asked == asked:
+                self.show(phase, [], note)
+                self.match, self.receiver = "", ""
+
+    def leave(self, match: object) -> str | None:
+        """Leaves a match, or none, and accepts another referee. Returns an error, or None. A START whose rules take long is not waited for."""
+        with self.changed:
+            if match != self.match:
+                return "that match is over"
+            self.next_message()
+            self.left |= {(self.match, sender) for sender in self.referees if self.match}
+            self.match, self.receiver, self.referees, self.reading = "", "", set(self.given), threading.Lock()
+            self.say(phase="waiting", note=f"You have left match {match}: its referee plays your first legal moves." if match else NO_MATCH)
+        return None
 
     def move(self, text: str, asked: int) -> str | None:
         """Takes the person's move, chosen at message number `asked`. Returns an error, or None."""
@@ -264,4 +306,4 @@ class Seat:
         with self.changed:
             self.changed.wait_for(lambda: self.version != version, seconds)
             left = max(0.0, self.deadline - time.monotonic()) if self.view["phase"] in ("moving", "sent") else None
-            return self.version, {**self.view, "left": left}
+            return self.version, {**self.view, "left": left, "playing": self.match, "referee": ", ".join(self.referees - self.given)}

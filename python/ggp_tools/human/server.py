@@ -9,26 +9,26 @@ import re
 import secrets
 import socket
 import sys
-import threading
 import time
-from collections.abc import Iterable, Mapping
+from collections import Counter
+from collections.abc import Iterator, Mapping
 from http.server import BaseHTTPRequestHandler, ThreadingHTTPServer
 from http import HTTPStatus
 
-from ggp_tools.human.seat import MOST_MESSAGE, Seat, Unread, head_of
+from ggp_tools.human.seat import MOST_MESSAGE, Seat, Unread
 from ggp_tools.templating import source
 from ggp_tools.visitors import Visitors, client_of
 
 # START has the whole rules, with a space for each atom and each list.
 MOST_BYTES, MOST_MOVE = 33_554_432, 65_536
-# A referee introduces itself with one of these messages.
-INTRODUCES = "info", "start"
 # After this many seconds without a change the page gets a line, which also detects that the page was closed.
 ALIVE = 1.0
 # A request must arrive within this many seconds, and one more for each MiB of its body. The client must accept the answer within PATIENCE seconds.
 REQUEST_SECONDS, PATIENCE = 5, 30
 # The maximum number of connections.
 MOST_CONNECTIONS = 128
+# The maximum number of long bodies that are read at the same time, so that few of them are in memory.
+MOST_LONG = 8
 # The files of the page by their names below the token. The page may load and run only these.
 FILES = {"": ("human.html", "text/html"), "style.css": ("style.css", "text/css"), "human.js": ("human.js", "text/javascript")}
 HEADERS = {"X-Content-Type-Options": "nosniff", "Referrer-Policy": "no-referrer"}
@@ -50,14 +50,21 @@ class Request(io.RawIOBase):
 
     def __init__(self, connection: socket.socket, client: str, visitors: Visitors) -> None:
         self.connection, self.client, self.visitors = connection, client, visitors
-        self.is_idle, self.ends = True, time.monotonic() + REQUEST_SECONDS
+        self.is_idle, self.began, self.received = True, time.monotonic(), 0
+        self.ends = self.began + REQUEST_SECONDS
 
     def readable(self) -> bool:
         return True
 
     def readinto(self, data: memoryview) -> int:
         self.connection.settimeout(max(0.001, self.ends - time.monotonic()))
-        return self.connection.recv_into(data)
+        count = self.connection.recv_into(data)
+        self.received += count
+        return count
+
+    def rate(self) -> float:
+        """Returns the bytes that have arrived per second."""
+        return self.received / (time.monotonic() - self.began + 0.001)
 
     def is_whole(self) -> None:
         """Notes that the request has arrived: the connection does not give way any more, and its answer has another deadline."""
@@ -103,7 +110,7 @@ class Handler(BaseHTTPRequestHandler):
 
     def do_POST(self) -> None:
         is_move = self.path == f"{self.server.page}move"
-        is_trusted = is_move or self.server.may_be_referee(self.client_address[0])
+        is_trusted = is_move or self.server.seat.may_be_referee(self.client_address[0])
         body = self.body(MOST_BYTES if is_trusted and not is_move else MOST_MOVE)
         self.asked.is_whole()
         if not is_move and self.path != "/":
@@ -129,19 +136,14 @@ class Handler(BaseHTTPRequestHandler):
         if not re.fullmatch("[0-9]{1,8}", size) or int(size) > most:
             return None
         self.asked.ends += int(size) >> 20
-        # One long body is read at a time, so that few of them are in memory.
-        with self.server.reading if int(size) > MOST_MESSAGE else contextlib.nullcontext():
+        with self.server.reading(self.asked) if int(size) > MOST_MESSAGE else contextlib.nullcontext():
             body = self.rfile.read(int(size))
         return body if len(body) == int(size) else None
 
     def take_message(self, body: bytes) -> None:
         """Answers the referee. If there is no move in time, the connection is closed without an answer."""
         try:
-            text = body.decode("latin-1")
-            if not self.server.referees and head_of(text)[0] in INTRODUCES:
-                self.server.referees.add(self.client_address[0])
-            is_referee = self.client_address[0] in self.server.referees
-            answer = self.server.seat.answer(text, self.headers["Receiver"] or "") if is_referee else "busy"
+            answer = self.server.seat.answer(body.decode("latin-1"), self.headers["Receiver"] or "", self.client_address[0])
         except (Unread, RecursionError) as why:
             self.send_error(HTTPStatus.BAD_REQUEST, ascii(str(why)[:200]))
             return
@@ -151,10 +153,11 @@ class Handler(BaseHTTPRequestHandler):
         self.reply(HTTPStatus.OK, "text/acl", answer.encode("latin-1"))
 
     def take_move(self, body: bytes) -> None:
-        """Takes the person's move."""
+        """Takes the person's move, or leaves a match."""
+        seat = self.server.seat
         try:
             values = json.loads(body)
-            why = self.server.seat.move(values["move"], values["asked"])
+            why = seat.leave(values["leave"]) if "leave" in values else seat.move(values["move"], values["asked"])
         except (ValueError, KeyError, TypeError, RecursionError):
             why = "that is not a move"
         self.reply(HTTPStatus.CONFLICT if why else HTTPStatus.OK, "text/plain", (why or "taken").encode())
@@ -193,15 +196,15 @@ class Handler(BaseHTTPRequestHandler):
 
 
 class Server(ThreadingHTTPServer):
-    """Serves a person's seat. Messages are accepted from these addresses of referees, or else from the sender of the first INFO or START."""
+    """Serves a person's seat."""
 
     daemon_threads = True
     request_queue_size = 256
 
-    def __init__(self, address: tuple[str, int], seat: Seat, referees: Iterable[str] = ()) -> None:
+    def __init__(self, address: tuple[str, int], seat: Seat) -> None:
         super().__init__(address, Handler)
-        self.seat, self.referees, self.page = seat, set(referees), f"/{secrets.token_urlsafe(16)}/"
-        self.visitors, self.requests, self.reading = Visitors(MOST_CONNECTIONS), {}, threading.Lock()
+        self.seat, self.page = seat, f"/{secrets.token_urlsafe(16)}/"
+        self.visitors, self.requests, self.readers = Visitors(MOST_CONNECTIONS), {}, set()
 
     def verify_request(self, request: socket.socket, client_address: tuple[str, int]) -> bool:
         """Returns whether a connection is served. If there are too many, the oldest one without a whole request gives way."""
@@ -222,6 +225,18 @@ class Server(ThreadingHTTPServer):
         if not isinstance(sys.exception(), OSError):
             super().handle_error(request, client_address)
 
-    def may_be_referee(self, address: str) -> bool:
-        """Returns whether messages from this address are read: it is a referee's, or there is no referee yet."""
-        return not self.referees or address in self.referees
+    @contextlib.contextmanager
+    def reading(self, request: Request) -> Iterator[None]:
+        """Lets a long body be read. If there are too many, the slowest one of the client that has most of them gives way."""
+        with self.visitors.lock:
+            if len(self.readers) == MOST_LONG:
+                counts = Counter(reader.client for reader in (*self.readers, request))
+                gone = max(self.readers, key=lambda reader: (counts[reader.client], -reader.rate()))
+                self.readers.remove(gone)
+                gone.end()
+            self.readers.add(request)
+        try:
+            yield
+        finally:
+            with self.visitors.lock:
+                self.readers.discard(request)

@@ -25,10 +25,12 @@ function isWhole(move) {
   return move.places.every((own) => !own.length) || move.places.some((own, board) => own.length && own.length <= chosenOf(board));
 }
 
-async function play(move) {
-  const answer = await fetch("move", { method: "POST", headers: { "Content-Type": "application/json" }, body: JSON.stringify({ move, asked: view.asked }) });
+async function send(values) {
+  const answer = await fetch("move", { method: "POST", headers: { "Content-Type": "application/json" }, body: JSON.stringify(values) });
   if (!answer.ok) $("note").textContent = await answer.text();
 }
+
+const play = (move) => send({ move, asked: view.asked });
 
 function choose(board, place) {
   const at = chosen.findIndex((it) => it.board === board && same(it.place, place));
@@ -74,6 +76,10 @@ function draw() {
     return item;
   }));
   $("more").textContent = listed.length > 400 ? `and ${listed.length - 400} more` : "";
+  $("referee").hidden = !view.playing && !view.referee;
+  $("sender").textContent = view.referee ? `Referee: ${view.referee}${view.playing ? " (leave this match)" : ""}` : "Leave this match";
+  $("first").hidden = !view.referee;
+  $("leave").textContent = view.playing ? "Leave this match" : "Accept another referee";
 }
 
 const events = new EventSource("events");
@@ -91,6 +97,10 @@ events.onerror = () => {
   $("note").textContent = `${end} The player does not answer: it has ended, or is being started again.`.trim();
 };
 $("filter").addEventListener("input", draw);
+$("leave").addEventListener("click", () => {
+  $("referee").open = false;
+  send({ leave: view.playing });
+});
 $("shown").addEventListener("click", (event) => {
   const cell = event.target.closest(".board button");
   if (cell) choose(boards().indexOf(cell.closest(".board")), placeOf(cell));
