@@ -31,7 +31,7 @@ reading_fault named InputReadFault = File named Unread
 reading_fault named TooLong = File named FileTooLong
 reading_fault named InputMemory = Memory
 
--- an error of standard input as one of the input file
+-- turns an error of standard input into one of the input file
 abbrev pub input_file_fault : Fault → Fault
 input_file_fault ReadFault = File Input Unread
 input_file_fault InputTooLong = File Input FileTooLong
@@ -46,7 +46,7 @@ abbrev pub NamesSize : MaxBytes → Fault → Type 0
 NamesSize limit (File named (TooLarge size accepted)) = (accepted ≡ limit) × (limit.bytes < size)
 NamesSize limit fault = Unit {0}
 
--- No file is refused for its size.
+-- The fault does not refuse a file for its size.
 abbrev pub IsNotOfSize : Fault → Type 0
 IsNotOfSize fault = (limit : MaxBytes) → NamesSize limit fault
 

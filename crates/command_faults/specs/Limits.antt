@@ -7,7 +7,7 @@ use Rattle.game_core.specs.declared.limits.Limits.TheVariants.{Usual, Large}
 abbrev pub max_line : ℕ
 max_line = 68719476736
 
--- the limit of bytes in the text of a description that `--large` would raise these limits to
+-- the largest number of bytes of a description with `--large`, or None if these are already the limits of `--large`
 abbrev pub max_bytes_with_large : Limits → Option ℕ
 max_bytes_with_large Usual = Some (max_bytes Large)
 max_bytes_with_large Large = None

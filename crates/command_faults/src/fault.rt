@@ -54,7 +54,8 @@ pub enum Fault {
     UnlawfulRecords(u64),
     /// The line of the call log with this number has no valid call.
     NoEntry(u64),
-    /// The call in the line with this number gets another reply, or the line is written in another way. The correct line was written.
+    /// The call in the line with this number gets another reply, or the line is written in another way. The output has
+    /// the correct line.
     Differs(u64),
     /// This many lines of a script are bad. The whole output was written.
     BadLines(u64),

@@ -18,14 +18,14 @@ use whole_streams::{InputFault, Pieces, read_to_end};
 /// How many bytes a file may have.
 #[derive(Clone, Copy)]
 pub struct MaxBytes {
-    /// Without another option.
+    /// The limit with the options that are given.
     pub bytes: u32,
-    /// With `--large`, if that is not given and accepts more.
+    /// The limit with `--large`, if that option is not given and would accept more.
     pub with_large: Option<u32>,
 }
 
 impl MaxBytes {
-    /// Those of a file to which `--large` makes no difference.
+    /// The limit of a file for which `--large` makes no difference.
     pub fn fixed(bytes: u32) -> MaxBytes
         ensures { result.bytes ≡ bytes }
     {
@@ -35,7 +35,7 @@ impl MaxBytes {
         }
     }
 
-    /// Those of a description within these limits.
+    /// The limit of a description, according to these limits.
     pub fn of_description(limits: Limits) -> MaxBytes
         ensures bytes { result.bytes ≡ max_bytes limits }
         ensures with_large { result.with_large ≡ max_bytes_with_large limits }
@@ -66,7 +66,7 @@ impl fmt::Display for MaxBytes {
 /// The limit of the bytes in a file of players' rules.
 pub const MAX_PLAYER_RULES: u32 = 1_048_576;
 
-/// The limit of a line's bytes in an input of records or call logs: 64 GiB. No record of a match is as long.
+/// The limit of a line's bytes in an input of records or call logs: 64 GiB. No record of a match is that long.
 pub const MAX_LINE: usize = 68_719_476_736;
 
 /// What the command line names a file for.
@@ -218,7 +218,8 @@ pub fn input_file_fault(fault: Fault) -> Fault
     }
 }
 
-/// The size of the file at this path, which has more bytes than the limit. The size of a pipe is not known.
+/// The size of the file at this path, which has more bytes than the limit; or the limit plus 1 if the size is not known,
+/// for example of a pipe.
 fn size_above<F: Files>(files: &F, path: &str, limit: u32) -> u64
     ensures { limit < result }
 {

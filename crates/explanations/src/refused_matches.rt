@@ -61,7 +61,8 @@ pub fn push_refused_matches(schedule: &[u8], out: &mut String) -> Result<(), All
     Ok(())
 }
 
-/// Appends to `out` which rules a match breaks that has this id, these clocks and this many players, in a game with `roles` roles.
+/// Appends to `out` which rules a match with this id, these clocks and this many players breaks, in a game with `roles`
+/// roles.
 pub fn push_broken_rules(
     id: &str,
     clocks: [u32; 2],

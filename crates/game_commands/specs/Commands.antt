@@ -65,7 +65,7 @@ DeskFails remaining contents true rules games fault given reader reader' writer 
 DeskFails remaining contents false rules games fault given reader reader' writer writer' =
     ScriptFails remaining contents (script_output rules games given) fault (length given) reader reader' writer writer'
 
--- what an error means that stopped the command
+-- the meaning of an error that stopped the command
 abbrev pub Stops : {G S M R W : Type 0} → (R → Option (List ℕ)) → (W → Option (List ℕ)) → Bool → Bool → (G → Rules S M) → G → GameCommand → List ℕ → Fault → Counting R → Counting R → Counting W → Counting W → Type 0
 Stops remaining contents is_interactive is_json rules game Desk given fault reader reader' writer writer' = DeskFails remaining contents is_interactive rules (game ∷ []) fault given reader reader' writer writer'
 Stops remaining contents is_interactive is_json rules game Verify given fault reader reader' writer writer' = CheckFails remaining contents is_json (rules game) fault given reader reader' writer writer'
@@ -74,7 +74,7 @@ Stops remaining contents is_interactive is_json rules game VerifyLines given fau
     × CheckStops remaining contents is_json (rules game) fault verdicts left reader reader' writer writer'
 Stops remaining contents is_interactive is_json rules game Replay given fault reader reader' writer writer' = ReplayFails contents is_json rules (game ∷ []) given fault reader reader' writer writer'
 
--- An error gives the number of errors in the input after the whole output, or it stopped the command.
+-- The error gives the number of errors in the input, after the whole output was written, or it stopped the command.
 abbrev pub Fails : {G S M R W : Type 0} → (R → Option (List ℕ)) → (W → Option (List ℕ)) → GameRequest → (G → Rules S M) → G → Fault → Counting R → Counting R → Counting W → Counting W → Type 0
 Fails remaining contents request rules game fault reader reader' writer writer' =
     ((wrong : ℕ) × (wrong ≢ 0) × TellsNumber request.task.command wrong fault × Answers remaining contents request.is_json rules game request.task.command wrong reader reader' writer writer')
@@ -83,15 +83,15 @@ Fails remaining contents request rules game fault reader reader' writer writer' 
 
 -- ---- the input of a command
 
--- The whole input was read, and the output for it was written. If a file is named, the input is the file, which may have any bytes, and the
--- reader does not change.
+-- The whole input was read, and the output for it was written. If a file is named, the input is the content of the file, which may be
+-- any bytes, and the reader does not change.
 abbrev pub AnswersInput : {G S M R F W : Type 0} → (R → Option (List ℕ)) → (F → Option (List ℕ)) → (W → Option (List ℕ)) → (G → Rules S M) → G → GameRequest → Counting R → Counting R → Counting W → Counting W → Type 0
 AnswersInput remaining file_remaining contents rules game request reader reader' writer writer' =
     MatchOption request.task.file (Answers remaining contents request.is_json rules game request.task.command 0 reader reader' writer writer')
     (λ path. (reader' ≡ reader) × ((opened : Counting _) × (read : Counting _) × Answers file_remaining contents request.is_json rules game request.task.command 0 opened read writer writer'))
 
--- What an error says about the input. If a file is named, then it cannot be opened and nothing was written, or the error is that of the
--- command on the bytes of the file, as an error of a file.
+-- What an error says about the input. If a file is named, either it cannot be opened and nothing was written, or the error is that of
+-- the command on the bytes of the file, turned into an error of the file.
 abbrev pub FailsInput : {G S M R F W : Type 0} → (R → Option (List ℕ)) → (F → Option (List ℕ)) → (W → Option (List ℕ)) → (G → Rules S M) → G → GameRequest → Fault → Counting R → Counting R → Counting W → Counting W → Type 0
 FailsInput remaining file_remaining contents rules game request fault reader reader' writer writer' =
     MatchOption request.task.file (Fails remaining contents request rules game fault reader reader' writer writer')
@@ -101,12 +101,12 @@ FailsInput remaining file_remaining contents rules game request fault reader rea
 
 -- ---- the game of a source
 
--- the text is that of the source; a file may have any text
+-- the text is that of the source; if the source is a file, it may be any text
 abbrev pub IsTextOf : RulesSource → List ℕ → Type 0
 IsTextOf (Text rules) text = text ≡ rules.now
 IsTextOf (File path) text = Unit {0}
 
--- the error for a text that cannot be read, which must be in a file
+-- the error for a text that cannot be read; this is always the text of a file
 abbrev pub HasNoText : RulesSource → Fault → Type 0
 HasNoText (Text rules) fault = ⊥
 HasNoText (File path) fault = IsFileFault RulesFile fault
@@ -129,7 +129,7 @@ abbrev pub HasNoGame : GameSource → Fault → Type 0
 HasNoGame (OfCountdown size) fault = (fault ≡ WrongUse) × ¬ ((1 ≤ size) × (size ≤ max_heap))
 HasNoGame (Described source limits) fault = HasNoText source fault ⊎ ((text : List ℕ) × IsTextOf source text × IsRefused limits text fault)
 
--- the error for a source without a text of its rules for players
+-- the error if a source gives no text of the rules for players
 abbrev pub HasNoSourceText : GameSource → Fault → Type 0
 HasNoSourceText (OfCountdown size) fault = (fault ≡ Memory) ⊎ HasNoGame (OfCountdown size) fault
 HasNoSourceText (Described source limits) fault = HasNoText source fault

@@ -22,7 +22,7 @@ abbrev pub WritesPart : {W : Type 0} → (W → Option (List ℕ)) → List ℕ 
 WritesPart contents done text writer writer' = (writer'.faults ≡ one_more writer.faults)
     × ((rest : List ℕ) × (text ≡ done ++ rest) × ((taken : ℕ) × (taken ≤ length rest) × Appends (contents writer.stream) (contents writer'.stream) (done ++ take taken rest)))
 
--- why only `done`, or only a prefix of `text`, which begins with it, was written
+-- why only `done`, or only a prefix of `text`, was written; `text` begins with `done`
 abbrev pub StopsWriting : {W : Type 0} → (W → Option (List ℕ)) → List ℕ → List ℕ → Fault → Counting W → Counting W → Type 0
 StopsWriting contents done text fault writer writer' = ((fault ≡ Memory) × Writes contents done writer writer') ⊎ ((fault ≡ WriteFault) × WritesPart contents done text writer writer')
 

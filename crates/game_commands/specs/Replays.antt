@@ -57,7 +57,7 @@ begins_as_record (byte ∷ line) = byte == 123
 abbrev pub line_text : List ℕ → List ℕ
 line_text line = if begins_as_record line then [] else line ++ 13 ∷ 10 ∷ []
 
--- appends the line to the front of the first group
+-- adds the line at the front of the first group
 abbrev pub into_first : List ℕ → List (List (List ℕ)) → List (List (List ℕ))
 into_first line [] = (line ∷ []) ∷ []
 into_first line (group ∷ more) = (line ∷ group) ∷ more

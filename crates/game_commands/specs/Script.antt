@@ -21,7 +21,7 @@ abbrev pub after_line : {S : Type 0} → (S → Call → S) → S → Option Cal
 after_line after s None = s
 after_line after s (Some call) = after s call
 
--- the answers to these lines, each with a line feed, from the object s on
+-- the answers to these lines, each with a line feed; the first call is made on the object s
 abbrev pub answer_lines : {S : Type 0} → (S → Call → Reply) → (S → Call → S) → S → List (List ℕ) → List ℕ
 answer_lines reply after s [] = []
 answer_lines reply after s (line ∷ more) = line_answer reply s (call_of line) ++ line_feed ∷ answer_lines reply after (after_line after s (call_of line)) more

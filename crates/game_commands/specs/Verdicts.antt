@@ -10,7 +10,7 @@ use Rattle.desk_text.specs.AccountLines.{is_account_line}
 use Rattle.game_commands.specs.declared.verdicts.Verdict.{Verdict}
 use Rattle.game_commands.specs.declared.verdicts.Verdict.TheVariants.{Lawful, Unlawful, Account}
 
--- The verdict on a line. It is a line of a call log by its form, or a lawful record, or it fails a first test.
+-- The verdict on a line: the line has the form of a line of a call log, or is a lawful record, or fails this test first.
 abbrev pub IsVerdict : {S M : Type 0} → Rules S M → List ℕ → Verdict → Type 0
 IsVerdict g text Account = is_account_line text ≡ true
 IsVerdict g text Lawful = (is_account_line text ≡ false) × IsLawfulRecord g text

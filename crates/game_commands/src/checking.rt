@@ -115,8 +115,8 @@ pub struct LineCounts {
     pub skipped: u64,
 }
 
-/// Checks each line of the input as a record of the game, and writes its verdict before it reads the next line. Skips the lines of call logs.
-/// Only one line is in memory at a time.
+/// Checks each line of the input as a record of the game, and writes the verdict on it before it reads the next line.
+/// Skips the lines of call logs. Only one line is in memory at a time.
 pub fn check_records<G: Game, R: Read, W: Write>(
     alloc: Global,
     is_json: bool,

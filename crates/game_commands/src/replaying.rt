@@ -21,7 +21,7 @@ use whole_streams::{LineBuffer, NextLine, write_all};
 /// The largest size of a call log in bytes: 256 MiB. The end of each line counts as two bytes.
 const MAX_ACCOUNT: usize = 268_435_456;
 
-/// The number of matches that are not over. If a call log lacks its last calls, there is at least one.
+/// The number of matches that are not over. If the last calls are missing from a call log, there is at least one.
 fn open_matches<G: Game>(manager: &Manager<G>) -> usize
     ensures { result ≡ open_matches G.rules manager.now }
 {
@@ -79,8 +79,8 @@ fn refused_line(alloc: Global, verdict: &str, line: u64) -> Result<String, Alloc
     format!(in alloc; "{{\"verdict\":\"{verdict}\",\"line\":{line}}}\n")
 }
 
-/// The output for a refused call log, which follows `before` lines of other logs: the verdict as JSON, or else the correct line, if there
-/// is one.
+/// The output for a refused call log that follows `before` lines of other logs: the verdict as JSON, or else the correct
+/// line, if there is one.
 fn refused_output(
     alloc: Global,
     is_json: bool,
@@ -106,7 +106,7 @@ fn refused_output(
     }
 }
 
-/// The program's error for a refused call log, which follows `before` lines of other logs.
+/// The program's error for a refused call log that follows `before` lines of other logs.
 fn replay_fault(before: u64, fault: &ReplayFault) -> Fault
     requires { IsNumbered before fault.now }
     ensures { result ≡ replay_fault before fault.now }
@@ -183,8 +183,9 @@ fn answer<G: Game + Drop>(
 }
 
 impl OpenAccount {
-    /// Appends a line, unless it begins with a brace, as records do and lines of call logs do not. Returns whether it begins with a brace.
-    /// The error is that the log then has more than 256 MiB, or out of memory.
+    /// Appends a line, unless it begins with a brace; records begin with a brace, and lines of call logs do not. Returns
+    /// whether the line begins with a brace. Returns an error if the log would have more than 256 MiB, or if memory runs
+    /// out.
     fn push(&mut self, line: &[u8]) -> Result<bool, Fault>
         requires { length self.old.text.items ≤ max_account }
         ensures told { IfOk result (λ is_record. is_record ≡ begins_as_record line.now) }

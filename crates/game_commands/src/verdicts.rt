@@ -64,7 +64,7 @@ pub fn count_unlawful(verdict: Verdict) -> u64
     }
 }
 
-/// 1 if the line is one of a call log, and 0 otherwise.
+/// 1 if the line belongs to a call log, and 0 otherwise.
 pub fn count_skipped(verdict: Verdict) -> u64
     ensures count { result ≡ count_skipped (verdict ∷ []) }
     ensures small { result ≤ 1 }

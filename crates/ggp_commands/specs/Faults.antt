@@ -17,7 +17,7 @@ use Rattle.command_faults.specs.declared.fault.Fault.{Fault}
 use Rattle.command_faults.specs.declared.fault.Fault.TheVariants.{WrongUse, Memory, WriteFault, NoAnswer, NotSent, Refused, MatchNotEnded, Shortage, NoRecords, NotLawful, UnlawfulRecords, NoEntry, Differs, BadLines, BadAnswers}
 use Rattle.command_faults.specs.Faults.{status_of as plain_status}
 
--- The error is the answer no: the command has finished, and what it checked is not as it should be.
+-- The error means that the answer is no: the command has finished, and its check has failed.
 abbrev pub is_no : Fault → Bool
 is_no NoAnswer = true
 is_no (NotLawful fault) = true
@@ -59,7 +59,7 @@ command_fault (CommandNotSent shortage) = NotSent shortage
 command_fault CommandWriteFault = WriteFault
 command_fault CommandMemory = Memory
 
--- the error of a task with this number of matches without a record, or of bad answers, or of one that ended with an error
+-- the error of a task, from its number of matches without a record or of bad answers, or from the error with which it ended
 abbrev pub task_fault : MatchTask → Result ℕ Fault → Fault
 task_fault (Check plan) (Ok count) = BadAnswers count
 task_fault task (Ok count) = NoRecords count

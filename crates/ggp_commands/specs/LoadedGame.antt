@@ -18,15 +18,15 @@ use Rattle.command_faults.specs.Faults.{IsFileFault}
 abbrev pub AreSpelled : List ℕ → List ℕ → Type 0
 AreSpelled text rules = (sentences : Expressions) × SpellsAll text sentences × (rules ≡ rules_text (all_folded sentences))
 
--- the game's own printed sentences, or, if a file of other rules is named, those of any text
+-- the printed sentences of the game, or, if a file of other rules is named, those of some text
 abbrev pub AreRulesFor : {F : Type 0} → Option F → PackedGame → List ℕ → Type 0
 AreRulesFor player_rules game rules = MatchOption player_rules (rules ≡ rules_text (expressions (sentences_of game))) (λ file. (text : List ℕ) × AreSpelled text rules)
 
--- The game is the one that the options describe, and these are the rules for its players. A file may have any text.
+-- The game is the one that the options describe, and these are the rules for its players. The text of a file may be any text.
 abbrev pub IsLoadedGame : GameOptions → PackedGame → List ℕ → Type 0
 IsLoadedGame plan game rules = ((text : List ℕ) × IsSourceText plan.game text × IsDescribed (limits_of plan.game) text game) × AreRulesFor plan.player_rules game rules
 
--- the error for the players' rules in a file: it cannot be read, or is not KIF
+-- the error for the players' rules in a file: the file cannot be read, or is not KIF
 abbrev pub IsPlayerRulesFault : Fault → Type 0
 IsPlayerRulesFault fault = IsFileFault PlayerRules fault ⊎ (fault ≡ BadPlayerRules)
 

@@ -26,12 +26,12 @@ has_schedule task = false
 abbrev pub WritesPlans : {P : Type 0} → (RolePlace → PlayerAddress → P → Type 0) → (P → Option (List Handed)) → PlayableGame → SeasonForm → List MatchPlan → ℕ → Option (List ℕ) → Option (List ℕ) → Type 0
 WritesPlans is_reached handed game form plans missing old new = WritesAllBut (IsOutputOf is_reached handed game plans form.has_history) form.order missing (length plans) old new
 
--- What was written about these matches up to this error, as `match_season` specifies it.
+-- What was written for these matches before this error, as `match_season` specifies it.
 abbrev pub WritesPlansUpTo : {P : Type 0} → (RolePlace → PlayerAddress → P → Type 0) → (P → Option (List Handed)) → PlayableGame → SeasonForm → List MatchPlan → Fault → Option (List ℕ) → Option (List ℕ) → Type 0
 WritesPlansUpTo is_reached handed game form plans fault old new =
     (why : SeasonFault) × (fault ≡ season_fault why) × WritesUpTo (IsOutputOf is_reached handed game plans form.has_history) form.order (length plans) old new why
 
--- This is written to the output; or it is written to the named file, and the output does not change.
+-- This is written to the output; or, if a file is named, it is written to that file, and the output does not change.
 abbrev pub GoesTo : {F : Type 0} → Option F → (Option (List ℕ) → Option (List ℕ) → Type 0) → Option (List ℕ) → Option (List ℕ) → Type 0
 GoesTo file Writes old new = MatchOption file (Writes old new) (λ name. (new ≡ old) × ((before : Option (List ℕ)) × (after : Option (List ℕ)) × Writes before after))
 
@@ -40,13 +40,13 @@ abbrev pub WritesSeason : {P : Type 0} → (RolePlace → PlayerAddress → P �
 WritesSeason is_reached handed game season schedule missing old new = (plans : List MatchPlan) × AreToPlay game.game.now season.strikes season.done season.records schedule plans
     × GoesTo season.records (WritesPlans is_reached handed game season.form plans missing) old new
 
--- The season was played, but then the path of the file of records no longer named the file. That is a write fault.
+-- The season was played, but then the path of its file of records no longer named that file. The error is a write fault.
 abbrev pub LosesFile : {P : Type 0} → (RolePlace → PlayerAddress → P → Type 0) → (P → Option (List Handed)) → PlayableGame → SeasonPlan → List ℕ → Fault → Option (List ℕ) → Option (List ℕ) → Type 0
 LosesFile is_reached handed game season schedule fault old new = (is_some season.records ≡ true) × (fault ≡ WriteFault)
     × ((missing : ℕ) × WritesSeason is_reached handed game season schedule missing old new)
 
--- What a season has written that ended with this error: nothing if there are no plans, everything if it then lost its file of records, and
--- otherwise the outputs up to that error.
+-- What a season that ended with this error has written: nothing if there are no plans, everything if its file of records was lost
+-- afterwards, and otherwise the outputs before the error.
 abbrev pub WritesSeasonUpTo : {P : Type 0} → (RolePlace → PlayerAddress → P → Type 0) → (P → Option (List Handed)) → PlayableGame → SeasonPlan → List ℕ → Option (List ℕ) → Option (List ℕ) → Fault → Type 0
 WritesSeasonUpTo is_reached handed game season schedule old new fault =
     ((HasNoPlans game.game.now season.strikes season.done season.records schedule fault × (new ≡ old))

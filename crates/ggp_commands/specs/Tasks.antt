@@ -29,25 +29,25 @@ use Rattle.ggp_commands.specs.LoadedGame.{IsNotLoadedGame, IsLoadedGame}
 use Rattle.ggp_commands.specs.Runs.{WritesRun, WritesRunUpTo}
 use Rattle.ggp_commands.specs.Schedules.{WritesSeason, WritesSeasonUpTo}
 
--- The task wrote the output of its match, or of each match to play except the missing ones, or the table of its check. The number is that of
--- the missing matches, or of the bad answers in the table.
+-- The task wrote the output of its match, or of each match to play except the missing ones, or the table of its check. `count` is the
+-- number of missing matches, or of bad answers in the table.
 abbrev pub WritesTask : (H : Type 0) → {P : Type 0} → (RolePlace → PlayerAddress → P → Type 0) → (P → Option (List Handed)) → PlayableGame → MatchTask → List ℕ → ℕ → Option (List ℕ) → Option (List ℕ) → Type 0
 WritesTask H is_reached handed game (Run run) input count old new = (count ≡ 0) × WritesRun is_reached handed game run old new
 WritesTask H is_reached handed game (Season season) input count old new = WritesSeason is_reached handed game season input count old new
 WritesTask H is_reached handed game (Check plan) input count old new = WritesCheck H is_reached handed game plan count old new
 
--- What a task has written that ended with this error.
+-- What a task that ended with this error has written.
 abbrev pub WritesTaskUpTo : (H : Type 0) → {P : Type 0} → (RolePlace → PlayerAddress → P → Type 0) → (P → Option (List Handed)) → PlayableGame → MatchTask → List ℕ → Option (List ℕ) → Option (List ℕ) → Fault → Type 0
 WritesTaskUpTo H is_reached handed game (Run run) input old new fault = WritesRunUpTo is_reached handed game run old new fault
 WritesTaskUpTo H is_reached handed game (Season season) input old new fault = WritesSeasonUpTo is_reached handed game season input old new fault
 WritesTaskUpTo H is_reached handed game (Check plan) input old new fault = (why : CheckFault) × (fault ≡ check_fault why) × EndsEarly H is_reached handed game plan why old new
 
--- The task ended with this error: out of memory before it began, or later.
+-- The task ended with this error: memory ran out before it began, or the error came later.
 abbrev pub EndsTask : (H : Type 0) → {P : Type 0} → (RolePlace → PlayerAddress → P → Type 0) → (P → Option (List Handed)) → PlayableGame → MatchTask → List ℕ → Option (List ℕ) → Option (List ℕ) → Fault → Type 0
 EndsTask H is_reached handed game task input old new fault = ((fault ≡ Memory) × (new ≡ old)) ⊎ WritesTaskUpTo H is_reached handed game task input old new fault
 
--- This is the input of a task: for a season the whole schedule, or any text if a file is named, and then the reader does not change. Other
--- tasks read nothing.
+-- This is the input of a task. For a season it is the whole schedule; if a file is named, it may be any text, and the reader does not
+-- change. Other tasks read nothing.
 abbrev pub ReadsInput : {R : Type 0} → (R → Option (List ℕ)) → MatchTask → List ℕ → Counting R → Counting R → Type 0
 ReadsInput remaining (Season season) input reader reader' =
     MatchOption season.schedule (Consumes (remaining reader.stream) (remaining reader'.stream) input × IsAtEnd (remaining reader'.stream)) (λ path. reader' ≡ reader)
@@ -73,21 +73,21 @@ abbrev pub IsNotBegun : {R : Type 0} → (R → Option (List ℕ)) → GameOptio
 IsNotBegun remaining plan task fault reader reader' =
     ((IsNotLoadedGame plan fault ⊎ HasNoLog plan.log fault) × (reader' ≡ reader)) ⊎ HasNoInput remaining task fault reader reader'
 
--- The task was run on its game and its input. The number is that of the missing matches, or of the bad answers.
+-- The task was run on its game and its input. `count` is the number of missing matches, or of bad answers.
 abbrev pub Plays : (H : Type 0) → {P R W : Type 0} → (RolePlace → PlayerAddress → P → Type 0) → (P → Option (List Handed)) → (R → Option (List ℕ)) → (W → Option (List ℕ)) → GameOptions → MatchTask → Counting R → Counting R → Counting W → Counting W → ℕ → Type 0
 Plays H is_reached handed remaining contents plan task reader reader' writer writer' count = (game : PlayableGame) × (input : List ℕ)
     × IsLoadedGame plan game.game.now game.rules.now × ReadsInput remaining task input reader reader'
     × WritesTask H is_reached handed game task input count (contents writer.stream) (contents writer'.stream)
 
--- Why the task was not run or not successful. Without its game or its input it did not begin, and wrote nothing. Otherwise the error has the
--- number of missing matches or of bad answers, or the task ended with the error.
+-- Why the task was not run, or did not succeed. If it has no game, no log or no input, it did not begin and wrote nothing. Otherwise
+-- the error has the number of missing matches or of bad answers, or the task ended with the error.
 abbrev pub FailsToPlay : (H : Type 0) → {P R W : Type 0} → (RolePlace → PlayerAddress → P → Type 0) → (P → Option (List Handed)) → (R → Option (List ℕ)) → (W → Option (List ℕ)) → GameOptions → MatchTask → Counting R → Counting R → Counting W → Counting W → Fault → Type 0
 FailsToPlay H is_reached handed remaining contents plan task reader reader' writer writer' fault = (IsNotBegun remaining plan task fault reader reader' × (writer' ≡ writer))
     ⊎ (((count : ℕ) × (count ≢ 0) × (fault ≡ task_fault task (Ok count)) × Plays H is_reached handed remaining contents plan task reader reader' writer writer' count)
     ⊎ ((game : PlayableGame) × (input : List ℕ) × IsLoadedGame plan game.game.now game.rules.now × ReadsInput remaining task input reader reader'
     × EndsTask H is_reached handed game task input (contents writer.stream) (contents writer'.stream) fault))
 
--- What a task has read and written that succeeded.
+-- What a task that succeeded has read and written.
 abbrev pub Performs : (H : Type 0) → {P R F W : Type 0} → (RolePlace → PlayerAddress → P → Type 0) → (P → Option (List Handed)) → (R → Option (List ℕ)) → (F → Option (List ℕ)) → (W → Option (List ℕ)) → Task → Counting R → Counting R → Counting W → Counting W → Type 0
 Performs H is_reached handed remaining file_remaining contents (Show text) reader reader' writer writer' = (reader' ≡ reader) × Appends (contents writer.stream) (contents writer'.stream) (string_bytes text)
 Performs H is_reached handed remaining file_remaining contents (Game request) reader reader' writer writer' =
@@ -98,7 +98,7 @@ Performs H is_reached handed remaining file_remaining contents (Abort plan) read
     (reader' ≡ reader) × Appends (contents writer.stream) (contents writer'.stream) (aborted_lines plan.is_json plan.players.items)
 Performs H is_reached handed remaining file_remaining contents (Host plan task) reader reader' writer writer' = Plays H is_reached handed remaining contents plan task reader reader' writer writer' 0
 
--- What a task has read and written that ended with this error.
+-- What a task that ended with this error has read and written.
 abbrev pub Fails : (H : Type 0) → {P R F W : Type 0} → (RolePlace → PlayerAddress → P → Type 0) → (P → Option (List Handed)) → (R → Option (List ℕ)) → (F → Option (List ℕ)) → (W → Option (List ℕ)) → Task → Counting R → Counting R → Counting W → Counting W → Fault → Type 0
 Fails H is_reached handed remaining file_remaining contents (Show text) reader reader' writer writer' fault =
     (reader' ≡ reader) × (fault ≡ WriteFault) × AppendsPart (contents writer.stream) (contents writer'.stream) (string_bytes text)

@@ -171,7 +171,7 @@ fn prepared<F: Files, R: Read>(
     Ok((loaded_game, log, input))
 }
 
-/// Plays the matches of a task. Returns the output too, so that its content is known.
+/// Plays the matches of a task. Returns the output too, so that contracts know its content.
 fn play<'w, N: WriterBrand, H, S, R: Read, W: Write, E: Write + Send>(
     around: &Surroundings<'_, H, S>,
     plan: &GameOptions<'_>,
@@ -217,7 +217,7 @@ where
     (task_end(task, held), writer)
 }
 
-/// Runs a task. Returns the output too, so that its content is known.
+/// Runs a task. Returns the output too, so that contracts know its content.
 fn perform_task<'w, N: WriterBrand, H, S, R: Read, W: Write, E: Write + Send>(
     around: &Surroundings<'_, H, S>,
     task: &Task<'_>,

@@ -77,7 +77,7 @@ fn shown(alloc: Global, lines: &str) -> Result<String, AllocError> {
     Ok(shown)
 }
 
-/// Writes the explanation if it is wanted. Errors of the stream are ignored. If memory runs out, nothing is written.
+/// Writes the explanation if `are_wanted`. Errors of the stream are ignored. If memory runs out, nothing is written.
 pub fn explain<E: Write>(alloc: Global, are_wanted: bool, subject: &Subject<'_>, errors: &mut E) {
     let mut lines = String::new(alloc);
     if are_wanted && push_lines(alloc, subject, &mut lines).is_ok() {

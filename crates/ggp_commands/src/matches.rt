@@ -367,7 +367,7 @@ where
     ensures at_fault { IfErr result (EndsTask H (is_logged_reached H (S.is_reached around.now.reach.now)) (logged_handed H S.Player.handed) ready.entry.game ready.entry.task.now ready.entry.input.now (W.contents writer.old.stream) (W.contents writer.new.stream)) }
 {
     let rt = around.rt;
-    // The closure returns the output, so that its content is known after the scope.
+    // The closure returns the output, so that contracts know its content after the scope.
     let (performed, _writer) = thread::scope(
         thread::scope_env(),
         rt,
@@ -391,9 +391,9 @@ where
     performed
 }
 
-/// Plays matches of a game and reports on them: the log has each message, and `errors` shows the progress if it is a terminal and does not
-/// have the log. No match waits until a report is written. Returns the number of matches without a record, or of bad answers. Returns the
-/// output too, so that its content is known.
+/// Plays matches of a game and reports on them: the log has each message, and `errors` shows the progress if it is a
+/// terminal and the log is not written to it. Matches do not wait for reports to be written. Returns the number of
+/// matches without a record, or of bad answers. Returns the output too, so that contracts know its content.
 pub fn play_with_reports<
     'w,
     N: WriterBrand,

@@ -59,7 +59,7 @@ fn tell_torn<E: Write>(errors: &mut E, path: &str, first: Option<u64>, torn: &st
     };
 }
 
-/// Reports a record in the middle of a file that has an incomplete call log.
+/// Reports that a record in the middle of a file has an incomplete call log.
 fn tell_partial<E: Write>(errors: &mut E, path: &str, line: u64) {
     let mut pieces = Pieces { stream: errors };
     let _ = writeln!(
@@ -128,8 +128,8 @@ fn last_partial<F: Files, E: Write>(
     }
 }
 
-/// Moves the incomplete end of the file to another file, and reports it: a last line without a line feed, or, if records have call logs, a
-/// last record with an incomplete one.
+/// Moves the incomplete end of the file to another file, and reports this. The end is a last line without a line feed or,
+/// if records have call logs, a last record with an incomplete call log.
 pub fn mend_records<F: LockedFiles, E: Write>(
     file: &mut RecordsFile<'_, F, <F as Files>::File>,
     files: &F,

@@ -133,7 +133,7 @@ fn used_by<'a>(alloc: Global, task: &Task<'a>) -> Result<Vec<Used<'a>>, AllocErr
     Ok(used)
 }
 
-/// Whether the file at this path is empty. The shell creates or empties the file of `>` before the program begins.
+/// Whether the file at this path is empty. The shell creates or empties the file after `>` before the program begins.
 fn is_empty<F: Files>(files: &F, path: &str) -> bool {
     match fs::metadata(files, path) {
         Ok(found) => found.len() == 0,
@@ -141,8 +141,8 @@ fn is_empty<F: Files>(files: &F, path: &str) -> bool {
     }
 }
 
-/// Whether using one file in these two ways would destroy it or the output. `--done` and `--records` may name the same file, and standard
-/// output may be appended to the file of `--done`.
+/// Whether using one file in these two ways would destroy it or the output. `--done` and `--records` may name the same
+/// file, and standard output may be appended to the `--done` file.
 fn are_at_odds<F: Files>(files: &F, one: Used<'_>, other: Used<'_>) -> bool {
     if !one.role.is_written() && !other.role.is_written() {
         return false;

@@ -194,7 +194,7 @@ where
     is_shared(season.game.game);
     is_shared(season.game.rules);
     let rt = around.rt;
-    // The closure returns the stream, so that its content is known after the scope.
+    // The closure returns the stream, so that contracts know its content after the scope.
     let (played, _stream) = thread::scope(
         thread::scope_env(),
         rt,

@@ -36,7 +36,7 @@ struct RecordBlock {
     record: Vec<u8>,
     /// The lines after the record, each with a line feed.
     account: Vec<u8>,
-    /// Whether there are more of them than a call log can have.
+    /// Whether these lines have more bytes than a call log can have.
     is_too_long: bool,
 }
 
@@ -98,7 +98,7 @@ fn is_whole<G: Game>(alloc: Global, game: &G, block: &RecordBlock) -> Result<boo
     gives_record(alloc, games, &block.account, &block.record)
 }
 
-/// Whether a record is of a match that is over, but has an incomplete call log.
+/// Whether the match of a record is over, but the call log of the record is incomplete.
 fn is_partial<G: Game>(alloc: Global, game: &G, block: &RecordBlock) -> Result<bool, AllocError> {
     if is_whole(alloc, game, block)? {
         return Ok(false);
@@ -125,7 +125,7 @@ fn partial_in<G: Game>(
     }
 }
 
-/// The first record in the file at this path that is of a match of the game which is over, but has an incomplete call log. A last
+/// The first record of the game in the file at this path whose match is over, but whose call log is incomplete. A last
 /// line without a line feed does not belong to a call log.
 pub fn partial_record<F: Files, G: Game>(
     files: &F,

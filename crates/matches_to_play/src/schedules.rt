@@ -130,7 +130,7 @@ fn tell_partial<F: Files, E: Write>(
     Ok(())
 }
 
-/// Reports that the file has a record of none of the matches of a schedule.
+/// Reports that the file has no record of any match of a schedule.
 fn tell_none_done<E: Write>(errors: &mut E, path: &str) {
     let mut pieces = Pieces { stream: errors };
     let _ = writeln!(
@@ -140,8 +140,8 @@ fn tell_none_done<E: Write>(errors: &mut E, path: &str) {
     );
 }
 
-/// The matches of a schedule, except those that are over according to the file of `--done`. Reports if this file has a record of none of
-/// them.
+/// The matches of a schedule, except those that are over according to the `--done` file. If this file has no record of
+/// any of them, reports this.
 pub fn plans_of<'a, F: Files, E: Write>(
     files: &F,
     alloc: Global,

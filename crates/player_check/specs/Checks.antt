@@ -35,11 +35,12 @@ match_id role = codes "check-" ++ decimal role
 abbrev pub is_watched : (H : Type 0) → {P : Type 0} → (RolePlace → PlayerAddress → P → Type 0) → ℕ → RolePlace → PlayerAddress → CheckedPlayer H P → Type 0
 is_watched H is_reached role at address participant = (is_some participant.watched ≡ (at.role == role)) × IfSome participant.watched (is_reached at address)
 
--- the messages to a player of the match: those to the watched player, if it is the one
+-- the messages to a player of the match: those to the watched player inside it, if there is one
 abbrev pub watched_handed : (H : Type 0) → {P : Type 0} → (P → Option (List Handed)) → CheckedPlayer H P → Option (List Handed)
 watched_handed H handed participant = option_and_then handed participant.watched
 
--- A match of this game was played, in which the checked player had this role and got the role's messages. These are the role's turns.
+-- A match of this game was played. In this match, the checked player had this role and got the role's messages. These are the role's
+-- turns.
 pub record AreTurnsIn (H : Type 0) {P : Type 0} (is_reached : RolePlace → PlayerAddress → P → Type 0) (handed : P → Option (List Handed)) (game : PlayableGame) (plan : CheckPlan) (role : ℕ) (turns : List RoleTurn) : Type 0 where
   pub made : MatchPlan
   pub planned : IsPlanFor plan (match_id role) role (loaded_game (tables_of game.game.now)).roles made
@@ -103,7 +104,7 @@ module _ (H : Type 0) {P : Type 0} (is_reached : RolePlace → PlayerAddress →
   WritesPart old new = (count bad taken : ℕ) × (text : List ℕ) × (0 < count) × (count ≤ roles_of game) × IsTableOf count bad text
       × (taken ≤ length text) × Appends old new (take taken text)
 
-  -- what a check has written that ended early with this fault
+  -- what a check that ended early with this fault has written
   abbrev pub EndsEarly : CheckFault → Option (List ℕ) → Option (List ℕ) → Type 0
   EndsEarly WriteFault old new = WritesPart old new
   EndsEarly fault old new = WritesEarlier old new

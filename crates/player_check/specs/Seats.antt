@@ -7,7 +7,7 @@ use Rattle.match_plans.specs.declared.plan.MatchPlan.{MatchPlan}
 abbrev pub nobody : List ℕ
 nobody = codes "nobody"
 
--- the player at this role is the checked one, and every other one is nobody
+-- the player of this role is the checked player, and every other player is named `nobody`
 pub record AreSeated (player : PlayerAddress) (role roles : ℕ) (players : List PlayerAddress) : Type 0 where
   pub count : length players ≡ roles
   pub seat : role < roles → HoldsAt (λ it. it ≡ player) players role

@@ -8,7 +8,7 @@ use Rattle.player_check.specs.Rows.{later_turns, next_turn, row_verdict}
 use Rattle.player_check.specs.Verdicts.{is_refused, verdict_text}
 use Rattle.player_check.specs.declared.watched.Exchange.{Exchange}
 
--- the text of the move in a turn, or empty without a turn
+-- the text of the move in a turn; empty if there is no turn
 abbrev pub played_text : Option RoleTurn → List ℕ
 played_text None = []
 played_text (Some turn) = turn.played
@@ -26,14 +26,14 @@ row_text role exchange turn words =
     (column (shown_text (played_text turn))
     (column (decimal exchange.millis) (words ++ line_feed ∷ []))))))
 
--- The text is the row of an exchange with this turn. The text of its explanation is not specified, but it is empty if there is no
--- fault and no answer was rejected as a move.
+-- The text is the row of an exchange with this turn. The text of its explanation is not specified, but it is empty if there is no fault
+-- and the answer was not rejected as a move.
 pub record IsRow (role : List ℕ) (exchange : Exchange) (turn : Option RoleTurn) (text : List ℕ) : Type 0 where
   pub words : List ℕ
   pub no_words : exchange.fault ≡ None → is_refused (row_verdict exchange turn) ≡ false → words ≡ []
   pub is_text : text ≡ row_text role exchange turn words
 
--- The text is the rows of exchanges, in order. The exchanges that ask for a move have these turns, in order.
+-- The text consists of the rows of the exchanges, in order. The exchanges that ask for a move have these turns, in order.
 abbrev pub AreRows : List ℕ → List Exchange → List RoleTurn → List ℕ → Type 0
 AreRows role [] turns text = text ≡ []
 AreRows role (exchange ∷ exchanges) turns text = (row : List ℕ) × (rows : List ℕ) × IsRow role exchange (next_turn exchange.is_play turns) row

@@ -6,13 +6,13 @@ use Rattle.player_check.specs.declared.watched.AnswerKind.TheVariants.{Text, Sil
 use Rattle.player_check.specs.declared.table.Verdict.{Verdict}
 use Rattle.player_check.specs.declared.table.Verdict.TheVariants.{Taken, Legal, Illegal, NoMove, Late, Broken, Dropped}
 
--- by whether the error is empty, and whether it says that the text is not an expression
+-- the verdict, by whether the error is empty, and whether it says that the text is not an expression
 abbrev pub judged_as : Bool → Bool → Verdict
 judged_as true b = Legal
 judged_as false true = NoMove
 judged_as false false = Illegal
 
--- by the error of the turn, if the turn was recorded
+-- the verdict, by the error of the turn, if the turn was recorded
 abbrev pub judged : Option (List ℕ) → Verdict
 judged None = Dropped
 judged (Some error) = judged_as (length error == 0) (bytes_eq error unreadable_text)
@@ -29,7 +29,7 @@ is_good Legal = true
 is_good Dropped = true
 is_good verdict = false
 
--- the message asked for a move, and another move was played than the answer
+-- the message asked for a move, and the move that was played is not the answer
 abbrev pub is_refused : Verdict → Bool
 is_refused Illegal = true
 is_refused NoMove = true

@@ -24,7 +24,8 @@ use std::time::Clock;
 use thiserror::Error;
 use whole_streams::{WriteFault, write_all};
 
-/// Why a check did not end. The table has the rows of the earlier matches, and after a write fault also a part of the last one's.
+/// Why a check did not end. The table has the rows of the earlier matches and, after a write fault, a part of the rows of
+/// the last match.
 #[derive(Clone, Copy, Debug, PartialEq, Eq, Error)]
 pub enum CheckFault {
     /// A match ended without a result, for this reason.

@@ -6,7 +6,7 @@ use match_book::{ILLEGAL_PREFIX, Match, place_of};
 use match_log::Shown;
 use std::alloc::{AllocError, Global};
 
-/// The limit of bytes for listing legal moves. Two dots replace the others.
+/// The limit of bytes for listing legal moves. Two dots replace the remaining moves.
 const TOLD: usize = 200;
 
 /// Whether a move with this text is legal for the role in the state.
@@ -42,8 +42,8 @@ fn push_legal<G: Game>(game: &G, moves: &[G::Move], words: &mut String) -> Resul
     Ok(())
 }
 
-/// If the role's answer in a recorded turn was not a legal move, appends an explanation: the roles for which its move was legal, whether
-/// it was legal for this role one turn earlier, and the legal moves. Otherwise appends nothing.
+/// If the role's answer in a recorded turn was not a legal move, appends an explanation: the roles for which the answer
+/// was legal, whether it was legal for this role one turn earlier, and the legal moves. Otherwise appends nothing.
 pub fn push_illegal_words<G: Game>(
     alloc: Global,
     game: &G,

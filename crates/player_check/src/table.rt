@@ -125,7 +125,7 @@ pub struct Row<'a> {
     pub words: &'a str,
 }
 
-/// The text of the move in a turn, or empty without a turn.
+/// The text of the move in a turn. It is empty if there is no turn.
 fn played_text(turn: Option<&RoleTurn>) -> &[u8]
     ensures { result.now ≡ played_text (option_copied turn.entry) }
 {

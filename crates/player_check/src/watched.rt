@@ -38,7 +38,7 @@ pub struct Exchange {
     pub message: String,
     /// Whether the message asks for a move.
     pub is_play: bool,
-    /// The beginning of the answer's text. It is empty without an answer.
+    /// The beginning of the answer's text. It is empty if there is no answer.
     pub answer: String,
     pub brought: AnswerKind,
     /// Why the answer is not a move, if the message asks for one.
@@ -144,7 +144,7 @@ fn exchange_of(
     })
 }
 
-/// Reaches the watched player by `reach`. The other roles get players that answer nothing.
+/// Reaches the watched player through `reach`. The other roles get players that answer nothing.
 #[derive(Drop)]
 pub struct CheckReach<'a, H, S> {
     pub rt: &'a H,
@@ -210,8 +210,8 @@ impl<H: Clock + Wait, P: Explains> CheckedPlayer<'_, H, P> {
         Instant::now(self.rt).ok()
     }
 
-    /// Notes that a message has ended which began at the time `began`. If the player is watched and there is an answer, stores the
-    /// exchange. There is no answer if memory ran out.
+    /// Notes that a message that began at the time `began` has ended. If the player is watched and there is an answer,
+    /// stores the exchange. There is no answer if memory ran out.
     fn end(&mut self, message: &SharedText<'_>, answer: Option<&Answer>, began: Option<Instant>)
         ensures rest { as_nanos self.new.pace.rest ≡ 100_000_000 }
         ensures ended { IsFalse self.new.pace.has_rested }
