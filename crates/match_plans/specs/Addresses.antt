@@ -12,7 +12,7 @@ use Rattle.match_plans.specs.declared.addresses.PlayerAddress.{PlayerAddress}
 abbrev pub addressed_name : List ℕ → List ℕ
 addressed_name word = before_first (λ b. b == 64) word
 
--- the parts before and after the last c of a text, given the same for the text without its first byte
+-- the parts before and after the last c of a text, from those of the text without its first byte
 abbrev pub cut_here : ℕ → ℕ → List ℕ → Option (List ℕ × List ℕ) → Option (List ℕ × List ℕ)
 cut_here c b more None = if b == c then Some ([], more) else None
 cut_here c b more (Some cut) = Some (b ∷ cut.0, cut.1)

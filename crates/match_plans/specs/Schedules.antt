@@ -27,7 +27,7 @@ abbrev pub is_comment : List ℕ → Bool
 is_comment [] = false
 is_comment (b ∷ more) = b == 35
 
--- a text line without words, or whose first word begins with #, is ignored
+-- a text line is ignored if it has no words or its first word begins with #
 abbrev pub is_blank_or_comment : List (List ℕ) → Bool
 is_blank_or_comment [] = true
 is_blank_or_comment (word ∷ words) = is_comment word
@@ -43,7 +43,8 @@ match_lines text = match_words (cut_lines text)
 abbrev pub clock_of : List ℕ → Option ℕ
 clock_of word = plain_number word 4294967295
 
--- the error of the first of these words that is not a player's address; the first one has this number in its text line
+-- the error of the first of these words that is not a player's address; `number` is the position of the list's first word in the text
+-- line
 abbrev pub player_fault : ℕ → List (List ℕ) → Option LineFault
 player_fault number [] = None
 player_fault number (word ∷ words) = if is_player word then player_fault (number + 1) words else Some (NoPlayer number)

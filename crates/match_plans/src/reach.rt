@@ -12,7 +12,7 @@ pub struct RolePlace<'a> {
     /// The match's id.
     pub id: &'a str,
     pub role: usize,
-    /// The largest number of bytes of a move's text in the match's game, among those that an answer can name.
+    /// The largest number of bytes in the text of a move, among the moves of the match's game that fit into an answer.
     pub longest_move: usize,
 }
 
@@ -24,10 +24,10 @@ pub trait Reach {
     ghost use Rattle.match_plans.specs.declared.addresses.PlayerAddress.{PlayerAddress};
     ghost use Rattle.match_plans.specs.declared.reach.RolePlace.{RolePlace};
 
-    /// This player was made for this address and this role of a match. By default it says nothing.
+    /// This player was made for this address and this role of a match. By default this holds for every player.
     ghost is_reached: { Self → RolePlace → PlayerAddress → Self.Player → Type 0 } = { λ s at address player. Unit {0} };
 
-    /// Makes the player at this address for this role of a match. It sends the player nothing. The only error is out of
+    /// Makes the player at this address for this role of a match. Sends the player nothing. The only error is out of
     /// memory.
     fn player(
         &self,

@@ -23,7 +23,7 @@ pub enum LineFault {
     /// An earlier match has this id.
     #[error("an id twice")]
     IdTwice,
-    /// `MAX_SCHEDULED` matches come before it.
+    /// `MAX_SCHEDULED` matches come before this one.
     #[error("too many matches")]
     TooMany,
 }

@@ -1,4 +1,4 @@
-//! Resources that the referee itself may lack, which is not the fault of any player.
+//! Resources that the referee itself may lack. No player is at fault for this.
 ghost use Rattle.std.specs.Prelude.{ℕ, IfNone};
 
 use thiserror::Error;
@@ -17,7 +17,7 @@ pub enum Shortage {
     /// The clock cannot be read.
     #[error("no clock")]
     Clock,
-    /// The name of a host could not be looked up, for a reason that is not the host's.
+    /// The name of a host could not be looked up, for a reason that does not lie with the host.
     #[error("no answer from the resolver")]
     Resolver,
     /// This computer's network is down, has no route to the player or no address of its family, or forbids the connection.
@@ -25,13 +25,13 @@ pub enum Shortage {
     Network,
 }
 
-/// Reports which resource the referee lacked in a match. Such a match has no record, since an answer in it may not be the
-/// player's.
+/// Reports which resource the referee lacked in a match. Such a match has no record, because an answer in it may not be
+/// the player's own.
 pub trait ReportsShortages {
-    /// It has reported that the referee lacked nothing in the match with this index.
+    /// The reporter has said that the referee lacked no resource in the match with this index.
     ghost is_clear: { Self → ℕ → Type 0 };
 
-    /// What the referee lacked in the match with this index, if anything. It is known when the match is over.
+    /// The resource that the referee lacked in the match with this index, if any. This is known when the match is over.
     fn shortage(&self, place: usize) -> Option<Shortage>
         ensures { IfNone result (is_clear self.now place) };
 }

@@ -31,7 +31,8 @@ contact_answer (Err (faults.Exchange fault received)) = answer_of (Err fault)
 contact_answer (Err (faults.Late received)) = Silent
 contact_answer (Err fault) = Broken
 
--- The error of a message whose time is over after a try with this error: what the referee lacks, if one of the two says so, or else this error.
+-- The error of a message whose last try failed with the first error, and which then had no time left, with the second: what the referee
+-- lacks, if one of these errors says so, or else the first error.
 abbrev pub fault_at_end : ContactFault → ContactFault → ContactFault
 fault_at_end (faults.Shortage shortage) halt = faults.Shortage shortage
 fault_at_end fault (faults.Shortage shortage) = faults.Shortage shortage
@@ -41,14 +42,14 @@ abbrev pub short_fault : Option Shortage → ContactFault
 short_fault (Some shortage) = faults.Shortage shortage
 short_fault None = faults.NoConnection
 
--- The error of an address to which no connection was made, from the error's kind and number. It is late if the time was over: this error has
--- no number. With a number, the system gave up the connection.
+-- The error of an address to which no connection was made, from the error's kind and number. It is late if the time was over; then
+-- `TimedOut` has no number. If it has a number, the system gave up the connection.
 abbrev pub address_fault : ErrorKind → Option ℤ → ContactFault
 address_fault TimedOut None = faults.Late Unconnected
 address_fault kind number = short_fault (system_shortage kind number)
 
--- The error of an address to which no connection was made. If both this computer and the player can cause it, it is this computer's error if
--- this computer cannot send to the address, and says what it lacks.
+-- The error of an address to which no connection was made. If both this computer and the player can cause the error, and this computer
+-- cannot send to the address, the error says what this computer lacks.
 abbrev pub connect_fault : ErrorKind → Option ℤ → Bool → Option Shortage → ContactFault
 connect_fault kind number true refusal = short_fault refusal
 connect_fault kind number false refusal = address_fault kind number
@@ -61,13 +62,14 @@ is_of_network (faults.Exchange (exchange_faults.ReadFault kind) received) = true
 is_of_network (faults.Exchange exchange_faults.WriteFault received) = true
 is_of_network fault = false
 
--- What the player is blamed for: nothing if this computer cannot send to the player.
+-- The error of a message that failed in the network: what this computer lacks, if it cannot send to the player, or else the given
+-- error.
 abbrev pub fault_at_refusal : Option Shortage → ContactFault → ContactFault
 fault_at_refusal (Some shortage) fault = faults.Shortage shortage
 fault_at_refusal None fault = fault
 
--- The error of all addresses so far, from that of the earlier ones and that of the last one. A lack of ports or of a network counts only if
--- no address gave another error.
+-- The error of all addresses so far, from the error of the earlier ones and the error of the last one. A lack of ports or of a network
+-- counts only if no address gave another error.
 abbrev pub fault_so_far : ContactFault → ContactFault → ContactFault
 fault_so_far (faults.Shortage Ports) last = last
 fault_so_far (faults.Shortage Network) last = last
@@ -77,16 +79,16 @@ fault_so_far before (faults.Shortage Ports) = before
 fault_so_far before (faults.Shortage Network) = before
 fault_so_far before last = last
 
--- What follows a try to connect: another one if the referee lacked a resource, even if the player has accepted no connection for some
--- seconds; another one after a player that accepts no connection, if the flag is set. A try without time does not count, so the earlier
--- error does.
+-- What follows a try to connect. If the referee lacked a resource, another try follows, even if the player has accepted no connection
+-- for some seconds. If the player accepts no connection, another try follows if `is_patient`. A try that had no time left does not
+-- count, so the error is that of the earlier try.
 abbrev pub after_try : ContactFault → Bool → ContactFault → AfterTry
 after_try before is_patient (faults.Shortage shortage) = Waits shortage
 after_try before is_patient faults.NoConnection = if is_patient then Tries else Ends faults.NoConnection
 after_try before is_patient (faults.Late received) = Ends before
 after_try before is_patient fault = Ends fault
 
--- if a message had to wait because the referee lacked a resource, and then had no time, this is its error
+-- if a message had to wait for a resource that the referee lacked, and then had no time left, the error names this resource
 abbrev pub fault_after : Option Shortage → ContactFault → ContactFault
 fault_after (Some shortage) (faults.Late received) = faults.Shortage shortage
 fault_after waited fault = fault
@@ -96,8 +98,8 @@ exchange_fault received exchange_faults.Memory = faults.Shortage Memory
 exchange_fault (Status status have) exchange_faults.BadStatus = faults.Status status
 exchange_fault received fault = faults.Exchange fault received
 
--- The outcome of an exchange: the halt of the last read or write, if that does not count; or else the body, or the error of the exchange with
--- the status that was received. Without a body the error says how far the exchange came.
+-- The outcome of an exchange: the halt of the last read or write, if there was one; or else the body, or the error of the exchange with
+-- the status that was received. The error of an exchange says how far the exchange got.
 abbrev pub outcome_of : Option ContactFault → Received → Result (List ℕ) WireFault → Result (List ℕ) ContactFault
 outcome_of (Some (faults.Late before)) received exchanged = Err (faults.Late received)
 outcome_of (Some halt) received exchanged = Err halt

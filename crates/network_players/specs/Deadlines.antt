@@ -4,8 +4,8 @@ use Rattle.std.specs.Duration.{as_nanos, max_nanos}
 use Rattle.network_players.specs.declared.deadline.Step.{Step}
 use Rattle.network_players.specs.declared.deadline.Step.TheVariants.{Waits, Sleeps, Looks, Ends}
 
--- What a step costs a message: the time that passed. If that exceeds the requested time by more than an eighth of it and a tenth of a second,
--- the program was not running, and the step costs the requested time.
+-- What a step costs a message: the time that passed. If that exceeds the requested time by more than an eighth of the requested time
+-- plus a tenth of a second, the program was not running, and the step costs the requested time.
 abbrev pub IsCharged : ℕ → ℕ → ℕ → Type 0
 IsCharged asked passed charged = ((passed - asked ≤ min (asked / 8 + 100000000) max_nanos) × (charged ≡ passed))
     ⊎ ((min (asked / 8 + 100000000) max_nanos < passed - asked) × (charged ≡ asked))

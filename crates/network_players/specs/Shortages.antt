@@ -12,7 +12,7 @@ abbrev pub shortage_in : List (ℕ × Shortage) → ℕ → Option Shortage
 shortage_in [] number = None
 shortage_in (row ∷ rows) number = if number == row.0 then Some row.1 else shortage_in rows number
 
--- The errors of Linux that only this computer causes and whose kind does not show it: EPERM (a rule of its firewall), ENFILE, EMFILE,
+-- Linux errors that only this computer causes, although their `ErrorKind` does not show this: EPERM (a firewall rule), ENFILE, EMFILE,
 -- EAFNOSUPPORT and ENOBUFS.
 abbrev pub error_shortages : List (ℕ × Shortage)
 error_shortages = (1, Network) ∷ (23, Descriptors) ∷ (24, Descriptors) ∷ (97, Network) ∷ (105, Memory) ∷ []
@@ -26,8 +26,8 @@ abbrev pub is_among : List ℕ → ℕ → Bool
 is_among [] number = false
 is_among (row ∷ rows) number = if number == row then true else is_among rows number
 
--- The errors of Linux that can come from this computer's routes, or from an ICMP message of the player or a router: EACCES, EINVAL,
--- ENETUNREACH and EHOSTUNREACH. A probe that only this computer answers decides.
+-- Linux errors that can come from this computer's routes, or from an ICMP message of the player or a router: EACCES, EINVAL,
+-- ENETUNREACH and EHOSTUNREACH. A probe that only this computer can refuse decides which.
 abbrev pub errors_of_either : List ℕ
 errors_of_either = 13 ∷ 22 ∷ 101 ∷ 113 ∷ []
 
@@ -35,9 +35,9 @@ abbrev pub is_of_either : Option ℤ → Bool
 is_of_either (Some number) = is_among errors_of_either (unsigned_abs number)
 is_of_either None = false
 
--- What the referee lacks at a system error, from its kind and number. Only this computer causes these errors. A peer, a router or a firewall
--- on the way can cause all others: by ICMP ECONNREFUSED, EHOSTUNREACH, ENETUNREACH, EACCES, EPROTO, ENOPROTOOPT, EOPNOTSUPP, EHOSTDOWN,
--- ENONET and EMSGSIZE, by TCP ECONNREFUSED, ECONNRESET, EPIPE and ETIMEDOUT.
+-- What the referee lacks according to a system error, from the error's kind and number. Only this computer causes these errors. A peer,
+-- a router or a firewall on the way can cause all others: ECONNREFUSED, EHOSTUNREACH, ENETUNREACH, EACCES, EPROTO, ENOPROTOOPT,
+-- EOPNOTSUPP, EHOSTDOWN, ENONET and EMSGSIZE through ICMP, and ECONNREFUSED, ECONNRESET, EPIPE and ETIMEDOUT through TCP.
 abbrev pub system_shortage : ErrorKind → Option ℤ → Option Shortage
 system_shortage OutOfMemory number = Some Memory
 system_shortage AddrNotAvailable number = Some Ports
@@ -45,15 +45,15 @@ system_shortage WouldBlock number = Some Ports
 system_shortage NetworkDown number = Some Network
 system_shortage kind number = number_shortage number
 
--- What the referee lacked when the lookup of a host failed. The system's own error has a number, the resolver's has none. The host has no
--- address if the resolver reports that the name does not exist, or reports anything else while this computer has a network.
+-- What the referee lacked when the lookup of a host failed. A system error has a number; an error of the resolver has none. The host
+-- has no address if the resolver reports that the name does not exist, or reports anything else while this computer has a network.
 abbrev pub lookup_shortage : ErrorKind → Option ℤ → Bool → Option Shortage → Option Shortage
 lookup_shortage OutOfMemory number is_unknown without_network = Some Memory
 lookup_shortage kind (Some number) is_unknown without_network = Some (unwrap_or (number_shortage (Some number)) Resolver)
 lookup_shortage kind None true without_network = None
 lookup_shortage kind None false without_network = without_network
 
--- What this computer lacks if it finds no route: a network, unless the error says something else.
+-- What this computer lacks if it finds no route: a network, unless the error shows a lack of descriptors or memory.
 abbrev pub lack_by : Option Shortage → Shortage
 lack_by (Some Descriptors) = Descriptors
 lack_by (Some Memory) = Memory
@@ -66,11 +66,13 @@ abbrev pub short_halt : Option Shortage → Option ContactFault
 short_halt (Some shortage) = Some (faults.Shortage shortage)
 short_halt None = None
 
--- A read or a write that ran out of time fails like this. `TimedOut` with a number means that the system gave up the connection.
+-- A read or a write that ran out of time fails with this kind and number. `TimedOut` with a number means that the system gave up the
+-- connection.
 abbrev pub IsTimeOut : ErrorKind → Option ℤ → Type 0
 IsTimeOut kind number = (kind ≡ WouldBlock) ⊎ ((kind ≡ TimedOut) × (number ≡ None))
 
--- The halt is late if a read or a write ran out of time, and a lack of a resource if that made it fail. Otherwise the player was the cause.
+-- The halt after a failed read or write: late if it ran out of time, or the resource whose lack made it fail. If there is no halt, the
+-- player was the cause.
 abbrev pub failed_halt : ErrorKind → Option ℤ → Option ContactFault
 failed_halt WouldBlock number = Some (faults.Late Unconnected)
 failed_halt TimedOut None = Some (faults.Late Unconnected)

@@ -31,7 +31,7 @@ pub enum ContactFault {
     Late(Received),
     /// The referee lacked this resource. The message was not sent, or was sent too late to be answered in time, or its answer was lost.
     Shortage(Shortage),
-    /// The player's answers in the match have more bytes together than allowed.
+    /// Together, the player's answers in the match have more bytes than allowed.
     OverBudget,
     /// The reply has this status, which is not 200.
     Status(u16),
@@ -60,7 +60,7 @@ impl fmt::Display for ContactFault {
     }
 }
 
-/// The same text.
+/// The same text as `Display`.
 impl fmt::Debug for ContactFault {
     fn fmt<W: fmt::Write>(&self, f: &mut fmt::Formatter<W>) -> fmt::Result {
         fmt::Display::fmt(self, f)
@@ -80,7 +80,7 @@ pub trait Explains {
 /// The error number for a packet that this computer's firewall stops.
 const EPERM: i32 = 1;
 
-/// For how many seconds connections that fail are tried again. A player that restarts in this time loses nothing.
+/// For how many seconds connections that fail are tried again. A player that restarts in this time misses nothing.
 const RETRY_SECONDS: u64 = 2;
 
 /// The pause before the next try to connect, in milliseconds.
@@ -91,8 +91,8 @@ const MAX_CONNECTS: u32 = 2_000_000;
 
 const _: () = prove!(MAX_CONNECTS as u64 * PAUSE_MILLIS > MAX_CLOCK as u64 * 1_000);
 
-/// The error of a message whose time is over after a try with the error `fault`: what the referee lacks, if one of the two says so, or else
-/// `fault`.
+/// The error of a message whose last try failed with `fault`, and which then had no time left, with `halt`: what the
+/// referee lacks, if one of these errors says so, or else `fault`.
 fn fault_at_end(fault: ContactFault, halt: ContactFault) -> ContactFault
     ensures { result ≡ fault_at_end fault halt }
 {
@@ -117,7 +117,8 @@ fn address_fault(error: &io::Error) -> ContactFault
     }
 }
 
-/// Whether the address can belong to a single host. The system refuses connections to all others, and this is the address's error.
+/// Whether the address can belong to a single host. The system refuses connections to all other addresses, and then the
+/// address is at fault.
 fn is_of_a_host(address: &SocketAddr) -> bool {
     let is_zoned = match address {
         SocketAddr::V4(_) => true,
@@ -141,8 +142,9 @@ fn probe_outside<N: Routes>(net: &N, address: &SocketAddr) -> io::Result<()> {
     net.probe(&outside(address.ip().to_canonical().is_ipv4()))
 }
 
-/// Whether a probe that this computer refused with this error says nothing about its network: the address alone is the cause, or the firewall
-/// passes only connections. The owner of the player chooses the address, and a router of the player can take away its family.
+/// Whether a probe that this computer refused with this error says nothing about this computer's network, because only
+/// the address is the cause, or because the firewall passes only connections. The owner of the player chooses the
+/// address, and a router of the player can take away the address family.
 fn is_of_address<N: Routes>(net: &N, address: &SocketAddr, error: &io::Error) -> bool {
     match probe_outside(net, address) {
         Ok(()) => true,
@@ -152,7 +154,8 @@ fn is_of_address<N: Routes>(net: &N, address: &SocketAddr, error: &io::Error) ->
     }
 }
 
-/// What this computer lacks to send anything to the address. `None` if it can send, if no computer could, or if it lacks no network.
+/// What this computer lacks if it cannot send anything to the address. `None` if it can send, if no computer could, or if
+/// only the address is the cause.
 fn refusal<N: Routes>(net: &N, address: &SocketAddr) -> Option<Shortage> {
     if !is_of_a_host(address) {
         return None;
@@ -167,7 +170,8 @@ fn refusal<N: Routes>(net: &N, address: &SocketAddr) -> Option<Shortage> {
     Some(shortage)
 }
 
-/// What this computer lacks to send anything to any of the addresses. `None` if it can send to one, or if there are none.
+/// What this computer lacks if it cannot send anything to any of the addresses. `None` if `refusal` is `None` for one of
+/// them, or if there are none.
 fn refusal_of_all<N: Routes>(net: &N, addresses: &[SocketAddr]) -> Option<Shortage> {
     let mut last = None;
     for address in addresses {
@@ -176,7 +180,8 @@ fn refusal_of_all<N: Routes>(net: &N, addresses: &[SocketAddr]) -> Option<Shorta
     last
 }
 
-/// The error of an address to which no connection was made. If the error `may_be_own`, a probe has found what this computer lacks.
+/// The error of an address to which no connection was made. If this computer may have caused the error (`may_be_own`),
+/// `refusal` is what a probe found that it lacks.
 fn connect_fault(error: &io::Error, may_be_own: bool, refusal: Option<Shortage>) -> ContactFault
     ensures { result ≡ connect_fault (error_kind error.now) (raw_os_error error.now) may_be_own refusal }
 {
@@ -187,9 +192,9 @@ fn connect_fault(error: &io::Error, may_be_own: bool, refusal: Option<Shortage>)
     }
 }
 
-/// The error of an address to which no connection was made. If the player or a router on the way can cause it too, this probes what this
-/// computer lacks. If the computer has lost the family of the address, each address of that family gives the error for a lack of ports. A
-/// computer that can send to others does not lack a network.
+/// The error of an address to which no connection was made. If the player or a router on the way can cause the error too,
+/// this probes what this computer lacks. If this computer has lost the family of the address, each address of that family
+/// gives the error for a lack of ports. A computer that can send to an address outside does not lack a network.
 fn fault_of<N: Routes>(net: &N, address: &SocketAddr, error: &io::Error) -> ContactFault {
     let may_be_own = is_of_either(error.raw_os_error());
     let refusal = if may_be_own {
@@ -220,7 +225,7 @@ fn is_of_network(fault: ContactFault) -> bool
     )
 }
 
-/// The error of a message that failed in the network. The player is blamed only if this computer can send to it.
+/// The error of a message that failed in the network. The player is blamed only if this computer can send to the player.
 fn fault_at_refusal(fault: ContactFault, refusal: Option<Shortage>) -> ContactFault
     ensures { result ≡ fault_at_refusal refusal fault }
 {
@@ -254,8 +259,8 @@ fn fault_so_far(before: ContactFault, last: ContactFault) -> ContactFault
     }
 }
 
-/// The error of a message. If the message had to wait because the referee lacked a resource (`waited`), and then had no time left, this is
-/// the error.
+/// The error of a message. If the message had to wait because the referee lacked a resource (`waited`), and then had no
+/// time left, the error names this resource.
 fn fault_after(waited: Option<Shortage>, fault: ContactFault) -> ContactFault
     ensures { result ≡ fault_after waited fault }
 {
@@ -265,7 +270,8 @@ fn fault_after(waited: Option<Shortage>, fault: ContactFault) -> ContactFault
     }
 }
 
-/// The outcome of an exchange, from the halt of the last read or write, if there was one, and from how far the exchange came.
+/// The outcome of an exchange, from the halt of the last read or write, if there was one, and from how far the exchange
+/// got.
 fn outcome_of(
     halt: Option<ContactFault>,
     received: Received,
@@ -288,8 +294,8 @@ fn outcome_of(
     }
 }
 
-/// Connects to an address within the time that is left. If the first try gets no reply, a second one follows. A connection that the player
-/// closed while the program was not running counts as none.
+/// Connects to an address within the time that is left. If the first try gets no reply, a second one follows. A
+/// connection that the player closed while the program was not running counts as no connection.
 fn connect_to<N: Routes + Clock>(
     net: &N,
     address: &SocketAddr,
@@ -321,9 +327,10 @@ fn connect_to<N: Routes + Clock>(
     Err(LATE)
 }
 
-/// Connects to the first of the addresses that accepts a connection, within the time that is left. An address that has accepted one comes
-/// first, and the others are then tried only while this computer lacks a resource. Otherwise, if the player's name also has the address of
-/// another player, the player could pass its message on to that one by refusing a connection.
+/// Connects to the first of the addresses that accepts a connection, within the time that is left. An address that has
+/// accepted a connection before comes first, and the others are then tried only while this computer lacks a resource.
+/// Without this rule, if the player's host name also had the address of another player, the player could pass its message
+/// on to that player by refusing a connection.
 fn connect_once<N: Routes + Clock>(
     net: &N,
     lookup: &mut Lookup,
@@ -371,7 +378,8 @@ fn pause<N: Clock>(
 
 /// What follows a try to connect that failed.
 enum AfterTry {
-    /// Another try. The referee lacked this, so a player that accepts no connection is tried for some more seconds.
+    /// Another try. The referee lacked this resource, so a player that accepts no connection is tried for some more
+    /// seconds.
     Waits(Shortage),
     /// Another try.
     Tries,
@@ -379,8 +387,8 @@ enum AfterTry {
     Ends(ContactFault),
 }
 
-/// What follows a try with the error `fault`, after one with the error `before`. A player that accepts no connection is tried again only
-/// if `is_patient`. A try without time does not count, so the earlier error does.
+/// What follows a try with the error `fault`, after one with the error `before`. A player that accepts no connection is
+/// tried again only if `is_patient`. A try that had no time left does not count, so the error is that of the earlier try.
 fn after_try(fault: ContactFault, before: ContactFault, is_patient: bool) -> AfterTry
     ensures { result ≡ after_try before is_patient fault }
 {
@@ -399,9 +407,9 @@ fn patience_from(left: Duration) -> Duration
     left.saturating_sub(Duration::from_secs(RETRY_SECONDS))
 }
 
-/// Connects to the player within the time that is left. Tries again while the referee lacks a resource, and stores this in `waited`. If the
-/// player accepts no connection, tries again for some seconds, counted from the start of the message, from such a lack, or from a try during
-/// which the program was not running.
+/// Connects to the player within the time that is left. Tries again while the referee lacks a resource, and stores this
+/// resource in `waited`. If the player accepts no connection, tries again for some seconds, counted from the start of the
+/// message, from such a lack, or from a try during which the program was not running.
 fn connect<N: Resolves + Clock>(
     net: &N,
     alloc: Global,
@@ -460,8 +468,8 @@ fn exchange_over<N: Net + Clock>(
     outcome_of(stream.end().halt, received, exchanged)
 }
 
-/// Sends a player a message and returns the body of its answer. The lookup of the host, connecting, writing and reading have `seconds`
-/// seconds together. The error says why there is no answer.
+/// Sends a player a message and returns the body of its answer. The lookup of the host, connecting, writing and reading
+/// may take `seconds` seconds in total. The error says why there is no answer.
 pub fn contact_found<N: Resolves + Clock>(
     net: &N,
     alloc: Global,
@@ -482,8 +490,8 @@ pub fn contact_found<N: Resolves + Clock>(
     }
 }
 
-/// Sends a player a message and returns the body of its answer. The host is looked up only for this message. All of it has `seconds` seconds.
-/// The error says why there is no answer.
+/// Sends a player a message and returns the body of its answer. The host is looked up only for this message. All steps
+/// together may take `seconds` seconds. The error says why there is no answer.
 pub fn contact<N: Resolves + Clock>(
     net: &N,
     alloc: Global,

@@ -19,7 +19,8 @@ use std::net::OpenStream;
 use std::time::{Clock, Duration, Instant};
 use std::{io, thread};
 
-/// If a step takes this many milliseconds, and an eighth of the requested time, longer than requested, the program was not running.
+/// If a step takes longer than requested by more than this many milliseconds plus an eighth of the requested time, the
+/// program was not running.
 const STALL_MILLIS: u64 = 100;
 
 /// The program sleeps through this last part of a message's time, in milliseconds, because the system ends a sleep exactly but a wait for
@@ -90,7 +91,7 @@ impl Deadline {
         }
     }
 
-    /// Subtracts the cost of a step that took the time `passed`. If it cost less, the program was not running.
+    /// Subtracts the cost of a step that took the time `passed`. If it costs less than that, the program was not running.
     fn charge(&mut self, charged: Duration, passed: Duration)
         ensures left { as_nanos self.new.left ≡ as_nanos self.old.left - as_nanos charged }
         ensures stalled { IsTrue self.new.has_stalled ↔ (IsTrue self.old.has_stalled) ⊎ (as_nanos charged < as_nanos passed) }
@@ -175,7 +176,7 @@ fn step_at(left: Duration, looks: u32) -> Step
     }
 }
 
-/// More steps than a wait for bytes takes, unless the program is stopped as often.
+/// More steps than a wait for bytes takes, unless the program is stopped that often.
 const MAX_STEPS: u32 = 1_000_000;
 
 /// Whether the error means that a step ran out of time. An error with a number means that the system gave up the connection.
@@ -220,7 +221,7 @@ pub(crate) fn take_step<C: Clock, S: OpenStream>(
     }
 }
 
-/// Waits for bytes or the end of the stream. Returns the halt of a message that has no time left for it.
+/// Waits for bytes or the end of the stream. Returns the halt of a message that has no time left for this.
 fn wait_for_bytes<C: Clock, S: OpenStream>(
     clock: &C,
     stream: &S,
@@ -266,7 +267,7 @@ pub struct TimedStream<'a, C, S> {
     clock: &'a C,
     deadline: Deadline,
     stream: S,
-    /// The halt of the last read or write. `None` if it counts, or if the player made it fail.
+    /// The halt of the last read or write. `None` if the read or write counts, or if the player made it fail.
     pub(crate) halt: Option<ContactFault>,
 }
 

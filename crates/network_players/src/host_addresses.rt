@@ -68,8 +68,8 @@ fn told_addresses<N: Routes>(
     }
 }
 
-/// What the referee lacks if the resolver may find no address for that reason: the resolver needs as many open descriptors as two pairs of
-/// sockets.
+/// What the referee lacks if this may be why the resolver found no address. The resolver needs as many open descriptors
+/// as two pairs of sockets.
 fn resolver_shortage<N: Net>(net: &N) -> Option<Shortage> {
     let first = UnixStream::pair(net);
     let second = UnixStream::pair(net);

@@ -1,4 +1,4 @@
-//! The addresses of a player's host. A thread looks them up while the player waits, for as long as its message has time.
+//! The addresses of a player's host. A thread looks them up while the player waits, for as long as the message has time.
 ghost use Rattle.std.specs.Prelude.{◌≡◌, ◌*◌, min, IfErr, IfSome, IsSome, None, OnErr, OnOk, Some};
 ghost use Rattle.std.specs.Duration.{as_nanos};
 ghost use Rattle.http_exchange.specs.declared.received.Received.{Received};
@@ -68,8 +68,8 @@ pub trait Resolves: Routes {
     }
 }
 
-/// Makes the lookup in a separate thread, for which nothing waits. The error means that no thread can be created. The types of the sockets
-/// are named because otherwise nothing shows that the thread may use the network.
+/// Makes the lookup in a separate thread. The caller does not wait for this thread. The error means that no thread can be
+/// created. The types of the sockets are named because otherwise nothing shows that the thread may use the network.
 pub fn make_beside<R>(rt: R, query: Arc<HostQuery>) -> Result<(), AllocError>
 where
     R: Net<Listener = TcpListener, Stream = TcpStream> + Threads + Copy + Send + 'static,

@@ -46,7 +46,7 @@ fn route_shortage(error: &io::Error) -> Shortage
 
 /// A network with known routes.
 pub trait Routes: Net {
-    /// What this computer lacks to have a route to the address. Sends nothing.
+    /// What this computer lacks if it has no route to the address. Sends nothing.
     fn lack_of_route(&self, address: &SocketAddr) -> Option<Shortage>;
 
     /// Tries to send an empty datagram to the address. Only this computer's interfaces, routes and firewall can make this fail: the socket is
@@ -81,7 +81,7 @@ impl<R: Net + Copy + Send + 'static> Routes for R {
     }
 }
 
-/// What this computer lacks to have a default route, of IPv4 or of IPv6.
+/// What this computer lacks if it has a default route neither for IPv4 nor for IPv6.
 pub(crate) fn lack_of_network<N: Routes>(net: &N) -> Option<Shortage> {
     net.lack_of_route(&outside(true))?;
     net.lack_of_route(&outside(false))

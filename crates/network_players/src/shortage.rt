@@ -7,7 +7,7 @@ use match_plans::Shortage;
 use std::io;
 use std::io::ErrorKind;
 
-/// What the referee lacks at an error of Linux with this number, for errors whose kind does not show it.
+/// What the referee lacks according to the number of a Linux error, for errors whose kind does not show this.
 fn error_shortage(number: u32) -> Option<Shortage>
     ensures { result ≡ shortage_in error_shortages number }
 {
@@ -35,7 +35,7 @@ pub(crate) fn is_of_either(number: Option<i32>) -> bool
     }
 }
 
-/// What the referee lacks at an error with this kind and number.
+/// What the referee lacks according to an error with this kind and number.
 pub(crate) fn system_shortage(kind: ErrorKind, number: Option<i32>) -> Option<Shortage>
     ensures { result ≡ system_shortage kind number }
 {
@@ -57,9 +57,9 @@ pub fn shortage_of(error: &io::Error) -> Option<Shortage>
     system_shortage(error.kind(), error.raw_os_error())
 }
 
-/// What the referee lacked when the lookup of a host failed, from the error's kind and number, and from what this computer lacks to have a
-/// network. `None` if the host has no address. If the resolver reports that the name does not exist (`is_unknown`), or that it cannot tell,
-/// the error has no number.
+/// What the referee lacked when the lookup of a host failed, from the error's kind and number, and from what this
+/// computer lacks if it has no network. `None` if the host has no address. If the resolver reports that the name does not
+/// exist (`is_unknown`), or that it cannot tell, the error has no number.
 pub(crate) fn lookup_shortage(
     kind: ErrorKind,
     number: Option<i32>,

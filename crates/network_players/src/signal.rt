@@ -17,7 +17,7 @@ const LONGEST_REST_MILLIS: u64 = 2_000;
 
 const NO_SHORTAGE: u64 = 0;
 
-/// The signal that the players of a match share. It signals that a round begins, and what the referee lacked.
+/// The signal that the players of a match share. It says when a round begins, and what the referee lacked.
 ///
 /// A round begins when a player gets its next message, since each role gets one message in a round. No guarantee depends on when a
 /// player is woken: a player that is not woken continues when its wait is over.
@@ -98,7 +98,7 @@ pub fn time_since(clock: &impl Clock, moment: Option<Instant>) -> Duration
     }
 }
 
-/// The longest wait after one of at most `rest`.
+/// The limit of the wait after a wait of at most `rest`.
 fn rest_after(rest: Duration) -> Duration
     ensures { as_nanos result ≡ min 2_000_000_000 (as_nanos rest * 2) }
 {
@@ -107,8 +107,8 @@ fn rest_after(rest: Duration) -> Duration
     if doubled < longest { doubled } else { longest }
 }
 
-/// The waits of a player between its messages. Each ends when a round begins. The first wait after a message takes at most a tenth of a
-/// second, and each further one twice as long, up to two seconds.
+/// The waits of a player between its messages. Each ends when a round begins. The first wait after a message takes at
+/// most a tenth of a second, and each further wait at most twice as long as the one before, up to two seconds.
 pub struct Pace<'a> {
     signal: &'a RoundSignal,
     /// The number of messages that the player got.
@@ -198,8 +198,8 @@ impl<'a> Pace<'a> {
         }
     }
 
-    /// Waits. If all others are waiting too, it wakes them, once after each message: the player's answer may have retired it, and the
-    /// round may have begun without a message to it.
+    /// Waits. If all other players are waiting too, this wakes them, once after each message: the player's answer may
+    /// have retired the player, and the round may have begun without a message to it.
     pub fn rest<R: Wait>(&mut self, rt: &R)
         ensures rest { as_nanos self.new.rest ≡ min 2_000_000_000 (as_nanos self.old.rest * 2) }
         ensures rested { IsTrue self.new.has_rested }

@@ -20,13 +20,13 @@ use std::io::ErrorKind;
 use std::sync::Wait;
 use std::time::Clock;
 
-/// The network of a runtime. It must be made where the type of the runtime is known, as in `main`: players are sent to other threads, and a
-/// function over any runtime cannot show that they may be.
+/// The network of a runtime. It must be made where the type of the runtime is known, as in `main`: players are sent to
+/// other threads, and a function over any runtime cannot show that this is allowed.
 #[derive(Drop)]
 pub struct Sockets<'a, H> {
     pub rt: &'a H,
-    /// A signal for each match at once. With fewer signals some matches share one: their players may wait longer, and what the referee lacked
-    /// in one of them counts for all.
+    /// A signal for each match that is played at once. If there are fewer signals, some matches share one: their players
+    /// may wait longer, and what the referee lacked in one of these matches counts for all.
     pub signals: &'a [RoundSignal],
     ghost has_one: { 0 < length signals.now },
 }

@@ -46,7 +46,7 @@ unanswered_line name (NotSent shortage) =
     codes "{\"player\":\"" ++ (name ++ (codes "\",\"verdict\":\"not_sent\",\"lacks\":\"" ++ (shortage_word shortage ++ codes "\"}\n")))
 unanswered_line name fault = []
 
--- what was written about such a player: nothing, or one line as JSON
+-- what was written about a player that gave no answer, or to which nothing was sent: nothing, or one line as JSON
 abbrev pub TellsUnanswered : {W : Type 0} → (W → Option (List ℕ)) → Bool → List ℕ → CommandFault → Counting W → Counting W → Type 0
 TellsUnanswered contents true name NoAnswer writer writer' = Appends (contents writer.stream) (contents writer'.stream) (unanswered_line name NoAnswer)
 TellsUnanswered contents true name (NotSent shortage) writer writer' = Appends (contents writer.stream) (contents writer'.stream) (unanswered_line name (NotSent shortage))
@@ -64,7 +64,7 @@ InfoFails contents is_json name fault writer writer' = TellsUnanswered contents 
 abbrev pub abort_text : List ℕ → List ℕ
 abort_text id = canonical (message_form (abort id))
 
--- the line for a player, which answered or not, as JSON or as plain text
+-- the line that says whether a player answered, as JSON or as plain text
 abbrev pub abort_line : Bool → List ℕ → Bool → List ℕ
 abort_line false name true = name ++ (codes " aborted" ++ line_feed ∷ [])
 abort_line false name false = name ++ (codes " no answer" ++ line_feed ∷ [])
@@ -74,8 +74,8 @@ abort_line true name false = verdict_line name (codes "no_answer")
 abbrev pub aborted_lines : Bool → List PlayerAddress → List ℕ
 aborted_lines is_json players = flat_map (λ p. abort_line is_json p.name.now true) players
 
--- One line was written for each of these players, in their order, which says whether the player answered. The Bool says whether all players
--- answered.
+-- For each of these players, in their order, one line was written that says whether the player answered. `have_answered` says whether
+-- all players answered.
 pub record TellsAnswers (is_json : Bool) (players : List PlayerAddress) (have_answered : Bool) (old new : Option (List ℕ)) : Type 0 where
   pub told : List (PlayerAddress × Bool)
   pub are_told : map (λ it. it.0) told ≡ players

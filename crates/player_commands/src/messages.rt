@@ -211,8 +211,8 @@ fn tell_abort<W: Write>(
     Ok(write_all(writer, line.as_bytes())?)
 }
 
-/// Sends ABORT to the players of a match, one after another, and prints for each whether it answered. If the referee lacks a resource
-/// for a player, it prints this only as JSON, and goes on with the next player.
+/// Sends ABORT to the players of a match, one after another, and prints for each whether it answered. If the referee
+/// lacks a resource for a player, this prints that only as JSON, and continues with the next player.
 pub fn abort<N: Resolves + Clock, W: Write, E: Write + Drop>(
     rt: &N,
     alloc: Global,
