@@ -5,6 +5,7 @@ import pathlib
 
 from ggp_tools.competition.competition_file import read_competition
 from ggp_tools.competition.files import Folder
+from ggp_tools.competition.live import Reader
 from ggp_tools.competition.plan import Plan
 from ggp_tools.descriptions.loading import Rules
 from ggp_tools.match_log import End, Message, Open, line_of
@@ -34,6 +35,12 @@ class Missed(str):
 
 
 SILENT = Missed("TO (no answer in time: nothing received)")
+
+
+def look(reader: Reader) -> None:
+    """Lets a reader read the directory."""
+    for _ in reader.look():
+        pass
 
 
 def plan_in(room: str, names: list[str], rounds: int = 1, head: str = "", rules: bytes = RULES, roles: tuple[str, ...] = ("red", "blue")) -> Plan:

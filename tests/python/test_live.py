@@ -22,7 +22,7 @@ from ggp_tools.records import show
 from ggp_tools.records.show import Named, boards_of, named_in
 from ggp_tools.referee import Referee
 from html_pages import parsed, text_of
-from live_support import RULES, SILENT, Missed, begin, end, line, opened, plan_in, record_of, started
+from live_support import RULES, SILENT, Missed, begin, end, line, look, opened, plan_in, record_of, started
 from support import GAMES, program
 
 NEVER = float("inf")
@@ -60,7 +60,7 @@ class InRoom(unittest.TestCase):
 
     def look(self, reader):
         """Lets a reader read the directory, and ask the referee."""
-        reader.look()
+        look(reader)
         reader.judge(NEVER)
 
     def play(self, number, moves, answers, roles=(0, 1)):
@@ -91,7 +91,7 @@ class Lines(InRoom):
         with open(self.plan.folder.record(long.id), "wb") as file:
             file.truncate(1 << 40)
         end(self.plan, other, record_of(other, [["(take 1)", "noop"]], [["", ""]], [0, 100]))
-        reader.look()
+        look(reader)
         self.assertEqual((list(reader.open), list(reader.results)), ([self.match.id], [other.id]))
         self.assertEqual(reader.faults, {pipe.id: "it can't be read: it is not a regular file", long.id: "it is longer than 16 MiB"})
 
@@ -223,20 +223,20 @@ class Lines(InRoom):
         room, reader = self.plan.folder.open / self.match.id, self.reader()
         room.mkdir()
         (room / "asking").touch()
-        reader.look()
+        look(reader)
         self.assertEqual(reader.open[self.match.id].stage, "asking")
         begin(self.plan, self.match, started(self.match))
         (room / "checking").touch()
-        reader.look()
+        look(reader)
         self.assertEqual(reader.open[self.match.id].stage, "checking")
         moves, errors = [["(take 1)", "noop"], ["noop", "(take 2)"]], [["", ""], ["IL x", ""]]
         end(self.plan, self.match, record_of(self.match, moves, errors, [0, 100]))
-        reader.look()
+        look(reader)
         self.assertEqual((reader.open, list(reader.results)), ({}, [self.match.id]))
         self.assertEqual([(entry.turn, entry.error, entry.move) for entry, _ in reader.last_replaced()], [(2, "IL x", "noop")])
         self.assertEqual(len(reader.waiting()), 5)
         self.plan.folder.record(self.match.id).unlink()
-        reader.look()
+        look(reader)
         self.assertEqual(reader.results, {})
 
     def test_what_comes_into_a_folder_without_changing_its_time_is_seen(self):
@@ -247,12 +247,12 @@ class Lines(InRoom):
         for name in ("asking", "playing", "checking"):
             (room / name).touch()
             os.utime(room, (moment, moment))
-            reader.look()
+            look(reader)
             found.append(reader.open[room.name].stage)
         for match in (first, second):
             end(self.plan, match, record_of(match, [], [], [50, 50]))
             os.utime(self.plan.folder.records, (moment, moment))
-            reader.look()
+            look(reader)
             found.append(len(reader.results))
         self.assertEqual(found, ["asking", "playing", "checking", 1, 2])
 
@@ -262,26 +262,26 @@ class Lines(InRoom):
         end(self.plan, first, record_of(first, *turns, [0, 100]))
         end(self.plan, second, record_of(second, *turns, [0, 100]))
         reader = self.reader()
-        reader.look()
+        look(reader)
         file = self.plan.folder.record(first.id)
         file.rename(f"{file}.refused")
         end(self.plan, first, record_of(first, *turns, [100, 0]))
         # It is written in place, so the directory does not change.
         self.plan.folder.record(second.id).write_text("no record")
-        reader.look()
-        reader.look()
+        look(reader)
+        look(reader)
         self.assertEqual((reader.results[first.id].goals, list(reader.results), list(reader.faults)), ((100, 0), [first.id], [second.id]))
 
     def test_a_match_of_a_run_that_was_ended_waits(self):
         log, reader = begin(self.plan, self.match, started(self.match)), self.reader()
-        reader.look()
+        look(reader)
         self.assertEqual(list(reader.open), [self.match.id])
         leave_players(log.parent)
-        reader.look()
+        look(reader)
         self.assertEqual((reader.open, len(reader.waiting()), os.listdir(log.parent)), ({}, 6, ["players"]))
         # Its players are asked again.
         (log.parent / "asking").touch()
-        reader.look()
+        look(reader)
         self.assertEqual(reader.open[self.match.id].stage, "asking")
 
     def test_what_is_replaced_in_an_open_match(self):
@@ -309,14 +309,14 @@ class Lines(InRoom):
             stop = line(match, 0, 3, f"(STOP {match.id} NIL)", "done", 0, times[1])
             self.plan.folder.log(match.id).write_text(opened(match, times[0]) + said + stop)
         reader = self.reader()
-        reader.look()
+        look(reader)
         self.assertEqual([move.match.id[-1] for move, _ in reader.last_replaced()], list("642135"))
 
     def test_the_referee_is_asked_for_a_part_of_the_time(self):
         begin(self.plan, self.match, started(self.match))
         begin(self.plan, self.plan.matches[1], started(self.plan.matches[1]))
         reader, asked = self.reader(), []
-        reader.look()
+        look(reader)
         with patch.object(live.Seen, "judge", lambda seen, _: asked.append(seen.match.id)), patch.object(live, "JUDGING_SHARE", 1e9):
             reader.judge(time.monotonic() - 1)
             self.assertEqual(asked, [])
@@ -348,15 +348,15 @@ class Lines(InRoom):
         (self.plan.folder.records / "stranger.json").write_text("{}")
         (self.plan.folder.open / "stranger").mkdir()
         reader = self.reader()
-        reader.look()
+        look(reader)
         self.assertEqual((reader.results, sorted(reader.faults), reader.open), ({}, [first.id, second.id], {}))
         for match in (first, second):
             self.plan.folder.record(match.id).unlink()
         self.plan.folder.record(second.id).symlink_to(second.id + ".json")
-        reader.look()
+        look(reader)
         self.assertEqual(reader.faults, {second.id: "it can't be read: Too many levels of symbolic links"})
         version = reader.version
-        reader.look()
+        look(reader)
         self.assertEqual(reader.version, version)
 
 

@@ -18,7 +18,7 @@ from ggp_tools.competition.competition_file import read_competition
 from ggp_tools.descriptions.loading import Rules
 from ggp_tools.competition.files import Folder
 from ggp_tools.competition.growth import History, grown
-from ggp_tools.competition.pages import Pages, Site, seconds_between, spelt
+from ggp_tools.competition.pages import Pages, Site, ended_match, seconds_between, spelt
 from ggp_tools.competition.plan import Plan
 from ggp_tools.competition.results import result_of
 from ggp_tools.competition.side_by_side import made_side_by_side
@@ -94,7 +94,9 @@ class Knockout(unittest.TestCase):
             results |= {match.id: result_of(record_of(match, 0) | {"goalValues": [goals[name] for name in match.players]}, match) for match in plan.matches[-2:]}
             growing = grown(History(), competition, {"one": 2}, lambda match: results.get(match.id))
             plan.matches, plan.rounds = growing.matches, growing.rounds.found
-            parts = Site(plan).first_parts(tables_of(competition, list(results.values()), plan.rounds), list(results.values()))
+            site = Site(plan)
+            site.ended = {name: ended_match(result, record_of(result.match, 0), [], False) for name, result in results.items()}
+            parts = site.first_parts(tables_of(competition, list(results.values()), plan.rounds), list(results.values()))
             page = parsed("".join(part.html() for part in parts))
             pairs = [rows_of(pair) for pair in page.select("#bracket li")]
             through = [text_of(row.td) for row in page.select("#bracket .through")]
@@ -217,11 +219,13 @@ class PagesOfMany(unittest.TestCase):
         titles = [cell["title"].partition(": ")[2] for cell in self.page(pages, f"matches/{match.id}.html").select("td.substituted")]
         self.assertEqual(titles, ["a list that is not closed at column 1", "a second expression begins at column 3"])
 
-    def test_rules_of_more_than_a_mebibyte_explain_no_moves(self):
+    def test_rules_of_more_than_a_mebibyte_explain_no_moves_and_are_not_read_for_boards(self):
         site = Site(self.plan)
+        site.add(self.results[0])
         for size, explains in ((1 << 20, True), ((1 << 20) + 1, False)):
-            self.plan.rules["one"] = replace(self.plan.rules["one"], text=b";" * size)
-            self.assertEqual(bool(site.match_work(self.results[0], b"")[2]), explains)
+            self.plan.rules["one"] = replace(self.plan.rules["one"], text=b"(legal <i> (mark 1 1))".ljust(size, b";"))
+            _, _, rules, _, named, _ = site.match_work(self.results[0], b"")
+            self.assertEqual((bool(rules), named.moves), (explains, ["(mark 1 1)"] * explains))
 
     def test_the_last_errors_of_a_match_stand_on_the_page_of_a_player(self):
         match = self.plan.matches[0]
@@ -245,22 +249,26 @@ class PagesOfMany(unittest.TestCase):
             pages.write(self.results[:1])
             self.assertEqual(self.last_match(pages)[-2:], ["2026-01-02 03:04:05", "the clock was set back"])
 
-    def test_of_a_log_that_is_too_long_the_first_lines_are_read(self):
+    def test_of_a_log_that_is_too_long_the_last_lines_are_read(self):
         match = self.plan.matches[0]
-        lines = [line(match, 1, number, f"(PLAY {match.id} NIL)", "<script>", 10 * number if number < 300 else 77_777) for number in range(2, 301)]
+        lines = [line(match, 1, number, f"(PLAY {match.id} NIL)", "<script>", 10_000 - number) for number in range(2, 301)]
         log = log_of(match, *lines)
-        end = len(log.splitlines(keepends=True)[-1])
-        self.plan.folder.log(match.id).write_text(log)
+        rest = len("".join(lines[1:])) + len(log.splitlines(keepends=True)[-1])
+        with open(self.plan.folder.log(match.id), "wb") as file:
+            # A log of this length does not fit into memory.
+            file.seek(1 << 40)
+            file.write(log.encode())
         name = f"players/player-{match.players[1]}.html"
-        for most, longest, is_cut in ((len(log), "77,777 ms", False), (len(log) - end - 1, "2,990 ms", True), (log.index('"number":5,'), "40 ms", True)):
+        for most, longest, is_cut in ((len(log), "9,998 ms", True), (rest, "9,997 ms", True), (rest - 1, "9,996 ms", True), (16 << 20, "9,998 ms", False)):
+            if not is_cut:
+                self.plan.folder.log(match.id).write_text(log)
             pages = Pages(self.plan)
             with patch.object(pages_module, "MOST_OF_LOG", most):
                 pages.write(self.results[:1])
             page = self.page(pages, name)
             self.assertEqual(rows_of(page.find(id="seats"))[1][-1], longest)
-            self.assertEqual(f"Of the logs of {match.id} the first 16 MiB are read" in text_of(page), is_cut)
-            # Its begin and end are known anyway.
-            self.assertEqual(self.last_match(pages)[-2:], ["2026-01-02 03:04:05", "2.5"])
+            self.assertEqual(f"in the last 16 MiB of the log of {match.id}." in text_of(page), is_cut)
+            self.assertEqual(self.last_match(pages)[-2:], ["", ""] if is_cut else ["2026-01-02 03:04:05", "2.5"])
 
     def test_a_match_that_was_ordered_again_counts_nowhere(self):
         old, new = self.plan.matches[0], self.plan.matches[48]

@@ -30,11 +30,14 @@ class Said:
     """A reporter that records its lines."""
 
     def __init__(self):
-        self.lines, self.ended, self.shown, self.drawn = [], [], [], []
+        self.lines, self.notes, self.ended, self.shown, self.drawn = [], [], [], [], []
         self.fault, self.journal, self.is_shown = None, types.SimpleNamespace(fault=None), True
 
     def line(self, text):
         self.lines.append(text)
+
+    def note(self, text):
+        self.notes.append(text)
 
     def ends(self, result, seconds):
         self.ended.append((result, seconds))
@@ -328,7 +331,8 @@ class Before(WithMatches):
         self.looked = ({"cup-003": "its result"}, {}, {})
         playing.prepare(self.playing)
         self.assertEqual([match.id for match in self.playing.waiting], [match.id for match in self.plan.matches if match.id not in ("cup-002", "cup-003")])
-        self.assertEqual((self.playing.results, self.reporter.lines, self.reporter.drawn), ({"cup-003": "its result"}, [], ["checking the records"]))
+        said = self.reporter.lines, self.reporter.notes, self.reporter.drawn
+        self.assertEqual((self.playing.results, *said), ({"cup-003": "its result"}, [], [f"play {len(self.playing.waiting)} matches"], ["checking the records"]))
 
     def test_files_that_do_not_count_are_set_aside(self):
         folder = self.plan.folder

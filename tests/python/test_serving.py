@@ -30,7 +30,7 @@ from ggp_tools.competition.page_parts import Items, Part
 from ggp_tools.competition.rounds import Round
 from ggp_tools.referee import NoReferee, Referee
 from html_pages import links_of, parsed, rows_of, text_of
-from live_support import SILENT, Missed, begin, end, line, plan_in, record_of, started
+from live_support import SILENT, Missed, begin, end, line, look, plan_in, record_of, started
 from support import GAMES, InFolder, program, run, start
 
 HOSTILE = ["<script>alert(1)</script>", "\"'><img src=x onerror=alert(1)>", "</tbody></table><b>", "&lt;&#65;", "<!--"]
@@ -116,6 +116,10 @@ class Served(unittest.TestCase):
         with open(log, "a") as file:
             file.write(text)
         self.look()
+
+
+    def write_journal(self, lines):
+        self.plan.folder.journal.write_text("".join(f"2026-01-02T03:04:05.000Z {text}\n" for text in lines))
 
 
 class Pages(Served):
@@ -232,7 +236,7 @@ class Pages(Served):
         long, other = self.plan.matches[:2]
         for match in (long, other):
             end(self.plan, match, record_of(match, [], [], [50, 50]))
-        self.site.reader.look()
+        look(self.site.reader)
         with open(self.plan.folder.record(long.id), "r+b") as file:
             file.truncate(1 << 40)
         self.look()
@@ -285,6 +289,50 @@ class Pages(Served):
         self.assertNotIn("still to be read", self.page("/"))
         self.assertIn("6 of 6 matches are over.", self.page("/"))
 
+    def test_pages_of_results_are_made_without_their_files(self):
+        for match in self.plan.matches[:2]:
+            end(self.plan, match, record_of(match, [["(take 2)", "noop"]], [["", "TO"]], [50, 50]))
+        self.look()
+        with patch.object(files, "opened_file", side_effect=AssertionError):
+            for path in self.site.made:
+                self.assertIn(self.plan.matches[0].game, self.page(f"/{path}"))
+
+    def test_pages_are_made_while_records_are_read(self):
+        for match in self.plan.matches:
+            end(self.plan, match, record_of(match, [], [], [50, 50]))
+        steps = self.site.steps()
+        next(steps)
+        self.assertIn("5 records are still to be read", self.page("/"))
+
+    def test_a_page_waits_for_at_most_one_page_of_results(self):
+        asked, made = [(name, f"/players/player-{name}.html") for name in ("ann", "bob", "cid")] + [("eve", live_site.FIRST)], []
+
+        async def ask():
+            await asyncio.gather(*(self.server.for_client(client, made.append, path) for client, path in asked))
+
+        self.in_loop(ask)
+        self.assertEqual(made, [path for _, path in (asked[0], asked[3], *asked[1:3])])
+
+    def test_no_page_waits_for_that_of_a_match_that_is_over(self):
+        match, begun, ends = self.plan.matches[0], threading.Event(), threading.Event()
+        end(self.plan, match, record_of(match, [["(take 2)", "noop"]], [["IL x", ""]], [0, 100]))
+        self.look()
+        self.addCleanup(ends.set)
+        with patch.object(live_site, "page_of", lambda *_: begun.set() or ends.wait(60) and b"made"):
+            asking = [self.asked_apart(f"/matches/{match.id}.html", "192.0.2.1")]
+            begun.wait(60)
+            asking.append(self.asked_apart("/", "192.0.2.2"))
+            self.assertIn("1 of 6 matches are over.", asking[1].getresponse().read().decode())
+            ends.set()
+            self.assertEqual(asking[0].getresponse().read(), b"made")
+
+    def asked_apart(self, path, client):
+        """Sends the request of a client. Returns the connection."""
+        asking = http.client.HTTPConnection("127.0.0.1", self.port, timeout=60)
+        self.addCleanup(asking.close)
+        asking.request("GET", path, headers={"X-Forwarded-For": client})
+        return asking
+
     def test_a_plan_that_changes(self):
         events = self.events(self.page("/"))
         self.plan.folder.schedule.write_text("another")
@@ -331,21 +379,22 @@ class Pages(Served):
 
     def test_a_match_that_was_given_up_says_why(self):
         lost, other, again = self.plan.matches[:3]
-        lines = [f"info {match.id} ann: refused, 0.0 s" for match in (lost, again)]
-        lines += [f"no record {lost.id}: ann is silent", f"no record {again.id}: its files: {self.plan.folder.path}/x"]
-        lines += [f"info {again.id} ann: available, 0.1 s"]
+        lines = ["play 6 matches", f"no record {again.id}: ann is silent", f"missing {again.id}: ann is silent", "play 6 matches"]
+        lines += [f"info {lost.id} ann: refused, 0.0 s", f"no record {lost.id}: its files: {self.plan.folder.path}/x"]
         lines += [f"missing {other.id}: not begun", "no record none: x", f"no record {other.id}"]
-        self.plan.folder.journal.write_text("".join(f"2026-01-02T03:04:05.000Z {text}\n" for text in lines))
+        self.write_journal(lines)
+        # `serve` may begin during the second run.
+        self.site = self.server.site = LiveSite(self.plan, Referee(program()), lambda: self.plan)
         self.look()
         first = self.page("/")
         self.assertIn("5 wait, 1 was given up", first)
-        self.assertEqual([(row[0], row[-1]) for row in rows_of(parsed(first).find(id="given-up"))[1:]], [(lost.id, "ann is silent")])
-        self.assertIn("It was given up: ann is silent.", self.page(f"/matches/{lost.id}.html"))
+        self.assertEqual([(row[0], row[-1]) for row in rows_of(parsed(first).find(id="given-up"))[1:]], [(lost.id, "its files: x")])
+        self.assertIn("It was given up: its files: x.", self.page(f"/matches/{lost.id}.html"))
         self.assertIn("It has not begun.", self.page(f"/matches/{again.id}.html"))
         # The next run plays it.
-        with files.held(self.plan.folder.path):
-            self.look()
-            self.assertIn("0 matches are open, 6 wait.", self.page("/"))
+        self.write_journal([*lines, "play 1,000 matches"])
+        self.look()
+        self.assertIn("0 matches are open, 6 wait.", self.page("/"))
 
     def test_players_that_were_restarted_are_named_once_that_says_nothing_of_a_turn(self):
         """A dead player does not answer. The other players of the turn must not learn that."""
@@ -354,8 +403,7 @@ class Pages(Served):
         self.plan.competition = dataclasses.replace(self.plan.competition, players=players)
         match = self.plan.matches[0]
         log = begin(self.plan, match, started(match) + self.play(match, 2, "NIL", ["(take 1)", "noop"]))
-        lines = [f"restart {other.id} {name}: process 7, port 8" for other, name in zip(self.plan.matches[1:], ("ann", "ann", "bob"))]
-        self.plan.folder.journal.write_text("".join(f"2026-01-02T03:04:05.000Z {text}\n" for text in lines))
+        self.write_journal([f"restart {other.id} {name}: process 7, port 8" for other, name in zip(self.plan.matches[1:], ("ann", "ann", "bob"))])
         # The page does not show it either if `serve` starts within the turn, or if the end of the turn before is read in the same look.
         moment = itertools.count()
         self.enterContext(patch.object(live, "clock", lambda: next(moment) / 1_000))
@@ -376,7 +424,7 @@ class Pages(Served):
         (self.plan.folder.open / other.id / "asking").touch()
         self.look()
         self.assertIn("1 match is open", self.page("/"))
-        self.plan.folder.journal.write_text(f"2026-01-02T03:04:05.000Z no record {other.id}: ann is silent\n")
+        self.write_journal([f"no record {other.id}: ann is silent"])
         for _ in range(2):
             self.look()
             self.assertNotIn("ann is silent", self.page("/"))

@@ -44,7 +44,7 @@ class Data(Served):
         self.assertEqual(([(row["id"], row["turns"]) for row in told["matches"]], told["table"]), ([(match.id, 1)], False))
         moves, errors = [["(take 1)", "noop"], ["noop", "(take 2)"]], [["", ""], ["TO", ""]]
         end(self.plan, match, record_of(match, moves, errors, [0, 100]), log.read_text() + self.play(match, 3, "x", [SILENT, "(take 2)"]))
-        self.plan.folder.journal.write_text(f"2026-01-02T03:04:05.000Z no record {lost.id}: ann is silent\n")
+        self.write_journal([f"no record {lost.id}: ann is silent"])
         self.look()
         told = self.next_event(feed)
         self.assertEqual(([(row["id"], row["state"]) for row in told["matches"]], told["table"]), ([(match.id, "over"), (lost.id, "given up")], True))
@@ -58,6 +58,16 @@ class Data(Served):
         wanted = {'ggp_matches{state="over"}': "1", 'ggp_matches{state="given up"}': "1", 'ggp_matches{state="waiting"}': "4", "ggp_serve_viewers": "1"}
         wanted |= {'ggp_player_replaced{player="ann"}': "1", "ggp_play_running": "0", "ggp_records_unread": "0"}
         self.assertEqual({name: numbers[name] for name in wanted}, wanted)
+
+    def test_a_match_that_is_open_again_is_not_the_one_before(self):
+        match, found = self.plan.matches[0], []
+        for move in ("(take 1)", "(take 2)"):
+            log = begin(self.plan, match, started(match) + self.play(match, 2, "NIL", [move, "noop"]))
+            self.look()
+            found.append(self.json(f"/api/matches/{match.id}")["moves"])
+            shutil.rmtree(log.parent)
+            self.look()
+        self.assertEqual(found, [[["(take 1)", "noop"]], [["(take 2)", "noop"]]])
 
     def test_what_is_known_stays_if_a_directory_cannot_be_listed(self):
         over, opened = self.plan.matches[:2]

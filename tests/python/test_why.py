@@ -101,7 +101,7 @@ class Why(InFolder):
         self.assertRegex(said, rf"(?m)^{MOMENT} back cup-001: p0 is busy, p1 is silent$")
         self.assertRegex(said, rf"(?m)^{MOMENT} no record cup-001: p0 is busy, p1 is silent$")
         self.assertEqual(said.splitlines()[-1], "the match has no record that counts")
-        self.assertRegex("\n".join(self.journal()), rf"\n{MOMENT} missing cup-001: .*\n{MOMENT} 0 of 1 matches have a lawful record$")
+        self.assertRegex("\n".join(self.journal()), rf"^{MOMENT} play 1 match\n(.*\n)*{MOMENT} missing cup-001: .*\n{MOMENT} 0 of 1 matches have a lawful record$")
 
     def test_a_player_that_lets_the_seconds_pass_is_silent(self):
         self.planned("good", "good", head=HEAD.replace("info = 5", "info = 1"))

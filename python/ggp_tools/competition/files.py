@@ -236,13 +236,15 @@ class Folder:
         return last_run(io.BytesIO(self.whole_log(match)), match)
 
     def part_of_log(self, match: str, most: int) -> tuple[bytes, bool]:
-        """Returns whole lines of a match's log with at most this many bytes, not counting the last line, and whether there are more."""
-        data = self.whole_log(match)
-        if len(data) > most:
-            data = published(data, match)
-        if len(data) <= most:
-            return data, False
-        return data[: data.rfind(b"\n", 0, most) + 1] + data[data.rfind(b"\n", 0, -1) + 1 :], True
+        """Returns the last whole lines of a match's log with at most this many bytes, and whether there are more. A missing log is empty."""
+        if not self.has_log(match):
+            return b"", False
+        with opened_file(self.log(match)) as file:
+            if is_cut := (size := os.fstat(file.fileno()).st_size) > most:
+                # The byte before the part is the end of a line, or the line is left out.
+                file.seek(size - most - 1)
+                file.readline(most)
+            return file.read(most), is_cut
 
     def refuse_old_logs(self) -> None:
         """Refuses a competition that was played with a version whose logs were not JSON."""

@@ -17,7 +17,7 @@ from typing import TypeVar
 from aiohttp import web
 
 from ggp_tools.competition.live_api import FEED, METRICS, json_bytes, metrics_text
-from ggp_tools.competition.live_site import LiveSite, OpenPage
+from ggp_tools.competition.live_site import FIRST, LiveSite, OpenPage
 from ggp_tools.holding.game import MOST_CALLS
 from ggp_tools.human.server import is_own_name
 from ggp_tools.visitors import THIS_COMPUTER, Visitors, client_of, oldest_of_most
@@ -112,16 +112,19 @@ class Connection(web.RequestHandler):
 
 
 class Server:
-    """The server of a competition's live pages, below a path. One thread reads the directory and makes the pages; the event loop does everything
-    else. Browsers may use `names` for the server. Pages of `origins` may show its pages and read its data."""
+    """The server of a competition's live pages, below a path. One thread reads the directory and makes the pages, except those of matches that are
+    over, which another thread makes. The event loop does everything else. Browsers may use `names` for the server. Pages of `origins` may show its
+    pages and read its data."""
 
     def __init__(self, site: LiveSite, most: int, base: str = "", names: Sequence[str] = (), origins: Sequence[str] = ()) -> None:
         self.site, self.visitors, self.address, self.told = site, Visitors(most, spares_busy=False), "", ""
         self.base, self.names, self.origins = base, ["localhost", *names], origins
         self.headers = {**HEADERS, "Content-Security-Policy": f"frame-ancestors {' '.join(origins or NOBODY)}"}
-        self.thread = concurrent.futures.ThreadPoolExecutor(1, initializer=lambda: sys.setrecursionlimit(MOST_CALLS))
-        # A lock for each client that waits for the thread.
+        self.thread, self.other_thread = concurrent.futures.ThreadPoolExecutor(1), concurrent.futures.ThreadPoolExecutor(1)
+        sys.setrecursionlimit(MOST_CALLS)
+        # A lock for each client that waits for a thread, and one for the pages that follow from results, which take longer than the others.
         self.turns: weakref.WeakValueDictionary[str, asyncio.Lock] = weakref.WeakValueDictionary()
+        self.long_turn = asyncio.Lock()
         self.looked = asyncio.Event()
 
     async def begin(self, address: str, port: int) -> tuple[str, int]:
@@ -136,22 +139,27 @@ class Server:
         self.listener.close()
         for connection in list(self.visitors.connections):
             connection.end()
-        self.thread.shutdown(wait=False, cancel_futures=True)
+        for thread in (self.thread, self.other_thread):
+            thread.shutdown(wait=False, cancel_futures=True)
 
     async def on_site(self, function: Callable[..., Value], *values: object) -> Value:
         """Calls a function in the site's thread."""
         return await asyncio.get_running_loop().run_in_executor(self.thread, function, *values)
 
-    async def for_client(self, client: str, function: Callable[..., Value], *values: object) -> Value:
-        """Calls a function for a client in the site's thread. Only one call of each client waits for the thread."""
-        turn = self.turns.setdefault(client, asyncio.Lock())
-        async with turn:
-            return await self.on_site(function, *values)
+    async def for_client(self, client: str, function: Callable[[str], Value], path: str) -> Value:
+        """Calls a function for a client in the site's thread, and if it returns a function, calls that in the other one. Only one call of each client
+        waits for the threads, and only one call for a page that follows from results."""
+        is_long = path != FIRST and path[1:] in self.site.made
+        async with self.turns.setdefault(client, asyncio.Lock()), self.long_turn if is_long else contextlib.nullcontext():
+            found = await self.on_site(function, path)
+            return await asyncio.get_running_loop().run_in_executor(self.other_thread, found) if callable(found) else found
 
     async def look(self) -> None:
         """Reads the directory, and wakes the connections whose page has changed."""
         try:
-            await self.on_site(self.site.look)
+            steps = self.site.steps()
+            while await self.on_site(next, steps, False):
+                pass
         except Exception as why:
             await self.on_site(self.site.fail, why)
             if repr(why) != self.told:
@@ -162,7 +170,7 @@ class Server:
 
     async def watch(self) -> None:
         while True:
-            await asyncio.sleep(INTERVAL)
+            await asyncio.sleep(0 if self.site.reader.unread else INTERVAL)
             await self.look()
 
     # ---- requests

@@ -6,25 +6,27 @@ A round is START, a turn, or the end. It is finished once all of its roles have 
 
 import errno
 import functools
+import io
 import os
 import pathlib
 import re
 import time
 from collections import Counter, deque
-from collections.abc import Callable, Container, Iterable
-from dataclasses import dataclass
+from collections.abc import Callable, Container, Iterable, Iterator
+from dataclasses import dataclass, field
 from typing import NamedTuple
 
 from ggp_tools.competition.competition_file import EACH_MATCH
 from ggp_tools.competition.files import ASKING, STAGES, Folder, lock_place, opened_file
-from ggp_tools.competition.live_board import Answers, LiveBoard
+from ggp_tools.competition.live_board import Answers, LiveBoard, last_states
+from ggp_tools.competition.pages import MOST_OF_LOG, Ended, ended_match
 from ggp_tools.competition.plan import Plan
 from ggp_tools.competition.playing import NOT_BEGUN
 from ggp_tools.competition.replaced import MOST_OF_MATCH, Replaced, newest, replaced_moves
 from ggp_tools.competition.results import Result, counted_result, fault_of_record
 from ggp_tools.competition.schedule import Match
 from ggp_tools.competition.tail import HEAD, Tail
-from ggp_tools.match_log import ENDS, SHORTAGE, START, Event, Host, Message, Open, Other, Runs, event_of
+from ggp_tools.match_log import ENDS, SHORTAGE, START, Event, Host, Message, Open, Other, Runs, event_of, last_run
 from ggp_tools.moments import MOMENT
 from ggp_tools.records.match_logs import logged
 from ggp_tools.records.show import NoRecord, read_record
@@ -40,9 +42,10 @@ STAYS = 60
 # The stage of a match whose directory has only the names of its players: they get ABORT for a run that was ended.
 WAITING = "waiting"
 FAULT = "these pages have a fault, so what they show of it may be wrong: {!r}"
-# The lines of `play.log` by which a match is given up, or is open again.
+# The rows of `play.log` by which a player is restarted, a match is given up, or a run begins.
 RESTARTED = re.compile(r"restart (\S+) (\S+): .*")
-GIVEN_UP = re.compile(rf"(?:no record|missing) (\S+): (?!{NOT_BEGUN}$)(.*)|(?:info|begin) (\S+) .*")
+GIVEN_UP = re.compile(rf"(?:no record|missing) (\S+): (?!{NOT_BEGUN}$)(.*)")
+BEGUN = re.compile("play [0-9,]+ match(es)?")
 # Asking the referee takes at most this fraction of the time.
 JUDGING_SHARE = 3
 # Errors of this process, which say nothing about a file.
@@ -134,7 +137,8 @@ class Seen:
     tail: Tail[Event]
     board: LiveBoard
     stage: str = ""
-    version: int = 0
+    # A match that is open for the second time has other versions.
+    version: int = field(default_factory=time.time_ns)
     # The time of the last look.
     now: float = 0.0
     # When the open round began: the time of day, and the clock.
@@ -272,10 +276,9 @@ class Seen:
 
 @dataclass
 class News:
-    """What a row of the journal says about players, until it may be shown. `gives_up` is the match that was given up, if one was. `rounds` has the
-    matches of the players that were open when the row was read, each with its open round, or None until that is known."""
+    """What a row of the journal says about players, until it may be shown. `rounds` has the matches of the players that were open when the row was
+    read, each with its open round, or None until that is known."""
 
-    gives_up: str
     show: Callable[[], None]
     rounds: dict[str, int | None]
 
@@ -338,9 +341,12 @@ class Reader:
         self.place = {match.id: at for at, match in enumerate(plan.matches)}
         self.open: dict[str, Seen] = {}
         self.results: dict[str, Result] = {}
-        # The matches that were open and have no result yet. Then those that got their result a moment ago, with the time of the clock.
+        # What the pages show of the matches with results. It stays if a result goes, because a page may still list it.
+        self.over: dict[str, Ended] = {}
+        # The matches that were open and have no result yet. Then those that got their result a moment ago, with the time of the clock and the last
+        # states.
         self.ending: set[str] = set()
-        self.ended: dict[str, float] = {}
+        self.ended: dict[str, tuple[float, list[list[str]]]] = {}
         self.faults: dict[str, str] = {}
         # The files of each match when its record was read, and the records that are still to be read.
         self.identities: dict[str, tuple[Identity, Identity]] = {}
@@ -363,8 +369,8 @@ class Reader:
         # How often each player was restarted, and for which match the last time.
         self.restarted: dict[str, tuple[int, str]] = {}
 
-    def look(self) -> None:
-        """Reads what has changed since the last look."""
+    def look(self) -> Iterator[None]:
+        """Reads what has changed since the last look. Yields after each of many records, so that a page can be made then."""
         # The size of the journal is read before those of the logs, so what it says happened before.
         journal = extent_of(self.plan.folder.journal, self.delay.seconds > 0)
         sight = self.delay.sight(self.rooms_there(), journal, is_held(self.plan.folder.path))
@@ -372,8 +378,15 @@ class Reader:
         self.look_at_journal(sight)
         for name in gone:
             self.look_at_record(name)
-        self.look_at_records()
-        staying = {name: moment for name, moment in self.ended.items() if name in self.results and clock() - moment < STAYS}
+        self.list_records()
+        # The first pages do not wait long for the standings.
+        ends = time.monotonic() + (READING if self.identities else READING / 5)
+        while self.unread and time.monotonic() < ends:
+            self.look_at_record(self.unread.popleft())
+            # The pages show how many remain to be read.
+            self.version += 1
+            yield
+        staying = {name: found for name, found in self.ended.items() if name in self.results and clock() - found[0] < STAYS}
         self.version += (staying != self.ended) + (sight.is_held != self.is_held)
         self.ended = staying
         self.is_held = sight.is_held
@@ -431,37 +444,34 @@ class Reader:
         return gone
 
     def look_at_journal(self, sight: Sight) -> None:
-        """Reads from the journal which matches were given up, and why, and which players were restarted. The next run plays these matches again."""
+        """Reads from the journal which matches were given up, and why, and which players were restarted."""
         before = dict(self.given_up)
-        if sight.is_held and not self.is_held:
-            self.given_up.clear()
-            self.restarted.clear()
-            self.news.clear()
         while notes := self.journal.added(*sight.journal)[0]:
             for note in notes:
                 self.take_note(note)
         self.version += before != self.given_up
 
     def take_note(self, note: str) -> None:
-        """Takes a row of the journal."""
+        """Takes a row of the journal. A run plays the matches again that earlier ones gave up."""
         restarted, given_up = RESTARTED.fullmatch(note), GIVEN_UP.fullmatch(note)
-        if restarted and restarted[2] in self.restarting:
-            self.show_later("", [restarted[2]], functools.partial(self.count_restart, restarted[2], restarted[1]))
-        elif given_up and given_up[2] is None:
-            self.given_up.pop(given_up[3], None)
-            self.news = [news for news in self.news if news.gives_up != given_up[3]]
+        if BEGUN.fullmatch(note):
+            self.given_up.clear()
+            self.restarted.clear()
+            self.news.clear()
+        elif restarted and restarted[2] in self.restarting:
+            self.show_later([restarted[2]], functools.partial(self.count_restart, restarted[2], restarted[1]))
         elif given_up and (match := self.known.get(given_up[1])):
             words = for_visitors(self.plan.folder, given_up[2])
-            self.show_later(match.id, match.players, functools.partial(self.given_up.__setitem__, match.id, words))
+            self.show_later(match.players, functools.partial(self.given_up.__setitem__, match.id, words))
 
     def count_restart(self, player: str, match: str) -> None:
         self.restarted[player] = self.restarted.get(player, (0,))[0] + 1, match
 
-    def show_later(self, gives_up: str, players: Iterable[str], show: Callable[[], None]) -> None:
+    def show_later(self, players: Iterable[str], show: Callable[[], None]) -> None:
         """Shows what the journal says about players, at once if none of their matches is open."""
         rounds = {name: None for name, seen in self.open.items() if not set(players).isdisjoint(seen.match.players)}
         if rounds:
-            self.news.append(News(gives_up, show, rounds))
+            self.news.append(News(show, rounds))
         else:
             show()
             self.version += 1
@@ -519,16 +529,6 @@ class Reader:
     def troubles_of_matches(self) -> list[str]:
         """Returns the faults of these pages with open matches."""
         return [f"{name}: {trouble}" for name, trouble in self.troubles.items() if trouble]
-
-    def look_at_records(self) -> None:
-        """Reads new and replaced records for a while, and forgets those that are gone."""
-        self.list_records()
-        # The first pages do not wait long for the standings.
-        ends = time.monotonic() + (READING if self.identities else READING / 5)
-        while self.unread and time.monotonic() < ends:
-            self.look_at_record(self.unread.popleft())
-            # The pages show how many remain to be read.
-            self.version += 1
 
     def list_records(self) -> None:
         """Lists the records that are new or replaced, and forgets those that are gone."""
@@ -591,7 +591,7 @@ class Reader:
         if not self.delay.has_passed(name, own):
             return
         try:
-            data = self.plan.read_record(match)
+            data, (run, is_cut) = self.plan.read_record(match), self.run_of(name)
             if self.delay.seconds and self.files_of(name) != own:
                 return
             record = read_record(data)
@@ -612,27 +612,34 @@ class Reader:
             self.faults[name] = fault
             return
         self.faults.pop(name, None)
-        self.results[name] = counted_result(record, data, match, self.plan.competition, self.plan.rules[match.game])
+        result = counted_result(record, data, match, self.plan.competition, self.plan.rules[match.game])
+        self.results[name], self.over[name] = result, ended_match(result, record, run, is_cut)
         self.results_version += 1
         if name in self.ending:
             self.ending.remove(name)
-            self.ended[name] = clock()
-        self.note_replaced(match, record, own[0][2] / 1e9)
+            self.ended[name] = clock(), last_states(record["states"])
+        self.note_replaced(match, record, run, own[0][2] / 1e9)
+
+    def run_of(self, name: str) -> tuple[list[Event], bool]:
+        """Returns the last run in the log of a match, or in its last part, and whether there is more. There are no events if it can't be read."""
+        try:
+            log, is_cut = self.plan.folder.part_of_log(name, MOST_OF_LOG)
+        except OSError as why:
+            if why.errno in OUT_OF_FILES:
+                raise
+            return [], False
+        return last_run(io.BytesIO(log), name), is_cut
 
     def refuse(self, name: str, why: OSError | NoRecord) -> None:
         """Notes why a record does not count, without paths."""
         self.faults[name] = f"it can't be read: {why.strerror}" if isinstance(why, OSError) else str(why)
         self.forget(name)
 
-    def note_replaced(self, match: Match, record: dict, written: float) -> None:
+    def note_replaced(self, match: Match, record: dict, run: list[Event], written: float) -> None:
         """Keeps the last replaced moves of a match that is over."""
         kept = [move for move in self.replaced if move.match.id != match.id]
         turns = list(zip(record["moves"], record["errors"]))
         if found := replaced_moves(match, turns, {}, written):
-            try:
-                run = self.plan.folder.run_of(match.id)
-            except OSError:
-                run = []
             known = logged(run)
             moments = {turn: came / 1_000 for turn, came in known.turns.items()}
             kept += replaced_moves(match, turns, moments, known.ended / 1_000 or written)[-MOST_OF_MATCH:]

@@ -59,17 +59,20 @@ def numbered(states: list[list[str]], turns: int) -> list[Keys]:
 
 
 def own_keys(reader: Reader, match: Match) -> Keys:
-    """Returns all keys of a match. If it is over, they come from its record and its log."""
-    plan, said = reader.plan, {}
-    if match.id in reader.results:
-        messages, record = logged(plan.folder.run_of(match.id)).by_role(len(match.players)), reader.record_of(match)
-        said = {"states": numbered(record["states"], len(record["states"]) - 1), "moves": record["moves"], "errors": record["errors"]}
-        said["messages"] = messages
-    elif seen := reader.open.get(match.id):
+    """Returns all keys of a match, except those of `record_keys`."""
+    said = {}
+    if (seen := reader.open.get(match.id)) and match.id not in reader.results:
         position = seen.board.position
         said = {"states": numbered(position.states, len(position.moves)), "moves": position.moves, "errors": position.errors}
         said |= {"messages": seen.messages(), "trouble": seen.board.trouble}
-    return {**match_keys(reader, match), "roles": plan.roles(match.game), "start": match.start, "play": match.play, **said}
+    return {**match_keys(reader, match), "roles": reader.plan.roles(match.game), "start": match.start, "play": match.play, **said}
+
+
+def record_keys(reader: Reader, match: Match) -> Keys:
+    """Returns the keys of a match that is over which come from its record and its log."""
+    messages, record = logged(reader.run_of(match.id)[0]).by_role(len(match.players)), reader.record_of(match)
+    states = numbered(record["states"], len(record["states"]) - 1)
+    return {"states": states, "moves": record["moves"], "errors": record["errors"], "messages": messages}
 
 
 # ---- events

@@ -1,21 +1,22 @@
-"""The live pages of a competition. A page is made when somebody opens it, and again when its data changes. Only one thread changes data here."""
+"""The live pages of a competition. A page is made when somebody opens it, and again when its data changes. Only one thread changes data here. Another
+one makes what follows from the files of a match that is over, which may take long."""
 
 import contextlib
+import functools
 import itertools
 import re
 import sys
+import threading
 import time
 import typing
-from collections import OrderedDict
-from collections.abc import Callable
+from collections import OrderedDict, deque
+from collections.abc import Callable, Iterator
 from dataclasses import dataclass, replace
 
 from ggp_tools.answers import game_of
 from ggp_tools.competition import live, live_api, live_pages
 from ggp_tools.competition.files import Folder, Refused
 from ggp_tools.competition.live import Delay, Reader, Seen, for_visitors
-from ggp_tools.competition.known import Known
-from ggp_tools.competition.live_board import last_states
 from ggp_tools.competition.page_parts import PageParts, changes, event_text
 from ggp_tools.competition.pages import PageOf, Site, pages_of, titled
 from ggp_tools.competition.plan import Plan
@@ -38,6 +39,8 @@ IDLE, MOST_PAGES, MOST_EVENTS, BYTES_OF_EVENTS = 30.0, 200, 60, 1 << 20
 MOST_KEPT, RELOAD = 64 << 20, 10
 # How many bytes of records of long matches are kept parsed. The last record is always kept.
 MOST_PARSED = 16 << 20
+# A function that the other thread calls.
+Work = Callable[[], bytes | None]
 FIRST, MATCH = "/index.html", re.compile(r"/matches/([A-Za-z0-9_.-]+)\.html")
 # The page of a match that is over, or a part of it if the match is long.
 OVER = re.compile(r"/matches/([A-Za-z0-9_.-]+)(?:~([1-9][0-9]{0,4}))?\.html")
@@ -104,16 +107,14 @@ class SiteOfShown(Site):
     """The pages of the results that are shown, although other files may replace those of the results at any time."""
 
     def __init__(self, plan: Plan, reader: Reader) -> None:
-        super().__init__(plan, written=lambda result: reader.identities[result.match.id][0][2])
-        self.reader = reader
+        super().__init__(plan)
+        self.reader, self.ended = reader, reader.over
         # How many parts the page of each match has, and the last records with several parts, each with its number of bytes.
         self.part_counts: dict[str, tuple[Result, int]] = {}
         self.parsed: OrderedDict[str, tuple[Result, dict, int]] = OrderedDict()
-
-    def add(self, result: Result, known: Known | None = None) -> bytes:
-        data = super().add(result, known)
-        self.reader.must_be_shown(result.match.id)
-        return data
+        # Pages and JSON of matches and tables, by path, each with the data that it was made from. Both threads use them.
+        self.kept: OrderedDict[str, tuple[object, bytes]] = OrderedDict()
+        self.lock = threading.Lock()
 
     def part_of_match(self, result: Result, number: int) -> bytes:
         """Returns a part of the page of a match, counted from 1; 0 is the last one."""
@@ -138,6 +139,31 @@ class SiteOfShown(Site):
             self.parsed.popitem(last=False)
         return record
 
+    def data_of_match(self, path: str, match: Match, make: Callable[[], bytes]) -> bytes | None:
+        """Returns the data that `make` makes of a match that is over, or None if other files have replaced those that are shown."""
+
+        def made() -> bytes:
+            data = make()
+            self.reader.must_be_shown(match.id)
+            return data
+
+        try:
+            return self.kept_data(path, self.reader.identities.get(match.id), made)
+        except (OSError, NoRecord):
+            return None
+
+    def kept_data(self, path: str, made_of: object, make: Callable[[], bytes]) -> bytes:
+        """Returns the data that `make` makes, and keeps it for a while."""
+        with self.lock:
+            known, data = self.kept.pop(path, (None, b""))
+        if known != made_of or not data:
+            data = make()
+        with self.lock:
+            self.kept[path] = made_of, data
+            while sum(len(kept) for _, kept in self.kept.values()) > MOST_KEPT:
+                self.kept.popitem(last=False)
+        return data
+
 
 class LiveSite:
     """The pages, and the matches that they show."""
@@ -160,8 +186,6 @@ class LiveSite:
         self.site = SiteOfShown(plan, self.reader)
         # The states of open matches as HTML, each with the version of its board.
         self.states: dict[str, tuple[int, "Markup"]] = {}
-        # Pages and JSON of matches and tables, by path, each with the data that it was made from.
-        self.kept: OrderedDict[str, tuple[object, bytes]] = OrderedDict()
         self.tables: list[Table] = []
         # The pages of results.
         self.made: dict[str, PageOf] = {}
@@ -171,27 +195,36 @@ class LiveSite:
 
     def look(self) -> None:
         """Reads new files, and renews the pages that somebody has open."""
+        deque(self.steps(), 0)
+
+    def steps(self) -> Iterator[bool]:
+        """Does this in steps, so that other pages can be made between them."""
         self.look_at_plan()
-        self.reader.look()
+        for _ in self.reader.look():
+            # A plan that has just been read has no pages yet.
+            if self.made:
+                yield True
         self.count_results()
+        yield True
         self.follow()
         self.drop_idle_pages()
-        self.renew_pages()
+        yield from self.renew_pages()
         if self.fault:
             self.reader.version, self.fault = self.reader.version + 1, ""
-            self.renew_pages()
+            yield from self.renew_pages()
 
     def fail(self, why: Exception) -> None:
         """Shows on the pages that a look has failed. The next one may succeed; until then the pages stay as they are."""
         self.fault = f"these pages have a fault, and may be behind: {why!r}"
         self.reader.version += 1
         with contextlib.suppress(Exception):
-            self.renew_pages()
+            deque(self.renew_pages(), 0)
 
-    def renew_pages(self) -> None:
+    def renew_pages(self) -> Iterator[bool]:
         """Renews the pages that somebody has open. If one can't be made, the others still are."""
         faults = []
-        for path, found in self.pages.items():
+        for path, found in list(self.pages.items()):
+            yield True
             try:
                 if found.viewers:
                     self.renew(path, found)
@@ -312,10 +345,9 @@ class LiveSite:
         """Returns the boards of the first page, in the schedule's order."""
         shown = [seen for seen in self.reader.open_matches()[: live_pages.BOARDS] if seen.stage != "asking"]
         found = {seen.match.id: live_pages.board_item(seen, self.state_of(seen), self.plan.roles(seen.match.game)) for seen in shown}
-        for name in sorted(self.reader.ended, key=self.reader.ended.__getitem__)[-live_pages.BOARDS_OVER :]:
-            result = self.reader.results[name]
-            with contextlib.suppress(OSError, NoRecord):
-                state = self.state(result.match, -1, lambda: last_states(self.reader.record_of(result.match)["states"]), [])
+        for name, (_, states) in sorted(self.reader.ended.items(), key=lambda ended: ended[1][0])[-live_pages.BOARDS_OVER :]:
+            if result := self.reader.results.get(name):
+                state = self.state(result.match, -1, lambda: states, [])
                 found[name] = live_pages.last_board_item(result, state, self.plan.roles(result.match.game))
         return [found[name] for name in sorted(found, key=self.reader.place.__getitem__)]
 
@@ -354,8 +386,8 @@ class LiveSite:
         self.pages.move_to_end(path)
         return found
 
-    def page(self, path: str) -> bytes | None:
-        """Returns the page at a path, or None."""
+    def page(self, path: str) -> bytes | Work | None:
+        """Returns the page at a path, or what makes it, or None."""
         if found := self.opened(path):
             # It gets the changes after its version.
             events = f"{'../' * (path.count('/') - 1)}events{path}?after={found.version}"
@@ -363,49 +395,30 @@ class LiveSite:
             return page("parts", title=found.title, script="live.js", live=live, parts=found.parts)
         match = OVER.fullmatch(path)
         result = self.reader.results.get(match[1]) if match else None
-        data = result and self.data_of_match(path, result.match, lambda: self.site.part_of_match(result, int(match[2] or 0)))
+        return result and functools.partial(self.page_of_match, self.site, path, result, int(match[2] or 0))
+
+    def page_of_match(self, site: SiteOfShown, path: str, result: Result, part: int) -> bytes | None:
+        """Returns the page of a match that is over."""
+        data = site.data_of_match(path, result.match, lambda: site.part_of_match(result, part))
         trouble = live_pages.trouble_part(self.trouble).text.encode("ascii", "xmlcharrefreplace")
         return data and data.replace(b"<body>", b"<body>" + trouble, 1) if trouble else data
 
-    def data(self, path: str) -> bytes | None:
-        """Returns the data for other programs at a path, or None."""
+    def data(self, path: str) -> bytes | Work | None:
+        """Returns the data for other programs at a path, or what makes it, or None."""
         if path == live_api.METRICS:
             return live_api.metrics(self.reader, self.tables[0]) if self.tables else None
         found = live_api.API.fullmatch(path)
         if not found:
             return None
         if found[1]:
-            return self.kept_data(path, self.tables_version, lambda: json_text(self.plan, self.tables).encode("ascii")) if self.tables else None
+            return self.site.kept_data(path, self.tables_version, lambda: json_text(self.plan, self.tables).encode("ascii")) if self.tables else None
         if match := self.reader.known.get(found[3]):
-            return self.data_of_match(path, match, lambda: live_api.json_bytes(live_api.own_keys(self.reader, match)))
+            if (stamp := self.match_stamp(match.id)) is not None:
+                return self.site.kept_data(path, stamp, lambda: live_api.json_bytes(live_api.own_keys(self.reader, match)))
+            keys, reader = live_api.own_keys(self.reader, match), self.reader
+            return functools.partial(self.site.data_of_match, path, match, lambda: live_api.json_bytes(keys | live_api.record_keys(reader, match)))
         said = None if found[3] else live_api.list_keys(self.reader, int(found[2] or 1))
         return said and live_api.json_bytes({**said, "now": self.delay.now(), "trouble": self.shown_trouble()})
-
-    def data_of_match(self, path: str, match: Match, make: Callable[[], bytes]) -> bytes | None:
-        """Returns the data that `make` makes of a match, or None if other files have replaced those that are shown."""
-        if (stamp := self.match_stamp(match.id)) is not None:
-            return self.kept_data(path, stamp, make)
-
-        def made() -> bytes:
-            data = make()
-            self.reader.must_be_shown(match.id)
-            return data
-
-        try:
-            return self.kept_data(path, self.reader.identities[match.id], made)
-        except (OSError, NoRecord):
-            return None
-
-    def kept_data(self, path: str, made_of: object, make: Callable[[], bytes]) -> bytes:
-        """Returns the data that `make` makes, and keeps it for a while."""
-        if path in self.kept and self.kept[path][0] == made_of:
-            self.kept.move_to_end(path)
-            return self.kept[path][1]
-        data = make()
-        self.kept[path] = made_of, data
-        while sum(len(kept) for _, kept in self.kept.values()) > MOST_KEPT:
-            self.kept.popitem(last=False)
-        return data
 
     def drop_idle_pages(self) -> None:
         now = time.monotonic()

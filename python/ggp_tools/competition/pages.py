@@ -25,9 +25,9 @@ from ggp_tools.competition.side_by_side import made_side_by_side
 from ggp_tools.competition.table import Table, loaded_ratings, tables_of
 from ggp_tools.competition.table_text import crosstable_rows, forfeit_rule, method_of, notes, standings_rows, without_record
 from ggp_tools.descriptions.loading import Rules, sum_of
-from ggp_tools.match_log import last_run
+from ggp_tools.match_log import Event, last_run
 from ggp_tools.records.match_logs import logged
-from ggp_tools.records.show import Frame, Named, NoRecord, named_in, page_of, read_record
+from ggp_tools.records.show import Frame, Named, named_in, page_of, read_record
 from ggp_tools.templating import environment, page
 
 if typing.TYPE_CHECKING:
@@ -127,7 +127,7 @@ def match_page(head: "Markup", data: bytes, rules: bytes, answers: dict[tuple[in
 @dataclass(frozen=True)
 class Ended:
     """What the pages show of a finished match: when it began and ended, its rows on the first page and on pages below it, and what its players did.
-    If its log is too long, only its first lines were read for that."""
+    If its log is too long, only its last lines were read for that."""
 
     result: Result
     begin: str | None
@@ -138,44 +138,37 @@ class Ended:
     is_cut: bool
 
 
-class Site:
-    """The contents of a competition's pages by its results. The part about a match is made once. With gaps, the first page lists the matches without
-    a record. `written` returns when a record was written, so that no log needs to be read to find the last matches."""
+def ended_match(result: Result, record: dict, run: list[Event], is_cut: bool) -> Ended:
+    """Returns what the pages show of a match, by its record and the last run in its log."""
+    of_log = logged(run)
+    begin, end, _ = of_log.times()
+    times = {"begin": begin, "end": end, "isSetBack": of_log.is_set_back}
+    rows = [match_row(result, times, up) for up in ("", "../")]
+    return Ended(result, begin, end, *rows, appearances_of(result, record, run, end), is_cut)
 
-    def __init__(self, plan: Plan, shows_gaps: bool = False, written: Callable[[Result], float] | None = None) -> None:
+
+class Site:
+    """The contents of a competition's pages by its results. `ended` must have the matches of these results. With gaps, the first page lists the
+    matches without a record."""
+
+    def __init__(self, plan: Plan, shows_gaps: bool = False) -> None:
         # If a module is missing, the command ends at once.
         environment()
         loaded_ratings()
-        self.plan, self.shows_gaps, self.written = plan, shows_gaps, written
+        self.plan, self.shows_gaps = plan, shows_gaps
         self.ended: dict[str, Ended] = {}
         self.games = {game.name: game for game in plan.competition.games}
 
-    def ended_match(self, result: Result) -> Ended:
-        """Returns what the pages show of a match. If its files do not exist any more, its times are unknown."""
-        match = result.match.id
-        if match not in self.ended or self.ended[match].result is not result:
-            try:
-                self.add(result)
-            except (OSError, NoRecord):
-                rows = [match_row(result, {"begin": None, "end": None}, up) for up in ("", "../")]
-                self.ended[match] = Ended(result, None, None, *rows, [], False)
-        return self.ended[match]
-
     def add(self, result: Result, known: Known | None = None) -> bytes:
         """Reads what the pages show of a match, unless that is known, and returns its record. Raises `NoRecord` if the record is too long."""
-        match, folder = result.match, self.plan.folder
+        match = result.match
         data = self.plan.read_record(match)
-        log, is_cut = folder.part_of_log(match.id, MOST_OF_LOG)
+        log, is_cut = self.plan.folder.part_of_log(match.id, MOST_OF_LOG)
         key = sum_of_parts(repr(result).encode(), data, log, b"%d" % is_cut) if known else ""
         if known and (ended := known.get("ended", key)):
             self.ended[match.id] = replace(ended, result=result)
             return data
-        run = last_run(io.BytesIO(log), match.id)
-        of_log = logged(run)
-        begin, end, _ = of_log.times()
-        times = {"begin": begin, "end": end, "isSetBack": of_log.is_set_back}
-        rows = [match_row(result, times, up) for up in ("", "../")]
-        self.ended[match.id] = Ended(result, begin, end, *rows, appearances_of(result, read_record(data), run, end), is_cut)
+        self.ended[match.id] = ended_match(result, read_record(data), last_run(io.BytesIO(log), match.id), is_cut)
         if known:
             known.put("ended", key, self.ended[match.id])
         return data
@@ -187,12 +180,13 @@ class Site:
         return html_of("competition", "way_of_match", match=result.match, **texts)
 
     def named(self, game: str) -> Named:
-        """Returns how the boards of a game are drawn."""
-        return named_in(self.plan.rules[game].text, self.games[game].board == BOARDS[1])
+        """Returns how the boards of a game are drawn. Rules that are too long are not read for that."""
+        rules = self.plan.rules[game].text
+        return named_in(rules if len(rules) <= MOST_RULES else b"", self.games[game].board == BOARDS[1])
 
     def answers(self, result: Result) -> dict[tuple[int, int], str]:
         """Returns the answers in a match's log that were not expressions, by role and turn, counted from 0."""
-        errors = [(appearance.role, error) for appearance in self.ended_match(result).appearances for error in appearance.errors]
+        errors = [(appearance.role, error) for appearance in self.ended[result.match.id].appearances for error in appearance.errors]
         return {(role, error.turn - 1): error.answer for role, error in errors if error.error == "IL ?" and error.message}
 
     def match_work(self, result: Result, data: bytes) -> tuple["Markup", bytes, bytes, dict[tuple[int, int], str], Named, str]:
@@ -213,13 +207,13 @@ class Site:
     def own_matches(self, results: list[Result]) -> PageParts:
         """Returns the list of the last matches of a player or a game."""
         shown = results[-MOST_LISTED:]
-        rows = matches_part([self.ended_match(result).below for result in shown])
+        rows = matches_part([self.ended[result.match.id].below for result in shown])
         return [rows, part("more", len(shown) < len(results), shown=len(shown), count=len(results))]
 
     def last_matches(self, results: list[Result]) -> Items:
         """Returns the matches that ended last, the newest first."""
-        last = heapq.nlargest(LAST, results, self.written or (lambda result: self.ended_match(result).end or ""))
-        return matches_part([self.ended_match(result).above for result in last], "Last matches")
+        last = heapq.nlargest(LAST, (self.ended[result.match.id] for result in results), lambda match: match.end or "")
+        return matches_part([match.above for match in last], "Last matches")
 
     def gaps(self, results: list[Result]) -> Part:
         """Returns the list of the matches without a record."""
@@ -229,9 +223,7 @@ class Site:
 
     def span(self, results: list[Result]) -> tuple[str, str]:
         """Returns when the first match began and the last one ended. The texts are empty if no log has the times."""
-        if self.written and results:
-            results = [min(results, key=self.written), max(results, key=self.written)]
-        ended = [self.ended_match(result) for result in results]
+        ended = [self.ended[result.match.id] for result in results]
         begins, ends = [match.begin for match in ended if match.begin], [match.end for match in ended if match.end]
         return (spelt(min(begins)), spelt(max(ends))) if begins and ends else ("", "")
 
@@ -252,7 +244,7 @@ class Site:
         pages = pages_of_all(results)
         head = Part("head", html_of("competition", "all_matches", name=self.plan.competition.name))
         spans = [(page, f"{own[0].match.id} to {own[-1].match.id}") for page, own in pages.items()] if len(pages) > 1 else []
-        return [head, part("pages", spans, spans=spans, own=name), matches_part([self.ended_match(result).above for result in pages[name]])]
+        return [head, part("pages", spans, spans=spans, own=name), matches_part([self.ended[result.match.id].above for result in pages[name]])]
 
     def game_parts(self, table: Table, results: list[Result]) -> PageParts:
         """Returns the page of a game, from its table and its results."""
@@ -262,7 +254,7 @@ class Site:
 
     def player_parts(self, player: str, standing: str, results: list[Result]) -> PageParts:
         """Returns the page of a player, from its results."""
-        ended = [self.ended_match(result) for result in results]
+        ended = [self.ended[result.match.id] for result in results]
         own = [appearance for match in ended for appearance in match.appearances if match.result.match.players[appearance.role] == player]
         cut = [match.result.match.id for match in ended if match.is_cut]
         parts = player_parts(self.plan.competition.name, player, standing, own)
@@ -349,7 +341,7 @@ class Pages:
         for result in results:
             name = f"matches/{result.match.id}.html"
             # Another run with fewer matches may have deleted the page.
-            if result.match.id in self.site.ended and (self.folder / name).exists():
+            if (ended := self.site.ended.get(result.match.id)) and ended.result == result and (self.folder / name).exists():
                 continue
             data = self.site.add(result, self.known)
             key = self.site.key_of_page(result, data) if self.known else ""

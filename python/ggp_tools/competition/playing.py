@@ -308,6 +308,8 @@ def prepare(playing: Playing) -> None:
     set_all_aside(playing, faults)
     abort_open_matches(playing, directories)
     playing.waiting.extend(match for match in plan.matches if match.id not in playing.results and match.counts())
+    if playing.waiting:
+        reporter.note(f"play {counted(len(playing.waiting), 'match')}")
 
 
 def play(playing: Playing) -> dict[str, str]:
