@@ -231,7 +231,7 @@ class Archive(unittest.TestCase):
         files = files_of(cup / "cup.tar.gz")
         self.assertEqual(files["cup/GAPS.tsv"].decode().splitlines()[1:], [line])
         self.assertEqual([file for file in files if "cup-003" in file], [])
-        self.assertIn(b"<h2>Matches without a record</h2><p>They count for no player.</p>", files["cup/pages/index.html"])
+        self.assertIn(b"<h2>Matches without a record</h2><p>They do not count.</p>", files["cup/pages/index.html"])
         self.assertIn("cup: 11 of 12 matches", files["cup/table.txt"].decode())
         status, out, said = run(cup, "check", "cup.tar.gz")
         self.assertEqual((status, said), (0, ""))

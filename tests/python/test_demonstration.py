@@ -161,7 +161,7 @@ class Demonstration(InFolder):
         page.press("Enter")
         text = page.until(f"location.pathname === '/matches/{FIRST}.html' && document.readyState === 'complete' && document.body.innerText")
         self.assertIn(f"Match {FIRST}: ann (xplayer), bob (oplayer)", text)
-        self.assertRegex(text, rf"It is open; xplayer to move: ann \({WHILE}\)\.\s+After turn 4: xplayer to move")
+        self.assertRegex(text, rf"The match is open; xplayer to move: ann \({WHILE}\)\.\s+After turn 4: xplayer to move")
         self.assertEqual(page.unreadable(), [])
         # A place of the board that shows a glyph has its label as text for the focus.
         while not re.match(r"\d \d: [xo]$", page.reached()[1]):
@@ -205,7 +205,7 @@ class Demonstration(InFolder):
         self.go_by_keyboard(page, hold)
         page.go(self.address)
         self.kill(playing, next_hold)
-        page.until("document.getElementById('now').innerText.includes('No run is at work')")
+        page.until("document.getElementById('now').innerText.includes('play is not running')")
 
     def watch_second_run(self, page: Page) -> None:
         hold = self.hold("ann", OF_ANN, 2)

@@ -217,7 +217,7 @@ class Lines(InRoom):
         wanted = [(self.match.id, second, 2, 0), (self.match.id, first, 2, 0), (self.match.id, second, 1, 1)]
         self.assertEqual(found, [*wanted, *((over.id, over.players[0], turn, before) for turn, before in ((5, 0), (4, 0), (3, 2)))])
         shown = str(replaced_part(reader.last_replaced()).text)
-        self.assertEqual((shown.count("more before"), "2 more before" in shown), (2, True))
+        self.assertEqual((shown.count("earlier"), "and 2 earlier" in shown), (2, True))
 
     def test_stages_and_the_end(self):
         room, reader = self.plan.folder.open / self.match.id, self.reader()
@@ -289,7 +289,7 @@ class Lines(InRoom):
         plan = plan_in(self.plan.folder.path, ["ann", "bob"], head="strikes = 2\n")
         log, reader = begin(plan, self.match, started(self.match)), self.reader(plan)
         self.look(reader)
-        self.assertIn("known to be", str(replaced_part([]).text))
+        self.assertIn("No move was replaced so far.", str(replaced_part([]).text))
         self.say(log, self.play(2, "NIL", ["(take 9)"], [0]))
         self.look(reader)
         self.assertEqual(reader.last_replaced(), [])
@@ -339,7 +339,7 @@ class Lines(InRoom):
             self.look(reader)
         self.assertEqual(reader.open[self.plan.matches[1].id].turn(), 1)
         said = now_part(reader, 0, 0).text
-        self.assertEqual((said.count("these pages have a fault"), "ZeroDivisionError" in said, "KeyError" in said), (2, True, True))
+        self.assertEqual((said.count("an error in ggp_competition"), "ZeroDivisionError" in said, "KeyError" in said), (2, True, True))
 
     def test_what_is_no_record_of_the_match_does_not_count(self):
         first, second = self.plan.matches[:2]

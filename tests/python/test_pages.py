@@ -176,13 +176,13 @@ class PagesOfMany(unittest.TestCase):
             for name in ("games/one.html", "players/player-p0.html"):
                 page = self.page(pages, name)
                 self.assertEqual((len(page.select("#matches tr")), len(page.select("#match-cup-300"))), (120, 1))
-                self.assertIn("These are 120 of 300; the others are among all matches.", text_of(page))
+                self.assertIn("These are the last 120 of 300 matches. The others are in the list of all matches.", text_of(page))
             # With fewer matches there are fewer pages.
             pages.write(self.results[:120])
             self.assertEqual({file.name for file in pages.folder.iterdir() if file.is_file()}, {"index.html", "matches.html"})
             gaps = Pages(self.plan, shows_gaps=True)
             gaps.write(self.results[:10])
-            self.assertIn("and 170 more, which GAPS.tsv names", text_of(self.page(gaps, "index.html")))
+            self.assertIn("and 170 more, listed in GAPS.tsv", text_of(self.page(gaps, "index.html")))
 
     def test_what_a_log_says_is_text(self):
         for match in self.plan.matches:
@@ -206,7 +206,7 @@ class PagesOfMany(unittest.TestCase):
         self.assertEqual(rows_of(page.find(id="errors"))[1:], [[match.id, "1", "the answer was not a legal move IL", f"(PLAY {match.id} NIL)", "<script>", "noop"]])
         self.assertEqual(len(page.select("#times svg")), 1)
         self.assertIn("It has played no match.", text_of(self.page(pages, "players/player-p24.html")))
-        self.assertIn("No move of it was replaced.", text_of(self.page(pages, f"players/player-{match.players[0]}.html")))
+        self.assertIn("None of its moves was replaced.", text_of(self.page(pages, f"players/player-{match.players[0]}.html")))
 
     def test_the_page_of_a_match_says_in_each_turn_what_was_wrong_with_its_answer(self):
         match = self.plan.matches[0]
@@ -237,7 +237,7 @@ class PagesOfMany(unittest.TestCase):
         errors = self.page(pages, f"players/player-{match.players[1]}.html").find(id="errors")
         self.assertEqual([row[1] for row in rows_of(errors)[1:]], [str(turn) for turn in range(15, 5, -1)])
         self.assertEqual(links_of(errors)[1], f"../matches/{match.id}.html#turn=15")
-        for words in ("The last 100, and of a match the last 10.", "5 more stand in the records"):
+        for words in ("The last 100, at most 10 of each match.", "5 more are in the records"):
             self.assertIn(words, text_of(errors))
 
     def test_a_clock_that_is_set_back(self):

@@ -125,11 +125,11 @@ class Served(unittest.TestCase):
 class Pages(Served):
     def test_what_stands_there_as_a_match_goes(self):
         match = self.plan.matches[0]
-        self.assertIn("0 matches are open, 6 wait. No run is at work", self.page("/"))
+        self.assertIn("0 matches are open, 6 are waiting. <code>play</code> is not running now", self.page("/"))
         self.assertIn("It has not begun.", self.page(f"/matches/{match.id}.html"))
         log = begin(self.plan, match, started(match))
         self.look()
-        self.assertIn("1 match is open, 5 wait.", self.page("/index.html"))
+        self.assertIn("1 match is open, 5 are waiting.", self.page("/index.html"))
         self.say(log, self.play(match, 2, "NIL", ["(take 2)", "noop"]))
         first, own = self.page("/index.html"), self.page(f"/matches/{match.id}.html")
         self.assertIn("after turn 1", first)
@@ -276,7 +276,7 @@ class Pages(Served):
             end(self.plan, match, record_of(match, [], [], [50, 50]))
         with patch.object(live, "READING", -1):
             self.look()
-            self.assertIn("6 records are still to be read, so the standings lack them", self.page("/"))
+            self.assertIn("6 records are not read yet, so the standings do not include them", self.page("/"))
             self.assertIn("0 of 6 matches are over.", self.page("/"))
             self.site.reader.look_at_record(self.site.reader.unread.popleft())
             self.site.next_tables = 0.0
@@ -286,7 +286,7 @@ class Pages(Served):
         self.site.next_tables = 0.0
         self.look()
         self.assertEqual({row[-1][0] for row in rows_of(parsed(self.page("/")).find(id="standings"))[1:]}, {"0"})
-        self.assertNotIn("still to be read", self.page("/"))
+        self.assertNotIn("not read yet", self.page("/"))
         self.assertIn("6 of 6 matches are over.", self.page("/"))
 
     def test_pages_of_results_are_made_without_their_files(self):
@@ -302,7 +302,7 @@ class Pages(Served):
             end(self.plan, match, record_of(match, [], [], [50, 50]))
         steps = self.site.steps()
         next(steps)
-        self.assertIn("5 records are still to be read", self.page("/"))
+        self.assertIn("5 records are not read yet", self.page("/"))
 
     def test_a_page_waits_for_at_most_one_page_of_results(self):
         asked, made = [(name, f"/players/player-{name}.html") for name in ("ann", "bob", "cid")] + [("eve", live_site.FIRST)], []
@@ -348,7 +348,7 @@ class Pages(Served):
             (files.Refused(f"{path}/schedule.tsv is not what {path}/competition.toml says"), "schedule.tsv is not what competition.toml says"),
             (files.Refused(f"{path}/schedule.tsv: /opt/games/heap.kif is there"), "schedule.tsv: heap.kif is there"),
             (OSError(5, "Input/output error", f"{path}/rules/heap.kif"), "rules/heap.kif: Input/output error"),
-            (NoReferee(f"{path}/ggp_manager is not an executable program"), "the program can&#39;t be asked for its rules"),
+            (NoReferee(f"{path}/ggp_manager is not an executable program"), "the referee program can&#39;t be run"),
         )
         places = ["/", "/matches.html", "/games/heap.html", f"/matches/{match.id}.html", f"/matches/{other.id}.html", "/players/player-ann.html"]
         for number, (fault, said) in enumerate(faults):
@@ -387,14 +387,14 @@ class Pages(Served):
         self.site = self.server.site = LiveSite(self.plan, Referee(program()), lambda: self.plan)
         self.look()
         first = self.page("/")
-        self.assertIn("5 wait, 1 was given up", first)
+        self.assertIn("5 are waiting, 1 was given up", first)
         self.assertEqual([(row[0], row[-1]) for row in rows_of(parsed(first).find(id="given-up"))[1:]], [(lost.id, "its files: x")])
         self.assertIn("It was given up: its files: x.", self.page(f"/matches/{lost.id}.html"))
         self.assertIn("It has not begun.", self.page(f"/matches/{again.id}.html"))
         # The next run plays it.
         self.write_journal([*lines, "play 1,000 matches"])
         self.look()
-        self.assertIn("0 matches are open, 6 wait.", self.page("/"))
+        self.assertIn("0 matches are open, 6 are waiting.", self.page("/"))
 
     def test_players_that_were_restarted_are_named_once_that_says_nothing_of_a_turn(self):
         """A dead player does not answer. The other players of the turn must not learn that."""
@@ -647,12 +647,12 @@ class Events(Served):
         with patch.object(self.site.reader, "look", side_effect=KeyError("a fault")), patch.object(sys, "stderr", io.StringIO()) as told:
             self.look()
             self.look()
-        self.assertEqual(told.getvalue(), "ggp_competition: the folder could not be looked at: KeyError('a fault')\n")
-        self.assertIn("these pages have a fault", "".join(part.html() for part in page.parts))
+        self.assertEqual(told.getvalue(), "ggp_competition: can't update the pages: KeyError('a fault')\n")
+        self.assertIn("an error in ggp_competition", "".join(part.html() for part in page.parts))
         begin(self.plan, self.plan.matches[0])
         self.look()
         said = "".join(part.html() for part in page.parts)
-        self.assertEqual(("fault" in said, "1 match is open" in said), (False, True))
+        self.assertEqual(("error in" in said, "1 match is open" in said), (False, True))
 
     def test_a_match_that_ends_gets_its_other_page(self):
         match = self.plan.matches[0]
@@ -739,7 +739,7 @@ class Command(InFolder):
             address = serving_it.stdout.readline().strip()
             self.assertRegex(address, r"http://127\.0\.0\.1:[0-9]+/")
             port = address.rpartition(":")[2].strip("/")
-            self.assertIn("can't be served: Address already in use", run(self.folder, "serve", "--port", port)[2])
+            self.assertIn(f"can't listen on 127.0.0.1 port {port}: Address already in use", run(self.folder, "serve", "--port", port)[2])
             with urllib.request.urlopen(address, timeout=60) as answer:
                 self.assertIn(b"0 of 2 matches are over.", answer.read())
             serving_it.send_signal(number)

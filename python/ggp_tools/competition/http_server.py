@@ -117,7 +117,7 @@ class Server:
     pages and read its data."""
 
     def __init__(self, site: LiveSite, most: int, base: str = "", names: Sequence[str] = (), origins: Sequence[str] = ()) -> None:
-        self.site, self.visitors, self.address, self.told = site, Visitors(most, spares_busy=False), "", ""
+        self.site, self.visitors, self.address, self.reported = site, Visitors(most, spares_busy=False), "", ""
         self.base, self.names, self.origins = base, ["localhost", *names], origins
         self.headers = {**HEADERS, "Content-Security-Policy": f"frame-ancestors {' '.join(origins or NOBODY)}"}
         self.thread, self.other_thread = concurrent.futures.ThreadPoolExecutor(1), concurrent.futures.ThreadPoolExecutor(1)
@@ -162,9 +162,9 @@ class Server:
                 pass
         except Exception as why:
             await self.on_site(self.site.fail, why)
-            if repr(why) != self.told:
-                self.told = repr(why)
-                print(f"ggp_competition: the folder could not be looked at: {self.told}", file=sys.stderr)
+            if repr(why) != self.reported:
+                self.reported = repr(why)
+                print(f"ggp_competition: can't update the pages: {self.reported}", file=sys.stderr)
         looked, self.looked = self.looked, asyncio.Event()
         looked.set()
 
@@ -207,7 +207,7 @@ class Server:
             request.protocol.end()
             raise
         except Exception as why:
-            print(f"ggp_competition: a page could not be made: {why!r}", file=sys.stderr)
+            print(f"ggp_competition: can't make the page {asked!r}: {why!r}", file=sys.stderr)
             return await self.send(request, HTTPStatus.INTERNAL_SERVER_ERROR)
 
     def note_answer(self, connection: Connection, answer: bytes) -> None:

@@ -41,7 +41,7 @@ LOOKS = 5
 STAYS = 60
 # The stage of a match whose directory has only the names of its players: they get ABORT for a run that was ended.
 WAITING = "waiting"
-FAULT = "these pages have a fault, so what they show of it may be wrong: {!r}"
+FAULT = "these pages may show wrong data of this match because of an error in ggp_competition: {!r}"
 # The rows of `play.log` by which a player is restarted, a match is given up, or a run begins.
 RESTARTED = re.compile(r"restart (\S+) (\S+): .*")
 GIVEN_UP = re.compile(rf"(?:no record|missing) (\S+): (?!{NOT_BEGUN}$)(.*)")

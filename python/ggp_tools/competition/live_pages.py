@@ -26,7 +26,7 @@ BOARDS, BOARDS_OVER, QUEUE = 12, 6, 20
 MOST_TERMS = 60
 STAGES = {"asking": "its players are asked whether they are free", "checking": "its record is being checked"}
 OPEN_HEADS = ["match", "game", "players", "turn", "awaited", "for", "no answer"]
-REPLACED = f"The last {MOST_REPLACED}, and of a match the last {MOST_OF_MATCH}."
+REPLACED = f"The last {MOST_REPLACED}, at most {MOST_OF_MATCH} of each match."
 
 
 @dataclasses.dataclass(frozen=True)
@@ -54,7 +54,7 @@ def status_of(seen: Seen, roles: tuple[str, ...]) -> Status:
     if seen.stage in STAGES:
         return Status(STAGES[seen.stage], seen.since)
     found, mover = seen.named(), seen.board.position.mover()
-    what = "the end" if seen.is_ending() else f"turn {seen.turn()}" if seen.turn() else "START"
+    what = "the last message" if seen.is_ending() else f"turn {seen.turn()}" if seen.turn() else "START"
     if seen.is_over() or found == []:
         return Status("all have answered", seen.since)
     if found is None:
@@ -107,8 +107,8 @@ def now_part(reader: Reader, waiting: int, given_up: int) -> Part:
     lines = [*faults, *reader.troubles_of_matches()[:QUEUE]]
     if reader.restarted:
         lines.append("; ".join(restart_words(*restart) for restart in reader.restarted.items()))
-    told = {"open": len(reader.open), "waiting": waiting, "lost": given_up}
-    return live_part("now", is_held=reader.is_held, unread=len(reader.unread), lines=lines, **told)
+    counts = {"open": len(reader.open), "waiting": waiting, "lost": given_up}
+    return live_part("now", is_held=reader.is_held, unread=len(reader.unread), lines=lines, **counts)
 
 
 def replaced_part(replaced: list[tuple[Replaced, int]]) -> Part:
@@ -128,9 +128,9 @@ def live_parts(reader: Reader, boards: list[Item]) -> PageParts:
         now_part(reader, count, len(given_up)),
         Items("boards", '<div class="boards" id="boards">', tuple(boards), "</div>"),
         rows_part("open", "Open matches", OPEN_HEADS, rows, "No match is open."),
-        list_part("given-up", "Matches that were given up", "The next run plays them.", given_up[:QUEUE], len(given_up[QUEUE:])),
+        list_part("given-up", "Matches that were given up", "The next run of play plays them again.", given_up[:QUEUE], len(given_up[QUEUE:])),
         replaced_part(reader.last_replaced()),
-        list_part("queue", "Waiting matches", "Each begins once its players are free.", first, count - len(first)),
+        list_part("queue", "Waiting matches", "Each match begins when all of its players are free.", first, count - len(first)),
     ]
 
 

@@ -73,7 +73,7 @@ def reason_for_visitors(folder: Folder, why: Exception) -> str:
     if isinstance(why, OSError):
         words = f"{why.filename or 'a file'}: {why.strerror}"
     else:
-        words = str(why.words) if isinstance(why, Refused) else "the program can't be asked for its rules"
+        words = str(why.words) if isinstance(why, Refused) else "the referee program can't be run"
     return for_visitors(folder, words)
 
 
@@ -215,7 +215,7 @@ class LiveSite:
 
     def fail(self, why: Exception) -> None:
         """Shows on the pages that a look has failed. The next one may succeed; until then the pages stay as they are."""
-        self.fault = f"these pages have a fault, and may be behind: {why!r}"
+        self.fault = f"These pages may be out of date because of an error in ggp_competition: {why!r}"
         self.reader.version += 1
         with contextlib.suppress(Exception):
             deque(self.renew_pages(), 0)
@@ -243,9 +243,9 @@ class LiveSite:
                 self.plans.append((live.clock(), self.read_plan()))
             except (Refused, NoReferee, Unchecked, OSError) as why:
                 # The person who serves gets the whole message.
-                print(f"ggp_competition: the plan has changed, and can't be read: {why}", file=sys.stderr)
+                print(f"ggp_competition: the plan has changed, but can't be read, so the pages show the previous one: {why}", file=sys.stderr)
                 said = reason_for_visitors(self.plan.folder, why)
-                trouble = f"The plan has changed, and can't be read, so these pages show the previous plan: {said}"
+                trouble = f"The plan has changed, but can't be read, so these pages show the previous plan: {said}"
                 self.plans.append((live.clock(), trouble))
         while self.plans and self.plans[0][0] <= live.clock() - self.delay.seconds:
             _, plan = self.plans.pop(0)
@@ -362,11 +362,11 @@ class LiveSite:
             found.is_final = True
             return
         found.title, parts = self.make(path)
-        told = live_api.news(self.reader, found.parts, parts) if path == live_api.FEED else changes(found.parts, parts)
+        changed = live_api.news(self.reader, found.parts, parts) if path == live_api.FEED else changes(found.parts, parts)
         found.parts = parts
-        if told:
+        if changed:
             version = next(self.versions)
-            events = [*found.events[1 - MOST_EVENTS :], (version, event_text(version, {**told, "now": self.delay.now()}))]
+            events = [*found.events[1 - MOST_EVENTS :], (version, event_text(version, {**changed, "now": self.delay.now()}))]
             # The one before the last change has the version that viewers have.
             while len(events) > 2 and sum(len(text) for _, text in events) > BYTES_OF_EVENTS:
                 del events[0]

@@ -218,8 +218,8 @@ class Site:
     def gaps(self, results: list[Result]) -> Part:
         """Returns the list of the matches without a record."""
         missing = [(match, "") for match in without_record(self.plan, results)] if self.shows_gaps else []
-        rest = len(missing[MOST_LISTED:]), ", which GAPS.tsv names"
-        return list_part("gaps", "Matches without a record", "They count for no player.", missing[:MOST_LISTED], *rest)
+        rest = len(missing[MOST_LISTED:]), ", listed in GAPS.tsv"
+        return list_part("gaps", "Matches without a record", "They do not count.", missing[:MOST_LISTED], *rest)
 
     def span(self, results: list[Result]) -> tuple[str, str]:
         """Returns when the first match began and the last one ended. The texts are empty if no log has the times."""

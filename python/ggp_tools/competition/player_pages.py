@@ -15,7 +15,7 @@ from ggp_tools.records.show import why_of
 
 # A page shows at most this many errors of a player, and of one match, the newest ones.
 MOST_ERRORS, MOST_OF_MATCH = 100, 10
-LAST_ERRORS = f"The last {MOST_ERRORS}, and of a match the last {MOST_OF_MATCH}."
+LAST_ERRORS = f"The last {MOST_ERRORS}, at most {MOST_OF_MATCH} of each match."
 
 
 @dataclass(frozen=True)

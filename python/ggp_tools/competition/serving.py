@@ -23,12 +23,12 @@ ORIGIN = re.compile(f"(https?)://({NAME})(?::([0-9]{{1,5}}))?", re.IGNORECASE)
 DEFAULT_PORTS = {"http": 80, "https": 443}
 
 
-def matching(form: str, wanted: str) -> Callable[[str], str]:
+def matching(form: str, expected: str) -> Callable[[str], str]:
     """Returns a function that accepts texts of this form."""
 
     def text(found: str) -> str:
         if not re.fullmatch(form, found):
-            raise argparse.ArgumentTypeError(f"expected {wanted}, found {found!r}")
+            raise argparse.ArgumentTypeError(f"expected {expected}, found {found!r}")
         return found
 
     return text
@@ -49,17 +49,17 @@ def origin(text: str) -> str:
 
 def add_serve(command: argparse.ArgumentParser) -> None:
     """Adds the options of `serve`."""
-    command.add_argument("--port", type=whole(0, MOST_PORT), default=8_000, metavar="P", help="the port (8000); 0: any that is free")
-    text = "the address at which it listens (127.0.0.1, which this computer alone can reach; 0.0.0.0: all)"
+    command.add_argument("--port", type=whole(0, MOST_PORT), default=8_000, metavar="P", help="the port to listen on (8000); 0 takes a free one")
+    text = "the address to listen on (127.0.0.1, which only this computer can reach); 0.0.0.0 listens on all addresses"
     command.add_argument("--bind", type=address, default="127.0.0.1", metavar="ADDRESS", help=text)
-    text = "at most N connections at once (256)"
+    text = "accept at most N connections at the same time (256)"
     command.add_argument("--connections", type=whole(1, MOST_CONNECTIONS), default=256, metavar="N", help=text)
-    text = "shows everything so many seconds late (0)"
+    text = "show everything this many seconds late (0)"
     command.add_argument("--delay", type=whole(0, MOST_DELAY), default=0, metavar="SECONDS", help=text)
-    text = "a name under which a proxy asks for pages; may be given several times"
+    text = "also answer requests for this host name, for example of a proxy; can be given several times"
     command.add_argument("--host", type=HOST, action="append", default=[], metavar="NAME", help=text)
-    command.add_argument("--base-path", type=BASE, default="", metavar="PATH", help="the path below which a proxy has the pages, such as /cup")
-    text = "an origin whose pages may show these pages in a frame, such as https://club.example; may be given several times"
+    command.add_argument("--base-path", type=BASE, default="", metavar="PATH", help="the path under which a proxy has the pages, such as /cup")
+    text = "let pages of this origin, such as https://club.example, show these pages in a frame; can be given several times"
     command.add_argument("--embed", type=origin, action="append", default=[], metavar="ORIGIN", help=text)
 
 
@@ -86,7 +86,7 @@ async def serve(site: LiveSite, asked: argparse.Namespace) -> None:
     try:
         host, port = await server.begin(asked.bind, asked.port)
     except OSError as why:
-        raise Refused(f"{asked.bind} port {asked.port} can't be served: {os.strerror(why.errno)}") from None
+        raise Refused(f"can't listen on {asked.bind} port {asked.port}: {os.strerror(why.errno)}") from None
     say(f"http://{f'[{host}]' if ':' in host else host}:{port}{asked.base_path}/")
     watching = asyncio.create_task(server.watch())
     await stopped.wait()

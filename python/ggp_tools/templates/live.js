@@ -18,19 +18,19 @@ function made(html) {
   return room.content.firstElementChild;
 }
 
-// The keyboard stays where it was: at the same link, or the same cell, of what is new.
+// Keeps the keyboard focus on the same link or cell.
 function replace(old, other) {
   const reached = (it) => [...it.querySelectorAll("a, [tabindex]")], at = reached(old).indexOf(document.activeElement);
   old.replaceWith(other);
   if (at >= 0) reached(other)[at]?.focus({ preventScroll: true });
 }
 
-function change(told) {
-  if (told.reload) { location.reload(); return; }
-  skew = Date.now() / 1000 - told.now;
-  for (const name of told.drop) $(name)?.remove();
-  for (const [name, html] of told.set) if ($(name)) replace($(name), made(html));
-  for (const [place, before, html] of told.add) $(place)?.insertBefore(made(html), before && $(before));
+function change(news) {
+  if (news.reload) { location.reload(); return; }
+  skew = Date.now() / 1000 - news.now;
+  for (const name of news.drop) $(name)?.remove();
+  for (const [name, html] of news.set) if ($(name)) replace($(name), made(html));
+  for (const [place, before, html] of news.add) $(place)?.insertBefore(made(html), before && $(before));
   tick();
 }
 
