@@ -37,7 +37,7 @@ input_file_fault ReadFault = File Input Unread
 input_file_fault InputTooLong = File Input FileTooLong
 input_file_fault fault = fault
 
--- out of memory, or why the file for this use cannot be read
+-- the fault is out of memory, or says why the file for this use cannot be read
 abbrev pub IsFileFault : NamedFile → Fault → Type 0
 IsFileFault named fault = (fault ≡ Memory) ⊎ ((why : FileFault) × (fault ≡ File named why))
 
@@ -46,7 +46,7 @@ abbrev pub NamesSize : MaxBytes → Fault → Type 0
 NamesSize limit (File named (TooLarge size accepted)) = (accepted ≡ limit) × (limit.bytes < size)
 NamesSize limit fault = Unit {0}
 
--- The fault does not refuse a file for its size.
+-- The fault is not that a file is too large.
 abbrev pub IsNotOfSize : Fault → Type 0
 IsNotOfSize fault = (limit : MaxBytes) → NamesSize limit fault
 

@@ -25,7 +25,7 @@ pub struct MaxBytes {
 }
 
 impl MaxBytes {
-    /// The limit of a file for which `--large` makes no difference.
+    /// The limit for a file for which `--large` makes no difference.
     pub fn fixed(bytes: u32) -> MaxBytes
         ensures { result.bytes ≡ bytes }
     {
@@ -35,7 +35,7 @@ impl MaxBytes {
         }
     }
 
-    /// The limit of a description, according to these limits.
+    /// The limit for a description within these limits.
     pub fn of_description(limits: Limits) -> MaxBytes
         ensures bytes { result.bytes ≡ max_bytes limits }
         ensures with_large { result.with_large ≡ max_bytes_with_large limits }
@@ -78,7 +78,7 @@ pub enum NamedFile {
     PlayerRules,
     /// The records of finished matches.
     Records,
-    /// The input, instead of standard input.
+    /// The input file, which replaces standard input.
     Input,
     /// The log of the messages.
     Log,
@@ -219,7 +219,7 @@ pub fn input_file_fault(fault: Fault) -> Fault
 }
 
 /// The size of the file at this path, which has more bytes than the limit; or the limit plus 1 if the size is not known,
-/// for example of a pipe.
+/// for example for a pipe.
 fn size_above<F: Files>(files: &F, path: &str, limit: u32) -> u64
     ensures { limit < result }
 {

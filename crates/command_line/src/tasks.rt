@@ -71,8 +71,8 @@ pub struct SeasonPlan<'a> {
     pub schedule: Option<&'a str>,
     /// A file of records. `season` does not play the matches of these records again.
     pub done: Option<&'a str>,
-    /// A file that `season` appends records to, instead of printing them. It does not play the matches of the file's records
-    /// again.
+    /// A file that `season` appends records to, instead of printing them. `season` does not play the matches of the
+    /// file's records again.
     pub records: Option<&'a str>,
 }
 

@@ -117,7 +117,7 @@ impl Sentences {
         without
     }
 
-    /// The offset of the error in the text, if it has one.
+    /// The offset of the error in the text, if the error has one.
     fn place_of(&self, alloc: Global, limits: Limits, fault: DescriptionFault) -> Option<usize> {
         match fault {
             DescriptionFault::Unread(
@@ -219,7 +219,8 @@ fn remedy(text: &[u8], fault: DescriptionFault) -> &'static str {
     }
 }
 
-/// Appends to `out` why a text does not describe a game within these limits: a hint how to fix it, if there is one, and then what is wrong.
+/// Appends to `out` why a text does not describe a game within these limits: a hint on how to fix the text, if there is
+/// one, and then what is wrong.
 pub fn push_description(
     alloc: Global,
     limits: Limits,

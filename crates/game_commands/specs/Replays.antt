@@ -152,7 +152,7 @@ AccountFails contents is_json rules games before account writer writer' fault =
     ⊎ ((fault ≡ WriteFault) × (writer'.faults ≡ one_more writer.faults)
     × ((output : List ℕ) × (taken : ℕ) × IsReplayOutput is_json rules games before account output × (taken ≤ length output) × Appends (contents writer.stream) (contents writer'.stream) (take taken output)))
 
--- why a call log does not reach this size
+-- why a call log of this size is not stored: memory ran out, or the log is too long
 abbrev pub StopsLongAccount : Fault → ℕ → Type 0
 StopsLongAccount fault size = (fault ≡ Memory) ⊎ ((fault ≡ InputTooLong) × (max_account < size))
 

@@ -5,7 +5,7 @@ use desk_text::ReplayFault;
 use game_core::Limits;
 use std::alloc::Global;
 
-/// The cause of a command's error, or what it skipped. It is `Nothing` if the command is out of memory.
+/// The cause of a command's error, or what it skipped. It is `Nothing` if the command ran out of memory.
 #[derive(Drop)]
 pub enum Evidence {
     Nothing,

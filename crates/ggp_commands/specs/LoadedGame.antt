@@ -22,7 +22,7 @@ AreSpelled text rules = (sentences : Expressions) × SpellsAll text sentences ×
 abbrev pub AreRulesFor : {F : Type 0} → Option F → PackedGame → List ℕ → Type 0
 AreRulesFor player_rules game rules = MatchOption player_rules (rules ≡ rules_text (expressions (sentences_of game))) (λ file. (text : List ℕ) × AreSpelled text rules)
 
--- The game is the one that the options describe, and these are the rules for its players. The text of a file may be any text.
+-- The game is the one that the options describe, and these are the rules for its players. A file may contain any text.
 abbrev pub IsLoadedGame : GameOptions → PackedGame → List ℕ → Type 0
 IsLoadedGame plan game rules = ((text : List ℕ) × IsSourceText plan.game text × IsDescribed (limits_of plan.game) text game) × AreRulesFor plan.player_rules game rules
 
@@ -34,7 +34,7 @@ IsPlayerRulesFault fault = IsFileFault PlayerRules fault ⊎ (fault ≡ BadPlaye
 abbrev pub HasNoRules : {F : Type 0} → Option F → Fault → Type 0
 HasNoRules player_rules fault = MatchOption player_rules (fault ≡ Memory) (λ file. IsPlayerRulesFault fault)
 
--- Why there is nothing to play: there is no text of the game, or the text does not describe one, or there are no rules for the
+-- Why there is nothing to play: there is no text of the game, or the text does not describe a game, or there are no rules for the
 -- players.
 abbrev pub IsNotLoadedGame : GameOptions → Fault → Type 0
 IsNotLoadedGame plan fault = HasNoSourceText plan.game fault ⊎ (((text : List ℕ) × IsSourceText plan.game text × IsRefused (limits_of plan.game) text fault) ⊎ HasNoRules plan.player_rules fault)

@@ -48,7 +48,8 @@ fn smaller_form(
     })
 }
 
-/// The form of a season with as many matches at once as the descriptors allow. Reports if these are fewer than in the given form.
+/// The form of a season with as many matches at once as the descriptors allow. If these are fewer than in the given form,
+/// reports this.
 pub fn allowed_form<F: Files, E: Write>(
     files: &F,
     alloc: Global,

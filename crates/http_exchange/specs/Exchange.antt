@@ -62,8 +62,8 @@ abbrev pub BringsRefusal : {S : Type 0} → (S → Option (List ℕ)) → (S →
 BringsRefusal {S} contents remaining old new request fault received =
     (sent : Counting S) × WritesText contents old sent request × TellsRefusal Reply remaining sent new fault received
 
--- The exchange failed. Either memory ran out and nothing was done, or the request was not written completely, or it was and the bytes
--- of the reply explain the error.
+-- The exchange failed. Either memory ran out and nothing was done, or the request was not written completely, or the whole request was
+-- written and the bytes of the reply explain the error.
 abbrev pub BringsNone : {S : Type 0} → (S → Option (List ℕ)) → (S → Option (List ℕ)) → Counting S → Counting S → List ℕ → WireFault → Type 0
 BringsNone {S} contents remaining old new request fault =
     ((fault ≡ Memory) × (new ≡ old))

@@ -37,8 +37,8 @@ HasFailed old new = new < last_count → old < new
 abbrev pub WantsMore : HttpKind → List ℕ → Type 0
 WantsMore kind given = (given ≡ []) ⊎ Looks kind given false More
 
--- The meaning of a read error, from the bytes, whether the stream ended, and its counts before and after. All errors except the first
--- three mean that the bytes are refused.
+-- The meaning of a read error, from the bytes, whether the stream ended, and the stream's counts before and after. All errors except
+-- the first three mean that the bytes are refused.
 abbrev pub ReadStops : {S : Type 0} → HttpKind → WireFault → List ℕ → Bool → Counting S → Counting S → Type 0
 ReadStops kind (ReadFault cause) given ended old new =
     (cause ≢ Interrupted) × (ended ≡ false) × WantsMore kind given × HasFailed old.faults new.faults

@@ -7,7 +7,7 @@ use crate::head::{Head, HeadPart, MAX_REPLY_BODY};
 use crate::wire_fault::FrameFault;
 use std::fmt;
 
-/// How far an exchange got that returned no body.
+/// How far an exchange without a body got.
 #[derive(Clone, Copy, PartialEq, Eq)]
 pub enum Received {
     /// There was no connection for the exchange.
@@ -28,7 +28,7 @@ pub enum Received {
     TwoLengths,
     /// A `Content-Length` exceeds the limit of a body.
     LongLength,
-    /// This many bytes came, with a complete head whose status is this one and not 200.
+    /// A complete head came, with this status, which is not 200. This many bytes came in total.
     Status(u16, usize),
     /// This many bytes came, and this part of their head is not valid HTTP.
     BadHead(HeadPart, usize),

@@ -82,7 +82,7 @@ fn first_status(members: &[Expr]) -> Option<Info>
     None
 }
 
-/// The status in an answer, which is in lower case.
+/// The status that an answer in lower case gives.
 fn info_in(expr: &Expr) -> Info
     ensures { result ≡ info_in (view expr.now) }
 {

@@ -132,7 +132,7 @@ fn start_text<'r>(
     around_rules(alloc, front, brief.rules, end.as_slice())
 }
 
-/// The text of PLAY or STOP, which have the moves of the last turn.
+/// The text of PLAY or STOP, with the moves of the last turn.
 fn turn_text<'r>(
     alloc: Global,
     keyword: &[u8],

@@ -31,7 +31,7 @@ bracketed text = 91 ∷ (text ++ 93 ∷ [])
 abbrev pub IsIpv6 : List ℕ → Type 0
 IsIpv6 text = (address : Ipv6Addr) × IsIpv6Text text address
 
--- The host of an IPv6 address in brackets is the address without them. Any other text is the host itself.
+-- If the text is an IPv6 address in brackets, the host is the address without the brackets. Any other text is the host itself.
 abbrev pub IsHostOf : List ℕ → List ℕ → Type 0
 IsHostOf text host = ((text ≡ bracketed host) × IsIpv6 host) ⊎ ((host ≡ text) × ((inner : List ℕ) → text ≡ bracketed inner → ¬ (IsIpv6 inner)))
 

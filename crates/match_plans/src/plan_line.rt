@@ -77,8 +77,8 @@ fn players<'a>(
     Ok(Ok(players))
 }
 
-/// The match in the words of a text line. If they are not `ID START PLAY NAME@HOST:PORT ..`, the inner error is the first
-/// error in them.
+/// The match in the words of a text line. If the words are not `ID START PLAY NAME@HOST:PORT ..`, the inner error is the
+/// first error in them.
 pub(crate) fn planned_match<'a>(
     alloc: Global,
     words: &[&'a [u8]],

@@ -20,7 +20,8 @@ pub enum Shortage {
     /// The name of a host could not be looked up, for a reason that does not lie with the host.
     #[error("no answer from the resolver")]
     Resolver,
-    /// This computer's network is down, has no route to the player or no address of its family, or forbids the connection.
+    /// This computer's network is down, has no route to the player, has no address of the player's family, or forbids the
+    /// connection.
     #[error("no network")]
     Network,
 }

@@ -30,7 +30,7 @@ use std::sync::Wait;
 use std::thread::Threads;
 use thiserror::Error;
 
-/// The limit of a role's `Next` calls. No match can need as many, however long its clocks are (`docs/COMMANDS.md`).
+/// The limit of a role's `Next` calls. No match can need that many, however long its clocks are (`docs/COMMANDS.md`).
 const MAX_TRIES: u64 = 1_000_000_000;
 
 /// Why a match has no record.
@@ -206,7 +206,7 @@ fn ran_out_of_memory<G: Game>(refereed: &Refereed<G>) -> bool
 }
 
 /// Referees a match, and returns the closed desk. The error is `Shortage` if the referee lacked a resource in the match.
-/// It is `Memory` even if memory ran out only for a role's worker, and the match did not end for that reason.
+/// The error is also `Memory` if the match did not end because a role's worker ran out of memory.
 fn refereed_match<'g, R, S: Reach + ReportsShortages>(
     rt: &R,
     alloc: Global,

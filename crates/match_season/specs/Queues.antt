@@ -8,7 +8,7 @@ use Rattle.match_plans.specs.declared.plan.MatchPlan.{MatchPlan}
 use Rattle.match_season.specs.declared.queue.WaitingMatch.{WaitingMatch}
 use Rattle.match_season.specs.declared.queue.MatchQueue.{MatchQueue}
 
--- the number was in the list, or was appended
+-- the list already had the number, or the number was appended
 abbrev pub ListsOnce : List ℕ → List ℕ → ℕ → Type 0
 ListsOnce old new number =
     ((list_any (λ it. it == number) old ≡ true) × (new ≡ old)) ⊎ ((list_any (λ it. it == number) old ≡ false) × (new ≡ old ++ number ∷ []))
@@ -51,7 +51,7 @@ SitDown old new players =
     (length new ≡ length old)
     × ((player : ℕ) → player < length old → get_or old player 0 + times players player < 2 ^ 64 → get_or new player 0 ≡ get_or old player 0 + times players player)
 
--- Each of these players has one running match less, if it had any. The counts of other players stay the same.
+-- Each of these players has one fewer running match, if it had any. The counts of other players stay the same.
 abbrev pub StandUp : List ℕ → List ℕ → List ℕ → Type 0
 StandUp old new players = (length new ≡ length old) × ((player : ℕ) → get_or new player 0 ≡ get_or old player 0 - times players player)
 

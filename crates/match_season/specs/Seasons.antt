@@ -48,7 +48,7 @@ pub record Settles (old new : Written) (place more : ℕ) : Type 0 where
 abbrev pub ArePlaced : {T : Type 0} → (T → ℕ) → List (Option T) → Type 0
 ArePlaced {T} place_of waiting = (place : ℕ) (over : T) → get_or waiting place None ≡ Some over → place_of over ≡ place
 
--- this many more matches, from this index up, are settled
+-- this many more matches, starting at this index, are settled
 abbrev pub settled_on : List Bool → ℕ → ℕ → List Bool
 settled_on settled from zero = settled
 settled_on settled from (suc count) = slice_set (settled_on settled from count) (from + count) true

@@ -99,7 +99,7 @@ fn seat(sitting: &mut [usize], player: usize)
     }
 }
 
-/// Counts one running match less for a player.
+/// Counts one fewer running match for a player.
 fn unseat(sitting: &mut [usize], player: usize)
     ensures { sitting.new ≡ slice_set sitting.old player (get_or sitting.old player 0 - 1) }
 {

@@ -18,7 +18,7 @@ pub enum AfterMatch {
     Report,
     /// It begins another match after the pause. Its own match waits again.
     Retry,
-    /// It ends, so that one match less is played at once. Its own match waits again.
+    /// It ends, so that one fewer match is played at once. Its own match waits again.
     EndThread,
 }
 
@@ -56,7 +56,7 @@ impl SchedulerState {
         self.has_rested = false;
     }
 
-    /// Begins a match if one can begin. Otherwise counts one thread less.
+    /// Begins a match if one can begin. Otherwise counts one fewer thread.
     fn begin(&mut self) -> Option<WaitingMatch>
         ensures first { IfSome result (Begins self.old.queue self.new.queue) }
         ensures same { IfSome result (λ waiting_match. self.new ≡ record self.old { queue = self.new.queue }) }

@@ -260,7 +260,7 @@ where
 /// form asks for it. Returns the number of matches without a record.
 ///
 /// A match begins when all earlier matches of the schedule have begun, except those with a player that has reached its
-/// limit of running matches. A match that runs out of memory or threads waits again, and from then on one match less is
+/// limit of running matches. A match that runs out of memory or threads waits again, and from then on one fewer match is
 /// played at once. If only one is played at once, the season pauses for half a second before it tries a match again.
 /// After this pause, a match that runs out again has no record. The season pauses again only after a match that did not
 /// run out.

@@ -99,7 +99,7 @@ fn role_names<G: Game>(alloc: Global, game: &G) -> Result<Texts, AllocError>
     Ok(Texts { items })
 }
 
-/// The data of the match that its players get, borrowed.
+/// The borrowed data of a match that its players get.
 fn brief_of<'r>(
     id: &'r Text,
     roles: &'r Texts,

@@ -1,4 +1,4 @@
--- How the time of a message runs, and what its reads do in it.
+-- How the time of a message is counted, and how the reads of the message use it.
 use Rattle.std.specs.Prelude.{◌≡◌, ◌⊎◌, ◌+◌, ◌-◌, ◌/◌, ◌<◌, ◌≤◌, ℕ, min}
 use Rattle.std.specs.Duration.{as_nanos, max_nanos}
 use Rattle.network_players.specs.declared.deadline.Step.{Step}

@@ -86,7 +86,7 @@ const RETRY_SECONDS: u64 = 2;
 /// The pause before the next try to connect, in milliseconds.
 const PAUSE_MILLIS: u64 = 50;
 
-/// The largest number of tries to connect for one message. With their pauses they take longer than any clock.
+/// The largest number of tries to connect for one message. With their pauses they take longer than any clock allows.
 const MAX_CONNECTS: u32 = 2_000_000;
 
 const _: () = prove!(MAX_CONNECTS as u64 * PAUSE_MILLIS > MAX_CLOCK as u64 * 1_000);

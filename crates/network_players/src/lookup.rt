@@ -23,7 +23,8 @@ const FIRST_PAUSE_MILLIS: u64 = 1;
 /// The longest such pause, in milliseconds.
 const LONGEST_PAUSE_MILLIS: u64 = 50;
 
-/// How often a message checks whether a lookup has ended. With their pauses these checks take longer than any clock.
+/// How often a message checks whether a lookup has ended. With their pauses these checks take longer than any clock
+/// allows.
 const MAX_CHECKS: u32 = 2_000_000;
 
 const _: () = prove!((MAX_CHECKS as u64 - 10) * LONGEST_PAUSE_MILLIS > MAX_CLOCK as u64 * 1_000);
@@ -31,7 +32,7 @@ const _: () = prove!((MAX_CHECKS as u64 - 10) * LONGEST_PAUSE_MILLIS > MAX_CLOCK
 /// The result of a lookup: the addresses, none if the host has no address, or what the referee lacked.
 pub type Found = Result<Vec<SocketAddr>, Shortage>;
 
-/// A lookup of a host's addresses. The thread that makes it shares it with the player that waits for it.
+/// A lookup of a host's addresses. The thread that makes the lookup shares this value with the waiting player.
 #[derive(Drop)]
 pub struct HostQuery {
     alloc: Global,
@@ -100,7 +101,7 @@ pub struct Lookup {
     query: Option<Arc<HostQuery>>,
 }
 
-/// A lookup of the addresses of a player's host, which has not started.
+/// A lookup that has not started, for the addresses of a player's host.
 fn query_of(alloc: Global, player: &PlayerAddress<'_>) -> Result<Arc<HostQuery>, AllocError> {
     let host = String::from_str(alloc, player.host)?;
     let query = HostQuery {
@@ -208,7 +209,7 @@ impl Lookup {
             return Ok(());
         }
         let left = deadline.after(net, Duration::ZERO)?;
-        // An address needs no resolver: if that takes time, the referee was not running.
+        // An address needs no resolver: if its lookup takes time, the referee was not running.
         let asked = if is_address(player.host) {
             Duration::ZERO
         } else {

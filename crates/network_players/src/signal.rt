@@ -209,7 +209,7 @@ impl<'a> Pace<'a> {
         let others = signal.resting.fetch_add(1, Ordering::SeqCst);
         let all_rest = others.saturating_add(1) >= signal.players.load(Ordering::SeqCst);
         if all_rest && !self.has_rested && signal.call() == self.seen {
-            // Its own wake-up must not end its wait.
+            // The player's own wake-up must not end its wait.
             self.seen = self.seen.wrapping_add(1);
         }
         self.has_rested = true;

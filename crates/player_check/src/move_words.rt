@@ -6,7 +6,7 @@ use match_book::{ILLEGAL_PREFIX, Match, place_of};
 use match_log::Shown;
 use std::alloc::{AllocError, Global};
 
-/// The limit of bytes for listing legal moves. Two dots replace the remaining moves.
+/// The largest number of bytes in a list of legal moves. Two dots replace the remaining moves.
 const TOLD: usize = 200;
 
 /// Whether a move with this text is legal for the role in the state.

@@ -64,7 +64,7 @@ impl fmt::Display for Verdict {
     }
 }
 
-/// The verdict on an answer. `error` is the error of its turn, if the turn was recorded.
+/// The verdict on an answer. `error` is the error of the answer's turn, if the turn was recorded.
 pub fn verdict_of(is_play: bool, brought: AnswerKind, error: Option<&[u8]>) -> Verdict
     ensures { result ≡ verdict_of is_play brought (option_copied error.entry) }
 {

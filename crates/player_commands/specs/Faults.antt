@@ -5,7 +5,7 @@ use Rattle.network_players.specs.declared.contacting.ContactFault.TheVariants.{S
 use Rattle.player_commands.specs.declared.fault.CommandFault.{CommandFault}
 use Rattle.player_commands.specs.declared.fault.CommandFault.TheVariants.{Memory, NoAnswer, NotSent}
 
--- if the referee lacks a resource, that is the error; any other failure is a missing answer
+-- the error names the resource that the referee lacks, if any; any other failure is a missing answer
 abbrev pub contact_fault : ContactFault → CommandFault
 contact_fault (ContactShortage MemoryShortage) = Memory
 contact_fault (ContactShortage shortage) = NotSent shortage

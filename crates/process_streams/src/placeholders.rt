@@ -11,7 +11,7 @@ const NOT_OPEN: i32 = 9;
 /// socket. Both fail to read and write, as a closed stream does. The system assigns the lowest free number, so call this for lower numbers
 /// first.
 fn held(rt: &HostRuntime, stream: BorrowedFd<'_>) -> io::Result<()> {
-    // If copying it fails for any other reason, the stream is open.
+    // If copying the descriptor fails for any other reason, the stream is open.
     let is_closed = match stream.try_clone_to_owned() {
         Ok(_) => false,
         Err(error) => error.raw_os_error() == Some(NOT_OPEN),

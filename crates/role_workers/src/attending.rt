@@ -175,7 +175,7 @@ pub fn attend_shared<W: Wire<Call = Call, Reply = Reply>, P: Player>(
 /// once, and gives the desk the answer for its round. Returns how many messages it sent.
 ///
 /// Each question is one try, even if the player must then wait. After the last try this stops with `Stalled`. An error
-/// undoes nothing: messages that were sent and calls that were made remain so.
+/// does not undo anything that was done before it.
 pub fn attend<W: Wire<Call = Call, Reply = Reply>, P: Player>(
     alloc: Global,
     wire: &mut W,

@@ -143,7 +143,7 @@ fn give_up<W: Wire<Call = Call, Reply = Reply>>(
     Ok(())
 }
 
-/// Gives these roles up, so that their matches end, and with them the threads that attend the other roles.
+/// Gives these roles up. Then their matches end, and the threads that attend the other roles end too.
 fn give_up_all<W: Wire<Call = Call, Reply = Reply>>(
     alloc: Global,
     own: &mut W,
@@ -175,7 +175,7 @@ fn join_seats<'a, P: Player + Drop, W: Wire<Call = Call, Reply = Reply> + Drop, 
 }
 
 /// For each seat, in order, starts a thread that attends the seat in at most `tries` tries. If a thread cannot be
-/// created, it starts no more.
+/// created, this starts no more threads.
 fn start_seats<'s, 'a: 's, E, P, W>(
     alloc: Global,
     scope: &'s Scope<'s, E>,

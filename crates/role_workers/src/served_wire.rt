@@ -93,8 +93,8 @@ impl<'a, O: Object<Call = Call, Reply = Reply>, N: DeskBrand<O>> Wire for Served
     ghost same_line_trans = { λ a b c ab bc. Prim.search rules };
 }
 
-/// Takes the reply that the line waits for. Until it comes, the thread serves rounds, or waits while another thread serves
-/// one. It gives up after `TURNS` checks, or when the desk has stopped.
+/// Takes the reply that the line waits for. Until the reply comes, the thread serves rounds, or waits while another
+/// thread serves one. The thread gives up after `TURNS` checks, or when the desk has stopped.
 fn take_served<O: Object<Call = Call, Reply = Reply>, N: DeskBrand<O>>(
     line: &mut RingLine<O>,
     desk: &SharedDesk<O, N>,

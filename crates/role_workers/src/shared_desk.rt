@@ -16,8 +16,8 @@ use std::sync::atomic::{AtomicBool, Ordering};
 use std::sync::{Mutex, Wait};
 use std::time::Duration;
 
-/// The longest sleep, in milliseconds, of the thread that opened the desk. After it, a call that could not be made is tried
-/// again.
+/// The longest sleep, in milliseconds, of the thread that opened the desk. After this sleep, a call that could not be
+/// made is tried again.
 const LONGEST_SLEEP: u64 = 1_000;
 
 /// How many rounds in a row may lack memory for a call.

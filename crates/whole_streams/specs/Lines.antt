@@ -20,8 +20,8 @@ BeginsWithLine bytes line left = (whole : List ℕ) × (bytes ≡ whole ++ line_
 abbrev pub BeginsWithLines : List ℕ → List (List ℕ) → List ℕ → Type 0
 BeginsWithLines text first left = (more : List ℕ) → lines (text ++ more) ≡ first ++ lines (left ++ more)
 
--- The next part of an input with these bytes at hand, and the bytes at hand after it. Only a last line may have no line feed; it stays
--- unchanged.
+-- The next part of an input with these bytes at hand, and the bytes at hand after it. Only a last line may have no line feed; such a
+-- line stays unchanged.
 abbrev pub IsNextLine : Option (List ℕ) → List ℕ → NextLine → List ℕ → Type 0
 IsNextLine remaining bytes (Ended line) left = BeginsWithLine bytes line.items left
 IsNextLine remaining bytes (Last line) left = (0 < length bytes) × (line.items ≡ bytes) × HasNoLineFeed bytes × (left ≡ []) × IsAtEnd remaining
@@ -44,7 +44,7 @@ abbrev pub IsPiece : List ℕ → Bool → List ℕ → List ℕ → Type 0
 IsPiece bytes true piece left = bytes ≡ piece ++ line_feed ∷ left
 IsPiece bytes false piece left = (bytes ≡ piece) × (left ≡ [])
 
--- why a line does not reach this length
+-- why a line of this length is not stored: it is too long, or memory runs out
 abbrev pub StopsLine : ℕ → InputFault → ℕ → Type 0
 StopsLine limit ReadFault count = ⊥
 StopsLine limit TooLong count = limit < count

@@ -19,14 +19,14 @@ use std::marker::Model;
 pub enum NextLine {
     /// A line that ended with a line feed. The line feed, and one carriage return before it, are removed.
     Ended(Vec<u8>),
-    /// The last line, if it has no line feed, unchanged. Nothing follows it in the input.
+    /// The last line, unchanged, if it has no line feed. Nothing follows it in the input.
     Last(Vec<u8>),
     /// The input is at its end.
     Nothing,
 }
 
-/// The bytes of an input that were read but are not yet part of a line. In contracts this value is these bytes: they and the
-/// bytes left in the stream are the rest of the input.
+/// The bytes of an input that were read but are not yet part of a line. In contracts this value is these bytes. Together
+/// with the bytes left in the stream, they are the rest of the input.
 #[derive(Drop)]
 pub struct LineBuffer {
     chunk: [u8; READ_SIZE],
@@ -87,7 +87,7 @@ fn push_within(line: &mut Vec<u8>, piece: &[u8], limit: usize) -> Result<(), Inp
 }
 
 impl LineBuffer {
-    /// A buffer for an input that was not read yet.
+    /// A buffer for an input that has not been read yet.
     pub fn new() -> LineBuffer
         ensures { result ≡ [] }
     {
