@@ -94,7 +94,7 @@ def files_of(path):
 
 
 SPOILINGS = {
-    "a bit of a record is turned, sums as they were": (None, "is not the one of its sum"),
+    "a bit of a record is turned, sums as they were": (None, "does not match its checksum"),
     "the archive is cut off": (None, "can't be unpacked"),
     "it is no archive": (None, "can't be unpacked"),
     "goals are exchanged": (changed("cup/records/cup-002.json", better), "cup-002: not lawful: goals"),

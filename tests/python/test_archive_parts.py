@@ -116,14 +116,14 @@ class Checked(Made):
             (without("cup/table.csv"), "table.csv is missing"),
             (changed("cup/pages/index.html", more), "pages/index.html does not follow from the records"),
             (without("cup/pages/index.html"), "pages/index.html is missing"),
-            (lambda files: packed({**files, "cup/pages/more.html": b""}), "pages/more.html is nothing of this competition"),
-            (lambda files: packed({**files, "cup/pages.more": b""}), "pages.more is nothing of this competition"),
+            (lambda files: packed({**files, "cup/pages/more.html": b""}), "pages/more.html is not part of this competition"),
+            (lambda files: packed({**files, "cup/pages.more": b""}), "pages.more is not part of this competition"),
             (lambda files: packed({name.replace("cup/", "cap/", 1): data for name, data in files.items()}), "its folder is cap, and the name of the competition cup"),
-            (lambda files: packed({**files, "cup/GAPS.tsv": b""}), "GAPS.tsv is nothing of this competition"),
-            (lambda files: packed({**files, "cup/games/other.kif": b"a"}), "games/other.kif is nothing of this competition"),
-            (lambda files: packed({**files, "cup/rules/other.kif": b"a"}), "rules/other.kif is nothing of this competition"),
-            (lambda files: packed({**files, "cup/logs/other.jsonl": b"a"}), "logs/other.jsonl is nothing of this competition"),
-            (lambda files: packed({**files, "cup/accounts/cup-004.txt": b"a"}), "accounts/cup-004.txt is nothing of this competition"),
+            (lambda files: packed({**files, "cup/GAPS.tsv": b""}), "GAPS.tsv is not part of this competition"),
+            (lambda files: packed({**files, "cup/games/other.kif": b"a"}), "games/other.kif is not part of this competition"),
+            (lambda files: packed({**files, "cup/rules/other.kif": b"a"}), "rules/other.kif is not part of this competition"),
+            (lambda files: packed({**files, "cup/logs/other.jsonl": b"a"}), "logs/other.jsonl is not part of this competition"),
+            (lambda files: packed({**files, "cup/accounts/cup-004.txt": b"a"}), "accounts/cup-004.txt is not part of this competition"),
             (lambda files: packed({**files, "cup/records/cup-004.json": b"a"}), "records/cup-004.json: it is of no match of the schedule"),
             (lambda files: packed({**files, "cup/play.log": b"2026\n"}), None),
             (changed("cup/VERSION", lambda _: b"ggp_manager 1.2.3"), "VERSION is not one line `ggp_manager N.N.N`"),
@@ -154,10 +154,10 @@ class Checked(Made):
         files["cup/more"] = b""
         self.assertEqual(self.check(packed(files, fits=False))[0], [
             "CHECK.txt is missing", "pages/other.html is missing", "records/cup-001.json is missing", "table.csv is missing",
-            "more has no sum", "pages/index.html has no sum",
+            "more has no checksum", "pages/index.html has no checksum",
         ])
         pages = [f"pages/{letter}.html" for letter in "hgfedcba"]
-        self.assertEqual(self.check(packed({**whole, **{f"cup/{page}": b"" for page in pages}}))[0], [f"{page} is nothing of this competition" for page in pages[::-1]])
+        self.assertEqual(self.check(packed({**whole, **{f"cup/{page}": b"" for page in pages}}))[0], [f"{page} is not part of this competition" for page in pages[::-1]])
 
     def test_what_the_referee_says_of_records(self):
         self.publish()
@@ -360,7 +360,7 @@ class Parts(InFolder):
         digests = {name: hashlib.sha256(data).hexdigest() for name, data in (("a", b"one"), ("b", b"other"), ("e", b""))}
         lines = [f"{digest}  {name}\n" for name, digest in digests.items()]
         (self.folder / SUMS).write_text("".join(lines))
-        self.assertEqual(list(archive.faults_of_sums(self.folder)), ["e is missing", "c/d has no sum", "b is not the one of its sum"])
+        self.assertEqual(list(archive.faults_of_sums(self.folder)), ["e is missing", "c/d has no checksum", "b does not match its checksum"])
         for text in (lines[0] * 2, "".join(lines) + "x\n"):
             (self.folder / SUMS).write_text(text)
             self.assertEqual(list(archive.faults_of_sums(self.folder)), [f"{SUMS} names a file twice, or has a line that is not a checksum"])

@@ -158,10 +158,10 @@ def faults_of_sums(folder: pathlib.Path) -> Iterator[str]:
     for name in sorted(sums.keys() - files.keys()):
         yield f"{name} is missing"
     for name in sorted(files.keys() - sums.keys()):
-        yield f"{name} has no sum"
+        yield f"{name} has no checksum"
     for name in sorted(files.keys() & sums.keys()):
         if sum_of_file(files[name]) != sums[name]:
-            yield f"{name} is not the one of its sum"
+            yield f"{name} does not match its checksum"
 
 
 def has_bytes(file: pathlib.Path, data: bytes) -> bool:
@@ -184,7 +184,7 @@ def faults_of_files(plan: Plan, referee: Referee, results: list[Result]) -> Iter
             yield f"{name} is missing"
         elif name != VERSION and (is_page or isinstance(data, bytes)) and not has_bytes(file, bytes_of(data)):
             yield f"{name} does not follow from the records"
-    yield from (f"{name} is nothing of this competition" for name in files if name != SUMS)
+    yield from (f"{name} is not part of this competition" for name in files if name != SUMS)
 
 
 def faults_of_matches(plan: Plan, referee: Referee) -> tuple[list[Result], list[str]]:
