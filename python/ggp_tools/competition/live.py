@@ -503,18 +503,15 @@ class Reader:
     def judge(self, until: float, first: Container[str] = ()) -> None:
         """Asks the referee about the answers of open matches, until a moment: first about these matches. Then shows news."""
         began = time.monotonic()
-        if began >= self.next_judging:
-            self.judge_due(until, first)
-            ended = time.monotonic()
-            self.next_judging = ended + JUDGING_SHARE * (ended - began)
-        self.show_news()
-
-    def judge_due(self, until: float, first: Container[str]) -> None:
-        due = [seen for seen in self.open.values() if seen.board.is_due()]
+        due = [seen for seen in self.open.values() if seen.board.is_due()] if began >= self.next_judging else []
         for seen in sorted(due, key=lambda seen: (seen.match.id not in first, seen.judged)):
             if time.monotonic() >= until:
                 break
             self.version += self.judge_match(seen)
+        if due:
+            ended = time.monotonic()
+            self.next_judging = ended + JUDGING_SHARE * (ended - began)
+        self.show_news()
 
     def judge_match(self, seen: Seen) -> int:
         """Asks the referee about the answers of a match. Returns how many changes there are. A fault of these pages stops no other match."""

@@ -90,11 +90,6 @@ def last_board_item(result: Result, state: "Markup", roles: tuple[str, ...]) -> 
     return name, html_of("live", "board", name=name, match=result.match, roles=roles, turn=result.turns, seen=None, said=said, state=state)
 
 
-def trouble_part(trouble: str) -> Part:
-    """Returns the message at the head of each page if the plan can't be read."""
-    return live_part("trouble", text=trouble) if trouble else Part("trouble", "")
-
-
 def restart_words(player: str, restarts: tuple[int, str]) -> str:
     """Says how often `play` restarted a player, and for which match the last time."""
     count, match = restarts

@@ -16,7 +16,7 @@ from dataclasses import dataclass, replace
 from ggp_tools.answers import game_of
 from ggp_tools.competition import live, live_api, live_pages
 from ggp_tools.competition.files import Folder, Refused
-from ggp_tools.competition.live import Delay, Reader, Seen, for_visitors
+from ggp_tools.competition.live import Delay, Reader, Seen, for_visitors, identity_of
 from ggp_tools.competition.page_parts import PageParts, changes, event_text
 from ggp_tools.competition.pages import PageOf, Site, pages_of, titled
 from ggp_tools.competition.plan import Plan
@@ -48,14 +48,7 @@ OVER = re.compile(r"/matches/([A-Za-z0-9_.-]+)(?:~([1-9][0-9]{0,4}))?\.html")
 
 def plan_stamp(folder: Folder) -> tuple:
     """Returns a value that changes when the plan is written again."""
-    found = []
-    for file in (folder.competition, folder.schedule, folder.rule_sums()):
-        try:
-            status = file.stat()
-            found.append((status.st_ino, status.st_mtime_ns, status.st_size))
-        except OSError:
-            found.append(None)
-    return tuple(found)
+    return tuple(map(identity_of, (folder.competition, folder.schedule, folder.rule_sums())))
 
 
 def without_new_rounds(plan: Plan, seconds: float) -> Plan:
@@ -329,7 +322,7 @@ class LiveSite:
             now, boards, opened, given_up, *more = live_pages.live_parts(self.reader, self.board_items())
             parts = [head, now, boards, bracket, rounds, standings, opened, given_up, *rest, *more]
         title = MATCH.fullmatch(path)[1] if found is None else found.title
-        return titled(self.plan, title), [live_pages.trouble_part(self.shown_trouble()), *parts]
+        return titled(self.plan, title), [live_pages.live_part("trouble", text=self.shown_trouble()), *parts]
 
     def match_parts(self, name: str) -> PageParts:
         """Returns the page of a match that is not over."""
@@ -400,7 +393,7 @@ class LiveSite:
     def page_of_match(self, site: SiteOfShown, path: str, result: Result, part: int) -> bytes | None:
         """Returns the page of a match that is over."""
         data = site.data_of_match(path, result.match, lambda: site.part_of_match(result, part))
-        trouble = live_pages.trouble_part(self.trouble).text.encode("ascii", "xmlcharrefreplace")
+        trouble = live_pages.live_part("trouble", text=self.trouble).text.encode("ascii", "xmlcharrefreplace")
         return data and data.replace(b"<body>", b"<body>" + trouble, 1) if trouble else data
 
     def data(self, path: str) -> bytes | Work | None:

@@ -201,9 +201,6 @@ class Site:
         head += (self.games[result.match.game].board,)
         return sum_of_parts(repr(head).encode(), data, self.plan.rules[result.match.game].sum.encode())
 
-    def match_page(self, result: Result, data: bytes) -> bytes:
-        return match_page(*self.match_work(result, data))
-
     def own_matches(self, results: list[Result]) -> PageParts:
         """Returns the list of the last matches of a player or a game."""
         shown = results[-MOST_LISTED:]

@@ -1,6 +1,7 @@
 """The page of a player: its rank and rating, its goals by game and role and over time, its response times, its errors and its matches."""
 
 import itertools
+from collections import Counter
 from collections.abc import Iterator, Sequence
 from dataclasses import dataclass
 
@@ -50,14 +51,9 @@ class Appearance:
 
 def times_of_role(asked: list[Message]) -> tuple[tuple[int, ...], int | None, int | None]:
     """Returns how many response times of a role fall into each bar, how long its START took, and its longest PLAY."""
-    counts, start = [0] * BARS, None
-    plays = [message.ms for message in asked if message.kind == PLAY]
-    for milliseconds in plays:
-        counts[bar_of(milliseconds)] += 1
-    for message in asked:
-        if message.kind == START:
-            start = message.ms
-    return tuple(counts), start, max(plays, default=None)
+    starts, plays = ([message.ms for message in asked if message.kind == kind] for kind in (START, PLAY))
+    counts = Counter(map(bar_of, plays))
+    return tuple(counts[bar] for bar in range(BARS)), starts[-1] if starts else None, max(plays, default=None)
 
 
 def errors_of_role(record: dict, role: int, asked: list[Message]) -> tuple[MoveError, ...]:
@@ -76,10 +72,7 @@ def errors_of_role(record: dict, role: int, asked: list[Message]) -> tuple[MoveE
 
 def appearances_of(result: Result, record: dict, run: Sequence[Event], ended: str | None) -> list[Appearance]:
     """Returns the appearance of each role's player in a match, by the last run in its log."""
-    by_role: list[list[Message]] = [[] for _ in result.match.players]
-    for message in messages(run):
-        if message.role < len(by_role):
-            by_role[message.role].append(message)
+    by_role = [[message for message in messages(run) if message.role == role] for role in range(len(result.match.players))]
     return [
         Appearance(result, role, record["roles"][role], ended or "", *times_of_role(asked), errors_of_role(record, role, asked))
         for role, asked in enumerate(by_role)
