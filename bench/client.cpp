@@ -1,10 +1,10 @@
-// Sends recorded messages to players, each on a connection of its own, and waits for the answers.
+// Sends recorded messages to players, each on a separate connection, and waits for the answers.
 //
 //     client one|roles RECORDING PORT ..
 //
-// `one` sends them one after another; `roles` has a thread for each role, and the messages of a turn go out side by side. There is a
-// port for each role. A recording holds, for each message, a line with its role and its length, and its bytes; the messages of a turn
-// are in the order of the roles.
+// `one` sends the messages one after another; `roles` has a thread for each role, and sends the messages of a turn in parallel. There is a port for
+// each role. For each message, a recording has a line with the role and the length, and then the bytes. The messages of a turn are in the order of
+// the roles.
 #include <arpa/inet.h>
 #include <barrier>
 #include <cstdio>

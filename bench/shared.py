@@ -22,9 +22,9 @@ def program_there(path: str) -> str:
 
 
 def reader(text: str) -> argparse.ArgumentParser:
-    """Returns a parser of arguments whose first is the program that is measured."""
+    """Returns an argument parser. The first argument is the program that is measured."""
     arguments = argparse.ArgumentParser(description=text, formatter_class=argparse.RawDescriptionHelpFormatter)
-    arguments.add_argument("program", nargs="?", type=program_there, default=str(TOP / "bin/ggp_manager"), help="bin/ggp_manager if not given")
+    arguments.add_argument("program", nargs="?", type=program_there, default=str(TOP / "bin/ggp_manager"), help="default: bin/ggp_manager")
     return arguments
 
 
@@ -44,8 +44,8 @@ def spent() -> float:
 
 
 def cost(words: list[str], file: str) -> tuple[float, float]:
-    """Returns the processor milliseconds and the maximum MB of a command on a file. It is started by GNU time, which adds about a millisecond,
-    because a process that Python starts counts Python's memory as its own."""
+    """Returns the processor milliseconds and the maximum MB of a command on a file. GNU time starts the command, which adds about a millisecond: a
+    process that Python starts would count Python's memory as its own."""
     with open(file, "rb") as given, tempfile.NamedTemporaryFile("r") as most:
         before = spent()
         subprocess.run(["/usr/bin/time", "-f", "%M", "-o", most.name, *words], stdin=given, stdout=subprocess.DEVNULL, stderr=subprocess.DEVNULL)
@@ -85,7 +85,7 @@ def reply(text: str) -> bytes:
 
 
 def request_from(stream: socket.socket) -> bytes:
-    """Returns the bytes of the request on a connection, or those before its end."""
+    """Returns the bytes of the request on a connection, or those that came before the connection ended."""
     heard = b""
     while True:
         top, end, body = heard.partition(b"\r\n\r\n")

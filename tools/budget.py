@@ -14,7 +14,7 @@ HEAD = """\
 # `tools/budget --write` writes this file.
 """
 TOTALS = {"in_all": "in all", "longest_chain": "longest chain"}
-# Fitted to full checks of 27 libraries of 24 to 393 MB. The error is mostly 6%, and at most 20%. A step costs more for each type parameter of
+# Fitted to full checks of 27 libraries of 24 to 393 MB. The error is usually about 6%, and at most 20%. A step costs more for each type parameter of
 # its function.
 OF_A_FUNCTION, OF_A_STEP, OF_A_PARAMETER = 0.80, 0.0031, 0.00068
 # Declarations in traits cost nothing.
@@ -27,7 +27,7 @@ Sizes = dict[str, int]
 
 @dataclass
 class Budget:
-    """The budget of tools/budget.txt in megabytes: of crates and of totals, and the aims of the totals."""
+    """The contents of tools/budget.txt: the budget of each crate and of each total, in megabytes, and the aims of the totals."""
 
     crates: Sizes
     totals: Sizes = field(default_factory=dict)
@@ -35,7 +35,7 @@ class Budget:
 
 
 def steps_in(body: object) -> int:
-    """Returns the number of steps of a compiled function: the leaves of its tree, and the names of their parts."""
+    """Returns the number of steps of a compiled function: the leaves of its tree, and the keys of the mappings in it."""
     count, queue = 0, [body]
     while queue:
         part = queue.pop()
@@ -91,7 +91,7 @@ def totals_of(sizes: Sizes, known: dict[str, list[str]]) -> Sizes:
 
 
 def above(sizes: Sizes, budget: Budget, known: dict[str, list[str]]) -> list[str]:
-    """Returns the crates and totals that exceed their budget, or have none."""
+    """Returns the crates and totals that exceed their budgets or have none."""
     totals = totals_of(sizes, known)
     crates = [name for name, size in sizes.items() if size > LEEWAY * budget.crates.get(name, 0)]
     return crates + [name for name, size in totals.items() if size > LEEWAY_OF_TOTALS * budget.totals.get(name, 0)]

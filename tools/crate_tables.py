@@ -50,7 +50,7 @@ def read(file: str) -> str:
 
 
 def crate_table(known: dict[str, list[str]]) -> list[Row]:
-    """Returns a row for each crate: its name, the crates that it uses directly, also those of the toolchain, and its purpose."""
+    """Returns a row for each crate: its name, the crates that it uses directly (including those of the toolchain), and its purpose."""
     rows = []
     for name, (_, deps) in crate_rows().items():
         stands_on = [*nearest(known[name], known), *(dep for dep in deps if dep not in known)]

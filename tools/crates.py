@@ -11,7 +11,7 @@ PARTS = ("src", "specs", "proofs")
 
 
 def rows(text):
-    """Returns the crates in a text like crates.txt, in its order, each with its line and the crates that it uses."""
+    """Returns each crate in a text like crates.txt, in order, with its line and the crates that it uses."""
     result = {}
     for line in text.splitlines():
         head, colon, deps = line.partition("#")[0].partition(":")
@@ -36,7 +36,7 @@ def crates():
 
 
 def below(name, known=None):
-    """Returns the crates that a crate uses, also indirectly, each after those that it uses itself."""
+    """Returns the crates that a crate uses, directly or indirectly, each after those that it uses itself."""
     known = known or crates()
     order = []
     for dep in known[name]:
@@ -62,7 +62,7 @@ def texts_of(name, parts=PARTS):
 
 
 def strays(folder, names, top=TOP):
-    """Returns the non-empty subdirectories of a directory that do not have any of these names, so that no tool reads them."""
+    """Returns the non-empty subdirectories of a directory that have none of these names: no tool reads them."""
     with os.scandir(f"{top}/{folder}") as entries:
         others = sorted(entry.name for entry in entries if entry.is_dir() and entry.name not in names)
     return [other for other in others if any(files for _, _, files in os.walk(f"{top}/{folder}/{other}"))]
@@ -74,7 +74,7 @@ def sum_of(file):
 
 
 def text_sum(names, parts=PARTS):
-    """Returns a checksum of the text of these crates: that of the output of `sha256sum` for their files, crates.txt and HANDLES."""
+    """Returns a checksum of the text of these crates: the checksum of the output of `sha256sum` for their files, crates.txt and HANDLES."""
     files = ["HANDLES", "crates.txt", *(file for name in names for file in texts_of(name, parts))]
     lines = "".join(f"{sum_of(f'{TOP}/{file}')}  {file}\n" for file in sorted(files))
     return hashlib.sha256(lines.encode()).hexdigest()
@@ -86,12 +86,12 @@ def made_from(parts=PARTS):
 
 
 def said_of(program, made):
-    """Returns the contents of the file next to a program: what it was made from, and its checksum."""
+    """Returns the contents of the file next to a program: what the program was made from, and its checksum."""
     return f"{made}program: {sum_of(program)}\n"
 
 
 def write_beside(program, ending, made):
-    """Writes next to a program what it was made from. This happens last, so an interrupted build is not current."""
+    """Writes next to a program what it was made from. This happens last, so that an interrupted build does not count as current."""
     with open(f"{program}.{ending}.new", "w", encoding="utf-8") as file:
         file.write(said_of(program, made))
     os.replace(f"{program}.{ending}.new", f"{program}.{ending}")
@@ -125,8 +125,8 @@ NAMED = re.compile(r"\bRattle\.(\w+)((?:\.\w+)*?\.(?:proofs|Internal)\b(?:\.\w+)
 
 
 def is_within(path, crate):
-    """Returns whether a file of a crate may use the crate's internal definitions. Its code, its proofs and the internal definitions themselves
-    may."""
+    """Returns whether a file of a crate may use the crate's internal definitions. The crate's code, its proofs and the internal definitions
+    themselves may."""
     return not path.startswith(f"crates/{crate}/specs/") or path.startswith(f"crates/{crate}/specs/Internal")
 
 

@@ -91,8 +91,8 @@ def contract_of(crate, name):
 
 
 def says(crate, contracts, name):
-    """Returns whether one of the contracts has a clause of this name. A capital letter means a definition, which the contracts or the definitions of
-    the crate cite."""
+    """Returns whether one of the contracts has a clause of this name. A name with a capital letter is that of a definition: it must occur in the
+    contracts or in the definitions of the crate."""
     if name[0].isupper():
         return any(re.search(rf"\b{name}\b", text) for text in [*contracts, definitions(crate)])
     return any(f"ensures {name} {{" in contract for contract in contracts)
@@ -113,13 +113,13 @@ def without_targets(cell):
 
 
 def indexed(part):
-    """Returns the crate in a part of a cell of the index, and the part as the crate's own table has it, or None."""
+    """Returns the crate in a part of a cell of the index, and the part as it is in the crate's own table; or None."""
     match = INDEXED.fullmatch(part)
     return (match[2], f"`{match[1]}`{match[3]}") if match else None
 
 
 def sources(lines):
-    """Yields each line of a code sample with its number and its source file. Lines are given as a number, a text and whether it is code."""
+    """Yields each line of a code sample with its number and its source file. `lines` has each line's number, its text, and whether it is code."""
     source = None
     for number, line, is_code in lines:
         if is_code and source and line.strip():
@@ -144,7 +144,7 @@ Line = tuple[int, str, bool]
 
 
 def paragraphs(lines: typing.Iterable[Line]) -> typing.Iterator[tuple[int, str]]:
-    """Yields each paragraph, list item and table cell with the number of its first line. Lines are given as a number, a text and whether it is
+    """Yields each paragraph, list item and table cell with the number of its first line. `lines` has each line's number, its text, and whether it is
     code."""
     first, paragraph = 0, ""
     for number, line, is_code in lines:

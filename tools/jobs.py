@@ -43,8 +43,8 @@ class Counts:
 
 
 def counts_in(last_line: str, is_well: bool) -> Counts:
-    """Returns what the last line of a command counts by `N passed`, `N failed`, `N errors` and `N skipped`. A command without such a line is one
-    test. A command with another exit status than 0 has failed, whatever it prints."""
+    """Returns the counts in the last line of a command: `N passed`, `N failed`, `N errors` and `N skipped`. A command without such a line counts as
+    one test. A command whose exit status is not 0 has failed, whatever it prints."""
     numbers = {word.removesuffix("s"): int(number) for number, word in COUNTED.findall(last_line)}
     if not numbers:
         return Counts(passed=int(is_well), failed=int(not is_well))
@@ -54,8 +54,8 @@ def counts_in(last_line: str, is_well: bool) -> Counts:
 
 @dataclass
 class Jobs:
-    """The running commands. Each leads a session, so that it can be ended with everything that it started. With `ends_early` all end when
-    one has failed. `failed` has the last lines of each command that failed."""
+    """The running commands. Each leads a session, so that it can be ended with everything that it started. With `ends_early`, all end when one fails.
+    `failed` has the last lines of each command that failed."""
 
     ends_early: bool = False
     counts: Counts = field(default_factory=Counts)
@@ -70,7 +70,7 @@ class Jobs:
             print(text, flush=True)
 
     def run(self, job: Job) -> bool:
-        """Runs a command to its end, and prints each line with the name of the job. Returns whether its status is 0."""
+        """Runs a command to its end, and prints each line with the name of the job. Returns whether its exit status is 0."""
         began, how = time.monotonic(), {"stdin": subprocess.DEVNULL, "stdout": subprocess.PIPE, "stderr": subprocess.STDOUT}
         with self.lock:
             if self.is_ended:

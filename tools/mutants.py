@@ -88,7 +88,7 @@ def with_item(node: ast.AST, field: str, index: int, item: ast.AST) -> ast.AST:
 
 
 def other_comparisons(node: ast.Compare) -> Iterator[ast.AST]:
-    """Yields a comparison with each of its operators turned, and with the last character of each compared word removed."""
+    """Yields a comparison with each of its operators replaced, and with the last character of each compared word removed."""
     for index, operator in enumerate(node.ops):
         yield from (with_item(node, "ops", index, other()) for other in TURNED[type(operator)])
     for index, compared in enumerate(node.comparators):
@@ -131,7 +131,8 @@ def other_slices(node: ast.Slice) -> Iterator[ast.AST]:
 
 
 def is_dropped(slot: Slot, node: ast.stmt) -> bool:
-    """Returns whether a mutant drops a statement. Dropping the last return of a function, or an assignment in `__init__`, would fail in every run."""
+    """Returns whether a mutant drops a statement. A mutant without the last return of a function, or without an assignment in `__init__`, would fail
+    in every run."""
     match node:
         case ast.Expr(value=ast.Call() | ast.Await() | ast.Yield() | ast.YieldFrom()) | ast.Raise() | ast.Continue() | ast.Break() | ast.Delete():
             return True

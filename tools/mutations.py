@@ -5,7 +5,7 @@ toolchain's format. The others are in tests/mutations/NAME.txt, each with a name
       - count += 1;
       + count += 2;
 
-The old text occurs once in the file. Further pairs may follow, each applied to what the earlier ones made; '  @ src/other.rt' before a pair
+The old text occurs once in the file. Further pairs may follow, each applied to the result of the earlier ones; '  @ src/other.rt' before a pair
 names another file. A row that begins with '#' is a comment."""
 import os
 import re
@@ -17,7 +17,7 @@ from crates import TOP
 
 PLACE = re.compile(r"^(note: )?(?:\./)?((?:src|specs|proofs)/\S+?):(\d+)(?::\d+)?: (.*)")
 FUNCTION = re.compile(r"fn (\S+): (?:no proof|not proved)(.*)")
-# The prover's messages about a name in a proof file that the mutated goals do not have any more.
+# The prover's messages about a name in a proof file that the mutated goals no longer have.
 LOST = re.compile(r"has no field|has no `|has no constructor|is not in scope|is no name|was not admitted|can be named from here")
 FALSE = re.compile(r"allow values at which this goal is false")
 HEAD = re.compile(r"(\w+): (src/\S+)")
@@ -105,7 +105,7 @@ def mutations_of(crate: str, top: str = TOP) -> list[Mutation]:
 
 
 def errors_in(crates: list[str], top: str = TOP) -> Iterator[str]:
-    """Yields why mutations cannot be read or applied."""
+    """Yields the error of each mutation that cannot be read or applied."""
     for crate in crates:
         try:
             crate_mutations = mutations_of(crate, top)
@@ -120,7 +120,7 @@ def errors_in(crates: list[str], top: str = TOP) -> Iterator[str]:
 
 
 def reason(lines: list[str]) -> tuple[str, str]:
-    """Returns the prover's reason to refuse, in a word, and the line that decides."""
+    """Returns the prover's reason for a refusal as one word, and the line of its output that gives the reason."""
     lost, unfit, opened, last = {}, [], [], ""
     for line in lines:
         place = PLACE.match(line)
@@ -138,7 +138,7 @@ def reason(lines: list[str]) -> tuple[str, str]:
                 unfit.append((directory, line))
         elif place[2].startswith("src/"):
             opened.append(line)
-    # If a function's answers name removed things, its goals are open only because they have new names.
+    # If a function's answers name removed things, its goals are open only because the goals have new names.
     lost_names = {os.path.basename(name) for name in lost}
     failed = [matched for matched in map(FUNCTION.match, lines) if matched and "it calls" not in matched[2]]
     own = [matched[1] for matched in failed if matched[1].split("::")[-1] not in lost_names]

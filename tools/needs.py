@@ -1,4 +1,4 @@
-"""Checks that Python is new enough, and that a version of the Rattle toolchain is installed with which the gate passes. If not, it reports this in
+"""Checks that Python is recent enough, and that the gate passes with the installed version of the Rattle toolchain. If not, it reports this in
 one line before anything else is done. Any Python 3 can run this file, so that an old version can report itself."""
 import importlib.machinery
 import importlib.util
@@ -14,7 +14,7 @@ WHAT_TO_DO = (
     "ask the person who gave you this repository for it (it is not public yet), unpack it, "
     "and put its directory bin into PATH, for example: export PATH=/opt/rattle/bin:$PATH"
 )
-PYTHON_ERROR = "Python %d.%d runs the tools, and they need %d.%d or later: install a later one, from your system's packages or https://www.python.org/downloads"
+PYTHON_ERROR = "Python %d.%d runs the tools, but they need %d.%d or later: install a later one from your system's packages or https://www.python.org/downloads"
 
 
 def spell_toolchains():
@@ -22,21 +22,21 @@ def spell_toolchains():
 
 
 def python_error(version):
-    """Returns the error of this version of Python, or None."""
+    """Returns the error message for this version of Python, or None."""
     if version[:2] >= PYTHON:
         return None
     return PYTHON_ERROR % (*version[:2], *PYTHON)
 
 
 def toolchain_error(version):
-    """Returns the error of a toolchain whose `rt version` prints this (None: there is no `rt`), or None."""
+    """Returns the error message for a toolchain whose `rt version` prints this (None if there is no `rt`), or None."""
     if version is None:
-        return "the command rt is missing, which is part of the Rattle toolchain, " + spell_toolchains() + ": " + WHAT_TO_DO
+        return "the command rt is missing; it is part of the Rattle toolchain, " + spell_toolchains() + ": " + WHAT_TO_DO
     words = version.split()
     if words and words[0] in TOOLCHAINS:
         return None
-    name = words[0] if words else "a version that does not say its name"
-    return "the Rattle toolchain here is " + name + ", and this repository is proved by " + spell_toolchains() + ": " + WHAT_TO_DO
+    name = words[0] if words else "of an unknown version"
+    return "the Rattle toolchain here is " + name + ", but this repository is proved with " + spell_toolchains() + ": " + WHAT_TO_DO
 
 
 def toolchain_version():

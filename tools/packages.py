@@ -15,7 +15,7 @@ LIBRARIES = "/usr/lib/x86_64-linux-gnu"
 
 
 def searched() -> str:
-    """Returns PATH with the directories of system commands, which it may lack."""
+    """Returns PATH with the directories of system commands added if they are missing."""
     directories = os.environ.get("PATH", os.defpath).split(os.pathsep)
     return os.pathsep.join([*directories, *(directory for directory in SYSTEM if directory not in directories)])
 
@@ -47,7 +47,7 @@ NEEDS = (
     Need("python3-aiohttp", (f"{MODULES}/aiohttp",), "serves the live pages of a competition"),
     Need("nginx", ("nginx",), "the proxy in front of live pages"),
     Need("python3-numpy", (f"{MODULES}/numpy",), "computes ratings"),
-    Need("libopenblas0-serial", (f"{LIBRARIES}/openblas-serial/libblas.so.3",), "lets numpy compute the ratings of many players fast"),
+    Need("libopenblas0-serial", (f"{LIBRARIES}/openblas-serial/libblas.so.3",), "lets numpy compute the ratings of many players quickly"),
     Need("python3-bs4", (f"{MODULES}/bs4",), "reads pages in tests"),
     Need("python3-pytest", (f"{MODULES}/pytest",), "runs the Python tests"),
     Need("python3-pytest-xdist", (f"{MODULES}/xdist",), "runs the Python tests in parallel"),
@@ -107,7 +107,7 @@ def error_of(command: Sequence[str]) -> str:
 
 
 def install(packages: Sequence[str]) -> bool:
-    """Installs packages. After a failure it updates the lists of packages and tries again. Returns whether it succeeded, else prints the output of
+    """Installs packages. After a failure it updates the lists of packages and tries again. Returns whether it succeeded; if not, prints the output of
     apt-get."""
     with no_services():
         error = error_of(installing(packages)) and (error_of(["apt-get", "update"]) or error_of(installing(packages)))
@@ -116,7 +116,7 @@ def install(packages: Sequence[str]) -> bool:
 
 
 def lack_of_rights() -> str | None:
-    """Returns why this process may not do what the gate's tests do (make networks, mount a disk, run as another user), or None."""
+    """Returns why the gate's tests cannot run in this process (they make networks, mount a disk and run as another user), or None."""
     if os.geteuid():
         return 'the gate needs root, since its tests make networks and mount disks: type: sudo env "PATH=$PATH" make gate'
     made = subprocess.run(["unshare", "--net", "--mount", "true"], stdin=subprocess.DEVNULL, stderr=subprocess.PIPE, text=True)

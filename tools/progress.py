@@ -23,7 +23,7 @@ def by_megabytes(names: list[str], megabytes: dict[str, int]) -> dict[str, float
 
 
 class Progress:
-    """Pieces of work, `lanes` of them in parallel. `seconds` has the expected time of each. Once one is done only the proportions matter."""
+    """Pieces of work, `lanes` of them in parallel. `seconds` has the expected time of each. Once one is done, only the proportions matter."""
 
     def __init__(self, seconds: dict[str, float], lanes: int) -> None:
         self.seconds, self.lanes, self.lock = seconds, lanes, threading.Lock()
@@ -44,7 +44,7 @@ class Progress:
             self.print(name, "begins")
 
     def end(self, name: str, text: str, is_fresh: bool = True) -> None:
-        """Prints that a piece has ended. Cached pieces do not count for the pace."""
+        """Prints that a piece has ended. Cached pieces do not affect the pace."""
         with self.lock:
             if name not in self.seconds or name in self.ended:
                 return

@@ -20,7 +20,7 @@ LAST_LINES = 30
 
 class Waits:
     """Compares the number of functions that may wait, as a proof counts them, with the crate's row of crates.txt. `rt ci` does not count the
-    functions of a cached crate again, so each tool that proves one compares."""
+    functions of a cached crate again, so each tool that proves a crate compares the numbers."""
 
     def __init__(self, rows: dict[str, tuple[str, list[str]]]) -> None:
         self.stated = {name: said_words(row.partition(":")[0]).get("may_wait", "0") for name, (row, _) in rows.items()}
@@ -32,7 +32,7 @@ class Waits:
         elif line.startswith("logic=proved ") and self.crate in self.stated:
             counted, stated = said_words(line).get("may-wait", "0"), self.stated[self.crate]
             if counted != stated:
-                self.errors.append(f"{self.crate}: {counted} functions may wait, and crates.txt says {stated}")
+                self.errors.append(f"{self.crate}: {counted} functions may wait, but crates.txt says {stated}")
 
 
 @dataclass

@@ -41,7 +41,7 @@ def lines_in(name: str) -> int:
 
 
 def module_of(file: str) -> str:
-    """Returns the first part of the names of the tests in a file of src/: its module, or nothing for lib.rt."""
+    """Returns the first part of the names of the tests in a file of src/: its module, or an empty text for lib.rt."""
     module = file.removeprefix("src/").removesuffix(ENDING).removesuffix(".rt").replace("/", "::")
     return "" if module == "lib" else f"{module}::"
 
@@ -66,7 +66,7 @@ def leave_tests(top: str, name: str, part: str) -> list[str]:
 
 
 def lay_out(top: str) -> None:
-    """Fills a directory with copies of the repository's crates and of those of tests/unit, whose files lose their last ending."""
+    """Fills a directory with copies of the repository's crates and of those of tests/unit. The copies' names lack the ending `.test`."""
     os.makedirs(f"{top}/.git")
     shutil.copy(f"{TOP}/HANDLES", top)
     with open(f"{top}/crates.txt", "w", encoding="utf-8") as stream:

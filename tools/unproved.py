@@ -1,4 +1,4 @@
-"""Compiles programs without proofs by `rt try`. This deletes the program at its end, so it is copied while it runs."""
+"""Compiles programs without proofs by `rt try`. At its end `rt try` deletes the program, so the program is copied while it runs."""
 import glob
 import os
 import shutil
@@ -9,7 +9,7 @@ import time
 
 from crates import TOP, spell
 
-# A compilation takes some minutes, and ten times as long on a busy computer. After this time it counts as hanging.
+# A compilation takes a few minutes, and ten times as long on a busy computer. After this time it counts as hanging.
 PATIENCE = 3_600
 LAST_LINES = 20
 
@@ -43,7 +43,7 @@ def wait_for_program(folder, compiling, who):
 
 def compile_unproved(crate, kept, flags=(), arguments=(), given=b"", top=TOP):
     """Compiles a program crate with these flags of `rt try`, and copies it to `kept` while it runs with these arguments and this input. It must run
-    for at least a second. Returns whether it was compiled, else prints the last lines of `rt try`."""
+    for at least a second. Returns whether it was compiled; if not, prints the last lines of `rt try`."""
     room_of = os.path.dirname(kept)
     os.makedirs(room_of, exist_ok=True)
     with tempfile.TemporaryDirectory(prefix="unproved-", dir=room_of) as directory:

@@ -23,7 +23,7 @@ def test_each_toolchain_of_the_gate_serves(name: str) -> None:
     assert toolchain_error(f"{name} logic 0123456789abcdef") is None
 
 
-@pytest.mark.parametrize(("version", "part"), [(None, "the command rt is missing"), ("rattle-kit-12a logic 01", "is rattle-kit-12a,"), ("", "does not say its name")])
+@pytest.mark.parametrize(("version", "part"), [(None, "the command rt is missing"), ("rattle-kit-12a logic 01", "is rattle-kit-12a,"), ("", "is of an unknown version,")])
 def test_another_or_no_toolchain_is_reported_with_what_to_do(version: str | None, part: str) -> None:
     error = toolchain_error(version)
     assert part in error and all(name in error for name in TOOLCHAINS) and "export PATH=" in error and "\n" not in error

@@ -56,7 +56,7 @@ def test_each_crate_ends_once_and_the_last_lines_of_what_is_not_proved_are_print
 
 
 def test_as_many_functions_may_wait_as_the_list_of_crates_says(tmp_path: pathlib.Path) -> None:
-    assert read(LINES, str(tmp_path), "1").waits.errors == ["wide: 2 functions may wait, and crates.txt says 1"]
+    assert read(LINES, str(tmp_path), "1").waits.errors == ["wide: 2 functions may wait, but crates.txt says 1"]
 
 
 def test_the_libraries_are_measured(tmp_path: pathlib.Path) -> None:
