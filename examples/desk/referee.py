@@ -1,9 +1,9 @@
 #!/usr/bin/env python3
-"""A referee of your own: plays matches between players in this process, on a desk of `ggp_manager`, and prints their records.
+"""An example of a referee: plays matches between players in this process, on a desk of `ggp_manager`, and prints the records of the matches.
 
     referee.py RULES [MATCHES]
 
-RULES is a file of a ground description. The players are those of examples/players/player.py. The desk judges each move, computes the states and
+RULES is a file with a ground description. The players are those of examples/players/player.py. The desk judges each move, computes the states and
 writes the records.
 """
 
@@ -32,7 +32,7 @@ def message(owed: Owe, match_id: str, role: object, rules: list) -> tuple:
 
 
 def play_match(desk: Desk, match_id: str, rules: list, players: list[Player]) -> None:
-    """Asks each player what the desk says that its role owes, until nothing is due."""
+    """Asks each player for the answers that the desk says are due, until the match is over."""
     roles = Game(rules).roles
     desk.open(match_id, [f"player{seat}" for seat in range(len(roles))], start=START, play=PLAY)
     dues = [Hold(0)]

@@ -69,7 +69,7 @@ def main():
     if not is_check:
         print(text, end="")
     elif pathlib.Path(__file__).with_suffix(".kif").read_text() != text:
-        sys.exit("tictactoe.kif is not what tictactoe.py writes")
+        sys.exit("tictactoe.kif differs from the output of tictactoe.py")
 
 
 if __name__ == "__main__":

@@ -1,4 +1,4 @@
-// A skeleton of a player: the server and the messages. It answers each PLAY with `noop` until you write the parts marked YOURS.
+// A skeleton of a player: the server and the parsing of messages. It answers each PLAY with `noop` until you write the parts marked YOURS.
 //
 //     java Player.java PORT
 

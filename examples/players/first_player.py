@@ -1,5 +1,5 @@
 #!/usr/bin/env python3
-"""The smallest player that knows the rules: it answers the first legal move that it finds."""
+"""The smallest player that knows the rules: it answers with the first legal move that it finds."""
 
 import argparse
 import re
@@ -92,5 +92,5 @@ class Player(BaseHTTPRequestHandler):
 
 
 parser = argparse.ArgumentParser(description=__doc__)
-parser.add_argument("port", metavar="PORT", type=int, help="it listens at this port of 127.0.0.1")
+parser.add_argument("port", metavar="PORT", type=int, help="the port of 127.0.0.1 on which it listens")
 HTTPServer(("127.0.0.1", parser.parse_args().port), Player).serve_forever()

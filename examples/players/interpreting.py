@@ -1,10 +1,10 @@
 #!/usr/bin/env python3
-"""An example player that plays random legal moves over HTTP, also for descriptions with variables.
+"""An example player that plays random legal moves over HTTP, even for descriptions with variables.
 
     interpreting.py PORT [SEED | first]
 
 It is like player.py, but uses the interpreter of `tests/oracle` for the rules in START. It prints the number of sentences, and of those with
-variables, on standard error. With `first` instead of a seed it plays the first of its legal moves in alphabetical order.
+variables, on standard error. With `first` instead of a seed, it plays the first of its legal moves in alphabetical order.
 """
 
 import pathlib
@@ -31,7 +31,7 @@ def count_text(sentences):
 
 
 def make_game(sentences):
-    """Returns the game of a START, and prints the number of sentences."""
+    """Returns the game of a START message, and prints the number of sentences."""
     say(count_text(sentences))
     return Game(sentences)
 

@@ -52,7 +52,7 @@ def read(text):
 
 
 def read_message(text):
-    """Parses a message. Capitals count only in the id of its match, which comes after the parenthesis and the keyword."""
+    """Parses a message. Capitals are kept only in the id of the match, which comes after the parenthesis and the keyword."""
     message = read(text)[0]
     return (message[0], tokens(text)[2], *message[2:]) if isinstance(message, tuple) and len(message) > 1 else message
 
@@ -134,8 +134,8 @@ class Seat:
 
 
 class Player:
-    """The state of the player's match, and its answers. The field `Receiver` of a message names the role's player, because several roles of a match
-    may be at the same address."""
+    """The state of the player's match, and its answers. The header `Receiver` of a message names the role's player, because several roles of a match
+    may have the same address."""
 
     def __init__(self, choose, game=Game):
         self.choose, self.make_game = choose, game

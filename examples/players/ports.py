@@ -15,7 +15,7 @@ from itertools import islice
 sys.dont_write_bytecode = True
 from player import Game, read
 
-# By default Linux uses ports from 32,768 up for outgoing connections. These cannot take a lower port before the player listens on it.
+# By default, Linux uses ports from 32,768 up for outgoing connections, so such a connection cannot take a lower port before the player listens on it.
 PORTS = range(20000, 32768)
 
 
@@ -34,7 +34,7 @@ def free_ports(count):
 
 
 def roles_of(file: str) -> list:
-    """Returns the roles of a game. They are empty if the file is not a ground description."""
+    """Returns the roles of a game, or an empty list if the file is not a ground description."""
     try:
         with open(file, encoding="ascii") as rules:
             return Game(read(rules.read())).roles
