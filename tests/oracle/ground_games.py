@@ -2,10 +2,10 @@
 """Writes NAME.out, the expected output of a desk for NAME.kif and NAME.script: the replies, and the match's record.
 
 ground_games.py NAME ..   writes them in the current directory
-ground_games.py --check   exits with status 1 if one of examples/games differs from what it would write
+ground_games.py --check   exits with status 1 if a file of examples/games differs from the expected output
 
-It is an oracle, and shares nothing with the program or with `python`: it evaluates rules top-down by recursion, while the program evaluates each once
-in the order of ranks. It accepts only scripts of one match, without lines that the desk refuses, and without an abort."""
+This script is an oracle: it shares no code with the program or with `python`. It evaluates rules top-down by recursion, while the program evaluates
+each rule once in the order of ranks. It accepts only scripts of one match, without lines that the desk refuses, and without an abort."""
 
 import argparse
 import json

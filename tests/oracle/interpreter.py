@@ -1,9 +1,9 @@
 """A plain interpreter of GDL with variables, for `compare` and for a player of examples/players. It makes no instances: it answers a query top-down,
-rule by rule, as the standard defines what is true. It is an oracle, and shares nothing with the program or with `python`.
+rule by rule, according to the definition of truth in the standard. The interpreter is an oracle: it shares no code with the program or with `python`.
 
-A query is an atomic sentence that may have variables. Its answers are the true sentences without variables that it matches. Rules are safe, so each
-answer of a rule has a value for each of its variables. If a query comes up again while it is being answered, its relation is recursive: from then on
-the whole relation is derived bottom-up from the facts. The same happens from the beginning if a query could come up again with larger terms."""
+A query is an atomic sentence that may have variables. The answers are the true sentences without variables that match the query. Rules are safe, so
+each answer of a rule has a value for each variable. If a query comes up again while it is being answered, its relation is recursive: from then on the
+whole relation is derived bottom-up from the facts. The same happens from the beginning if a query could come up again with larger terms."""
 
 import re
 
@@ -41,7 +41,7 @@ def with_values(term, values):
 
 
 def fitted(pattern, term, values):
-    """Returns the values with which the pattern equals the term, which has no variables, or None."""
+    """Returns the values of the variables for which the pattern equals the term, or None. The term has no variables."""
     if isinstance(pattern, str):
         if pattern[0] != "?":
             return values if pattern == term else None
@@ -80,7 +80,7 @@ def key_of(question, names):
 
 
 def name_of(sentence):
-    """Returns the relation of a sentence: a name with a number of arguments, which is None for an atom."""
+    """Returns the relation of a sentence: its name and its number of arguments, or None instead of the number for an atom."""
     return (sentence, 0) if isinstance(sentence, str) else (sentence[0], len(sentence))
 
 
@@ -190,7 +190,7 @@ class Look:
                     more = [answer for name, head in asked for answer in self.derived(head, name)]
                     known[circle] = Facts([*known[circle].all, *more])
             except GoesRound:
-                # Incomplete results must go: a cycle that does not depend on the state is kept beyond this query.
+                # Incomplete results must be removed: the results of a cycle that does not depend on the state are kept after this query.
                 del known[circle]
                 raise
         return known[circle]
@@ -206,7 +206,7 @@ class Look:
                         yield answer
 
     def all_values(self, body, values):
-        """Yields the values of the variables for which each literal of a body is true. Negations wait for their variables."""
+        """Yields the values of the variables for which each literal of a body is true. A negation is evaluated once its variables have values."""
         if not body:
             yield values
             return

@@ -1,9 +1,9 @@
 #!/usr/bin/env python3
-"""Writes the expected output of `verify` for records of Countdown. It is an oracle, and shares nothing with the program or with `python`: it replays
-a record by the text of docs/RECORDS.md.
+"""Writes the expected output of `verify` for records of Countdown. This script is an oracle: it shares no code with the program or with `python`. It
+replays a record according to docs/RECORDS.md.
 
 records.py                    writes NAME.word for each NAME.record of examples/records
-records.py --check            exits with status 1 if one of these files differs from what it would write
+records.py --check            exits with status 1 if one of these files differs from the expected output
 records.py --random SEED MATCHES CHANGES
                               prints records of random matches, each followed by CHANGES copies with one change
 records.py --program PROGRAM  checks with the program these records, random matches, and copies of each with one change, and exits with
@@ -31,7 +31,7 @@ MOST_LISTS = 64
 
 
 class Countdown:
-    """In each turn one or two are taken from a heap. The player whose turn it is when the heap is empty has lost."""
+    """In each turn one or two are taken from a heap. The player to move when the heap is empty loses."""
 
     def __init__(self, heap, turn=0):
         self.heap, self.turn = heap, turn
@@ -328,7 +328,7 @@ def compare(program):
         said = (asked.stdout + asked.stderr.removeprefix("ggp_manager: not lawful: ")).strip()
         if said != word(heap, text):
             sys.exit(f"the program says {said!r} and not {word(heap, text)!r} of {text}")
-    print(f"of {len(records)} records the program says what it must")
+    print(f"the verdicts of the program on {len(records)} records are as expected")
 
 
 def main():

@@ -1,4 +1,4 @@
-"""Shared by the drivers next to this directory: running the program, players, and reports."""
+"""Shared by the tests of the parent directory: running the program, players, and reports."""
 import pathlib
 
 TOP = pathlib.Path(__file__).resolve().parents[3]

@@ -1,4 +1,4 @@
-"""Runs the program in all situations: with any standard streams, in a terminal, and against bad servers."""
+"""Runs the program with any standard streams, in a terminal, and against bad servers."""
 import contextlib
 import os
 import pty
@@ -32,8 +32,8 @@ def checks_memory(program):
 
 @contextlib.contextmanager
 def begun(words, **streams):
-    """Starts a program, and yields its process. It is killed if it does not end within the time limit, or after an exception, so no read and no wait
-    is endless."""
+    """Starts a program, and yields its process. The process is killed if it does not end within the time limit, or after an exception, so no read and
+    no wait is endless."""
     child = subprocess.Popen(words, **streams)
     patience = threading.Timer(PATIENCE, child.kill)
     patience.daemon = True
@@ -74,8 +74,8 @@ def asked_for_seconds(program, words, text=b""):
 
 
 def asked_in_shell(program, words, streams, text=b"", before=""):
-    """The same, with standard streams that the shell sets by these words, such as `>&-`, which closes standard output. The shell may run something
-    before the program."""
+    """The same, with standard streams that the shell sets with these words: for example, `>&-` closes standard output. The shell may run another
+    command before the program."""
     call = ["bash", "-c", f'{before} exec "$0" "$@" {streams}', program, *words]
     ran = subprocess.run(call, input=text, capture_output=True, timeout=PATIENCE)
     return Said(ran.returncode, ran.stdout, ran.stderr.decode(errors="replace"))
@@ -107,7 +107,7 @@ def asked_with_closed_pipe(program, words, text=b""):
 
 
 def read_to_close(end, look=lambda said: None):
-    """Returns all output of a terminal until the program has closed its end. The output so far can be inspected as it comes."""
+    """Returns all output of a terminal until the program has closed its end. A function can inspect the output while it arrives."""
     said = b""
     try:
         while piece := os.read(end, 4096):
@@ -121,8 +121,8 @@ def read_to_close(end, look=lambda said: None):
 
 
 def asked_in_terminal(program, words, stream="stderr", text=b"", look=lambda said: None):
-    """Returns the exit status, and the outputs of the standard stream that is a terminal and of the other one. The terminal's output can be inspected
-    as it comes."""
+    """Returns the exit status, and the outputs of the standard stream that is a terminal and of the other one. A function can inspect the terminal's
+    output while it arrives."""
     other = "stdout" if stream == "stderr" else "stderr"
     ours, theirs = pty.openpty()
     with tempfile.TemporaryFile() as given, tempfile.TemporaryFile() as kept:

@@ -1,4 +1,4 @@
-"""The beginning and the end of each driver: it parses the command line, and reports the result."""
+"""The beginning and the end of each test: parsing the command line, and reporting the result."""
 import argparse
 import os
 import resource
@@ -18,7 +18,7 @@ def runnable(word: str) -> str:
 
 
 def words_with_program(about: str) -> argparse.ArgumentParser:
-    """Returns a parser whose first argument is the program. `--help` prints the description of the driver."""
+    """Returns a parser whose first argument is the program. `--help` prints the description of the test."""
     words = argparse.ArgumentParser(description=about, formatter_class=argparse.RawDescriptionHelpFormatter)
     words.add_argument("program", metavar="PROGRAM", type=runnable)
     return words
@@ -30,7 +30,7 @@ def program_of(about: str) -> str:
 
 
 def tell(name: str, faults: Iterable[str], well: str) -> int:
-    """Prints each error after the test's name; without one, the sentence `well`. Returns the exit status."""
+    """Prints each error after the test's name; if there is none, prints the sentence `well`. Returns the exit status."""
     found = [f"{name}: {fault}" for fault in faults]
     print(*found or [well], sep="\n")
     return int(bool(found))
@@ -42,7 +42,7 @@ def run_test(about: str, faults: Callable[[str], Iterable[str]], well: str) -> N
 
 
 def little_room(size: int, reaction: Callable | signal.Handlers | int | None) -> Callable[[], None]:
-    """Returns a function that limits the size of a process's files. A write past the limit fails, and its signal has this action."""
+    """Returns a function that limits the size of a process's files. A write past the limit fails, and the signal that it causes has this action."""
 
     def limit() -> None:
         signal.signal(signal.SIGXFSZ, reaction)

@@ -1,4 +1,4 @@
-"""The Debian packages that are installed here, and their dependences."""
+"""The Debian packages that are installed here, and their dependencies."""
 import re
 import subprocess
 import typing
@@ -7,7 +7,7 @@ FIELDS = "${Package}\t${Pre-Depends}, ${Depends}\t${Provides}\n"
 
 
 class Package(typing.NamedTuple):
-    """An installed package: the alternatives of each dependence, and the names that the package provides."""
+    """An installed package: the alternatives of each dependency, and the names that the package provides."""
 
     needs: list[list[str]]
     provides: list[str]
@@ -29,7 +29,7 @@ def installed(text: str) -> dict[str, Package]:
 
 
 def closure(wanted: typing.Iterable[str], known: dict[str, Package]) -> list[str]:
-    """Returns packages with all that they depend on, as installed."""
+    """Returns packages with all installed packages that they depend on."""
     of_name = {name: package for package, found in known.items() for name in found.provides} | {name: name for name in known}
     found, left = set(), [*wanted]
     while left:

@@ -1,5 +1,5 @@
-"""Players of Countdown inside a driver. One thread serves all of them, each on its own port. They keep running and remember their messages when a
-program that asks them is killed."""
+"""Players of Countdown inside a test. One thread serves all of them, each on a separate port. If a program that plays with them is killed, they keep
+running and remember their messages."""
 import asyncio
 import random
 import re
@@ -9,13 +9,13 @@ ROLES = ("red", "blue")
 
 
 class Seat:
-    """A match of Countdown from the view of one of its players, and the moves that it sent."""
+    """A match of Countdown from the view of one of its players, and the moves that this player sent."""
 
     def __init__(self, role, heap):
         self.role, self.heap, self.sent = role, heap, []
 
     def move(self, message, most):
-        """Returns a legal move: the role whose turn it is takes at most this many. Red begins."""
+        """Returns a legal move: the role to move takes at most this many. Red begins."""
         self.heap -= sum(map(int, re.findall(r"\(take (\d+)\)", message)))
         turn = ROLES[len(self.sent) % 2]
         self.sent.append(f"(take {min(self.heap, most)})" if turn == self.role else "noop")
@@ -23,13 +23,13 @@ class Seat:
 
 
 class Player:
-    """A player that thinks for some seconds before each answer. It plays any number of matches at a time. A strict one plays only one, and answers
-    START with `busy` until that is over. Its answers may be padded with this many spaces."""
+    """A player that thinks for some seconds before each answer. It plays any number of matches at a time. A strict player plays only one, and answers
+    START with `busy` until this match is over. Its answers may be padded with this many spaces."""
 
     def __init__(self, name, heap, think=0.0, is_strict=False, padding=0):
         self.name, self.heap, self.think, self.is_strict, self.padding = name, heap, think, is_strict, padding
         self.chance = random.Random(name)
-        # Its roles in open matches, the last one in each match that is over, and the ids of all that began.
+        # Its roles in open matches, its last role in each match that is over, and the ids of all matches that began.
         self.seats, self.over, self.begun = {}, {}, []
         # How many complete messages it has received, and how many connections are open.
         self.messages = self.serving = 0

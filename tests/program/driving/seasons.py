@@ -8,7 +8,7 @@ from driving.players import ROLES
 
 GAME = GAMES / "countdown.kif"
 BEGUN = "ggp_manager: "
-# examples/season/README.md describes this too.
+# examples/season/README.md describes this command too.
 CUT_OFF = """[ -z "$(tail -c 1 records)" ] || sed -i '$d' records"""
 PATIENCE = 1800
 
@@ -38,7 +38,7 @@ def start(program, words, plan, records, **more):
 
 
 def all_said(child):
-    """Returns the output to a program's pipes until it ends. If it does not end, it is killed."""
+    """Returns the output to a program's pipes until the program ends. A program that does not end is killed."""
     try:
         return child.communicate(timeout=PATIENCE)
     except subprocess.TimeoutExpired:
@@ -47,7 +47,7 @@ def all_said(child):
 
 
 def ended(child):
-    """Returns the exit status of a program, and its messages if they go to a pipe. If it does not end, it is killed."""
+    """Returns the exit status of a program, and its messages if they go to a pipe. A program that does not end is killed."""
     told = all_said(child)[1]
     return child.returncode, told
 
@@ -59,7 +59,8 @@ def whole_lines(text):
 
 
 def partial_records(lines):
-    """Returns the numbers, counted from 1, of the lines with records whose accounts are not whole: a whole account ends with `over` for each role."""
+    """Returns the numbers, counted from 1, of the lines with records whose call logs are incomplete: a complete call log ends with `over` for each
+    role."""
     places = [place for place, line in enumerate(lines) if line.startswith(b"{")]
     ends = [*places[1:], len(lines)]
     return [place + 1 for place, end in zip(places, ends) if sum(line.endswith(b"\tover\n") for line in lines[place:end]) != len(ROLES)]
@@ -77,7 +78,7 @@ def events_in(log, event="message"):
 
 
 def records_in(lines):
-    """Returns the records among these lines; lines of accounts begin with a digit."""
+    """Returns the records among these lines; the lines of call logs begin with a digit."""
     return [json.loads(line) for line in lines if not line[:1].isdigit()]
 
 
