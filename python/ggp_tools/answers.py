@@ -67,15 +67,15 @@ class Illegal:
         return self.kept[1]
 
     def legal(self, role: int, turn: int) -> list[str]:
-        """Returns the legal moves of a role in a turn. They are empty if the interpreter cannot compute them."""
+        """Returns the legal moves of a role in a turn, none if the interpreter cannot compute them."""
         try:
             return [spelled(move) for move in self.game().moves(self.position(turn), expressions(self.roles[role])[0])]
         except (Refused, LookupError, RecursionError, TypeError, ValueError):
             return []
 
     def moves(self, role: int, turn: int, error: str) -> str:
-        """Returns which moves were legal instead of an illegal one, and where that one would be legal. The text is empty if this is not known, or for
-        errors of other kinds."""
+        """Returns a text that says which moves were legal instead of an illegal one, and where the illegal one would be legal. The text is empty if
+        this is not known, or for errors of other kinds."""
         legal = self.legal(role, turn) if error.startswith("IL ") and error != "IL ?" else []
         if not legal:
             return ""
@@ -87,7 +87,7 @@ class Illegal:
 
 class Whys:
     """Returns the text that a page adds to a replaced move: the legal moves, or why the answer is not an expression. `answers` are by role and turn.
-    Without a game there is nothing about legal moves."""
+    Without a game, the text does not mention legal moves."""
 
     def __init__(self, record: dict, game: Callable[[], Game] | None, answers: dict[tuple[int, int], str]) -> None:
         self.illegal, self.left = game and Illegal(record["states"], record["roles"], game), MOST_TOLD

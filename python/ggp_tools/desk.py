@@ -45,7 +45,7 @@ class Status:
 
 
 class Refused(Exception):
-    """The desk refuses a call, and nothing has changed. `reason` is a word such as `nomatch`; after `stale` there is also the present round."""
+    """The desk refuses a call, and nothing has changed. `reason` is a word such as `nomatch`; after `stale`, there is also the current round."""
 
     def __init__(self, call: str, reason: str, round_: int | None) -> None:
         super().__init__(f"the desk refuses `{call}`: {reason}{'' if round_ is None else f' {round_}'}")
@@ -93,7 +93,7 @@ class Desk:
         await asyncio.to_thread(self.__exit__, *why)
 
     def reply(self, call: str) -> str:
-        """Makes the call of a row of a script, and returns the row of its reply. An exception that interrupts it ends the desk."""
+        """Makes the call of a row of a script, and returns the row of its reply. An exception that interrupts this method ends the desk."""
         if not TEXT.fullmatch(call):
             raise ValueError(f"expected a call without line breaks, found {call!r}")
         with self.lock:
@@ -119,7 +119,7 @@ class Desk:
         return self.reply(" ".join(map(word, words)))
 
     def open(self, id_: str, players: Sequence[str], *, start: int = 10, play: int = 10, strikes: int = 0) -> None:
-        """Opens a match of these players, one for each role. The clocks, in seconds, only go into the record: you measure the time."""
+        """Opens a match of these players, one for each role. The clocks, in seconds, are only written to the record: the caller measures the time."""
         self.make("strict", id_, 0, start, play, strikes, *players)
 
     def next(self, id_: str, role: int) -> Owe | Hold | Over:
@@ -136,7 +136,7 @@ class Desk:
         self.reply(f"submit {word(id_)} {word(role)} {word(round_)} {answer}")
 
     def miss(self, id_: str, role: int, round_: int, *, is_broken: bool = False) -> None:
-        """Says that a role did not answer a round in time, or that its connection broke."""
+        """Reports that a role did not answer a round in time, or that its connection broke."""
         self.make("miss", id_, role, round_, "broken" if is_broken else "silent")
 
     def query(self, id_: str) -> Status:

@@ -60,7 +60,7 @@ def must_be_term(expression: Expression) -> None:
 
 
 def form_of(name: str) -> str:
-    """Returns the form of a sentence or a condition of GDL with this name. It is empty if there are several forms."""
+    """Returns the form of a sentence or a condition of GDL with this name. The text is empty if there are several forms."""
     if name in ARITIES:
         return f"({' '.join([name] + ['_'] * ARITIES[name])})" if ARITIES[name] else name
     return {"not": "(not _)", "distinct": "(distinct _ _)", "or": "(or _ ..) in the body of a rule", "<=": "(<= _ ..) as a whole sentence"}.get(name, "")
@@ -195,7 +195,7 @@ def all_rules(sentences: Sequence[Expression], of_one: Callable = rules_of) -> l
 
 
 def refuse_dependence(asks: Mapping[Relation, Iterable[Relation]], source: Callable[[Relation, Relation], int]) -> None:
-    """Refuses dependences that the referee refuses too: `legal`, `goal` and `terminal` may not depend on moves, nor `role` and `init` on a state or
+    """Refuses dependencies that the referee refuses too: `legal`, `goal` and `terminal` may not depend on moves, nor `role` and `init` on a state or
     moves. `source` returns the sentence in which a relation uses another."""
     moving, fixed = "let `next` keep what the moves did, and ask for that by `true`", "it has to be known before the first state"
     first = [("init", ["true", "does"], fixed), ("role", ["true", "does"], fixed)]

@@ -6,7 +6,7 @@ from collections.abc import Iterable, Iterator
 from ggp_tools.printable import shown
 
 Expression = str | tuple
-# The name of a relation, and the number of its arguments. It is None for an atom.
+# The name of a relation, and the number of its arguments: None for an atom.
 Relation = tuple[str, int | None]
 MOST_LEVELS = 64
 # Advice for files of other kinds, by their first bytes.

@@ -1,4 +1,4 @@
-"""Reads and writes the JSON log of matches, also while a log grows. docs/COMMANDS.md describes the format, docs/COMPETITION.md the events
+"""Reads and writes the JSON log of matches, even while a log grows. docs/COMMANDS.md describes the format, docs/COMPETITION.md the events
 that `play` adds. Each character of a text stands for one byte."""
 
 import dataclasses
@@ -29,7 +29,7 @@ class Event:
     """A line of a log."""
 
     def moment(self) -> float | None:
-        """Returns when it happened, in seconds since 1970, or None if the line has no time."""
+        """Returns the time of the event in seconds since 1970, or None if the line has no time."""
         time = getattr(self, "time", None)
         return None if time is None else time / 1_000
 

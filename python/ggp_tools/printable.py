@@ -3,7 +3,8 @@
 import re
 
 NOT_PRINTABLE = re.compile(r"[^\x20-\x7e]")
-# The most characters of a line of output, and of a line of another program's message. This many bytes are read to find its last lines.
+# The maximum numbers of characters of a line of output, and of a line of another program's message. The last lines of such a message are searched in
+# this many bytes.
 MOST_OF_LINE, MOST_SHOWN, MOST_READ = 10_000, 1_000, 1 << 16
 MORE = ".."
 

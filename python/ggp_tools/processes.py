@@ -1,4 +1,4 @@
-"""Runs other programs to their ends, and says how they ended."""
+"""Runs other programs to their ends, and describes how they ended."""
 
 import contextvars
 import os
@@ -6,10 +6,11 @@ import signal
 import subprocess
 from collections.abc import Sequence
 
-# Followed by the number of this process and a command, this runs the command, and kills it when this process ends. If it has ended before, the
-# command is not run.
+# The beginning of a command line: followed by the number of this process and a command, it runs the command, and kills it when this process ends. If
+# this process has already ended, the command does not run.
 WITH_PARENT = ("setpriv", "--pdeathsig", "KILL", "--", "sh", "-c", 'test "$PPID" = "$0" && exec "$@"')
-# Whether Ctrl-C at the terminal must not reach the programs, because this process finishes its work first. They end with it even if it is killed.
+# If true, Ctrl-C at the terminal does not reach the programs, because this process finishes its work first. The programs end with this process, even
+# if it is killed.
 APART = contextvars.ContextVar("APART", default=False)
 
 
@@ -22,6 +23,6 @@ def run_whole(words: Sequence[str], **more: object) -> subprocess.CompletedProce
 
 
 def ended_words(status: int) -> str:
-    """Says how a process has ended by its status, which is negative after a signal."""
+    """Describes how a process ended, from its status, which is negative after a signal."""
     name = next((f" ({known.name})" for known in signal.Signals if known == -status), "")
     return f"it was killed by signal {-status}{name}" if status < 0 else f"it ended with status {status}"

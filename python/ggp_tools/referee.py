@@ -22,7 +22,7 @@ if TYPE_CHECKING:
 
 PROGRAM = "ggp_manager"
 LAWFUL = "lawful"
-# With this option verdicts are JSON, the exit status 1 means no, and all errors have greater ones.
+# With this option, verdicts are JSON, exit status 1 means no, and all errors have a greater exit status.
 JSON, NO = "--json", 1
 VERSION_LINE = re.compile(rb"ggp_manager [0-9]+\.[0-9]+\.[0-9]+\n")
 # The first version that writes logs in JSON.
@@ -76,12 +76,13 @@ def last_line(said: subprocess.CompletedProcess) -> str:
 
 
 def verdict_words(verdict: dict) -> str:
-    """Returns a verdict of `verify` as people read it."""
+    """Returns a verdict of `verify` in the form for people."""
     return LAWFUL if verdict["verdict"] == LAWFUL else f"not lawful: {verdict['fault']}"
 
 
 def records_replayed(output: bytes) -> list[bytes]:
-    """Returns the records that `replay` printed for each call log. A verdict has their number and is the line before them."""
+    """Returns the records that `replay` printed for each call log. The line before each group of records is the verdict, with the number of the
+    records."""
     lines = iter(output.splitlines(True))
     verdicts = (json.loads(line) for line in lines)
     return [b"".join(itertools.islice(lines, verdict["records"])) for verdict in verdicts if verdict["verdict"] == "replayed"]
@@ -193,8 +194,8 @@ class Referee:
         return verdicts
 
     def replays(self, rules_path: pathlib.Path | str, accounts: Sequence[bytes], records: Sequence[bytes]) -> list[bool]:
-        """Returns for each call log whether its calls reproduce its record. `replay` stops at the first one that does not, so it is run
-        again for those after it. A brace before each call log ends the previous one."""
+        """Returns for each call log whether its calls reproduce its record. `replay` stops at the first call log that does not, so it is run again
+        for the later ones. A brace before each call log ends the previous one."""
         results = []
         while len(results) < len(accounts):
             done = len(results)

@@ -53,7 +53,7 @@ class Journal:
 
 class Reporter:
     """Writes lines to standard output and, if standard error is a terminal, rewrites one line there. The first error of standard output is kept in
-    `fault`, because open matches must go on. Errors of the terminal are ignored: its line only repeats what is reported elsewhere."""
+    `fault`, because open matches must go on. Errors of the terminal are ignored: this line only repeats what is reported elsewhere."""
 
     def __init__(self, journal: Journal | None = None) -> None:
         self.fault, self.journal = None, journal
@@ -83,7 +83,7 @@ class Reporter:
         self.say(text)
 
     def sum_up(self, text: str) -> None:
-        """Writes a summary. It goes to the journal only if that has lines already."""
+        """Writes a summary. It goes to the journal only if the journal already has lines."""
         if self.journal and self.journal.is_open():
             self.note(text)
         self.say(text)

@@ -1,4 +1,4 @@
-"""Reads and writes files, also compressed ones, and standard streams, and formats errors."""
+"""Reads and writes files, including compressed ones, and standard streams, and formats errors."""
 
 import argparse
 import contextlib
@@ -44,13 +44,13 @@ def opened(name: str | pathlib.Path) -> Iterator[BinaryIO]:
 
 
 def lead_nowhere(output: TextIO | None) -> None:
-    """Discards everything that is written to an output from now on, and what it has buffered."""
+    """Discards everything that is written to an output from now on, and everything that the output has buffered."""
     os.dup2(os.open(os.devnull, os.O_WRONLY), output.fileno())
 
 
 def ready_streams() -> None:
-    """Opens /dev/null for each closed standard stream, so that no other file gets its number. Characters that an encoding lacks are written as
-    escapes."""
+    """Opens /dev/null for each closed standard stream, so that no other file gets the stream's number. Characters that an encoding lacks are written
+    as escapes."""
     for number, (name, mode) in enumerate((("stdin", "r"), ("stdout", "w"), ("stderr", "w"))):
         if getattr(sys, name) is None:
             opened_number = os.open(os.devnull, os.O_RDWR)
@@ -97,7 +97,8 @@ def error_words(why: OSError) -> str:
 
 
 def status_of(command: str, perform: Callable[[], int], failed: int, known: tuple[type[Exception], ...] = ()) -> int:
-    """Runs a command and returns its exit status. This is `failed` if it ends with an error of a file or of memory, or with a known one."""
+    """Runs a command and returns its exit status. The status is `failed` if the command ends with an error of a file, with too little memory, or with
+    a known error."""
     try:
         return perform()
     except Ended as why:

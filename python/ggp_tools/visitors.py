@@ -1,5 +1,5 @@
 """Limits the connections of a server. If there are too many, one gives way: the oldest one that has not sent its whole request, or else one of the
-client that has most of them."""
+client that has the most connections."""
 
 import contextlib
 import ipaddress
@@ -32,7 +32,7 @@ class Connection(Protocol):
 
 
 def oldest_of_most(connections: Collection[Connection], size_of: Callable[[Connection], int] = lambda connection: 1) -> Connection | None:
-    """Returns the oldest connection of the client that has most of them, by number or by another size. None if there are none."""
+    """Returns the oldest connection of the client that has the most, by number or by another measure; None if there are no connections."""
     counts: Counter[str] = Counter()
     for connection in connections:
         counts[connection.client] += size_of(connection)
@@ -40,8 +40,8 @@ def oldest_of_most(connections: Collection[Connection], size_of: Callable[[Conne
 
 
 def one_for(client: str, connections: Collection[Connection]) -> Connection | None:
-    """Returns the connection that gives way to a new one of a client: that of `oldest_of_most`, unless it has at most one connection more than this
-    client."""
+    """Returns the connection that gives way to a new one of a client: that of `oldest_of_most`, unless that client has at most one connection more
+    than this one."""
     counts, gone = Counter(connection.client for connection in connections), oldest_of_most(connections)
     return gone if gone and counts[client] + 1 < counts[gone.client] else None
 
@@ -62,8 +62,8 @@ class Visitors:
         return self.most if client == THIS_COMPUTER else max(2, self.most // 8)
 
     def has_room_for(self, client: str) -> bool:
-        """Returns whether one more connection of a client is served. If necessary, the oldest idle connection gives way: this client's if it has used
-        up its share, else that of the client with the most idle connections. If there is none, a busy connection may give way."""
+        """Returns whether one more connection of a client is served. If necessary, the oldest idle connection gives way: this client's if the client
+        has used up its share, else that of the client with the most idle connections. If there is none, a busy connection may give way."""
         with self.lock:
             is_own = self.counts[client] >= self.most_of(client)
             if not is_own and len(self.connections) < self.most:
@@ -90,8 +90,8 @@ class Visitors:
 
     @contextlib.contextmanager
     def viewing(self, connection: Connection) -> Iterator[bool]:
-        """Yields whether a connection may stay open to get changes. It must end once it is not one of the viewers any more, because another one took
-        its place. The last eighth of all connections, and of those of a client, is for loading pages."""
+        """Yields whether a connection may stay open to get changes. The connection must end once it is no longer one of the viewers, because another
+        one took its place. The last eighth of all connections, and of those of a client, is for loading pages."""
         client, (most, own) = connection.client, (many - many // 8 for many in (self.most, self.most_of(connection.client)))
         is_served = sum(viewer.client == client for viewer in self.viewers) < own
         if is_served and len(self.viewers) >= most:

@@ -1,4 +1,4 @@
-"""A real browser for tests: headless Chromium, controlled through a pipe by its DevTools protocol."""
+"""A real browser for tests: headless Chromium, controlled through a pipe with its DevTools protocol."""
 
 import base64
 import json
@@ -13,7 +13,7 @@ import typing
 
 # The seconds after which a test gives up waiting for an answer or a change.
 HANGS = 900
-# It shows only pages of the tests, so it needs no sandbox, which some systems do not allow.
+# The browser shows only pages of the tests, so it needs no sandbox. Some systems do not allow a sandbox.
 WORDS = (
     "--headless=new", "--no-sandbox", "--remote-debugging-pipe", "--disable-gpu", "--hide-scrollbars", "--no-first-run", "--disable-extensions", "--disable-dev-shm-usage",
     "--disable-background-networking", "--disable-component-update", "--disable-sync", "--force-color-profile=srgb", "--lang=en",
@@ -146,7 +146,7 @@ class Page:
                 if held := self.value(expression):
                     return held
             except RuntimeError:
-                # The page is being loaded, and gets another document.
+                # The page is being loaded, and its document is replaced.
                 if self.browser.process.poll() is not None:
                     raise
             time.sleep(0.05)
@@ -167,7 +167,7 @@ class Page:
             self.tell("Input.dispatchKeyEvent", type=kind, key=key, code=key, windowsVirtualKeyCode=KEYS[key], **text)
 
     def reached(self) -> tuple[int, str, bool]:
-        """Returns the index of the focused element among all focusable ones, its address or title, and whether it is visible."""
+        """Returns the index of the focused element among all focusable ones, its address or title, and whether the focus is visible."""
         at, name, is_seen = self.value(REACHED)
         return at, name, is_seen
 
@@ -184,7 +184,7 @@ class Page:
         return [f"{self.value('location.href')}: {fault}" for fault in found]
 
     def click(self, element: str) -> None:
-        """Clicks on the middle of an element, which a JavaScript expression returns."""
+        """Clicks on the middle of the element that a JavaScript expression returns."""
         middle = f"(({element}).scrollIntoView(), (box => [box.x + box.width / 2, box.y + box.height / 2])(({element}).getBoundingClientRect()))"
         x, y = self.value(middle)
         for kind in ("mousePressed", "mouseReleased"):

@@ -14,7 +14,7 @@ os.environ["PYTHONDONTWRITEBYTECODE"] = "1"
 # Each run has the same examples, without a deadline, because the computer may be busy.
 settings.register_profile("fixed", derandomize=True, deadline=None, database=None, suppress_health_check=[HealthCheck.too_slow])
 settings.load_profile("fixed")
-# These modules play matches and take longest. They begin first, so that no worker is left with one of them at the end.
+# These modules play matches and take the longest. They begin first, so that no worker still runs one of them at the end.
 LONG = ("demonstration", "slurm", "archive", "play", "whole", "launcher", "grown", "told", "why")
 
 

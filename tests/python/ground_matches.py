@@ -1,4 +1,4 @@
-"""Makes matches by ground rules, with some late and some illegal answers, and checks them with a description."""
+"""Makes matches under ground rules, with some late and some illegal answers, and checks them against a description."""
 
 import contextlib
 import io
@@ -30,7 +30,7 @@ def instantiated(text: str, how: str = making.WHERE_NEEDED, is_split: bool = Fal
 
 
 def begun(sentences: Sentences) -> ground_games.Match:
-    """Returns a match by ground rules, ready for its first turn."""
+    """Returns a match under ground rules, ready for its first turn."""
     game = ground_games.Game(sentences)
     match = ground_games.Match(game, ["m", "1", "1", *(f"p{at}" for at in range(len(game.roles)))])
     match.marks["start"] = dict.fromkeys(range(len(game.roles)), "")
@@ -56,7 +56,7 @@ def played(sentences: Sentences, seed: int, most: int = MOST_TURNS) -> Record:
 
 
 def played_again(sentences: Sentences, record: Record) -> Record:
-    """Returns the record that the same answers make by other ground rules."""
+    """Returns the record of the match that the same answers give under other ground rules."""
     match = begun(sentences)
     for moves, errors in zip(record["moves"], record["errors"]):
         if match.phase()[0] != "playing":

@@ -1,4 +1,4 @@
-"""A competition of many matches that are all over: one match is played, and the others have the same moves under other ids.
+"""A competition of many finished matches: one match is played, and the others have the same moves and other ids.
 
     PYTHONPATH=python python3 tests/python/made_up.py DIRECTORY COUNT"""
 
@@ -15,8 +15,8 @@ from support import GAMES, program, run, toml
 
 FIRST = "a-match"
 RULES = GAMES / "tictactoe.kif"
-# A referee that takes no time, so that a measurement has only the work of `ggp_competition`: each record is lawful, and each call log reproduces its
-# record.
+# A referee that takes no time, so that a measurement contains only the work of `ggp_competition`: each record is lawful, and each call log reproduces
+# its record.
 QUICK = """#!{python}
 import pathlib, re, subprocess, sys
 if sys.argv[1] == "verify" and "--lines" in sys.argv:

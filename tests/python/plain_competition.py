@@ -1,5 +1,5 @@
-"""The expected results of a competition, computed in a simple way from docs/COMPETITION.md. It shares nothing with the package: a match is a plain
-record with the name of its game, and everything else is counted from such records."""
+"""Computes the expected results of a competition in a simple way, following docs/COMPETITION.md. This module shares no code with the package: a match
+is a plain record with the name of its game, and everything else is counted from such records."""
 
 from fractions import Fraction
 
@@ -14,7 +14,7 @@ def strikes_out(record, seat):
 
 
 def counting_goals(record, forfeit):
-    """Returns the goals that count, and the roles that have forfeited."""
+    """Returns the goals that count, and the roles that forfeited."""
     seats = range(len(record["players"]))
     gone = {seat for seat in seats if forfeit and strikes_out(record, seat)}
     if not gone:
@@ -81,7 +81,7 @@ def placed(rows, key):
 
 
 def crosstable(records, forfeit, games=None):
-    """Returns by pairs of players the points of the first against the second, and how often they met."""
+    """Returns, by pairs of players, the points of the first against the second, and the number of their matches."""
     found = {}
     for record in records:
         goals, gone = counting_goals(record, forfeit)
@@ -157,7 +157,7 @@ def knockout_winner(pair, records, names, forfeit):
 
 
 def knockout_places(names):
-    """Returns the seeds in the order of the bracket: the best of each half, quarter and so on meets the worst of it. None is an empty place."""
+    """Returns the seeds in the order of the bracket: in each half, quarter and so on, the best seed meets the worst. None is an empty place."""
     size = 1
     while size < len(names):
         size *= 2
@@ -170,7 +170,7 @@ def knockout_places(names):
 
 
 def knockout_round(names, by_round, forfeit):
-    """Returns the pairs and the byes of the next round, by the records of each round before it."""
+    """Returns the pairs and the byes of the next round, from the records of all earlier rounds."""
     places = knockout_places(names)
     for records in by_round:
         halves = [(places[at], places[at + 1]) for at in range(0, len(places), 2)]

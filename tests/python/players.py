@@ -1,4 +1,4 @@
-"""Good and bad players for tests. They run in threads of the test, so they stay when a run is killed."""
+"""Good and bad players for tests. They run in threads of the test, so they keep running when a run is killed."""
 
 import random
 import socket
@@ -8,18 +8,18 @@ import time
 from driving.asking import body_of as message_of
 from support import outside
 
-# The code of the example players reads START and the rules, not the package.
+# The code of the example players, and not the package, reads START and the rules.
 example, interpreting = outside("player"), outside("interpreting")
 
 SLOW, DRIP, AWAY = 0.12, 0.3, 1.0
-# A player that dies does so at each PLAY with this number.
+# A player that dies does so at each PLAY message with this number.
 LIFE = 7
 # Sockets that accept no connection. Each reserves the port of a player while the player is away or gone.
 HELD = []
 
 
 def held_port(at):
-    """Returns a port of an address on which only a player listens as long as the tests run."""
+    """Returns a port of an address. While the tests run, only a player listens on this port."""
     HELD.append(socket.socket())
     HELD[-1].setsockopt(socket.SOL_SOCKET, socket.SO_REUSEADDR, 1)
     HELD[-1].bind((at, 0))
@@ -27,8 +27,8 @@ def held_port(at):
 
 
 class TestPlayer(threading.Thread):
-    """A strict player: if it plays as many matches as it can, it answers INFO accordingly, and refuses START. It keeps the matches that it took, and
-    the rules of each. It can play ground rules and rules with variables."""
+    """A strict player: if it already plays its maximum number of matches, it answers INFO accordingly, and refuses START. It keeps the matches that
+    it accepted, and the rules of each. It can play with ground rules and with rules with variables."""
 
     __test__ = False
 
@@ -37,7 +37,7 @@ class TestPlayer(threading.Thread):
         self.name, self.kind, self.random = name, kind, random.Random(seed)
         # Its role, game and state in each match that it plays.
         self.matches, self.most, self.plays = {}, most, 0
-        # How many matches it played at once.
+        # The maximum number of matches that it played at once.
         self.sat = 0
         # The ids of matches that began, that were aborted, and that were offered during another match.
         self.begun, self.aborted, self.clashes = [], [], []
@@ -45,7 +45,7 @@ class TestPlayer(threading.Thread):
         self.heard = []
         self.told = {}
         self.status, self.is_gone = None, False
-        # The seconds that it thinks before it answers a message of one of these kinds.
+        # How many seconds it thinks before it answers a message of one of these kinds.
         self.thinks, self.thinks_at = 0.0, ("play",)
         self.at, self.port = at, held_port(at)
         self.come_back()

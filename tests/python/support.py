@@ -12,7 +12,7 @@ import types
 import unittest
 
 TOP = pathlib.Path(__file__).resolve().parents[2]
-# Code outside the package that shares nothing with it: the oracles, and the example players.
+# Code that shares nothing with the package: the oracles, and the example players.
 OUTSIDE = [str(TOP / "tests/oracle"), str(TOP / "examples/players")]
 
 # The grounding cache of the tests lasts only for this run.
@@ -38,7 +38,7 @@ ODD = """
 
 
 def verdict_rows(*faults):
-    """Returns what `verify --json` prints for records with these faults; a lawful one has none."""
+    """Returns the output of `verify --json` for records with these faults; the fault of a lawful record is None."""
     verdicts = ({"verdict": "not_lawful", "fault": fault} if fault else {"verdict": "lawful"} for fault in faults)
     return "".join(json.dumps(verdict, separators=(",", ":")) + "\n" for verdict in verdicts).encode()
 
@@ -61,7 +61,7 @@ def slowness():
 
 
 def stand_in(**answers):
-    """Returns a fake referee with these answers, for large games and others."""
+    """Returns a fake referee with these answers, both for large games and for others."""
     referee = types.SimpleNamespace(is_large=False, **answers)
     referee.taking = lambda _: referee
     return referee
@@ -93,7 +93,7 @@ def run(folder, *words, **more):
 
 
 def run_into_full(folder, *words):
-    """Runs it with a full disk as standard output. Returns the exit status and the errors."""
+    """Runs `ggp_competition` with a full disk as standard output. Returns the exit status and the errors."""
     with open("/dev/full", "w") as full:
         status, _, said = run(folder, *words, stdout=full)
     return status, said
@@ -107,7 +107,7 @@ def program_but(path, asked, done):
 
 
 def command_of(process):
-    """Returns the command of a process, or no bytes if it has ended, even meanwhile."""
+    """Returns the command of a process, or no bytes if it has ended, even during this call."""
     try:
         return pathlib.Path(f"/proc/{process}/cmdline").read_bytes()
     except OSError:

@@ -74,7 +74,7 @@ class Aborts(unittest.TestCase):
 
 
 class Words:
-    """A referee whose command for an address is that address, run as a script."""
+    """A referee whose command for an address runs this address as a script."""
 
     def __init__(self):
         self.begun = []

@@ -1,4 +1,4 @@
-"""The addresses of players: which ones the system refuses, and which ones are the same."""
+"""The addresses of players: which of them the system refuses, and which are the same."""
 
 import json
 import socket
@@ -14,7 +14,7 @@ from support import call, toml
 BROADCAST = "the system refuses connections to it, as to a broadcast address"
 MULTICAST = "a multicast address accepts no connection"
 LINK_LOCAL = "a link-local address needs its interface, for example [fe80::1%eth0]"
-# Addresses to which no system connects.
+# Addresses to which no operating system connects.
 NO_HOSTS = [
     ("255.255.255.255", BROADCAST), ("127.255.255.255", BROADCAST), ("[::ffff:255.255.255.255]", BROADCAST), ("224.0.0.1", MULTICAST),
     ("239.255.255.255", MULTICAST), ("[ff02::1]", MULTICAST), ("[::ffff:224.0.0.1]", MULTICAST), ("[fe80::1]", LINK_LOCAL),
@@ -22,7 +22,7 @@ NO_HOSTS = [
 
 
 def mistakes(*given):
-    """Returns the lines and messages of the errors of players with these addresses."""
+    """Returns the line and the message of each error of players with these addresses."""
     players = [(f"p{at}", address) for at, address in enumerate(given)]
     competition = read_competition(toml(players, [("nim", "f")]).encode())
     return [(mistake.line, mistake.words) for mistake in mistakes_of_addresses(competition, places_now(competition))]

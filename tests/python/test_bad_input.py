@@ -1,4 +1,4 @@
-"""Bad input for the commands: it is reported with its place, and nothing is written."""
+"""Bad input for the commands: the commands report its place, and write nothing."""
 
 import contextlib
 import os
@@ -200,7 +200,7 @@ class BadInput(InFolder):
     @unittest.skipUnless(shutil.which("gringo"), "gringo is not installed")
     def test_what_instantiate_says_of_rules_is_told(self):
         (self.folder / "coins.kif").write_text("(role a) (init (s 101)) (<= (goal a ?x) (true (s ?x))) (goal a 7)")
-        # A comment of the author at the top of ground rules does not come from `ggp-instantiate`.
+        # A comment by the author at the top of ground rules does not come from `ggp-instantiate`.
         (self.folder / "one.kif").write_text("; a comment\n" + (GAMES / "buttons.kif").read_text())
         self.write(PLAYERS, [("coins", "coins.kif", "aborts = true"), ("one", "one.kif")])
         status, out, said = run(self.folder, "plan")

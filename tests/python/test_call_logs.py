@@ -1,4 +1,4 @@
-"""A call log has exactly the calls that the referee of one match makes, and a match log the messages and answers of the call log."""
+"""A call log has exactly the calls that the referee of one match makes, and a match log has the messages and answers of the call log."""
 
 import dataclasses
 import io
@@ -91,7 +91,7 @@ class LogFaults(unittest.TestCase):
             Other("lost", {"match": "cup-001", "time": 5, "reason": "bob was seen cheating"}), Other("held", {"match": "cup-001", "reason": None}),
         )
         for text in ("ggp_manager: bob was seen cheating\n", "\n", "{}\n", *(line_of(event).decode() for event in events)):
-            # A host begins another run.
+            # A host begins another run of the match.
             self.assert_foreign(LOG + text, 1 if "host" in text else 10)
             if "host" not in text:
                 self.assertEqual(published(f"{LOG}{text}".encode(), "cup-001"), LOG.encode())

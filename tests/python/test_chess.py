@@ -1,4 +1,5 @@
-"""The numbers of moves in chess by all its rules, compared with published numbers (chessprogramming.org, "Perft Results")."""
+"""The numbers of moves in chess with all rules except the one on repetition, compared with published numbers (chessprogramming.org, "Perft
+Results")."""
 
 import pytest
 from ggp_tools.holding.game import Game

@@ -52,7 +52,7 @@ def is_alive(process):
 def test_a_job_that_runs_and_is_silent_is_lost(monkeypatch):
     monkeypatch.setattr(jobs, "LOST_SECONDS", 1)
     job = ran(f"{NODE}sys.stdin.read()")
-    # It noticed the end of its input, and ended by itself.
+    # The process noticed the end of its input, and ended by itself.
     assert (job.why, job.node, job.status, job.process.returncode, job.goes_on) == ("nothing was heard of it for 1 s", "n1", None, 0, False)
 
 
@@ -181,7 +181,7 @@ def test_a_process_whose_time_is_over_is_ended():
 
 
 def test_what_a_process_has_said_in_time_is_read_late(monkeypatch):
-    """On a busy computer, the time may be over before this process has read what has come."""
+    """On a busy computer, the time may be over before this process has read the output that has arrived."""
     monkeypatch.setattr(children, "SOON", 60)
     done = asyncio.run(run(["echo", "one"], seconds=0))
     assert (done.status, done.output) == (0, b"one\n")
@@ -193,7 +193,7 @@ def test_a_process_that_is_cancelled_is_ended_with_what_it_has_started(tmp_path,
         os.mkfifo(tmp_path / "started")
         running = asyncio.create_task(run(["bash", "-c", f"sleep 600 & echo $! > {tmp_path}/started; wait"]))
         if is_starting:
-            # After this many steps of the loop the process runs, and its pipes are not connected yet.
+            # After this many steps of the event loop, the process runs, but its pipes are not connected yet.
             for _ in range(3):
                 await asyncio.sleep(0)
             process = (tmp_path / "started").read_text()

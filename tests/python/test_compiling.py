@@ -1,5 +1,5 @@
-"""The interpreter of published descriptions, compared with one that tries all values of all variables. The games are random, with relations that
-depend on the state, on moves and on themselves, and with nested negations and `or`s."""
+"""The interpreter of published descriptions, compared with an interpreter that tries all values of all variables. The games are random, with
+relations that depend on the state, on moves and on themselves, and with nested negations and `or`s."""
 
 import itertools
 import random
@@ -18,7 +18,7 @@ NAMES = ["?x", "?y", "?z"]
 
 
 class Dice:
-    """Makes a random description. Relations are in layers: each uses lower ones, and sometimes itself."""
+    """Makes a random description. Relations are in layers: each relation uses lower ones, and sometimes itself."""
 
     def __init__(self, seed):
         self.dice, self.layers = random.Random(seed), []
@@ -110,7 +110,7 @@ class Tried:
         return literal in true
 
     def derived(self, rule, true):
-        """Returns what a rule derives."""
+        """Returns the sentences that a rule derives."""
         _, head, body = rule
         names = variables((head, *body))
         found = set()
@@ -121,7 +121,7 @@ class Tried:
         return found
 
     def true(self, state, joint):
-        """Returns the true sentences in a state with these moves, and what each sentence of the description derives."""
+        """Returns the true sentences in a state with these moves, and the sentences that each sentence of the description derives."""
         true = self.facts | {("true", term) for term in state} | {("does", role, move) for role, move in joint.items()}
         by_layer = itertools.groupby(self.rules, key=lambda rule: rule[1] if isinstance(rule[1], str) else rule[1][0])
         for _, rules in by_layer:
@@ -153,7 +153,7 @@ class ByDice(unittest.TestCase):
         return made
 
     def look_at_sources(self, game, tried, state, joint, true, dice):
-        """Checks which sentences derive something."""
+        """Checks which sentences of the description derive other sentences."""
         for atom in dice.sample(sorted((given for given in true if given[0] in ("next", "legal")), key=repr), min(3, len([given for given in true if given[0] in ("next", "legal")]))):
             giving = [rule[0] for rule in tried.rules if atom in tried.derived(rule, true)]
             self.assertEqual(game.sources((atom[0], len(atom) - 1), atom[1:], state, tuple(joint.values())), giving)

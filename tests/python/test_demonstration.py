@@ -20,7 +20,7 @@ NAMES, LATE = ("ann", "bob", "cid", "dora", "eve", "finn", "gus"), "zoe"
 GAMES_OF_CUP = [
     ("tictactoe", GAMES / "tictactoe.kif"), ("countdown", GAMES / "countdown.kif"), ("connectfour", GAMES / "general/connectfour.kif", 'player_rules = "variables"'),
 ]
-# No clock runs out before the tests end, and a player that does not answer INFO in time is asked again.
+# The clocks are so long that none runs out before the tests end. A player that does not answer INFO in time is asked again.
 HEAD = "start = 3600\nplay = 3600\nstrikes = 2\nforfeit = true\ntries = 1000\nwait = 1\n"
 # Three matches of the first round: the first one, one of a bad player, and the last one of the players of the first.
 FIRST, OF_EVE, OF_ANN = "cup-001", "cup-003", "cup-016"
@@ -60,7 +60,7 @@ class Shown(TestPlayer):
         if hold := self.holds.get((self.name, match, self.turns[match])):
             hold.reached.set()
             hold.let_go.wait()
-        # In the match OF_EVE it begins with the first of these.
+        # In the match OF_EVE, the player begins with the first of these moves.
         at = int(match[-3:]) - int(OF_EVE[-3:]) + self.turns[match] - 1
         return HOSTILE[at % len(HOSTILE)] if self.kind == "hostile" else move
 
@@ -87,7 +87,7 @@ class Demonstration(InFolder):
         return found
 
     def play_until(self, hold: Hold) -> subprocess.Popen:
-        """Starts the matches, and returns their run once a player waits."""
+        """Starts the matches, and returns the run of `play` once a player waits."""
         playing = start(self.folder, "play", "--at-once", "4")
         self.addCleanup(playing.communicate)
         self.addCleanup(playing.kill)
@@ -114,7 +114,7 @@ class Demonstration(InFolder):
         return page
 
     def assert_harmless(self, page: Page) -> None:
-        """Checks that texts of players did nothing to a page: none of their scripts ran or was blocked, and no element is theirs."""
+        """Checks that texts of players did nothing to a page: none of their scripts ran or was blocked, and no element comes from them."""
         title = page.value("document.title")
         self.assertIn("cup", title)
         self.assertLessEqual(page.value("document.scripts.length"), 1)
@@ -143,7 +143,7 @@ class Demonstration(InFolder):
         page.screen(*WIDE)
 
     def await_turn(self, page: Page, turn: int) -> None:
-        """Waits until the first page says who is to move in a turn, without reloading."""
+        """Waits, without reloading, until the first page says who is to move in a turn."""
         page.until(f"({BOARD} || document.head).textContent.includes('after turn {turn - 1}; xplayer to move: ann (')")
         self.assertTrue(page.value("window.isFirst"))
 
@@ -163,7 +163,7 @@ class Demonstration(InFolder):
         self.assertIn(f"Match {FIRST}: ann (xplayer), bob (oplayer)", text)
         self.assertRegex(text, rf"The match is open; xplayer to move: ann \({WHILE}\)\.\s+After turn 4: xplayer to move")
         self.assertEqual(page.unreadable(), [])
-        # A place of the board that shows a glyph has its label as text for the focus.
+        # A place of the board that shows a glyph has the label as text when it has the focus.
         while not re.match(r"\d \d: [xo]$", page.reached()[1]):
             page.press("Tab")
         self.assertEqual(json.loads(page.value("getComputedStyle(document.activeElement, '::after').content")), page.reached()[1])
@@ -224,7 +224,7 @@ class Demonstration(InFolder):
         self.assertEqual(again, [f"cup-019 tictactoe ann bob replaces {FIRST}"])
 
     def grow(self, page: Page) -> None:
-        """Adds a player and a round, and plays to the end, as the page says."""
+        """Adds a player and a round, and plays to the end, as the page shows."""
         page.value("window.isFirst = true")
         self.write((*NAMES, LATE), 2)
         self.assertIn("8 players", self.ran("plan")[-1])

@@ -82,7 +82,7 @@ def test_calls_that_are_refused() -> None:
 
 
 def test_values_that_are_not_words() -> None:
-    # The last row below is a bad one for the desk too, so it ends with status 1.
+    # The desk refuses the last row below too, so the desk ends with exit status 1.
     with pytest.raises(DeskEnded, match="status 1"), countdown_desk() as desk:
         desk.open("m1", ["ann", "bob"])
         for call in (

@@ -142,7 +142,7 @@ class CompetitionFile(unittest.TestCase):
         self.assertEqual((found.command, found.address), (Command(("x", "--at", "{port}"), (), "d", (("A", "1"), ("B", "")), 512 << 20, 2, "each_match", 30), ""))
         plain = read_competition(here.replace('address = "[::1]:9148"', 'command = ["x"]\nenvironment = {PORT = "{port}"}').encode()).players
         self.assertEqual((plain[0].command, plain[1].command), (None, Command(("x",), (), "", (("PORT", "{port}"),), 0, 0, "when_dead", 10)))
-        # A player that is started elsewhere can be reached by the matches of a launcher.
+        # The matches of a launcher can reach a player that is started elsewhere.
         launched = read_competition(GOOD.replace('address = "[::1]:9148"', 'command = ["x", "{port}"]\nlauncher = ["srun", "-c4"]').encode()).players[1]
         self.assertEqual((launched.command.words, launched.command.launcher), (("x", "{port}"), ("srun", "-c4")))
         found = mistakes_of(here.replace('address = "[::1]:9148"', 'command = ["x", "{port}"]\nrestart = "each_match"\nconcurrent = 2').encode())

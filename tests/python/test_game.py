@@ -105,7 +105,7 @@ class Suspicious(unittest.TestCase):
         said = "eve is not a role, but a fact of the ground rules has it"
         self.assertEqual(lines_of(text.encode(), ground + eve), [f"line 3, column 5: {said}: (legal eve x) (and 1 more like this)"])
         self.assertEqual(lines_of(text.encode() + b"(<= (legal ?any x) (role ?any))", ground + eve[:14]), [f"{said}: (legal eve x)"])
-        # A sentence that holds only in some states may hold in none.
+        # A sentence that could hold in some states may hold in none.
         self.assertEqual(lines_of(text.encode(), ground + b"(<= (legal eve x) (true (cell 1)))"), [])
         self.assertEqual(lines_of(SOUND.encode(), SOUND.encode() + eve), [])
 
@@ -213,7 +213,7 @@ class Game(InFolder):
         self.assertEqual(self.look("(" * 70 + "a" + ")" * 70)[1][-1], "the rest was not checked")
         said = ["game.kif is not accepted: it has 16,777,217 bytes; at most 1,048,576 are accepted, or 16,777,216 with --large", "the rest was not checked"]
         self.assertEqual(self.look(" x" * (1 << 23) + "x"), (1, said))
-        # Above the usual limit of bytes the limits for large games apply.
+        # Above the usual limit of bytes, the limits for large games apply.
         status, lines = self.look(SOUND + ";" * (1 << 20), "--matches", "0")
         self.assertEqual((status, lines[0].startswith("game.kif is accepted: ")), (0, True), lines)
         status, lines = self.look(SOUND + "(goal ann 200)")
@@ -281,7 +281,7 @@ class Game(InFolder):
         self.assertRegex(lines[1], r"^suspicious: line 5, column 1: no player can make this move: ")
 
     def test_rules_that_are_too_deep_for_the_interpreter(self):
-        # Each level needs a call, and 20,000 are allowed: more than the usual limits of the program.
+        # Each level needs a call, and 20,000 calls are allowed: more than the usual limits of the program need.
         chain = "".join(f"(<= p{number} (or (or (or p{number + 1}))))\n" for number in range(21_000))
         status, lines = self.look(SOUND + chain + "p21000 (<= terminal (not p0))")
         self.assertEqual((status, lines[-1]), (0, "the interpreter cannot play it: its rules are nested too deeply"))

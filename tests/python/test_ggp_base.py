@@ -47,7 +47,7 @@ def record(name: str) -> str:
 
 
 def terms_of(state: str) -> list:
-    """Returns the terms of a state, which is one list of them."""
+    """Returns the terms of a state, which is a list of terms."""
     (terms,) = expressions(state)
     return list(terms)
 
@@ -142,7 +142,7 @@ class Files(unittest.TestCase):
         self.assertEqual((said.returncode, (self.folder / "out").exists()), (3, False))
 
     def test_a_text_gives_back_the_moves_and_errors(self):
-        """A match is a paragraph: headers, and a row for each turn, in which the error of a replaced move comes after `;`."""
+        """The text of a match is a paragraph: headers, and a row for each turn. The error of a replaced move comes after `;`."""
         (self.folder / "m1.jsonl").write_text(LOG, encoding="ascii")
         replaced = json.dumps(json.loads(record(WHOLE)) | {"errors": [["", "CE"], ["IL (take 9)", ""]]}) + "\n"
         said = self.converted(record(WHOLE) + record(FAULTY) + replaced, "--log", str(self.folder / "m1.jsonl"), action="pgn")

@@ -1,4 +1,5 @@
-"""The grounder's input and output. The grounder is fake, or the real one if it is installed, compared with a simple search for all instances."""
+"""The grounder's input and output. The grounder is fake, or the real one if it is installed; the result of the real one is compared with a simple
+search for all instances."""
 
 import itertools
 import math

@@ -1,5 +1,5 @@
-"""Archives of a competition that grew, with a match that was played again, and of one by rounds. `check` accepts them, and refuses each corruption
-with matching checksums. test_archive.py has the corruptions that concern any archive."""
+"""Archives of a competition that grew, with a match that was played again, and of a competition by rounds. `check` accepts these archives, and
+refuses each corrupted copy, even with matching checksums. test_archive.py has the corruptions that apply to any archive."""
 
 import json
 import pathlib
@@ -16,7 +16,7 @@ REASON = b"the power of ann's machine was out"
 
 
 def without_round_2(files):
-    """Removes the last round, but not what follows from the records."""
+    """Removes the last round, but not the results that follow from the records."""
     files = dict(files)
     files["cup/schedule.tsv"] = b"".join(files["cup/schedule.tsv"].splitlines(keepends=True)[:3])
     return without(*(f"cup/{kind}" for match in ("cup-003", "cup-004") for kind in (f"records/{match}.json", f"accounts/{match}.txt", f"logs/{match}.jsonl")))(files)
@@ -60,7 +60,7 @@ SWISS = {
 
 
 class InArchive(unittest.TestCase):
-    """A test that ends in an archive."""
+    """A test that makes an archive at the end."""
 
     def new_folder(self):
         self.folder = pathlib.Path(self.enterContext(tempfile.TemporaryDirectory()))

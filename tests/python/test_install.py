@@ -1,4 +1,4 @@
-"""The commands work where `make install` puts them, next to the referee and without the repository."""
+"""The commands work in the directory in which `make install` puts them, next to the referee and without the repository."""
 
 import os
 import pathlib
@@ -30,7 +30,7 @@ class Install(unittest.TestCase):
         return [path.relative_to(self.prefix) for path in self.prefix.rglob("*")]
 
     def run_there(self, *words, **more):
-        """Runs an installed command from the path of the shell."""
+        """Runs an installed command that the shell finds in PATH."""
         environment = {**os.environ, "PATH": f"{self.prefix}/bin:{os.environ['PATH']}"}
         return subprocess.run(words, env=environment, capture_output=True, **more)
 

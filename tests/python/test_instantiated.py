@@ -16,7 +16,7 @@ from support import GAMES, TOP, InFolder, run, toml
 
 NIM = GAMES / "general/nim.kif"
 PLAYERS = [("ann", "127.0.0.1:9"), ("bob", "127.0.0.1:10")]
-# It has 810,000 instances, which splitting cannot reduce, and takes some seconds.
+# This game has 810,000 instances, which splitting cannot reduce, and takes a few seconds.
 LONG = "(role a) (init s) " + " ".join(f"(n {at})" for at in range(30)) + "(<= (legal a (m ?a ?b ?c ?d)) (n ?a) (n ?b) (n ?c) (n ?d) (true s))"
 LONG += "(<= terminal (true t)) (goal a 1)"
 
@@ -40,7 +40,7 @@ class Kept(unittest.TestCase):
     def test_the_sum_is_over_all_code_that_a_result_comes_from(self):
         found = kept.sources()
         asked = {name for file in found for name in re.findall(r"from ggp_tools\.(\w+) import", file.read_text())}
-        # These only read, report, and limit the time.
+        # These modules only read, report, and limit the time.
         self.assertEqual({f"{name}.py" for name in asked} - {file.name for file in found}, {"streams.py", "timed.py"})
 
     def test_a_file_that_is_cut_off_is_none(self):
@@ -65,7 +65,7 @@ class Kept(unittest.TestCase):
         own.rename(self.folder / "elsewhere")
         own.symlink_to(self.folder / "elsewhere")
         self.assertIsNone(kept.kept("key"))
-        # Nor is a link followed when a file is written.
+        # A link is not followed when a file is written either.
         unfinished = folder / f"{UNFINISHED}{os.getpid()}-new"
         unfinished.symlink_to(self.folder / "elsewhere")
         before = (self.folder / "elsewhere").read_bytes()
@@ -108,7 +108,7 @@ class Seconds(InFolder):
 
 @unittest.skipUnless(shutil.which("gringo"), "gringo is not installed")
 class Described(InFolder):
-    """Ground rules with their description with variables next to them."""
+    """Ground rules with the description with variables next to them."""
 
     def setUp(self):
         super().setUp()

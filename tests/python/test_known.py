@@ -1,4 +1,4 @@
-"""Facts about files, cached by their checksums: they save work, and every changed byte is noticed."""
+"""Facts about files, cached by checksum: the cache saves work, and every changed byte is noticed."""
 
 import os
 import pathlib
@@ -140,7 +140,7 @@ class Values(InCache):
         before, again = file.stat().st_ino, Known(self.folder)
         self.assertEqual(again.get("lines", "a"), 1)
         again.write()
-        # It was used now, so it is not deleted first.
+        # This entry was used now, so it is not the first to be deleted.
         self.assertEqual((file.stat().st_ino, file.stat().st_mtime > 1000, Known(self.folder).get("lines", "a")), (before, True, 1))
 
     def test_what_was_not_looked_at_lately_goes_first(self):
@@ -167,7 +167,7 @@ class Files(InCache):
         file.write_bytes(data[:at] + bytes([data[at] ^ 1]) + data[at + 1 :])
 
     def written(self):
-        """Writes the pages, and returns how many pages of matches were made."""
+        """Writes the pages, and returns the number of match pages that were made."""
         knowledge = Known(self.folder)
         results, _, _ = check_records(self.plan, self.referee, knowledge)
         made = []

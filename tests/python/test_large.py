@@ -6,7 +6,7 @@ from ggp_tools.kif import expressions
 from players import TestPlayer
 from support import GAMES, InFolder, call, run
 
-# As many sentences as the usual limits allow, besides those of the game.
+# The maximum number of sentences within the usual limits, in addition to those of the game.
 BESIDE = 8_192
 
 

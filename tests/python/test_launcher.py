@@ -15,7 +15,7 @@ from players import TestPlayer
 from support import GAMES, TOP, InFolder, command_of, program, program_but, run, start
 
 HEAD = "start = 60\nplay = 60\nstrikes = 1\nwait = 0\ninfo = 10\ntries = 2\n"
-# The command with other numbers of seconds after which a job is lost, or its match has certainly ended.
+# The command with different times after which a job is lost, or after which its match has certainly ended.
 OTHER = f"import sys; sys.path.insert(0, {str(TOP / 'python')!r})\nfrom ggp_tools.competition import command, jobs, open_match\n%s\nsys.exit(command.main())"
 NODE = socket.gethostname()
 
@@ -36,7 +36,7 @@ def test_a_job_reports_its_node_and_the_status_from_inside():
         with started(env={**os.environ, "SLURMD_NODENAME": "n7"}) as job:
             job.stdin.write(f"\n\n{json.dumps({'words': ['sh', '-c', script]})}\n\n")
             job.stdin.flush()
-            # Its standard input is open until it has ended.
+            # The standard input of the job is open until the job has ended.
             out, said = job.stdout.read(), job.stderr.read()
             assert (job.wait(), out) == (status % 256, "it's\n")
         assert [line for line in said.splitlines() if line != "ggp_competition: beat"] == ["ggp_competition: node n7", "why", f"ggp_competition: status {status}"]
@@ -157,7 +157,7 @@ class Launched(InFolder):
             player.thinks = 0
         out, said = playing.communicate(timeout=600)
         self.assertEqual((playing.returncode, said, len(lines(out, "end"))), (0, "", 1), out)
-        # Its status is 0.
+        # The exit status of the job is 0.
         self.assertEqual(lines(out, "lost"), [f"lost cup-001 on {NODE}: srun: error: Node failure"])
         self.assertEqual([(player.begun, player.aborted, player.clashes) for player in self.players], [(["cup-001"] * 2, ["cup-001"], [])] * 2)
         self.assertEqual(next((self.folder / "logs").iterdir()).read_text().count('"event":"host"'), 2)

@@ -1,4 +1,4 @@
-"""What is refused in ground rules, the limits, and descriptions with infinitely many instances."""
+"""Refused ground rules, the limits, and descriptions with infinitely many instances."""
 
 import itertools
 import shutil

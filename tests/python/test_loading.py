@@ -91,7 +91,7 @@ class Loading(unittest.TestCase):
             self.assertEqual([arguments(words) for words in self.runs], [["--seconds=7", str(self.path)]])
             self.assertEqual([self.load(OPEN, True).player_rules for _ in range(2)], [b"(told ?x)\n"] * 2)
             self.assertEqual((len(self.runs), arguments(self.runs[1])[:2]), (2, ["--seconds=60", "--player-rules"]))
-            # With the limits for large games it may be another one.
+            # With the limits for large games, the result may be different.
             found = [self.load(OPEN, referee=Takes(is_large=True)).is_large for _ in range(2)]
             self.assertEqual((found, [arguments(words) for words in self.runs[2:]]), ([True] * 2, [["--seconds=60", "--large", str(self.path)]]))
 

@@ -17,7 +17,7 @@ GAME = """(role r) (role s) (init (c 1)) (succ 1 2) (succ 2 3)
 
 
 def made(text, wanted=WHERE_NEEDED, seconds=60, is_split=False, is_large=False):
-    """Returns the output, or why it is refused, and the reports."""
+    """Returns the output (or the reason for a refusal) and the reports."""
     lines = []
     with mock.patch.object(making, "report", lines.append):
         try:
@@ -71,7 +71,7 @@ class Made(unittest.TestCase):
         self.assertTrue(str(found).startswith("nothing is written, because this exceeds the limit however it is factored: sentences (at least "), found)
 
     def test_what_is_past_the_usual_limits_says_that_it_is_large(self):
-        # It can't be factored to within them, or that would take too much work, or was not requested.
+        # The game can't be factored to within the limits, or this would take too much work, or was not requested.
         for most, work, options in ((8, 400_000, {}), (11, 1, {}), (11, 400_000, {"is_large": True}), (11, 400_000, {"wanted": NEVER})):
             with mock.patch.dict(limits.MOST, {"sentences": most}), mock.patch.object(making, "MOST_WORK", work):
                 found, said = made(GAME, **options)

@@ -22,7 +22,7 @@ class Glyphs(unittest.TestCase):
         self.assertEqual(shown("whitepawn", "black_king"), {"whitepawn": (PAWN, "white"), "black_king": (KING, "black")})
 
     def test_which_set_a_piece_is_of(self):
-        # Chess has kings but no men, so a man among chess pieces is a word.
+        # Chess has kings but no men, so `man` among chess pieces is shown as a word.
         self.assertEqual(shown("white king", "black king"), {"white king": (KING, "white"), "black king": (KING, "black")})
         self.assertEqual(shown("white man", "black queen"), {"white man": ("whi\u2026an", ""), "black queen": ("\u265b", "black")})
         for codes in (("wk", "bk"), ("wk", "wq", "wp")):
@@ -46,7 +46,7 @@ class Glyphs(unittest.TestCase):
         self.assertEqual(shown("queen hearts", "10_of_clubs"), {"queen hearts": ("Q\u2665", "red"), "10_of_clubs": ("10\u2663", "")})
 
     def test_what_may_be_something_else_is_text(self):
-        # One code is not a set of pieces, a blank needs other marks, and numbers are shown unchanged.
+        # A single code is not a set of pieces, a blank needs other marks, and numbers are shown unchanged.
         for label in ("bk", "b", "w", "17", "king a", "man"):
             self.assertEqual(shown(label)[label][0] == label, label != "man", label)
 

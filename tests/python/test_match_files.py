@@ -1,4 +1,4 @@
-"""Which matches are checked together, and which files are not even read."""
+"""Which matches are checked together, and which files are not read at all."""
 
 import errno
 import json
@@ -31,7 +31,7 @@ RULES = Rules(b"(role a) (role b)", "", ("a", "b"))
 
 
 class Counting:
-    """A referee that accepts no record. It records how many it got at a time."""
+    """A referee that accepts no record, and stores how many records it got at a time."""
 
     def __init__(self):
         self.counts = []
@@ -177,8 +177,8 @@ class Kept(unittest.TestCase):
 
 
 class Said(Counting):
-    """A referee whose verdict on each record is in the record. It reproduces a call log if `right` is in it, and keeps the call logs and records that
-    it got."""
+    """A referee whose verdict on each record is in the record. It reproduces a call log that contains `right`, and keeps the call logs and records
+    that it got."""
 
     def __init__(self, path):
         super().__init__()
@@ -249,7 +249,8 @@ class Looked(unittest.TestCase):
         self.assertEqual(referee_faults(self.plan, self.referee, "one", [], []), [])
 
     def known(self):
-        """Checks everything with what is known, and stores it. Returns the results, and how many records the referee checked."""
+        """Checks everything, using the known facts, and stores the new ones. Returns the results, and the number of records that the referee
+        checked."""
         known = Known(self.folder.path)
         results, faults, misfits = self.look(known)
         known.write()
@@ -330,7 +331,7 @@ class Looked(unittest.TestCase):
             data = file.read_bytes()
             file.unlink()
             file.mkdir()
-            # A verdict would have the match played again.
+            # If this were a verdict, the match would be played again.
             with self.assertRaises(IsADirectoryError) as why:
                 self.look()
             self.assertEqual(why.exception.filename, str(file))
@@ -400,7 +401,7 @@ class Lengths(Looked):
 
 
 class Files(InFolder):
-    """Errors in files, by their bytes only."""
+    """Errors that the bytes of a file alone show."""
 
     def test_what_is_not_handed_to_the_referee(self):
         account = b"0\topen cup-1 0 1 1\topened\n"
@@ -476,7 +477,7 @@ class Files(InFolder):
         with mock.patch("os.fsync", syncing), mock.patch("os.replace", renaming):
             keep(folder, "m", b"record", b"account", b"log")
         wanted = []
-        # If the machine fails at any moment, a match with a record has the other files.
+        # Even if the machine fails at any moment, a match with a record has the other files too.
         for place, name, data in (("logs", "m.jsonl", b"log"), ("accounts", "m.txt", b"account"), ("records", "m.json", b"record")):
             wanted += [("on the disk", name, data), ("renamed", name), ("on the disk", place, None)]
         self.assertEqual(steps, wanted)

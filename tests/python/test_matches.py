@@ -1,4 +1,4 @@
-"""Matches by ground descriptions, in a game whose states are all written here, and the phases of its matches."""
+"""Matches of a ground description, in a game with all of its states listed here, and the phases of these matches."""
 
 import unittest
 

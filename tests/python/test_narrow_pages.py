@@ -1,4 +1,4 @@
-"""The pages on a narrow screen, with the longest names and moves, and the parts of the page of a long match, as a browser draws them."""
+"""Pages on a narrow screen with the longest names and moves, and the page of a long match in parts, as a browser draws them."""
 
 import json
 from unittest.mock import patch
@@ -62,7 +62,7 @@ class Long(Served):
             self.assertEqual(self.ask(f"/matches/{match.id}{part}.html")[0], 404, part)
         with Browser() as browser:
             page = browser.page("about:blank")
-            # The last part links to the one with this turn.
+            # The last part links to the part with this turn.
             page.tell("Page.navigate", url=f"http://127.0.0.1:{self.port}/matches/{match.id}.html#turn=3")
             for key, turn in (("", 3), ("ArrowRight", 4), ("ArrowLeft", 3), ("Home", 0), ("End", 6), ("ArrowLeft", 5)):
                 if key:

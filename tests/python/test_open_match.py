@@ -22,7 +22,7 @@ from live_support import plan_in, record_of
 
 
 def info_of(verdict, status=0, text="", **more):
-    """Returns the result of a process of `info` that prints this verdict."""
+    """Returns the result of an `info` process that prints this verdict."""
     return status, json.dumps({"player": "x", "verdict": verdict} | more).encode() + b"\n", text
 
 
@@ -162,7 +162,7 @@ class Whole(WithMatch):
         self.plan.rules["heap"] = dataclasses.replace(self.plan.rules["heap"], player_rules=b"(role a)")
         self.go()
         self.assertIn(f"--player-rules={self.plan.folder.player_rules_of('heap').absolute()}", self.words_of("played"))
-        # On a host it is read from another directory.
+        # On a host, the file is read from another directory.
         self.begin(self.HEAD)
         self.plan.rules["heap"] = dataclasses.replace(self.plan.rules["heap"], player_rules=b"(role a)")
         self.plan.folder = Folder(os.path.relpath(self.folder))
@@ -174,7 +174,7 @@ class Whole(WithMatch):
         self.go()
         self.assertEqual((self.open.result, self.open.why, self.open.is_broken), (None, "ggp_manager: want of memory", True))
         self.assertEqual((self.files(), self.slots.free, self.names()[-1]), ([], {"ann": 1, "bob": 1}, "played"))
-        # Its directory stays, since its players have yet to be freed.
+        # The match's directory stays, since the players have not been freed yet.
         self.assertTrue((self.open.directory / "players").exists())
 
     def test_if_the_referee_was_killed_the_started_players_are_named(self):
@@ -257,7 +257,7 @@ class Asking(WithMatch):
         self.slots.failed.update(ann=1, bob=1)
         self.asked(READY, NO_ANSWER)
         self.assertEqual((self.slots.failed, self.open.why), ({"ann": 0, "bob": 2}, "bob is silent"))
-        # Also if no player is missing, and if the match is played without the missing ones.
+        # The same if no player is missing, and if the match is played without the missing players.
         for bob, failed in ((READY, 0), (NO_ANSWER, 2)):
             self.begin('tries = 2\nabsent = "play"\n')
             self.slots.failed.update(ann=1, bob=1)
@@ -278,7 +278,7 @@ class Asking(WithMatch):
         self.assertEqual(self.asked(NO_ANSWER, (2, b"", "ggp_manager: other")), (False, "bob could not be asked: ggp_manager: other", []))
 
     def test_how_long_an_answer_is_waited_for(self):
-        # The referee ends INFO by itself, and has a second more to say so.
+        # The referee ends INFO by itself, and has one more second to report this.
         for info, seconds in ((4, 4), (9, 9), (10, 11)):
             self.assertEqual(self.asked((None, b"", "", seconds), READY, head=f"info = {info}\ntries = 1\n"), (False, "ann is silent", []))
             self.assertEqual({given for _, _, given in self.begun}, {seconds})
@@ -297,7 +297,7 @@ class Asking(WithMatch):
 
 class Checking(WithMatch):
     def checked(self, played=b"", **verdicts):
-        """Returns why a match does not count with these verdicts, and its files."""
+        """Returns the reason why a match with these verdicts does not count, and the match's files."""
         if played:
             self.laid_down["played"] = (0, played, OPENED)
         for name, verdict in verdicts.items():
@@ -378,7 +378,7 @@ class Checking(WithMatch):
         self.assertEqual((files, self.open.stops_game), (self.kept(".differs"), True))
         self.assert_whole()
         self.assertEqual(reports, [("cup-001", {"description.kif": b"(p ?x)", "record.json": self.record, "account.txt": self.account, "words.txt": b"differs: turn 1\n"})])
-        # An unlawful record does not follow the rules either, and says nothing about them.
+        # An unlawful record does not follow the rules either, so it shows nothing about them.
         self.begin(self.HEAD)
         self.checked(verdict="not lawful: goals")
         self.assertFalse(self.open.stops_game)

@@ -29,7 +29,7 @@ class Package(unittest.TestCase):
 
 
 class WithoutPackages(InFolder):
-    """Python without the packages for pages."""
+    """A Python without the packages for pages."""
 
     def setUp(self):
         super().setUp()

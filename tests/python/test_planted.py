@@ -1,10 +1,11 @@
-"""Wrong ground rules are found by a match that shows the error, and by nothing before it.
+"""A match that shows an error in ground rules detects this error; no earlier step does.
 
 Ten games of different kinds get an error each: a missing rule, two swapped moves, a goal that is off by one, or a rule without its last literal. In
-the game with a cycle, the cycle is unrolled in half of its rounds. The place of the error is random, and matches by the wrong rules are played until
-one reaches it: its answers make another record by the right rules. No random match needs that many rounds of a cycle, so there red's stones are
-given, which wind from side to side. The program loads the wrong rules, plays the match by them, finds its record lawful, and reproduces it from its
-call log, so it does not notice the error. `ggp-hold-against` must find the error, and none in the record by the right rules."""
+the game with a cycle, the cycle is unrolled in half of its rounds. The place of the error is random, and matches under the wrong rules are played
+until one reaches it: its answers give a different record under the right rules. No random match needs that many rounds of a cycle, so in this game
+red's stones are fixed: they wind from side to side. The program loads the wrong rules, plays the match, finds the record lawful, and reproduces it
+from the call log, so the program does not notice the error. `ggp-hold-against` must find the error, and must find none in the record under the right
+rules."""
 
 import functools
 import json
@@ -26,7 +27,7 @@ from support import program
 PLANTED_IN = "tictactoe", "nim", "connectfour", "auction", "minority", "hanoi", "river", "prisoners", "foxandhounds", "hex"
 WITH_A_CYCLE = "hex"
 TRIES = 60
-# The last of these stones is ten steps from the side, and no path is shorter. Blue's stones are where red does not go.
+# The last of these stones is ten steps from the side, and no path is shorter. Blue's stones are in cells that red does not use.
 WINDING = "11 21 22 23 24 25 35 44 43 42 51".split()
 Plant = Callable[[str, random.Random], Sentences]
 
@@ -52,7 +53,7 @@ def places(sentences: Sentences, names: tuple[str, ...]) -> list[int]:
 
 
 def dropped(name: str, dice: random.Random) -> Sentences:
-    """Returns the rules without one of a `legal` or a `next`."""
+    """Returns the rules without one `legal` or `next` rule."""
     sentences = right_rules(name)
     at = dice.choice(places(sentences, ("legal", "next")))
     return sentences[:at] + sentences[at + 1 :]
@@ -86,7 +87,7 @@ def goal_off(name: str, dice: random.Random) -> Sentences:
 
 
 def without_last_literal(name: str, dice: random.Random) -> Sentences:
-    """Returns the rules with one that has lost its last literal."""
+    """Returns the rules, one of them without its last literal."""
     sentences = right_rules(name)
     at = dice.choice([at for at, sentence in enumerate(sentences) if sentence[0] == "<=" and len(sentence) > 3])
     return [*sentences[:at], sentences[at][:-1], *sentences[at + 1 :]]
@@ -112,7 +113,7 @@ def wound(sentences: Sentences) -> Record:
 
 
 def reached(name: str, plant: Plant) -> tuple[Sentences, Record, Record]:
-    """Returns wrong rules, and the records of a match that reaches the error, by these and by the right rules."""
+    """Returns wrong rules, and the records of a match that reaches the error: under these rules, and under the right rules."""
     for number in range(TRIES):
         wrong = plant(name, random.Random(f"{name} {number}"))
         record = played(wrong, number)
@@ -143,7 +144,7 @@ def asked(command: str, rules: str, data: str) -> list[str]:
 
 
 def made_by_program(sentences: Sentences, record: Record) -> str:
-    """Returns the record that the program makes of the same answers by these rules. The program must accept and replay it."""
+    """Returns the record that the program makes of the same answers under these rules. The program must accept and replay it."""
     with tempfile.NamedTemporaryFile("w", suffix=".kif") as file:
         file.write("".join(f"{spelled(sentence)}\n" for sentence in sentences))
         file.flush()
@@ -160,7 +161,7 @@ def made_by_program(sentences: Sentences, record: Record) -> str:
 @unittest.skipUnless(shutil.which("gringo"), "gringo is not installed")
 class Planted(unittest.TestCase):
     def assert_found(self, name: str, wrong: Sentences, record: Record, right: Record) -> None:
-        """Checks that the error is found in the program's record, and nothing in the right one."""
+        """Checks that the error is found in the program's record, and no error in the right record."""
         line = made_by_program(wrong, record)
         self.assertEqual({key: json.loads(line)[key] for key in ("moves", "errors", "states", "goalValues")}, {key: record[key] for key in ("moves", "errors", "states", "goalValues")})
         status, words = holding(name).held(line)

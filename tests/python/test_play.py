@@ -209,7 +209,7 @@ class Play(InFolder):
         playing.kill()
         playing.communicate()
         self.let_think(0)
-        # The error comes before anything is read or sent.
+        # The error comes before any input is read and any message is sent.
         waiting = program_but(self.folder / "waiting", '"$1" = abort', "sleep 60")
         playing = start(self.folder, "play", "--program", waiting)
         self.assertEqual(playing.stdout.readline(), "open 1 match of an earlier `play`; its players are sent ABORT\n")
@@ -222,7 +222,8 @@ class Play(InFolder):
         self.look_at_ended_ones(self.interrupted(signal.SIGINT, signal.SIGINT))
 
     def checking(self):
-        """Plays a match, and returns `play` in a group of its own while the match is being checked, and the file that lets the check go on."""
+        """Plays a match. While the match is being checked, returns `play`, which has a separate process group, and the file that lets the check go
+        on."""
         self.planned(["good", "good"], form='kind = "schedule"\nlines = ["countdown p0 p1"]')
         number, go = self.folder / "number", self.folder / "go"
         waiting = program_but(self.folder / "waiting", '"$1" = replay', f"echo $$ > {number}.new; mv {number}.new {number}; until [ -e {go} ]; do sleep 0.1; done")
@@ -466,7 +467,7 @@ class Play(InFolder):
         self.planned(["good", "good"])
         short = "echo 'ggp_manager: want of memory' >&2; exit 3"
         played = ("records/cup-001.json", "accounts/cup-001.txt", "logs/cup-001.jsonl")
-        # With an empty input `verify` only says whether the rules are accepted, as the plan is read.
+        # With an empty input, `verify` only reports whether it accepts the rules. This happens when the plan is read.
         record = '"$1" = verify && -n $(head -c 1)'
         shortages = [(record, short, "want of memory"), (record, "kill -9 $$", "signal 9"), ('"$1" = replay', short, "want of memory")]
         for (asked, done, words), ending in zip(shortages, ("unchecked", "unchecked.2", "unchecked.3")):
@@ -545,7 +546,7 @@ class Play(InFolder):
         said = playing.stderr.read()
         playing.stderr.close()
         self.assertEqual((playing.wait(60), said), (1, "ggp_competition: standard output: Broken pipe\n"))
-        # A match that begins while the first is checked is played to its end too.
+        # A match that begins while the first one is being checked is played to its end too.
         self.assertIn(len(self.records()), (2, 3, 4))
         self.assertEqual(list((self.folder / "open").iterdir()), [])
         self.assertEqual([(player.matches, player.aborted) for player in self.players], [({}, [])] * 4)

@@ -1,4 +1,4 @@
-"""The facts about a player in a match: its goal, its times and its errors, from record and log."""
+"""The facts about a player in a match: its goal, its times and its errors, taken from the record and the log."""
 
 import unittest
 from dataclasses import replace

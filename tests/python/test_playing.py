@@ -1,5 +1,5 @@
-"""How `play` handles many matches: which begin, what happens when they end, and the files before and after. The matches are fake, and follow the
-test's instructions."""
+"""How `play` handles many matches: which matches begin, what happens when they end, and the files before and after. The matches are fake, and follow
+the test's instructions."""
 
 import asyncio
 import collections
@@ -118,7 +118,7 @@ class WithMatches(unittest.TestCase):
         self.playing = Playing(self.plan, "referee", self.reporter, at_once)
 
     def go(self, **laid_down):
-        """Plays all matches, each by the instructions for its id."""
+        """Plays all matches, each according to the instructions for its id."""
         Standing.laid_down |= {match.replace("_", "-"): steps for match, steps in laid_down.items()}
         self.playing.waiting.extend(self.plan.matches)
         asyncio.run(self.playing.go())
@@ -170,7 +170,7 @@ class Going(WithMatches):
 
         self.begin(at_once=1)
         self.playing.watch = watch
-        # The last match ends once the first results were passed on.
+        # The last match ends once the first results have been passed on.
         self.go(cup_012=["playing", lambda match: again.wait(600), won])
         self.assertEqual((watched[0][0] > 0, {is_main for _, is_main in watched}, self.reporter.lines), (True, {False}, ["pages are not written"]))
 
@@ -206,7 +206,7 @@ class Going(WithMatches):
 
     def test_a_game_whose_rules_are_wrong_is_not_played_on(self):
         why = "heap is not played any more, because cup-001 does not follow its description"
-        # The second match was already open: it differs too, without another report, or it has asked its players and does not begin.
+        # The second match was already open. Either it differs too, without another report; or it has asked its players and does not begin.
         for end, left, lines in ((over(why="differs too", stops_game=True), "differs too", ["no record cup-003: differs too"]), (over(), why, [])):
             self.begin()
             games, once = self.plan.competition.games, iter([end])
@@ -478,7 +478,7 @@ class Signals(WithMatches):
         def send(match):
             signal.raise_signal(number)
 
-        # The loop hears of a signal a little later.
+        # The event loop handles a signal a little later.
         Standing.laid_down = {"cup-001": ["playing", send, *["playing"] * 1_000, won]}
         self.playing.waiting.extend(self.plan.matches[:1])
         with mock.patch.object(playing, "plan_next_round", lambda plan, results: []):
@@ -512,7 +512,7 @@ class Signals(WithMatches):
 # ---- the time left, compared with the actual time by a fake clock
 
 ROUND_ROBIN = 'kind = "round_robin"\nrounds = {}'
-# Players, form, the matches at a time of a player and of all, and for each game the least and the greatest seconds of a match.
+# Players, form, the number of matches at a time for a player and in total, and for each game the minimum and maximum seconds of a match.
 SHAPES = {
     "one match at a time": (8, ROUND_ROBIN.format(5), 1, 4, {"one": (20, 40)}),
     "two at once": (8, ROUND_ROBIN.format(5), 1, 2, {"one": (20, 40)}),
@@ -525,7 +525,7 @@ SHAPES = {
 
 
 def estimated_and_true(players, form, concurrent, at_once, lengths):
-    """Plays a competition by a fake clock. Yields, as each match ends, the finished part, the estimated time left, and the actual one."""
+    """Plays a competition with a fake clock. Yields, as each match ends, the finished part, the estimated time left, and the actual one."""
     who = [(f"p{number}", f"h:{number + 1}", f"concurrent = {concurrent}") for number in range(players)]
     competition = read_competition(toml(who, [(game, "f") for game in lengths], form).encode())
     matches, chance = planned(competition, dict.fromkeys(lengths, 2)), random.Random(1)

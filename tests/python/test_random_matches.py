@@ -148,7 +148,7 @@ class Matches(WithDesk):
         self.assertEqual((self.drawn[:2], len(found.ended) > 0, self.kept[0][1].count("open")), (["match 1 of 9, 0 turns", "match 1 of 9, 1 turn"], True, 1))
         self.assertEqual(self.drawn[-1], "the program's desk")
         self.assertEqual([random_matches.counted(number, "turn") for number in (0, 1, 2, 1_000)], ["0 turns", "1 turn", "2 turns", "1,000 turns"])
-        # It goes on until the second is over, and the line is not drawn in the first half second.
+        # The command goes on until the second is over, and does not draw the line in the first half second.
         self.now, self.drawn = 0.0, []
         self.reporter.draw = self.drawn.append
         found = RandomMatches(RULES, None, "game.kif", self.reporter, 50)

@@ -10,7 +10,7 @@ from hypothesis import strategies
 
 from ggp_tools.competition.ratings import groups, rated
 
-# 400 points are odds of 10 to 1; 1.96 standard deviations hold 95%.
+# 400 points are odds of 10 to 1; 1.96 standard deviations contain 95%.
 SCALE, SPREAD = 173.71779276, 1.959964
 
 
@@ -24,13 +24,13 @@ def drawn_points(draw):
 
 
 def expected(player, points, logs):
-    """Returns the expected points of a player against those that it met in its group, by the strengths."""
+    """Returns the expected points of a player against the opponents in its group, from the strengths."""
     met = {other: points[player, other] + points[other, player] for other in logs if (player, other) in points}
     return sum(count / (1 + math.exp(logs[other] - logs[player])) for other, count in met.items())
 
 
 def reached(players, points):
-    """Returns for each player those to which a chain of points leads."""
+    """Returns, for each player, the players to which a chain of points leads."""
     found = {player: {player} for player in players}
     for _ in players:
         for (player, opponent), got in points.items():
@@ -41,7 +41,7 @@ def reached(players, points):
 
 def iterated(players, points):
     """Returns the logarithms of the strengths of a group by the iteration of Hunter ("MM algorithms for generalized Bradley-Terry models", The Annals
-    of Statistics 32, 2004), or None if that is too slow."""
+    of Statistics 32, 2004), or None if the iteration is too slow."""
     found = dict.fromkeys(players, 0.0)
     won = {player: sum(points.get((player, other), 0) for other in players) for player in players}
     for _ in range(5_000):

@@ -15,7 +15,7 @@ from ggp_tools.referee import (
 )
 from support import verdict_rows
 
-# It stores the arguments and the input of each run, and gives the answer that the test has set.
+# The fake referee stores the arguments and the input of each run, and gives the answer that the test has set.
 STAND_IN = """#!/bin/sh
 cd "$(dirname "$0")"
 n=$(cat count)
@@ -238,7 +238,7 @@ class Finding(unittest.TestCase):
         self.folder = pathlib.Path(self.enterContext(tempfile.TemporaryDirectory()))
         self.enterContext(mock.patch.dict(os.environ, {"PATH": str(self.folder / "path")}))
         self.enterContext(mock.patch.object(sys, "argv", [str(self.folder / "python/ggp_competition"), "play"]))
-        # The repository may have a program, which must not be found here.
+        # The repository may have a program; the search must not find it here.
         self.is_executable = os.access
         self.enterContext(mock.patch("os.access", lambda path, mode: os.fspath(path).startswith(str(self.folder)) and self.is_executable(path, mode)))
 

@@ -35,7 +35,7 @@ class Moments(unittest.TestCase):
 
 
 class Text(NamedTuple):
-    """A line, which may begin with its time in seconds."""
+    """A line that may begin with a time in seconds."""
 
     text: str
 

@@ -1,4 +1,4 @@
-"""The result of a match by its record, compared with a simple computation."""
+"""The result of a match from its record, compared with a simple computation."""
 
 import json
 import unittest

@@ -1,5 +1,5 @@
-"""Competitions by rounds, in a directory: each round follows from the records of the one before, and any other schedule is refused. The referee is
-fake, and the records have only what results need."""
+"""Competitions by rounds, in a directory: each round follows from the records of the previous one, and any other schedule is refused. The referee is
+fake, and the records have only the keys that results need."""
 
 import json
 import pathlib
@@ -149,7 +149,7 @@ class ByRounds(unittest.TestCase):
         self.read()
         first = self.folder.record("cup-001")
         before = first.read_text()
-        # Now p1 has won against p0, so the order is another one.
+        # Now p1 has won against p0, so the order changes.
         for number in (1, 3):
             self.folder.record(f"cup-00{number}").write_text(json.dumps(record(plan.matches[number - 1], [0, 100] if number == 1 else [100, 0])) + "\n")
         self.assert_refused("schedule.tsv does not agree with")
@@ -220,7 +220,7 @@ class ByRounds(unittest.TestCase):
     def test_players_withdraw_from_a_knockout(self):
         self.write(4, 'kind = "knockout"')
         plan = self.make()
-        # p0 meets p3, and one match of it is over when p3 withdraws.
+        # p0 meets p3, and one of their matches is over when p3 withdraws.
         first = plan.matches[0]
         self.folder.record(first.id).write_text(json.dumps(record(first, [0, 100])) + "\n")
         plan = self.withdraw(3)
@@ -353,7 +353,7 @@ class ByRounds(unittest.TestCase):
         self.assertEqual((self.read().matches, self.folder.key.read_bytes()), (plan.matches, key))
         self.write(4, SWISS.format(3), 'ids = "random"')
         self.assertEqual(self.make().matches, plan.matches)
-        # With another key, or without it, they would be others.
+        # With another key, or without one, the ids would be different.
         self.folder.key.unlink()
         for call in (self.read, self.make):
             self.assert_refused("ids.key is missing: put it back: the ids of the matches follow from it", call)
@@ -414,7 +414,7 @@ class Refusals(unittest.TestCase):
             ("abcdef", "cd ce cf", "ac bd ef"),
             # Both new pairs of c come from e and f. Only then can c and d swap with the next pair below.
             ("abcdef", "ac cd ce cf ef", "ae fd bc"),
-            # g and h swap with c and d. Then e and f could swap with the next pair below, but do so with one far above.
+            # g and h swap with c and d. Then e and f could swap with the next pair below, but they swap with a pair far above.
             ("abcdefgh", "ce ef eg eh gh", "ae cg bf dh"),
         ):
             found = paired(order, Counter(map(frozenset, met.split())))

@@ -1,4 +1,4 @@
-"""The rules of a competition, each from the first command to an archive. `check` accepts the archive, and refuses it after a corruption with matching
+"""The rules of a competition, each from the first command to an archive. `check` accepts the archive, and refuses a corrupted copy with matching
 checksums."""
 
 import json
@@ -30,7 +30,7 @@ def turns(*goals):
 
 class Rules(InArchive):
     def write(self, players, games, **more):
-        """Writes competition.toml with these players, the other keys of their entries, and these games."""
+        """Writes competition.toml with these players, further keys for their entries, and these games."""
         (self.folder / "competition.toml").write_text(toml([(player.name, player.place(), *words) for player, *words in players], games, **more))
 
     def test_too_many_replaced_moves_and_a_forfeit_among_three(self):
@@ -41,7 +41,7 @@ class Rules(InArchive):
         self.write(players, [("two", "two.kif"), ("three", "three.kif")], head=f"{HEAD}strikes = 2\nforfeit = true\nfaults = {{replaced = 2}}\n")
         self.ran("plan")
         ends = [line for line in self.ran("play") if line.startswith("end")]
-        # No two of its turns with a choice are in a row, so it is never retired.
+        # No two turns in a row give this player a choice, so it is never retired.
         self.assertTrue(any("two" in line and "cid (IL in 2 of turns 2 to 4), counts as " in line for line in ends), ends)
         self.assertIn("forfeit: cid (IL in 2 of turns 2 to 4), counts as bob 100, cid 0", self.ran("why", ".", "cup-002", "cid"))
         table = json.loads((self.ran("table") and (self.folder / "table.json").read_text()))

@@ -69,7 +69,7 @@ class Schedule(unittest.TestCase):
             for count in range(roles, 17):
                 for rounds in (1, 2):
                     found = matches(count, roles, f'kind = "round_robin"\nrounds = {rounds}')
-                    # As many blocks of matches as would let each two players meet once, if they could be distributed evenly.
+                    # The number of blocks of matches with which each two players would meet once, if the matches could be distributed evenly.
                     blocks = math.ceil(2 * (count - 1) / (roles * (roles - 1)))
                     self.assertEqual(len(found), count * blocks * rounds, (roles, count))
                     met = meetings(found)
@@ -113,7 +113,7 @@ class Schedule(unittest.TestCase):
         self.assertEqual({(match.round, match.again, match.reason, match.instead_of) for match in found}, {(0, "", "", "")})
 
     def test_a_schedule_stays_what_it_was(self):
-        # This version must plan a schedule exactly like another version did.
+        # This version must plan a schedule exactly as an earlier version did.
         def seated(*words):
             return [" ".join(match.players) for match in matches(*words)]
 

@@ -52,14 +52,14 @@ class Ways(unittest.TestCase):
         self.assertEqual([sum(head == wanted for head, _ in many) for wanted in ("h", "either1", "either2")], [1, 10, 11])
         self.assertEqual([body for head, body in many if head == "h"], [(true("either1"), true("either2"))])
         self.assertEqual([body for head, body in rules(sentence(51, 2)) if head == "h"], [(true("either1"), true("either2"))])
-        # An `or` with one way stays where it is.
+        # An `or` with only one way is not moved.
         self.assertEqual([body for head, body in rules(sentence(101, 1)) if head == "h"], [(true("either1"), true(("true", ("b", "0"))))])
 
     def test_such_a_relation_has_the_variables_that_each_way_binds(self):
         part = " ".join(f"(p {at} ?x)" for at in range(51))
         found = rules(f"(<= (h ?x) (or {part}) (or (q ?x) (r a)))")
         self.assertEqual({head for head, _ in found}, {("either1", "?x"), ("h", "?x")})
-        # One way of the other `or` does not bind it, so that one is written out.
+        # One way of the other `or` does not bind the variable, so this `or` is written out.
         self.assertEqual([body for head, body in found if head[0] == "h"], [(true(("either1", "?x")), true(("q", "?x"))), (true(("either1", "?x")), true(("r", "a")))])
 
     def test_a_variable_of_one_way_alone_stays_that_of_the_sentence(self):

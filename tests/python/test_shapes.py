@@ -1,4 +1,4 @@
-"""The shapes of the keys of a record, by docs/RECORDS.md."""
+"""The forms of the values of a record's keys, according to docs/RECORDS.md."""
 
 import unittest
 

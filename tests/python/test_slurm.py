@@ -43,7 +43,7 @@ KillWait=2
 PartitionName=all Nodes=n[1-3] Default=YES MaxTime=INFINITE State=UP OverSubscribe=FORCE:64
 """
 HEAD = "start = 60\nplay = 60\nstrikes = 0\nwait = 1\ninfo = 10\ntries = 20\n"
-# A command's path is not needed: a Debian package has the command.
+# The path of the command is not needed: a Debian package installs it.
 TOOLS = ("munged", "slurmctld", "slurmd", "srun", "sbatch", "sinfo")
 
 
@@ -64,7 +64,7 @@ def free_ports(count):
 
 
 class Cluster:
-    """A controller and three nodes. All of their processes are children of this one, or have its configuration in their environment."""
+    """A controller and three nodes. All of their processes are children of this process, or have the cluster's configuration in their environment."""
 
     def __init__(self, room):
         self.room, self.environment = room, {**os.environ, "SLURM_CONF": f"{room}/slurm.conf"}
@@ -79,7 +79,7 @@ class Cluster:
         munge = [f"--{name}={room}/{file}" for name, file in (("key-file", "munge.key"), ("socket", "munge.socket"), ("pid-file", "munged.pid"), ("log-file", "munged.log"), ("seed-file", "seed"))]
         subprocess.run(["munged", "--force", *munge], check=True)
         self.started = [self.daemon("slurmctld", "-D"), *(self.daemon("slurmd", "-D", "-N", node) for node in NODES)]
-        # It answers once all nodes have registered.
+        # The controller answers once all nodes have registered.
         while self.call("sinfo", "-h", "-t", "idle", "-o", "%D").stdout.strip() != "3":
             assert self.started[0].poll() is None, (room / "slurmctld.log").read_text()
 
@@ -90,7 +90,7 @@ class Cluster:
         return subprocess.run(words, env=self.environment, capture_output=True, text=True)
 
     def processes(self, node=None):
-        """Returns the processes of a node, or of all: its daemon, the jobs, and those that pass on their output."""
+        """Returns the processes of a node, or of all: its daemon, the jobs, and the processes that pass on the output of jobs."""
         found, ours = [], [f"SLURM_CONF={self.room}/slurm.conf".encode(), *([f"SLURMD_NODENAME={node}".encode()] if node else [])]
         for place in pathlib.Path("/proc").glob("[0-9]*"):
             try:
@@ -109,7 +109,7 @@ class Cluster:
             self.send(process, signal.SIGKILL)
 
     def cut_off(self, node):
-        """Blocks all messages to and from a node. Its processes go on."""
+        """Blocks all messages to and from a node, whose processes continue."""
         self.started[1 + NODES.index(node)].send_signal(signal.SIGSTOP)
         jobs = self.processes(node)
         for process in {parent for _, parent in jobs} - {process for process, _ in jobs}:

@@ -26,7 +26,7 @@ from players import TestPlayer
 from support import GAMES, InFolder, program, start
 from test_serving import Served
 
-# The possible answers: a move has text that occurs nowhere else. After each replaced move a legal one follows, so that no role is retired.
+# The possible answers: a move has text that occurs nowhere else. Each replaced move is followed by a legal one, so that no role is retired.
 LEGAL = "(say zq{0}x{1})"
 ILLEGAL = ("(bad zq{0}x{1})", "zq{0}x{1} ((", "(say zq{0}x{1})?", SILENT, Missed("CE (no connection)"), "lost (zq{0}x{1})", "zq{0}x{1}".ljust(400, "y"))
 ANSWERS = (LEGAL, "; zq{0}x{1}\n(say zq{0}x{1})", *(answer for illegal in ILLEGAL for answer in (illegal, LEGAL)))
@@ -51,7 +51,7 @@ class Spying(Served):
     STRIKES = "strikes = 2\n"
 
     def begin_with(self, roles):
-        """Serves a competition of a game with this many roles, instead of the other one."""
+        """Serves a competition of a game with this many roles, instead of the default one."""
         room = tempfile.TemporaryDirectory()
         self.addCleanup(room.cleanup)
         named = tuple(f"r{at}" for at in range(roles))
@@ -62,7 +62,7 @@ class Spying(Served):
         self.site.look()
 
     def all_pages(self):
-        """Returns everything that is served, except for the time of day and the number of visitors."""
+        """Returns everything that `serve` sends, except for the time of day and the number of visitors."""
         paths = ["/", "/index.html", "/matches.html", "/games/heap.html", *(f"/matches/{match.id}.html" for match in self.plan.matches)]
         paths += [f"/players/player-{name}.html" for name in NAMES]
         paths += ["/api/table", "/api/matches", *(f"/api/matches/{match.id}" for match in self.plan.matches), "/metrics"]
@@ -73,7 +73,7 @@ class Spying(Served):
 
     def assert_nothing_is_shown_before_the_last(self, lines):
         """Writes these answers of a round to the log one by one. Returns all pages after the last one."""
-        # A board is drawn once somebody has opened its page.
+        # A board is drawn only after its page was opened once.
         self.all_pages()
         self.site.look()
         before = self.all_pages()
@@ -124,9 +124,9 @@ class Spying(Served):
 
 @dataclass(frozen=True)
 class Step:
-    """A step of a match: the line that the log gets when a role answers, empty if it is lost, with its run, its round, and the number of answers to
-    the round. Then the events until the next step: time passes, `serve` may start again, and the directory is read, with or without asking the
-    referee."""
+    """A step of a match: the line that the log gets when a role answers (empty if the line is lost), its run, its round, and the number of answers to
+    the round; and then the events until the next step. In these, time passes, `serve` may restart, and the directory is read, with or without
+    questions to the referee."""
 
     run: int
     round: int
@@ -138,7 +138,7 @@ class Step:
 
 
 ANSWER = st.sampled_from((LEGAL, LEGAL, *ILLEGAL))
-# The log has the time of day of the host, which may be wrong, or none.
+# The log has the host's time of day, which may be wrong, or no time.
 TIMES = st.sampled_from((None, 0, 1_000, 1_795_000_000_000, 9_000_000_000_000))
 
 
@@ -201,7 +201,7 @@ class Desk:
         phase = "starting" if not at else "playing" if playing else "aborting"
         record = {"phase": phase, "errors": errors, "moves": [[f"(say zq{turn}x{role})" for role in range(roles)] for turn in range(1, len(errors) + 1)]}
         replies = ["opened", *("taken" for _ in calls), *("owe x" if role in playing or not playing else "hold" for role in range(roles))]
-        # Every other state says whose turn it is, though all may say something.
+        # Every second state says whose turn it is, although all roles may say something.
         states = [[f"(step {turn})", f"(control r{turn // 2 % roles})"][: 1 + turn % 2] for turn in range(len(errors) + 1)]
         return replies, record | {"states": states, "roles": [f"r{role}" for role in range(roles)]}
 
@@ -210,7 +210,7 @@ class Desk:
 
 
 class Watched:
-    """A match in a directory, and everything that is served about it."""
+    """A match in a directory, and everything that `serve` sends about it."""
 
     def __init__(self, room, head, roles, delay):
         self.plan, self.delay = plan_in(room, NAMES, head=head, rules=rules_of(roles), roles=roles), delay
@@ -247,7 +247,7 @@ class Watched:
 
 
 class Whatever(InFolder):
-    """Two sites that differ only in unfinished rounds: one lacks these answers in its log, and the restart of a dead player in its journal."""
+    """Two sites that differ only in unfinished rounds: the log of one lacks these answers, and its journal lacks the restart of a dead player."""
 
     @settings(max_examples=40)
     @given(st.data(), st.integers(2, 3), st.sampled_from((0, 2)), st.sampled_from((0, 0, 5.5)), st.sampled_from((1 << 20, 1 << 20, 700)))
@@ -257,7 +257,7 @@ class Whatever(InFolder):
         self.moment, self.ticks = 1_000_000.0, itertools.count()
 
         def clock():
-            """Time also passes while the directory is read."""
+            """Time passes even while the directory is read."""
             return self.moment + next(self.ticks) * 1e-6
 
         with contextlib.ExitStack() as patches:
@@ -282,7 +282,7 @@ class Whatever(InFolder):
                     with open(other.log, "a") as log:
                         log.write("".join(held.pop(step.round)))
                 if at >= restart and (step.run > taken[restart].run or counts[taken[restart].round] == taken[restart].needed):
-                    # The round of the restart is over, so one site may show it.
+                    # The round of the restart is over, so one site may show the restart.
                     break
                 if step.is_served_anew or at == restart and data.draw(st.booleans()):
                     one.serve()

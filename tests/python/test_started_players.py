@@ -37,7 +37,7 @@ def command(script, **more):
 
 
 def player(room, script, info=ANSWERS, **more):
-    """Returns a player with a script, and a fake INFO of the referee: a command that says whether the player answers."""
+    """Returns a player with a script, and a fake `info` command that reports whether the player answers."""
     folder = Folder(room)
     folder.make(folder.players)
     referee = types.SimpleNamespace(info_words=lambda place: info)
@@ -54,7 +54,7 @@ def process_of(started):
 
 
 def run_for(*players_and_matches):
-    """Prepares a player for each of these matches, and ends it. Returns its processes."""
+    """Prepares a player for each of these matches, and then ends the player. Returns its processes."""
     async def play():
         started, *matches = players_and_matches
         found = []
@@ -81,7 +81,7 @@ def test_a_player_gets_its_port_its_directory_and_its_environment(tmp_path):
 def test_it_is_limited(tmp_path):
     script = "import os, resource; print(resource.getrlimit(resource.RLIMIT_DATA), len(os.sched_getaffinity(0)), flush=True); os.execvp('sleep', ['sleep', '600'])"
     ann = player(tmp_path, "", words=(sys.executable, "-c", script), memory=1 << 30, processors=1)
-    # It answers INFO once it has said this.
+    # The player answers INFO once it has printed this.
     ann.referee.info_words = lambda place: ["test", "-s", str(ann.log.path)]
     run_for(ann, "cup-001")
     assert (tmp_path / "players/ann.log").read_text() == f"({1 << 30}, {1 << 30}) 1\n"
@@ -247,7 +247,7 @@ def test_only_players_with_a_command_are_started(tmp_path):
     assert (places, len(reporter.notes)) == ([f"ann@127.0.0.1:{port}", "bob@h:1"], 1)
 
 
-# It starts a player with several processes, prints its number, and waits.
+# This script starts a player with several processes, prints the player's number, and waits.
 PLAYING = """
 import asyncio, sys
 sys.path.insert(0, sys.argv[1])
@@ -360,7 +360,7 @@ def test_a_log_is_rotated(tmp_path, monkeypatch):
         log.write(f"{number}".encode() * 60)
     assert sorted(file.name for file in tmp_path.iterdir()) == ["ann.log", "ann.log.1"]
     assert ((tmp_path / "ann.log.1").read_text(), (tmp_path / "ann.log").read_text()) == ("6" * 60 + "7" * 60, "8" * 60 + "9" * 60)
-    # Another run goes on with it.
+    # Another run appends to the same file.
     PlayerLog(tmp_path / "ann.log").write(b"x")
     assert (tmp_path / "ann.log").read_text() == "x"
 
@@ -462,7 +462,7 @@ class Started(InFolder):
             self.assertEqual(run(self.folder, *words)[::2], (0, ""))
 
     def ended(self, number):
-        """Plays until a match begins that does not end, and sends `play` a signal. Returns its output, and its players."""
+        """Plays until a match that does not end has begun, and sends `play` a signal. Returns the output and the players of `play`."""
         waiting = program_but(self.folder / "waiting", '"$1" = run', "exec sleep 3600")
         playing = start(self.folder, "play", "--program", waiting)
         self.assertEqual(playing.stdout.readline(), "begin cup-001 countdown ann bob\n")
@@ -522,7 +522,7 @@ class Started(InFolder):
         thief, python = self.folder / "thief.py", self.folder / "python"
         thief.write_text(THIEF)
         thief.chmod(0o755)
-        # The other user can read this directory, and neither that of the repository nor that of open matches.
+        # The other user can read this directory, but not the directory of the repository or that of open matches.
         self.folder.chmod(0o755)
         shutil.copytree(TOP / "python", python, ignore=shutil.ignore_patterns("__pycache__"))
         schedule = self.planned('launcher = ["setpriv", "--reuid=65534", "--regid=65534", "--clear-groups"]\nrestart = "each_match"')
@@ -530,7 +530,7 @@ class Started(InFolder):
         first, bob = f"{TOP}/examples/players/player.py", file.read_text().rindex("[[players]]")
         text = file.read_text()[:bob] + file.read_text()[bob:].replace(f'"{first}", "{{port}}", "1"', f'"{thief}", "{{port}}", "{self.folder}"')
         file.write_text(f'ids = "random"\n{text}')
-        # The other user may not run the Python that runs this.
+        # The other user may not run the Python that runs this test.
         words = {"capture_output": True, "text": True, "cwd": self.folder, "env": {**os.environ, "PATH": "/usr/sbin:/usr/bin:/sbin:/bin"}}
         for command_line in ("plan", "play"):
             done = subprocess.run([sys.executable, python / "ggp_competition", command_line, "--program", program()], **words)
@@ -561,7 +561,7 @@ class Started(InFolder):
         self.assertRegex(said, words % ("processors", "", "that `play` may use on this computer") + ".*" + words % ("memory", "bytes ", "bytes of this computer"))
 
     def test_the_demonstration(self):
-        # Its commands are run by the Python that runs this.
+        # The Python that runs this test runs its commands too.
         path = f"{os.path.dirname(sys.executable)}:{os.environ['PATH']}"
         done = subprocess.run([TOP / "examples/hold-a-competition", program(), self.folder / "demo"], env={**os.environ, "PATH": path}, capture_output=True, text=True)
         self.assertEqual((done.returncode, done.stderr), (0, ""), done.stdout)

@@ -98,7 +98,7 @@ def test_what_is_said(capsys):
 
 @pytest.mark.parametrize("call", ["say('text')", "put_bytes(b'text')"])
 def test_an_output_that_is_full(call):
-    # What is printed later is discarded: Python would complain about it at its end.
+    # Later output is discarded: otherwise Python would report an error when it exits.
     script = f"from ggp_tools.streams import *\ntry:\n    {call}\nexcept OSError as why:\n    report(error_words(why))\nprint('more')\nsys.stdout.flush()"
     script = script if call.startswith("say") else script.partition("print(")[0]
     with open("/dev/full", "wb") as full:
@@ -119,7 +119,7 @@ def test_bytes_are_put_and_standard_output_stays_open(tmp_path):
 
 @pytest.mark.parametrize("closed", [(0,), (1,), (2,), (0, 1), (0, 1, 2)])
 def test_standard_streams_that_are_closed_are_those_of_no_file(closed, tmp_path):
-    # A child inherits them too, and characters that the encoding lacks are written as escapes.
+    # A child process inherits the streams too, and characters that the encoding lacks are written as escapes.
     script = (
         "import os, subprocess, sys\nfrom ggp_tools.streams import ready_streams\nready_streams()\n"
         f"file = open({str(tmp_path / 'file')!r}, 'w')\nassert file.fileno() > 2\nassert sys.stdin.read() == ''\nprint('\\u00e9', flush=True)\nprint('x', file=sys.stderr, flush=True)\n"

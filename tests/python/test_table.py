@@ -37,7 +37,7 @@ def line(results, player, head="", game=0):
 
 class Tables(unittest.TestCase):
     def test_the_order_and_places(self):
-        # Means of 33.333.. and 33.33 are printed alike, so wins decide, then losses. If these are equal too, the rank is shared.
+        # Means of 33.333.. and 33.33 are printed in the same way, so wins decide, then losses. If these are equal too, the rank is shared.
         line = Line("x", matches=3, scored=3, goals=100, won=1, lost=2)
         changes = [
             ({}, {"goals": 101}, 1), ({"goals": 3333, "scored": 100}, {"won": 0}, -1), ({}, {"goals": 3333, "scored": 100}, 0),
@@ -167,7 +167,8 @@ class Tables(unittest.TestCase):
         self.assertEqual((line.order("knockout"), replace(line, rounds_won=2).order("knockout")), ((0,), (-2,)))
 
     def by_rounds(self, kind, rounds, results):
-        """Returns the tables of a competition in rounds. Results are the players of a match, its goals, its round, and the match that replaces it."""
+        """Returns the tables of a competition in rounds. A result has the players of a match, the goals, the round, and the match that replaces
+        it."""
         players = [(name, f"h:{at + 1}") for at, name in enumerate(NAMES[:3])]
         found = read_competition(toml(players, [("two", "f"), ("other", "f")], f'kind = "{kind}"' + "\nrounds = 2" * (kind == "swiss")).encode())
         made = [replace(played, match=replace(played.match, round=number, again=again)) for played, number, again in ((result(names, goals), number, again) for names, goals, number, again in results)]

@@ -1,4 +1,4 @@
-"""The templates of pages show any names, moves and answers as text. No element or attribute comes from them."""
+"""The templates of pages show any names, moves and answers as text. No element or attribute of a page comes from these texts."""
 
 import json
 from types import SimpleNamespace as Value
@@ -23,7 +23,7 @@ HARMLESS = "name"
 
 
 def values_of(text: str) -> dict[str, object]:
-    """Returns values for macros by the names of their arguments. Every text from outside is this one."""
+    """Returns values for macros by the names of their arguments. This text stands in for every text from outside."""
     match = Value(id=text, game=text, players=(text, text), start=1, play=2)
     seen = Value(players=((text, text), (text, text)), text=text, since=1.0, clock=text, is_of_players=True, mover=text)
     found = Value(boards=markupsafe.Markup("<p>made</p>"), terms=[text, text], before={text}, gone=[text], is_empty=True, more=2)
@@ -41,7 +41,7 @@ def values_of(text: str) -> dict[str, object]:
 
 
 def values_of_macro(text: str) -> dict[str, dict[str, object]]:
-    """Returns the arguments of macros that need special ones."""
+    """Returns the arguments of the macros that need special arguments."""
     match, error = values_of(text)["match"], Value(match=values_of(text)["match"], player=text, turn=1, move=text)
     row = {"left": 1, "y": 1, "player": text, "low": 1, "high": 2, "x": 1, "rating": 1, "half": 1}
     errors = {"match": text, "turn": text, "reason": text, "error": text, "texts": (text, text, text)}

@@ -19,7 +19,7 @@ OTHER_PAGE = changed("cup/pages/games/nim.html", lambda text: text.replace(b"?",
 
 
 def another_game(files):
-    """Corrupts an archive so that its descriptions belong to another game than its matches, with matching checksums."""
+    """Corrupts an archive so that its descriptions and its matches are of different games, with matching checksums."""
     before = files["cup/games/nim.kif"]
     files["cup/games/nim.kif"] = before.replace(b" 100)", b" 99)")
     sums = sum_of(before).encode(), sum_of(files["cup/games/nim.kif"]).encode()
@@ -53,7 +53,7 @@ class Told(InFolder):
         return tuple(example.read(self.rules(name).decode("ascii")))
 
     def tell_otherwise(self):
-        """Changes competition.toml so that players get ground rules."""
+        """Changes competition.toml so that the players get ground rules."""
         file = self.folder / "competition.toml"
         file.write_text(file.read_text().replace(TOLD, 'player_rules = "ground"'))
 
@@ -115,7 +115,7 @@ class Told(InFolder):
         status, out, said = run(self.folder, "play", "--at-once", "1")
         self.assertEqual((status, said), (1, ""), out)
         wrongly = [planned[0] for planned in self.schedule if planned[1] == "nim"]
-        # The next match may have begun while the first was checked.
+        # The next match may have begun while the first one was being checked.
         stopped = next(line for line in out.splitlines() if line.startswith("stopped nim is not played any more, because "))
         first = next(match for match in wrongly if match in stopped)
         words = f"no record {first}: by the description of nim it differs: "

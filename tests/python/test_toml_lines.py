@@ -1,4 +1,4 @@
-"""TOML with the line of each value, whatever else the text has."""
+"""Parsing TOML with the line of each value, whatever else the text contains."""
 
 import random
 import tomllib

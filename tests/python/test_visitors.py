@@ -1,4 +1,4 @@
-"""The limits of `serve`: how many connections and event streams a client has, how long they last, and how much is sent at once."""
+"""The limits of `serve`: how many connections and event streams a client may have, how long they last, and how much is sent at once."""
 
 import asyncio
 import contextlib
@@ -96,7 +96,7 @@ class Limits(Served):
         with patch.object(self.site, "page", page):
             for at in range(20):
                 self.ask_and_leave(f"/{at}")
-            # The first one was in progress. The thread does not work for the others.
+            # The first request was in progress. The thread does no work for the other requests.
             held.set()
             self.assertEqual(self.ask("/last")[0], 404)
         self.assertEqual(made, ["/0", "/last"])
@@ -141,13 +141,13 @@ class Limits(Served):
         busy[1].end.assert_called_once()
 
     def stream(self, *addresses):
-        """Opens the events as a visitor of a proxy."""
+        """Opens the event stream as a visitor that comes through a proxy."""
         return self.opened("/api/events", **{"X-Forwarded-For": ", ".join(addresses)})
 
     def test_a_new_stream_takes_the_place_of_the_oldest_one_of_the_client_with_most(self):
         answers = [self.stream(f"192.0.2.{client}") for client in (1, 1, 1, 2, 2, 3, 3, 4)]
         self.assertEqual([answer.status for answer in answers], [200, 200, 503, 200, 200, 200, 200, 200])
-        # Only the last address is one that the proxy has seen.
+        # The proxy itself has seen only the last address.
         answers.append(self.stream("192.0.2.99", "192.0.2.5"))
         self.look()
         # The oldest stream ends without an error, so a browser opens it again.
@@ -199,7 +199,7 @@ class Long(Served):
             match = self.end_match()
             statuses = [self.ask(f"/matches/{match}{part}.html")[0] for part in ("~5", "", "~1", "~2", "~4", "~5", "~99999")]
             self.assertEqual((statuses, read.call_count), ([404, *[200] * 4, 404, 404], 1))
-            # Another record has other parts.
+            # The page of another record has other parts.
             self.end_match(moves=[], errors=[], states=[["(heap 3)"]])
             self.assertEqual([self.ask(f"/matches/{match}~{part}.html")[0] for part in (1, 2)], [200, 404])
 

@@ -1,5 +1,5 @@
-"""A competition of 12 players, five of them bad, over three games with 6 matches at once. It is killed twice, interrupted once, and resumed. In the
-end each match has one lawful record and one call log that reproduces it, no player was asked during a match, and the table agrees with a simple
+"""A competition of 12 players, five of them bad, over three games with 6 matches at once. `play` is killed twice, interrupted once, and resumed. In
+the end, each match has one lawful record and one call log that reproduces it, no player was asked during a match, and the table agrees with a simple
 recount of the records."""
 
 import json
@@ -48,7 +48,7 @@ def recount(records):
 
 
 def told(table):
-    """Returns the same from a table of `ggp_competition table`."""
+    """Returns the same numbers from the output of `ggp_competition table`."""
     keys = "matches", "won", "drawn", "lost", "moves", "replaced", "retired"
     return {line["player"]: (line["goals"], *(line[key] for key in keys)) for line in table["lines"]}
 
@@ -114,8 +114,8 @@ class Whole(InFolder):
 
 
 def test_a_round_begins_for_all_players_at_once():
-    """Ann answers so late that bob asks for his next message only every 0.8 s by then. If ann's next message does not wake him, it comes
-    about 0.7 s before his. On a busy computer one of the first rounds may be late."""
+    """Ann answers so late that the thread of bob, by then, checks for the next message only every 0.8 s. If ann's next message does not wake this
+    thread, bob's message comes about 0.7 s after ann's. On a busy computer, one of the first rounds may be late."""
     ann, bob = (TestPlayer(name, "good", at) for at, name in enumerate(("ann", "bob")))
     answers, came, gaps = ann.answer, [], []
 

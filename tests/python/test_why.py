@@ -1,4 +1,4 @@
-"""The report of `why` about a match, from its record, its log and the journal of `play`, and the times in these."""
+"""The report of `why` about a match, from the record, the log and the journal of `play`, and the times in these files."""
 
 import re
 import shutil
@@ -124,7 +124,7 @@ class Why(InFolder):
         shutil.unpack_archive(self.folder / "cup.tar.gz", self.folder / "there")
         told = self.why("cup-001")
         self.assertEqual(run(self.folder, "why", "there/cup", "cup-001"), (0, told, ""))
-        # A referee that could not read the clock, and a directory without a journal.
+        # The referee could not read the clock, and the directory has no journal.
         (self.folder / "play.log").unlink()
         log = self.folder / "logs/cup-001.jsonl"
         log.write_text(re.sub('"time":[0-9]+', '"time":null', log.read_text()))
@@ -151,7 +151,7 @@ class Why(InFolder):
         for message, seconds in (("START", 20), ("turn 3: PLAY", 30), ("STOP", 30)):
             self.assertIn(f"{message} brought {SILENT} after 5 ms; TO: no complete answer within {seconds} s", said)
         self.assertIn("turn 3: PLAY brought CE (no connection) after", said)
-        # A player that answers with exactly this text has answered.
+        # If a player sends exactly this text, the player has answered.
         text = "IL ?: the answer is not one expression, or too long: a second expression begins at column 4; its first legal move was played"
         self.assertIn(f"turn 4: PLAY was answered `{SILENT}` after 5 ms; {text}", said)
 
@@ -185,7 +185,7 @@ class Why(InFolder):
             "begin cup-001 heap cup-001 bob", "end cup-002 heap bob 100, cup-001 0, 3.1 s", "no answer to abort cup-001: h:1",
             "stopped heap is not played any more, because cup-001 does not follow its description; 3 matches of it do not begin",
             "round 1 of 2: cup-001 to cup-002", "missing 20 matches between cup-001 and cup-020: broken off",
-            # In a competition that has grown an id may begin with that of another match.
+            # In a competition that has grown, an id may begin with the id of another match.
             "begin cup-0010 heap cup-001 bob", "stopped heap is not played any more, because cup-0010 does not follow its description", "round 10 of 12: cup-001 to cup-002",
         ]
         plan.folder.journal.write_text("".join(f"2026-01-01T00:00:00.000Z {line}\n" for line in lines))
@@ -196,7 +196,7 @@ class Why(InFolder):
         self.assertEqual([note.text for note in of_round.notes()], [lines[at] for at in (0, 3, 5, 6, 7)])
 
     def said_of(self, notes: str, log: str, *players: str) -> str:
-        """Returns the report about players from a journal and a log. `MATCH` in the notes stands for the match."""
+        """Returns the report about players from a journal and a log. `MATCH` in the notes means the match."""
         plan = plan_in(str(self.folder), ["ann", "bob"])
         match = plan.matches[0]
         plan.folder.journal.write_text(notes.replace("MATCH", match.id))
@@ -233,7 +233,7 @@ class Why(InFolder):
 
     def test_rows_are_in_the_order_of_their_times(self):
         match = plan_in(str(self.folder), ["ann", "bob"]).matches[0]
-        # In turn 1 bob answers before ann, and ann dies between turns 1 and 2. Its node has another clock than `play`.
+        # In turn 1 bob answers before ann, and ann dies between turns 1 and 2. The clock of the match's node differs from that of `play`.
         rows = ((0, 1, "START", 0), (1, 1, "START", 0), (0, 2, "PLAY", 2), (1, 2, "PLAY", 1), (0, 3, "PLAY", 5))
         log = "".join(line(match, role, number, f"({kind} {match.id} NIL)", "noop", 0, BEGAN + 1_000 * time) for role, number, kind, time in rows)
         notes = "".join(f"2026-01-02T03:04:{second:02}.500Z {row}\n" for second, row in ((5, "begin MATCH heap"), (8, "died MATCH ann: it ended"), (9, "end MATCH heap")))

@@ -22,7 +22,7 @@ NO_MOVES = ("nil", ())
 # A referee introduces itself with one of these messages.
 INTRODUCES = "info", "start"
 NO_MATCH = "No match yet: the referee has not sent START."
-# All messages but START have at most 16 moves of 4,096 bytes.
+# All messages except START have at most 16 moves of 4,096 bytes.
 MOST_MESSAGE = 131_072
 CLOCK = re.compile("[0-9]{1,5}")
 # The exceptions that invalid rules can cause.
@@ -56,7 +56,7 @@ def members_of(text: str) -> tuple:
 
 
 def game_of(rules: object) -> Game:
-    """Returns the game of a START's rules."""
+    """Returns the game of the rules in a START."""
     if not isinstance(rules, tuple):
         raise Refused("they are not a list")
     return Game("\n".join(map(spelled, rules)), takes_bytes=True)
@@ -130,7 +130,7 @@ class Seat:
         return "busy"
 
     def may_be_referee(self, sender: str) -> bool:
-        """Returns whether messages from this address are read: it is a referee's, or there is no referee yet."""
+        """Returns whether messages from this address are read: the address is a referee's, or there is no referee yet."""
         return not self.referees or sender in self.referees
 
     def is_referee(self, sender: str, keyword: str) -> bool:
@@ -142,17 +142,17 @@ class Seat:
                 self.say(**self.view)
         if is_first:
             words = f"it accepts matches only from {sender}, which sent the first INFO or START"
-            # Nobody may read standard error any more.
+            # Standard error may no longer have a reader.
             with contextlib.suppress(OSError):
                 print(f"ggp-human: {words}; if this is not your referee, restart it with --referee ADDRESS", file=sys.stderr, flush=True)
         return sender in self.referees
 
     def is_free(self) -> bool:
-        """Returns whether another match may begin, because there is none or its referee is lost."""
+        """Returns whether another match may begin, because there is no match, or its referee is lost."""
         return not self.match or time.monotonic() > self.expected
 
     def is_person_there(self) -> bool:
-        """Returns whether a page is open. Without one no move is made for the person."""
+        """Returns whether a page is open. Without an open page, no move is made for the person."""
         return bool(self.pages) or not self.waits_for_page
 
     def next_message(self, seconds: int = 0) -> int:
@@ -200,7 +200,7 @@ class Seat:
         return asked
 
     def refuse(self, asked: int, note: str) -> None:
-        """Shows why a START was refused. If it was a repeated START, its match is left."""
+        """Shows why a START was refused. If the START was a repeated one, its match is left."""
         with self.changed:
             if self.asked == asked:
                 self.match = ""
@@ -272,7 +272,8 @@ class Seat:
                 self.match, self.receiver = "", ""
 
     def leave(self, match: object) -> str | None:
-        """Leaves a match, or none, and accepts another referee. Returns an error, or None. A START whose rules take long is not waited for."""
+        """Leaves a match, if there is one, and accepts another referee. Returns an error, or None. Does not wait for a START whose rules take
+        long."""
         with self.changed:
             if match != self.match:
                 return "that match is over"
@@ -302,7 +303,7 @@ class Seat:
             self.changed.notify_all()
 
     def next_view(self, version: int, seconds: float) -> tuple[int, dict]:
-        """Waits until the view has another version, or for some seconds. Returns its version and the view with the person's time left."""
+        """Waits until the view has another version, or for some seconds. Returns the version, and the view with the person's time left."""
         with self.changed:
             self.changed.wait_for(lambda: self.version != version, seconds)
             left = max(0.0, self.deadline - time.monotonic()) if self.view["phase"] in ("moving", "sent") else None

@@ -21,7 +21,7 @@ from ggp_tools.visitors import Visitors, client_of
 
 # START has the whole rules, with a space for each atom and each list.
 MOST_BYTES, MOST_MOVE = 33_554_432, 65_536
-# After this many seconds without a change the page gets a line, which also detects that the page was closed.
+# After this many seconds without a change the page gets a line; this also detects that the page was closed.
 ALIVE = 1.0
 # A request must arrive within this many seconds, and one more for each MiB of its body. The client must accept the answer within PATIENCE seconds.
 REQUEST_SECONDS, PATIENCE = 5, 30
@@ -67,7 +67,7 @@ class Request(io.RawIOBase):
         return self.received / (time.monotonic() - self.began + 0.001)
 
     def is_whole(self) -> None:
-        """Notes that the request has arrived: the connection does not give way any more, and its answer has another deadline."""
+        """Notes that the request has arrived: the connection no longer gives way, and the answer has another deadline."""
         self.is_idle = False
         self.connection.settimeout(PATIENCE)
 
@@ -227,7 +227,7 @@ class Server(ThreadingHTTPServer):
 
     @contextlib.contextmanager
     def reading(self, request: Request) -> Iterator[None]:
-        """Lets a long body be read. If there are too many, the slowest one of the client that has most of them gives way."""
+        """Lets a long body be read. If there are too many, the slowest one of the client that has the most gives way."""
         with self.visitors.lock:
             if len(self.readers) == MOST_LONG:
                 counts = Counter(reader.client for reader in (*self.readers, request))

@@ -1,4 +1,4 @@
-"""How the drivers run a program that may hang: it is killed, and its status shows it."""
+"""How the tests of the program run a program that may hang: it is killed, and its exit status shows this."""
 import subprocess
 import threading
 import unittest

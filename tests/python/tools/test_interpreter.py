@@ -1,4 +1,4 @@
-"""The interpreter of `tests/oracle`: the true sentences of rules with variables, also of recursive ones."""
+"""The interpreter of `tests/oracle`: the true sentences of rules with variables, including recursive rules."""
 import time
 import unittest
 

@@ -1,4 +1,4 @@
-"""Imports of non-public definitions of other crates, and crates that are listed and not used."""
+"""Imports of non-public definitions of other crates, and crates that are listed but not used."""
 import unittest
 
 from crates import reaching, unmentioned

@@ -36,7 +36,7 @@ Before. status 0: all is well. 1: it is not.
 
 
 def some():
-    """Returns a help with a subcommand."""
+    """Returns a help text with a subcommand."""
     found, _ = read_help("some", BY_ARGPARSE)
     found.commands = [read_help("some run", BY_CLAP)[0]]
     return found

@@ -1,4 +1,4 @@
-"""The example player: its answers, also to unexpected messages, and that it continues."""
+"""The example player: its answers, including those to unexpected messages, after which it must continue."""
 import contextlib
 import io
 import os

@@ -1,4 +1,4 @@
-"""Limits that an unproved program does not reach within minutes: the code and docs/COMMANDS.md have the same numbers."""
+"""Limits that an unproved program cannot reach within minutes: the code and docs/COMMANDS.md must have the same numbers."""
 import os
 import re
 import unittest

@@ -5,7 +5,7 @@ from documents import indexed, sources, without_targets
 
 
 def shown(text):
-    """Returns the lines of a text that are taken from a file. The code is indented."""
+    """Returns the lines of a text that come from a file. Indented lines are code."""
     lines = [(number, line, line.startswith("    ")) for number, line in enumerate(text.splitlines(), 1)]
     return [*sources(lines)]
 

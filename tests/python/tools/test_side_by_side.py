@@ -1,4 +1,4 @@
-"""A script next to its replies, with fake programs."""
+"""Shows a script next to its replies, with fake programs."""
 import os
 import subprocess
 import tempfile
@@ -8,7 +8,7 @@ TOP = os.path.dirname(os.path.dirname(os.path.dirname(os.path.dirname(os.path.re
 
 
 def shown(script, does):
-    """Returns the exit status and the output for a program that does this with a script."""
+    """Returns the exit status and the output, if the program does this with a script."""
     with tempfile.NamedTemporaryFile("w") as file:
         file.write(script)
         file.flush()
