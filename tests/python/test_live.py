@@ -154,6 +154,7 @@ class Lines(InRoom):
         seen = self.seen_after(log)
         self.assertEqual((seen.turn(), seen.board.position.moves, seen.missed, seen.replaced), (2, [["(take 1)", "noop"]], {}, []))
         self.assertEqual(seen.board.turns()[0].errors, ("", "lost (out of ports)"))
+        self.assertIn("the referee lacked a resource", turn_row(seen.board.turns()[0])[1])
         # The match goes on, also if that retires the player.
         seen = self.seen_after(log, self.play(3, "((take 1) noop)", ["noop"], [0]), strikes=1)
         self.assertEqual((seen.turn(), seen.awaited()), (3, [0]))

@@ -10,7 +10,7 @@ from ggp_tools.competition.plots import BARS, bar_of, goals_plot, times_plot
 from ggp_tools.competition.results import Result, again_words
 from ggp_tools.competition.table import Table
 from ggp_tools.competition.table_text import rating_text
-from ggp_tools.match_log import PLAY, START, Event, Message, messages, shown
+from ggp_tools.match_log import PLAY, SHORTAGE, START, Event, Message, messages, shown
 from ggp_tools.printable import counted
 from ggp_tools.records.show import why_of
 
@@ -122,7 +122,10 @@ def longest_text(times: list[int | None]) -> str:
 
 def reason_of(error: str) -> str:
     """Returns what an error means. An error of a log may be followed by its reason."""
-    return why_of(error if error.startswith("IL ") else error.partition(" ")[0])
+    kind = error.partition(" ")[0]
+    if kind == SHORTAGE:
+        return "the referee lacked a resource"
+    return why_of(error if kind == "IL" else kind)
 
 
 def errors_part(appearances: list[Appearance]) -> Part:
