@@ -1,10 +1,12 @@
 """Parses KIF: an atom is a string, a list a tuple. `Refused` says why a description is refused."""
 
 import re
-from collections.abc import Iterable, Iterator
+from collections.abc import Callable, Hashable, Iterable, Iterator
+from typing import TypeVar
 
 from ggp_tools.printable import shown
 
+Value, Key = TypeVar("Value"), TypeVar("Key", bound=Hashable)
 Expression = str | tuple
 # The name of a relation, and the number of its arguments: None for an atom.
 Relation = tuple[str, int | None]
@@ -180,6 +182,14 @@ def head_of(sentence: Expression) -> Expression:
 def levels(expression: Expression) -> int:
     """Returns how deep lists are nested."""
     return 0 if isinstance(expression, str) else 1 + max(map(levels, expression), default=0)
+
+
+def grouped(values: Iterable[Value], key: Callable[[Value], Key]) -> dict[Key, list[Value]]:
+    """Groups values by a key. The groups and their values keep their order."""
+    groups: dict[Key, list[Value]] = {}
+    for value in values:
+        groups.setdefault(key(value), []).append(value)
+    return groups
 
 
 def fresh(word: str, taken: Iterable[str]) -> str:

@@ -66,18 +66,9 @@ def has_events(version: bytes) -> bool:
     return tuple(map(int, version.split()[1].split(b"."))) >= FIRST_WITH_EVENTS
 
 
-def said_lines(said: subprocess.CompletedProcess) -> list[str]:
-    """Returns the last lines of a run's standard error."""
-    return message_lines(said.stderr)
-
-
 def last_line(said: subprocess.CompletedProcess) -> str:
-    return (said_lines(said) or [""])[-1]
-
-
-def verdict_words(verdict: dict) -> str:
-    """Returns a verdict of `verify` in the form for people."""
-    return LAWFUL if verdict["verdict"] == LAWFUL else f"not lawful: {verdict['fault']}"
+    """Returns the last line of a run's standard error."""
+    return (message_lines(said.stderr) or [""])[-1]
 
 
 def records_replayed(output: bytes) -> list[bytes]:
@@ -111,10 +102,6 @@ def read_objects(said: subprocess.CompletedProcess) -> list[dict] | None:
         return [json.loads(line) for line in said.stdout.splitlines() if line.startswith(b"{")]
     except (ValueError, RecursionError):
         return None
-
-
-def is_text_list(value: object) -> bool:
-    return isinstance(value, list) and all(isinstance(member, str) for member in value)
 
 
 class Referee:
@@ -181,14 +168,14 @@ class Referee:
             raise BadRules(last.removeprefix(f"{BAD_RULES}: "))
         if last == BAD_RULES:
             # The line before has the place and the reason.
-            raise BadRules(said_lines(run)[-2:][0].removeprefix("ggp_manager: "))
+            raise BadRules(message_lines(run.stderr)[-2:][0].removeprefix("ggp_manager: "))
         if run.returncode:
             raise unchecked(run, name or rules_path)
 
     def verdicts(self, rules_path: pathlib.Path | str, records: Sequence[bytes]) -> list[str]:
         """Returns the verdict of `verify` for each record, in words. Each record is one line, which begins with `{`."""
         run = self.call("verify", "--lines", JSON, *self.rules_words(rules_path), data=b"".join(records))
-        verdicts = [verdict_words(verdict) for verdict in read_objects(run) or ()]
+        verdicts = [LAWFUL if verdict["verdict"] == LAWFUL else f"not lawful: {verdict['fault']}" for verdict in read_objects(run) or ()]
         if len(verdicts) != len(records) or run.returncode != (0 if verdicts.count(LAWFUL) == len(verdicts) else NO):
             raise unchecked(run, rules_path)
         return verdicts

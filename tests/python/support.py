@@ -67,6 +67,15 @@ def stand_in(**answers):
     return referee
 
 
+def raised(kind, ask, *arguments, **more):
+    """Returns the exception of this kind that a call raises."""
+    try:
+        ask(*arguments, **more)
+    except kind as why:
+        return why
+    raise AssertionError(f"{kind.__name__} is not raised")
+
+
 def toml(players, games, form='kind = "round_robin"', head=""):
     """Returns the text of a competition.toml. Players are (name, address) and more, games are (name, file) and more."""
     lines = ['name = "cup"', *head.splitlines(), "[form]", *form.splitlines()]

@@ -8,10 +8,10 @@ import io
 import json
 import os
 import pathlib
+import shutil
 import sqlite3
 import subprocess
 import sys
-import tempfile
 import unittest
 from unittest import mock
 
@@ -146,23 +146,35 @@ class Piles(InFolder):
                 self.assertEqual([(judged.line.number, judged.is_lawful) for judged in found], [(at + 1, at % 2 == 0) for at in range(40)])
 
 
-class Commands(unittest.TestCase):
+class WithPile(InFolder):
+    """Runs `ggp-records` over a file of records, with the rules of two games."""
+
     def setUp(self):
-        self.folder = pathlib.Path(self.enterContext(tempfile.TemporaryDirectory()))
+        super().setUp()
         (self.folder / "rules").mkdir()
         for name in ("countdown", "tictactoe"):
-            (self.folder / f"rules/{name}.kif").write_bytes((GAMES / f"{name}.kif").read_bytes())
-        self.pile = self.folder / "pile"
-        lines = [record(LAWFUL[0]), "0\tnext m 0\tover\n", record(FAULTY), record(LAWFUL[1]), "no record\n", '{"roles":["x"]}\n']
-        self.pile.write_text("".join(lines), encoding="ascii")
+            shutil.copy(GAMES / f"{name}.kif", self.folder / "rules")
+        self.pile, self.out = self.folder / "pile", self.folder / "out"
 
-    def run_records(self, *words: str, input: bytes = b"") -> subprocess.CompletedProcess:
+    def run_records(self, *words: object, input: bytes = b"") -> subprocess.CompletedProcess:
         call = [sys.executable, TOP / "python/ggp-records", "--program", program(), "--rules", self.folder / "rules", *words]
         said = subprocess.run(list(map(str, call)), capture_output=True, input=input)
         return subprocess.CompletedProcess(said.args, said.returncode, said.stdout.decode(), said.stderr.decode())
 
+    def converted(self, text: str, action: str, *words: object) -> subprocess.CompletedProcess:
+        """Converts records of this text."""
+        self.pile.write_text(text, encoding="ascii")
+        return self.run_records(action, *words, self.out, self.pile)
+
+
+class Commands(WithPile):
+    def setUp(self):
+        super().setUp()
+        lines = [record(LAWFUL[0]), "0\tnext m 0\tover\n", record(FAULTY), record(LAWFUL[1]), "no record\n", '{"roles":["x"]}\n']
+        self.pile.write_text("".join(lines), encoding="ascii")
+
     def test_each_record_gets_a_line(self):
-        said = self.run_records("check", str(self.pile))
+        said = self.run_records("check", self.pile)
         rows = [line.split("\t")[1:] for line in said.stdout.splitlines()]
         verdicts = ["lawful", "not lawful: state 1", "lawful"]
         self.assertEqual([row[3] for row in rows[:3]], verdicts)
@@ -208,7 +220,7 @@ class Commands(unittest.TestCase):
     def test_a_database_has_matches_players_and_moves(self):
         output, text = self.folder / "o.db", self.pile.read_text()
         self.pile.write_text(text.replace('"startMarks":["",""]', '"startMarks":["TO",""]', 1).replace('"endMarks":["",""]', '"endMarks":["","CE"]', 1))
-        self.assertEqual(self.run_records("sqlite", str(output), str(self.pile)).returncode, 1)
+        self.assertEqual(self.run_records("sqlite", output, self.pile).returncode, 1)
         with sqlite3.connect(output) as database:
             rows = database.execute("SELECT line, verdict, turns FROM matches ORDER BY number").fetchall()
             self.assertEqual(rows[:3], [(1, "lawful", 2), (3, "not lawful: state 1", 2), (4, "lawful", 2)])
@@ -217,7 +229,7 @@ class Commands(unittest.TestCase):
             moves = database.execute("SELECT turn, role_number, move, error FROM moves WHERE match_number = 3").fetchall()
             self.assertEqual(moves, [(1, 0, "(take 1)", ""), (1, 1, "noop", ""), (2, 0, "noop", ""), (2, 1, "(take 2)", "")])
         database.close()
-        self.assertEqual(self.run_records("sqlite", str(output), str(self.pile)).returncode, 2)
+        self.assertEqual(self.run_records("sqlite", output, self.pile).returncode, 2)
 
     def test_rows_that_do_not_count_are_marked(self):
         self.pile.write_text("".join(record(name) for name in (LAWFUL[1], FAULTY, LAWFUL[1], LAWFUL[0], FAULTY)), encoding="ascii")
@@ -237,7 +249,7 @@ class Commands(unittest.TestCase):
             self.assertEqual([(row["match_number"], row["lawful"], row["copy_of"]) for row in csv.DictReader(file)][:6], [("1", "1", "")] * 2 + [("2", "0", "")] * 2 + [("3", "1", "1")] * 2)
 
     def test_files_of_values_have_the_same_rows(self):
-        self.run_records("csv", str(self.folder / "tables"), str(self.pile))
+        self.run_records("csv", self.folder / "tables", self.pile)
         with open(self.folder / "tables/moves.csv", encoding="utf-8", newline="") as file:
             rows = list(csv.reader(file))
         self.assertEqual(rows[0], ["match_number", "turn", "role_number", "move", "error", "lawful", "copy_of"])
@@ -248,7 +260,7 @@ class Commands(unittest.TestCase):
         hostile["players"][0] = "<script>x</script>"
         hostile["matchId"] = "../<b>"
         self.pile.write_text(record(LAWFUL[1]) + json.dumps(hostile) + "\n", encoding="ascii")
-        self.run_records("pages", str(self.folder / "pages"), str(self.pile))
+        self.run_records("pages", self.folder / "pages", self.pile)
         names = sorted(path.name for path in (self.folder / "pages").iterdir())
         self.assertEqual(names, ["000001-m1.html", "000002-.._b_.html".replace("_b_", "__b_"), "index.html"])
         for name in names:
@@ -257,52 +269,36 @@ class Commands(unittest.TestCase):
             self.assertNotIn("<b>:", page)
 
     def test_what_is_wide_scrolls_by_itself_and_not_the_page(self):
-        self.run_records("pages", str(self.folder / "pages"), str(self.pile))
+        self.run_records("pages", self.folder / "pages", self.pile)
         for path in (self.folder / "pages").iterdir():
             page = path.read_text(encoding="ascii")
             inside = page.count('<div class="wide"><table') + page.count('<div class="turns"><table')
             self.assertEqual((page.count("<table"), page.count('class="board"')), (inside, page.count('<div class="wide"><div class="board"')))
 
     def test_a_pile_that_is_not_there_is_no_verdict(self):
-        said = self.run_records("check", str(self.folder / "none"))
+        said = self.run_records("check", self.folder / "none")
         self.assertEqual(said.returncode, 3)
         self.assertIn("none", said.stderr)
 
-    def test_a_line_that_is_too_long_is_told_and_the_others_are_checked(self):
-        with open(self.pile, "w", encoding="ascii") as file:
-            file.write(record(LAWFUL[0]) + "{" + " " * (17 << 20) + "}\n" + record(LAWFUL[1]))
-        rows = [line.split("\t")[1:] for line in self.run_records("check", str(self.pile)).stdout.splitlines()]
-        self.assertEqual([row[0] for row in rows], ["1", "2", "3"])
-        self.assertEqual([row[3] for row in rows], ["lawful", "no record: it is longer than 16 MiB", "lawful"])
-
     def test_tables_take_what_is_no_lawful_record(self):
-        odd = [{"strikes": 10**30}, {"matchId": "\ud800"}, {"matchId": "a\0b"}, {"version": [1]}, {"players": ["=x", "a\"b\n,c\r"]}]
-        whole = json.loads(record(LAWFUL[1]))
+        odd, whole = [{"matchId": "\ud800"}, {"matchId": "a\0b"}, {"version": [1]}, {"players": ["=x", "a\"b\n,c\r"]}], json.loads(record(LAWFUL[1]))
+        odd += [{"strikes": number} for number in ((1 << 63) - 1, 1 << 63, 10**30)]
         self.pile.write_text("".join(json.dumps({**whole, **keys}) + "\n" for keys in odd), encoding="ascii")
         for action in ("sqlite", "csv", "pages"):
-            said = self.run_records(action, str(self.folder / action), str(self.pile))
-            self.assertEqual((said.returncode, said.stderr), (1, "ggp-records: 5 not lawful\n"), action)
+            said = self.run_records(action, self.folder / action, self.pile)
+            self.assertEqual((said.returncode, said.stderr), (1, "ggp-records: 7 not lawful\n"), action)
         with contextlib.closing(sqlite3.connect(self.folder / "sqlite")) as database:
             rows = database.execute("SELECT strikes, match_id FROM matches ORDER BY number").fetchall()
-        self.assertEqual((rows[0][0], rows[1][1]), (1e30, "\\ud800"))
-
-    def test_a_database_takes_the_numbers_beside_its_largest(self):
-        numbers, whole = [(1 << 63) - 1, 1 << 63, (1 << 64) - 1], json.loads(record(LAWFUL[1]))
-        self.pile.write_text("".join(json.dumps({**whole, "strikes": number}) + "\n" for number in numbers), encoding="ascii")
-        said = self.run_records("sqlite", str(self.folder / "o.db"), str(self.pile))
-        self.assertEqual((said.returncode, said.stderr), (1, "ggp-records: 3 not lawful\n"))
-        with contextlib.closing(sqlite3.connect(self.folder / "o.db")) as database:
-            rows = database.execute("SELECT strikes FROM matches ORDER BY number").fetchall()
-        self.assertEqual([row[0] for row in rows], [numbers[0], *map(float, numbers[1:])])
+        self.assertEqual((rows[0][1], [strikes for strikes, _ in rows[4:]]), ("\\ud800", [(1 << 63) - 1, float(1 << 63), 1e30]))
 
     def test_a_database_takes_no_file_that_is_there(self):
         beside = self.folder / "o.db.new"
         beside.write_text("mine", encoding="ascii")
-        self.run_records("sqlite", str(self.folder / "o.db"), str(self.pile))
+        self.run_records("sqlite", self.folder / "o.db", self.pile)
         self.assertEqual(beside.read_text(encoding="ascii"), "mine")
         (self.folder / "link").symlink_to("nowhere")
-        self.assertEqual(self.run_records("sqlite", str(self.folder / "link"), str(self.pile)).returncode, 2)
-        self.assertEqual(self.run_records("sqlite", str(self.folder / "none/o.db"), str(self.pile)).returncode, 3)
+        self.assertEqual(self.run_records("sqlite", self.folder / "link", self.pile).returncode, 2)
+        self.assertEqual(self.run_records("sqlite", self.folder / "none/o.db", self.pile).returncode, 3)
         self.assertEqual(sorted(path.name for path in self.folder.iterdir()), ["link", "o.db", "o.db.new", "pile", "rules"])
 
     def test_files_that_are_no_rules_are_told_and_skipped(self):
@@ -311,13 +307,13 @@ class Commands(unittest.TestCase):
             (self.folder / f"rules/{name}.kif").write_text(text, encoding="ascii")
         (self.folder / "rules" / os.fsdecode(b"\xff.kif")).write_text("(role red)(role blue)", encoding="ascii")
         self.pile.write_text(record(LAWFUL[1]), encoding="ascii")
-        said = self.run_records("check", str(self.pile))
+        said = self.run_records("check", self.pile)
         self.assertEqual(said.returncode, 0, said.stderr)
         self.assertEqual(said.stderr.count("ggp-records: skipped: "), len(odd) + 1)
 
     def test_without_rules_there_is_no_verdict(self):
         for path in (self.folder / "rules").iterdir():
             path.unlink()
-        self.assertEqual(self.run_records("check", str(self.pile)).returncode, 3)
+        self.assertEqual(self.run_records("check", self.pile).returncode, 3)
         (self.folder / "rules").rmdir()
-        self.assertEqual(self.run_records("check", str(self.pile)).returncode, 3)
+        self.assertEqual(self.run_records("check", self.pile).returncode, 3)

@@ -4,7 +4,6 @@ import argparse
 import contextlib
 import io
 import json
-import os
 import pathlib
 import subprocess
 import sys
@@ -13,13 +12,12 @@ import unittest
 from unittest import mock
 
 from ggp_tools.holding.game import Game
-from ggp_tools.printable import counted
 from ggp_tools.records import explain
 from ggp_tools.records.countdown import countdown
 from ggp_tools.records.explain import explain_lines, explanation, judged, judged_lines, read, short
 from ggp_tools.records.record import json_lines
 from ggp_tools.streams import Ended
-from support import TOP, outside, program, verdict_rows
+from support import TOP, outside, program, raised, verdict_rows
 from test_referee import WithStandIn
 
 EXPLAIN = TOP / "python/ggp-explain-record"
@@ -177,22 +175,13 @@ class Faults(unittest.TestCase):
 
 class Words(unittest.TestCase):
     def test_a_text_is_shown_in_visible_characters_up_to_a_length(self):
-        self.assertEqual(short("a b~\n\xe9\U0001f600"), "a b~\\u{a}\\u{e9}\\u{1f600}")
-        self.assertEqual((short("x" * 400), short("x" * 401), short("\x7f")), ("x" * 400, "x" * 400 + "..", "\\u{7f}"))
+        self.assertEqual((short("x" * 400), short("x" * 401), short("\n\x7f")), ("x" * 400, "x" * 400 + "..", "\\u{a}\\u{7f}"))
 
     def test_of_a_list_the_first_twenty(self):
         words = [f"w{at}" for at in range(1_300)]
         self.assertEqual((explain.listed([]), explain.listed(words[:2])), ("none", "w0, w1"))
         self.assertEqual((explain.listed(words[:20]), explain.listed(words[:21])), (", ".join(words[:20]), f"{', '.join(words[:20])}, and 1 more"))
         self.assertTrue(explain.listed(words).endswith(", w19, and 1,280 more"))
-
-    def test_numbers_of_things(self):
-        self.assertEqual([counted(number, "turn") for number in (0, 1, 2, 1_000)], ["0 turns", "1 turn", "2 turns", "1,000 turns"])
-
-    def test_the_role_of_a_cause_is_named(self):
-        names = ["red", "blue"]
-        self.assertEqual(explain.end_words("aborted", "nolegal 1", names), "phase aborted, cause nolegal 1 (the role blue)")
-        self.assertEqual((explain.end_words("finished", None, names), explain.end_words("aborted", "asked", names)), ("phase finished, cause null", "phase aborted, cause asked"))
 
 
 class Verdicts(WithStandIn):
@@ -201,9 +190,8 @@ class Verdicts(WithStandIn):
     def no_verdict(self, ask, *answer) -> tuple[str, int]:
         self.begin_anew()
         self.answers(*answer)
-        with self.assertRaises(Ended) as why:
-            ask()
-        return str(why.exception), why.exception.status
+        why = raised(Ended, ask)
+        return str(why), why.status
 
     def test_of_one_record(self):
         path = self.referee.path
@@ -225,9 +213,8 @@ class Verdicts(WithStandIn):
 
     def test_a_program_that_can_not_be_run(self):
         for path, words in (("/none", "No such file or directory"), ("a\0b", "its name has a NUL byte")):
-            with self.assertRaises(Ended) as why:
-                judged(path, [], b"")
-            self.assertEqual((str(why.exception), why.exception.status), (f"cannot run {path}: {words}", 3))
+            why = raised(Ended, judged, path, [], b"")
+            self.assertEqual((str(why), why.status), (f"cannot run {path}: {words}", 3))
 
     def test_of_lines(self):
         path = self.referee.path
@@ -259,14 +246,6 @@ class Verdicts(WithStandIn):
         self.assertEqual(count, "1 lawful, 3 not lawful, 2 call log lines skipped")
         self.assertEqual(self.asked()[1].count(b"\n"), 4)
 
-    def test_a_line_that_is_too_long_is_no_record(self):
-        most = 16 << 20
-        self.answers(verdict_rows(None))
-        for _ in range(2):
-            self.answers()
-        count, said = self.lines_of(b"{" + b" " * (most - 2) + b"}\n" + b"{" + b" " * (most - 1) + b"}\n")
-        self.assertEqual((count, said), ("1 lawful, 1 not lawful", ["line 2: no record: it is longer than 16 MiB"]))
-
     def test_lines_behind_one_that_is_too_long_have_their_own_verdicts(self):
         self.answers(verdict_rows(None, "json", None), b"", 1)
         with mock.patch("ggp_tools.records.collection.LONGEST_RECORD", 4):
@@ -297,9 +276,8 @@ class Verdicts(WithStandIn):
         file.write_bytes(b"x" * 20)
         self.assertEqual((len(read(str(file), 19)), len(read(str(file), 10)), len(read(str(file), 30))), (20, 11, 20))
         for path, words in ((str(self.folder), "Is a directory"), ("/none", "No such file or directory")):
-            with self.assertRaises(OSError) as why:
-                read(path, 10)
-            self.assertEqual((why.exception.filename, why.exception.strerror), (path, words))
+            why = raised(OSError, read, path, 10)
+            self.assertEqual((why.filename, why.strerror), (path, words))
 
 
 class Commands(WithStandIn):
@@ -312,14 +290,6 @@ class Commands(WithStandIn):
             with explain.rules_of(argparse.Namespace(program="p", countdown=1, rules_file=None)) as (words, game):
                 self.assertEqual((words, len(game().roles)), (["--countdown=1"], 2))
         self.assertEqual(read_up_to, [("f", 1 << 20), ("f", 16 << 20)])
-
-    def test_standard_input_and_output(self):
-        for words in ([], ["--lines"]):
-            ran = subprocess.run([sys.executable, EXPLAIN, "/none", *words, "--countdown=3"], preexec_fn=lambda: os.close(0), capture_output=True, text=True)
-            self.assertEqual((ran.returncode, ran.stdout, ran.stderr), (3, "", "ggp-explain-record: standard input: it is closed\n"))
-        self.answers(verdict_rows(None))
-        words = sys.executable, EXPLAIN, self.referee.path, RECORD, "--countdown=3"
-        self.assertEqual(subprocess.run(words, capture_output=True).stdout, b"lawful\n")
 
     def run_main(self, *words: str, answer=(verdict_rows(None),)) -> tuple[int, str, str]:
         """Returns the exit status, the output and the messages of a run in this process."""
@@ -337,21 +307,6 @@ class Commands(WithStandIn):
         self.assertEqual(self.run_main(str(RECORD), "--lines", "--countdown=3"), (0, "", "ggp-explain-record: 1 lawful, 0 not lawful\n"))
         status, out, said = self.run_main(str(RECORD), "--lines", "--countdown=3", answer=(verdict_rows("goals"), b"", 1))
         self.assertEqual((status, out.splitlines()[0], said), (1, "line 1, match m1: not lawful: goals", "ggp-explain-record: 0 lawful, 1 not lawful\n"))
-
-    def test_rules_of_a_file(self):
-        file = self.folder / "rules"
-        file.write_bytes(b"(role red)")
-        kept = []
-        with mock.patch.object(subprocess, "run", lambda words, **_: kept.append(pathlib.Path(words[3].partition("=")[2]).read_bytes()) or subprocess.CompletedProcess(words, 0, verdict_rows(None), b"")):
-            self.assertEqual(self.run_main(str(RECORD), "--rules-file", str(file))[0], 0)
-        self.assertEqual(kept, [b"(role red)"])
-
-    def test_without_a_verdict_the_status_says_so(self):
-        self.assertEqual(self.run_main("/none", "--countdown=3"), (3, "", "ggp-explain-record: /none: No such file or directory\n"))
-        self.assertEqual(self.run_main(str(RECORD), "--countdown=3", answer=(b"", b"ggp_manager: read fault\n", 2)), (3, "", "ggp_manager: read fault\n"))
-        for fault, words in ((MemoryError(), "out of memory"), (OSError(28, "full"), "full"), (OSError(28, "full", "x"), "x: full")):
-            with mock.patch.object(explain, "explain_one", side_effect=fault):
-                self.assertEqual(self.run_main(str(RECORD), "--countdown=3"), (3, "", f"ggp-explain-record: {words}\n"))
 
 
 class Whole(unittest.TestCase):
@@ -427,11 +382,3 @@ class Whole(unittest.TestCase):
         for words in (("--countdown",), ("--cont", "3"), ("a", "b", "--countdown", "3"), ("--countdown", "3", "--rules-file", "x"), ("a",)):
             found, out, told = self.explained(b"", *words)
             self.assertEqual((found, out, told.partition(" [")[0]), (2, [], "usage: ggp-explain-record"), words)
-
-    def test_outputs_that_are_full_or_closed(self):
-        words = [sys.executable, EXPLAIN, program(), "--countdown=3", RECORD]
-        with open("/dev/full", "w") as full:
-            ran = subprocess.run(words, stdout=full, stderr=subprocess.PIPE)
-        self.assertEqual((ran.returncode, ran.stderr), (3, b"ggp-explain-record: standard output: No space left on device\n"))
-        ran = subprocess.run(words, preexec_fn=lambda: os.close(2), capture_output=True)
-        self.assertEqual((ran.returncode, ran.stdout, ran.stderr), (0, b"lawful\n", b""))

@@ -20,6 +20,7 @@ from ggp_tools.records.match_logs import Beginning, MatchLogs, beginnings, files
 from live_support import Missed, line
 from players import TestPlayer
 from support import GAMES, TOP, InFolder, program, run
+from test_collection import WithPile
 
 RECORD_BYTES = (TOP / "examples/records/countdown-3-second_version.record").read_bytes().rstrip()
 RECORD = json.loads(RECORD_BYTES)
@@ -257,19 +258,14 @@ class Lines(unittest.TestCase):
         self.assert_unknown("its log is that of another match", record, LOG.replace("((take 1) noop)", f"({long}a noop)"))
 
 
-class Files(unittest.TestCase):
+class Files(WithPile):
     def setUp(self):
-        self.folder = pathlib.Path(self.enterContext(tempfile.TemporaryDirectory()))
-        (self.folder / "rules").mkdir()
+        super().setUp()
         self.rules = self.folder / "rules/countdown.kif"
-        self.rules.write_bytes((GAMES / "countdown.kif").read_bytes())
         (self.folder / "log").write_text(LOG, encoding="ascii")
-        self.out = self.folder / "facts.jsonl"
 
     def run_facts(self, pile: bytes, *words: object) -> subprocess.CompletedProcess:
-        (self.folder / "pile").write_bytes(pile)
-        call = [sys.executable, TOP / "python/ggp-records", "--program", program(), "--rules", self.folder / "rules", "facts"]
-        return subprocess.run([*call, *words, self.out, self.folder / "pile"], capture_output=True, text=True)
+        return self.converted(pile.decode(), "facts", *words)
 
     def lines(self) -> list[dict]:
         return [json.loads(line) for line in self.out.read_text(encoding="ascii").splitlines()]
@@ -287,7 +283,7 @@ class Files(unittest.TestCase):
         self.assertEqual(sums, (hashlib.sha256(self.rules.read_bytes()).hexdigest(), hashlib.sha256(said(BROKEN)).hexdigest(), "countdown"))
         said_by = subprocess.run([program(), "--version"], capture_output=True, text=True).stdout
         self.assertEqual((first["checkedBy"], first["program"]), (said_by.strip(), None))
-        self.assertEqual(sorted(path.name for path in self.folder.iterdir()), ["facts.jsonl", "log", "pile", "rules"])
+        self.assertEqual(sorted(path.name for path in self.folder.iterdir()), ["log", "out", "pile", "rules"])
 
     def test_several_matches_of_one_id_are_named(self):
         done = self.run_facts(said(BROKEN) + said({**BROKEN, "playClock": 6}), "--log", self.folder / "log")
@@ -323,7 +319,6 @@ class Files(unittest.TestCase):
         sums.write_text("no sum\n", encoding="ascii")
         with self.assertRaisesRegex(OSError, "not a checksum"):
             description_sums(rules, None)
-
 
     def test_which_program_refereed_stands_beside_the_rules_or_is_told(self):
         rules = str(self.folder / "rules")

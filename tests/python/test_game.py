@@ -9,7 +9,7 @@ import unittest
 
 from ggp_tools.descriptions.goals import goals_said
 from ggp_tools.descriptions.suspicious import suspicions
-from support import COMMAND, GAMES, InFolder, program, program_but, run, run_into_full
+from support import COMMAND, GAMES, InFolder, program, program_but, run
 
 # A game of two turns, in which nothing is suspicious.
 SOUND = """(role ann) (role bob)
@@ -295,13 +295,9 @@ class Game(InFolder):
         (self.folder / "game.kif").write_text(SOUND)
         other = 'input=$(cat); if [[ "$input" = *seed-* ]]; then {}; fi; ' + program() + ' "$@" <<< "$input"; exit $?'
         cases = {
-            program() + ''' "$@" <<< "$input" | sed 's/"goalValues":.100,/"goalValues":[99,/'; exit 0''': (
-                1, "seed 1: the program's record is not that of the interpreter of ggp_competition, by goalValues: please report it\n", "",
-            ),
             program() + ''' "$@" <<< "$input" | sed 's/"(step 2)"/"(step 4)"/'; exit 0''': (
                 1, "seed 1: the program's record is not that of the interpreter of ggp_competition, by states: please report it\n", "",
             ),
-            program() + ''' "$@" <<< "$input" | sed 's/"states":/"states":1,"is":/'; exit 0''': (1, "by states: please report it\n", ""),
             "exec sleep 600": (0, "the program had not played 1 of them after 5 s: their records are not compared\n", ""),
             "echo 'ggp_manager: want of memory' >&2; exit 3": (
                 3, "",
@@ -315,14 +311,6 @@ class Game(InFolder):
             status, out, said = run(self.folder, "game", "game.kif", "--matches", "1", "--seconds", seconds, "--program", path)
             self.assertEqual((status, said), (wanted, told), out)
             self.assertIn(printed, out)
-
-    def test_a_program_that_prints_no_record(self):
-        (self.folder / "game.kif").write_text(SOUND)
-        said = "ggp_competition: `ggp_manager desk` came to no verdict with game.kif: it said nothing; it ended with status 0\n"
-        for record in ("{garbage", "\\xff{", '{"a":' * 9_999):
-            path = program_but(self.folder / "other", '"$1" = desk', f"printf '%b\\n' '{record}'; exit 0")
-            status, _, told = run(self.folder, "game", "game.kif", "--program", path)
-            self.assertEqual((status, told), (3, said))
 
     def test_a_grounder_that_comes_to_no_verdict(self):
         (self.folder / "game.kif").write_text(OPEN)
@@ -367,15 +355,3 @@ class Game(InFolder):
         for word, shown in [("", "''"), ("9" * 5_000, f"'{'9' * 20}..'")]:
             done = subprocess.run([sys.executable, COMMAND, "game", "none", "--seed", word], capture_output=True, text=True)
             self.assertTrue(done.stderr.endswith(f"argument --seed: expected a number from 0 to 1,000,000,000,000,000,000, found {shown}\n"), done.stderr)
-
-    def test_no_temporary_file(self):
-        (self.folder / "game.kif").write_text(SOUND)
-        room = "import os, resource, sys; resource.setrlimit(resource.RLIMIT_FSIZE, (100, 100)); os.execv(sys.argv[1], sys.argv[1:])"
-        words = [sys.executable, "-c", room, sys.executable, COMMAND, "game", "game.kif", "--program", program()]
-        done = subprocess.run(words, cwd=self.folder, env={**os.environ, "TMPDIR": str(self.folder)}, capture_output=True, text=True)
-        self.assertEqual(done.returncode, 3, done)
-        self.assertRegex(done.stderr, rf"^ggp_competition: {self.folder}/\w+: File too large\n$")
-
-    def test_a_full_output(self):
-        said = run_into_full(self.folder, "game", str(GAMES / "buttons.kif"))
-        self.assertEqual(said, (1, "ggp_competition: standard output: No space left on device\n"))

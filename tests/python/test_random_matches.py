@@ -15,35 +15,24 @@ from ggp_tools.holding.match import Match, texts_of
 from ggp_tools.kif import expressions, spelled
 from ggp_tools.referee import Referee, Unchecked
 from live_support import RULES
+from support import program, raised
+
+RUN = subprocess.run
 
 ENDLESS = b"(role ann) (role bob) (init (step 1)) (legal ann go) (legal ann stay) (legal bob wait) (next (step 1))"
 STUCK = b"(role ann) (role bob) (init (step 1)) (<= (legal ann go) (true (step 1))) (legal bob wait) (<= (next (step 2)) (true (step 1)))"
 NO_GOAL = b"(role ann) (init (step 1)) (legal ann go) (<= (next (step 2)) (true (step 1))) (<= terminal (true (step 2))) (goal ann 1) (goal ann 2)"
 
 
-def desk_of(rules, kept, changes=(), **answer):
-    """Returns a fake program: it records the scripts, and prints the record of each match, with changes of some of them by id."""
+def desk_of(kept, changes=(), **answer):
+    """Returns a desk of the program that records the scripts, and changes some records by id, or gives this answer."""
 
     def desk(words, input, **more):
         kept.append((words, input.decode(), more))
-        game, matches = Game(rules.decode()), {}
-        for line in input.decode().splitlines():
-            word, name, *rest = line.split(" ", 5 if line.startswith("open") else 4)
-            if word == "open":
-                matches[name] = Match(game, name, int(rest[1]), int(rest[2]), rest[3].split())
-                continue
-            match, role, number, text = matches[name], int(rest[0]), int(rest[1]), rest[2]
-            if text in ("READY", "DONE"):
-                match.marks["start" if text == "READY" else "end"][role] = ""
-            elif number == len(match.moves) + 1 and role == len(match.given):
-                match.given.append((expressions(text)[0], ""))
-                if len(match.given) == len(game.roles):
-                    match.turn(match.given)
-                    match.given = []
-            match.given = getattr(match, "given", [])
-        records = [{**match.record(), **dict(changes).get(name, {})} for name, match in matches.items()]
-        out = "".join(json.dumps(record) + "\n" for record in records)
-        return subprocess.CompletedProcess(words, **{"returncode": 0, "stdout": out.encode(), "stderr": b"", **answer})
+        done = RUN([program(), *words[1:]], input=input, capture_output=True)
+        records = (json.loads(line) for line in done.stdout.splitlines() if line.startswith(b"{"))
+        out = "".join(json.dumps(record | dict(changes).get(record["matchId"], {})) + "\n" for record in records)
+        return subprocess.CompletedProcess(words, **{"returncode": done.returncode, "stdout": out.encode(), "stderr": b"", **answer})
 
     return desk
 
@@ -56,7 +45,7 @@ class WithDesk(unittest.TestCase):
         self.enterContext(mock.patch.object(random_matches.sys, "setrecursionlimit"))
 
     def play(self, rules, seed=1, count=1, seconds=60, changes=(), **answer):
-        with mock.patch.object(random_matches.subprocess, "run", desk_of(rules, self.kept, changes, **answer)):
+        with mock.patch.object(random_matches.subprocess, "run", desk_of(self.kept, changes, **answer)):
             found = RandomMatches(rules, Referee("program"), "game.kif", self.reporter, seconds)
             found.run(seed, count)
         return found
@@ -107,9 +96,7 @@ class Matches(WithDesk):
     def test_a_desk_that_says_nothing_of_it(self):
         line = json.dumps({}).encode() + b"\n"
         for answer in ({"returncode": 3}, {"stdout": b""}, {"stdout": line * 2}, {"stdout": b"{x\n"}):
-            with self.assertRaises(Unchecked) as why:
-                self.play(RULES, **answer)
-            self.assertIn("`ggp_manager desk` came to no verdict with game.kif: it said nothing", str(why.exception))
+            self.assertIn("`ggp_manager desk` came to no verdict with game.kif: it said nothing", str(raised(Unchecked, self.play, RULES, **answer)))
 
     def test_a_desk_that_takes_too_long(self):
         with mock.patch.object(random_matches.subprocess, "run", side_effect=subprocess.TimeoutExpired("x", 1)):
@@ -147,7 +134,6 @@ class Matches(WithDesk):
         self.assertEqual(found.notes, [f"out of time: in 50 s there were {len(found.ended)} of 9 matches and {random_matches.counted(found.turns, 'turn')} of the next one"])
         self.assertEqual((self.drawn[:2], len(found.ended) > 0, self.kept[0][1].count("open")), (["match 1 of 9, 0 turns", "match 1 of 9, 1 turn"], True, 1))
         self.assertEqual(self.drawn[-1], "the program's desk")
-        self.assertEqual([random_matches.counted(number, "turn") for number in (0, 1, 2, 1_000)], ["0 turns", "1 turn", "2 turns", "1,000 turns"])
         # The command goes on until the second is over, and does not draw the line in the first half second.
         self.now, self.drawn = 0.0, []
         self.reporter.draw = self.drawn.append
@@ -157,8 +143,7 @@ class Matches(WithDesk):
             found.look_at_clock("it")
             self.assertEqual(len(self.drawn), count, now)
         self.now = 50.1
-        with self.assertRaises(random_matches.TimeIsOver):
-            found.look_at_clock("it")
+        raised(random_matches.TimeIsOver, found.look_at_clock, "it")
 
     def test_rules_that_are_too_deep(self):
         with mock.patch.object(RandomMatches, "play", side_effect=RecursionError):

@@ -4,16 +4,14 @@ import os
 import pathlib
 import subprocess
 import sys
-import tempfile
 import unittest
 from unittest import mock
 
 from ggp_tools.competition.schedule import Match
 from ggp_tools.referee import (
-    BadRules, NoReferee, Referee, Unchecked, find_program, has_events, is_text_list, last_line, read_objects, records_replayed,
-    rules_file,
+    BadRules, NoReferee, Referee, Unchecked, find_program, has_events, last_line, read_objects, records_replayed, rules_file,
 )
-from support import verdict_rows
+from support import InFolder, raised, verdict_rows
 
 # The fake referee stores the arguments and the input of each run, and gives the answer that the test has set.
 STAND_IN = """#!/bin/sh
@@ -28,9 +26,9 @@ exit $(cat status.$n)
 """
 
 
-class WithStandIn(unittest.TestCase):
+class WithStandIn(InFolder):
     def setUp(self) -> None:
-        self.folder = pathlib.Path(self.enterContext(tempfile.TemporaryDirectory()))
+        super().setUp()
         path = self.folder / "program"
         path.write_text(STAND_IN)
         path.chmod(0o755)
@@ -57,9 +55,7 @@ class WithStandIn(unittest.TestCase):
         """Sets an answer, and expects that it is not a verdict."""
         self.begin_anew()
         self.answers(*more)
-        with self.assertRaises(Unchecked) as why:
-            ask()
-        self.assertEqual(str(why.exception), words)
+        self.assertEqual(str(raised(Unchecked, ask)), words)
 
 
 class Verdicts(WithStandIn):
@@ -147,9 +143,7 @@ class Rules(WithStandIn):
             for ask in (lambda: self.referee.roles(b"", "nim"), lambda: self.referee.check_rules("game.kif")):
                 self.begin_anew()
                 self.answers(b"", said, 2)
-                with self.assertRaises(BadRules) as why:
-                    ask()
-                self.assertEqual(str(why.exception), words)
+                self.assertEqual(str(raised(BadRules, ask)), words)
 
     def test_roles_that_no_answer_tells(self):
         for said, *answer in (
@@ -184,10 +178,7 @@ class Lines(unittest.TestCase):
         self.assertEqual(list(map(has_events, versions)), [False, True, True, True])
 
     def test_a_run_may_say_nothing(self):
-        def said(err: bytes) -> subprocess.CompletedProcess:
-            return subprocess.CompletedProcess(["x"], 0, b"", err)
-
-        self.assertEqual([last_line(said(err)) for err in (b"", b"a", b"a\nb\n", b"a\xff\n")], ["", "a", "b", "a?"])
+        self.assertEqual([last_line(subprocess.CompletedProcess(["x"], 0, b"", err)) for err in (b"", b"a", b"a\nb\n", b"a\xff\n")], ["", "a", "b", "a?"])
 
     def test_records_among_lines_of_the_desk(self):
         def said(out: bytes) -> subprocess.CompletedProcess:
@@ -197,10 +188,6 @@ class Lines(unittest.TestCase):
         self.assertEqual(read_objects(said(b"")), [])
         self.assertIsNone(read_objects(said(b'{"a":1}\n{"b"\n')))
         self.assertIsNone(read_objects(said(b'{"a":' + b"[" * 100_000)))
-
-
-    def test_lists_of_texts(self):
-        self.assertEqual([is_text_list(value) for value in ([], ["a"], ["a", 1], [1], "ab", None)], [True, True, False, False, False, False])
 
 
 class Words(WithStandIn):
@@ -228,14 +215,12 @@ class Words(WithStandIn):
         for other in (b"", b"ggp_manager 1.2\n", b"a ggp_manager 1.2.3\n", b"ggp_manager 1.2.3\nmore\n", b"ggp_manager 1.2.3"):
             self.begin_anew()
             self.answers(other)
-            with self.assertRaises(NoReferee) as why:
-                self.referee.version()
-            self.assertIn("`--version` does not print `ggp_manager N.N.N`", str(why.exception))
+            self.assertIn("`--version` does not print `ggp_manager N.N.N`", str(raised(NoReferee, self.referee.version)))
 
 
-class Finding(unittest.TestCase):
+class Finding(InFolder):
     def setUp(self) -> None:
-        self.folder = pathlib.Path(self.enterContext(tempfile.TemporaryDirectory()))
+        super().setUp()
         self.enterContext(mock.patch.dict(os.environ, {"PATH": str(self.folder / "path")}))
         self.enterContext(mock.patch.object(sys, "argv", [str(self.folder / "python/ggp_competition"), "play"]))
         # The repository may have a program; the search must not find it here.
@@ -254,9 +239,7 @@ class Finding(unittest.TestCase):
         self.assertEqual((find_program(given), find_program(None)), (given, beside))
         with mock.patch("os.getcwd", lambda: str(self.folder / "other")), mock.patch("shutil.which", lambda name: name):
             self.assertEqual(find_program("ggp_manager"), given)
-        with self.assertRaises(NoReferee) as why:
-            find_program(f"{given}s")
-        self.assertEqual(str(why.exception), f"{given}s is not an executable program")
+        self.assertEqual(str(raised(NoReferee, find_program, f"{given}s")), f"{given}s is not an executable program")
 
     def test_else_it_stands_beside_the_command_or_in_bin_or_on_the_path(self):
         on_path = self.program_in("path")
@@ -267,7 +250,5 @@ class Finding(unittest.TestCase):
         self.assertEqual(find_program(""), in_bin)
 
     def test_where_it_is_nowhere_all_places_are_named(self):
-        with self.assertRaises(NoReferee) as why:
-            find_program(None)
         places = f"{self.folder}/python, {self.folder}/bin, {pathlib.Path(__file__).resolve().parents[2]}/bin"
-        self.assertEqual(str(why.exception), f"ggp_manager is not in {places}, nor on the path of the shell (PATH); `--program FILE` names it")
+        self.assertEqual(str(raised(NoReferee, find_program, None)), f"ggp_manager is not in {places}, nor on the path of the shell (PATH); `--program FILE` names it")

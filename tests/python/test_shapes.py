@@ -4,6 +4,7 @@ import unittest
 
 from ggp_tools.records import record
 from ggp_tools.records.record import is_error, is_expression, is_list, is_text
+from support import raised
 
 
 class Shapes(unittest.TestCase):
@@ -30,9 +31,7 @@ class Shapes(unittest.TestCase):
 
     def test_a_record_may_have_16_mib_before_its_line_s_end(self):
         for size, end, words in ((1 << 24, b"\n", "it is JSON, but not an object"), (1 << 24, b"", "it is JSON, but not an object"), ((1 << 24) + 1, b"\n", "it is longer than 16 MiB")):
-            with self.assertRaises(record.NoRecord) as why:
-                record.read_record(b"[]".ljust(size) + end)
-            self.assertEqual(str(why.exception), words, size)
+            self.assertEqual(str(raised(record.NoRecord, record.read_record, b"[]".ljust(size) + end)), words, size)
 
     def test_lists_of_members_and_of_lengths(self):
         self.assertTrue(is_list([], is_text) and is_list(["a"], is_text) and is_list(["a", "b"], is_text, [0, 2]) and is_list([], is_text, [0, 2]))

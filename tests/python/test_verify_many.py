@@ -5,11 +5,9 @@ import contextlib
 import io
 import itertools
 import os
-import pathlib
 import signal
 import subprocess
 import sys
-import tempfile
 import threading
 import types
 import unittest
@@ -17,7 +15,7 @@ from unittest import mock
 
 from ggp_tools.records import verify_many
 from ggp_tools.records.verify_many import Fault, arguments, check, check_all, pieces
-from support import TOP, verdict_rows
+from support import TOP, InFolder, raised, verdict_rows
 
 WRITE_WORDS = 'echo "$@" >> "$(dirname "$0")/words"\n'
 CHECK = """exec awk '
@@ -86,9 +84,9 @@ class Pieces(unittest.TestCase):
         self.assertEqual(self.pieces(2, b"a\nb", OSError(5, "bad"))[:-1], [b"", b"a\n", b""])
 
 
-class WithProgram(unittest.TestCase):
+class WithProgram(InFolder):
     def setUp(self):
-        self.folder = pathlib.Path(self.enterContext(tempfile.TemporaryDirectory()))
+        super().setUp()
         self.program = self.stand_in("program", f"#!/bin/sh\n{WRITE_WORDS}{CHECK}")
 
     def stand_in(self, name, text):
@@ -172,8 +170,8 @@ class All(WithProgram):
             self.assertEqual((written, said, fault), (b"lawful\nnot lawful: goals\n" * 3 + b"lawful\n", b"", (b"ggp_manager: want of memory\n", 2)))
 
     def test_a_thread_that_can_not_be_made_is_want_of_memory(self):
-        with mock.patch.object(verify_many.threading.Thread, "start", side_effect=RuntimeError), self.assertRaises(MemoryError):
-            self.all(b"ok\n")
+        with mock.patch.object(verify_many.threading.Thread, "start", side_effect=RuntimeError):
+            raised(MemoryError, self.all, b"ok\n")
 
     def test_the_size_is_that_of_pieces(self):
         sizes = []
@@ -182,9 +180,9 @@ class All(WithProgram):
         self.assertEqual(sizes, [9])
 
     def test_verdicts_that_can_not_be_written(self):
-        with reading(lambda *_: b""), mock.patch.object(verify_many, "write_whole", side_effect=OSError(28, "full")), self.assertRaises(Fault) as why:
-            check_all([self.program], 1, 9)
-        self.assertEqual((why.exception.said, why.exception.status), (b"ggp_manager: write fault\n", 2))
+        with reading(lambda *_: b""), mock.patch.object(verify_many, "write_whole", side_effect=OSError(28, "full")):
+            why = raised(Fault, check_all, [self.program], 1, 9)
+        self.assertEqual((why.said, why.status), (b"ggp_manager: write fault\n", 2))
 
     def test_no_more_processes_at_a_time_than_were_asked_for(self):
         counting = self.stand_in("counting", '#!/bin/sh\ncd "$(dirname "$0")"\nmkdir run.$$\nls -d run.* | wc -l >> counts\nsleep 0.05\nrmdir run.$$\ncat > /dev/null\n')
@@ -216,9 +214,8 @@ class Commands(WithProgram):
 
     def test_words_that_are_none(self):
         for words in (["program"], ["--"], ["--jobs", "0", "p", "--"], ["--jobs", "1025", "p", "--"], ["--piece", "0", "p", "--"], ["--piece", str((1 << 30) + 1), "p", "--"], ["--jobs", "x", "p", "--"], ["--jobs", "-1", "p", "--"], ["--jobs", "1_0", "p", "--"]):
-            with self.assertRaises(SystemExit) as why, mock.patch("sys.stderr"):
-                arguments(words)
-            self.assertEqual(why.exception.code, 2, words)
+            with mock.patch("sys.stderr"):
+                self.assertEqual(raised(SystemExit, arguments, words).code, 2, words)
 
     def test_status_and_streams_are_those_of_one_process(self):
         self.assertEqual(self.run_command(self.program, "--", "x", text=b"ok\nno\n7\n"), (
@@ -236,9 +233,8 @@ class Commands(WithProgram):
                 stack.enter_context(mock.patch.object(verify_many, name, other))
             for name, other in (("sys.argv", ["x", *words]), ("os._exit", sys.exit), ("signal.signal", signals), ("signal.getsignal", lambda _: handler)):
                 stack.enter_context(mock.patch(name, other))
-            with self.assertRaises(SystemExit) as why:
-                verify_many.main()
-        return why.exception.code, checked.call_args.args, b"".join(said), [call.args for call in signals.call_args_list]
+            code = raised(SystemExit, verify_many.main).code
+        return code, checked.call_args.args, b"".join(said), [call.args for call in signals.call_args_list]
 
     def test_how_a_run_ends(self):
         words, more = ("--jobs", "3", "--piece", "9", "p", "--"), (["p", "verify", "--lines"], 3, 9)

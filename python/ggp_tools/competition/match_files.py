@@ -19,7 +19,8 @@ from ggp_tools.competition.results import Result, counted_result, fault_of_recor
 from ggp_tools.competition.schedule import Match
 from ggp_tools.competition.side_by_side import PROCESSORS
 from ggp_tools.records.lengths import LONGEST_ACCOUNT, USUAL_RECORD, longest_record, without_states
-from ggp_tools.referee import Referee, Unchecked, is_text_list
+from ggp_tools.records.record import is_list, is_text
+from ggp_tools.referee import Referee, Unchecked
 
 if TYPE_CHECKING:
     from ggp_tools.competition.plan import Plan
@@ -104,7 +105,7 @@ def has_shape(record: object, roles: int) -> bool:
         return False
     if len(goals) not in (0, roles) or not all(type(goal) is int for goal in goals):
         return False
-    return all(is_text_list(turn) and len(turn) == roles for turn in errors)
+    return all(is_list(turn, is_text, [roles]) for turn in errors)
 
 
 def unverified_result(folder: Folder, competition: Competition, rules: Mapping[str, "Rules"], match: Match) -> Result | None:

@@ -13,7 +13,8 @@ from ggp_tools.holding.game import MOST_CALLS, Game
 from ggp_tools.holding.match import Match, texts_of
 from ggp_tools.kif import Expression, spelled
 from ggp_tools.printable import counted
-from ggp_tools.referee import Referee, is_text_list, read_objects, rules_file, unchecked
+from ggp_tools.records.record import is_list, is_text, list_of
+from ggp_tools.referee import Referee, read_objects, rules_file, unchecked
 from ggp_tools.reporting import REDRAWN, Reporter
 
 # The bytes of a script and the number of matches for one run of `desk`, below its limits.
@@ -159,7 +160,7 @@ class RandomMatches:
         if run.returncode or records is None or len(records) != len(waiting):
             raise unchecked(run, self.name)
         for (seed, _, expected), actual in zip(waiting, records):
-            if isinstance(actual.get("states"), list) and all(map(is_text_list, actual["states"])):
+            if is_list(actual.get("states"), list_of(is_text)):
                 actual["states"] = list(map(sum_of, actual["states"]))
             keys = [key for key in expected if expected[key] != actual.get(key)]
             self.differing += [(seed, keys)] if keys else []

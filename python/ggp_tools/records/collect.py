@@ -44,15 +44,13 @@ from ggp_tools.match_log import event_of, text_of
 from ggp_tools.printable import counted, shown
 from ggp_tools.records.collection import Judged, Pile, judged_lines, known_games
 from ggp_tools.records.explain import explanation
+from ggp_tools.records.exports import write_matches, write_pages, write_pgn
 from ggp_tools.records.facts import Facts, description_sums, version_beside, write_facts
-from ggp_tools.records.ggp_base import write_matches
-from ggp_tools.records.index import write_pages
 from ggp_tools.records.match_logs import MatchLogs, lines_of_logs
-from ggp_tools.records.pgn import write_pgn
 from ggp_tools.records.record import MOST_OF_VALUE, json_lines
 from ggp_tools.records.tables import write_csv, write_sqlite
 from ggp_tools.records.verify_many import MOST_JOBS
-from ggp_tools.referee import NoReferee, Referee, Unchecked, find_program
+from ggp_tools.referee import LAWFUL, NoReferee, Referee, Unchecked, find_program
 from ggp_tools.streams import report, say, status_of, whole
 
 COMMAND = "ggp-records"
@@ -62,24 +60,17 @@ OWN = {"explain": ["check"], "log": ["ggp-base", "pgn", "facts"], "games": ["ggp
 NOT_LAWFUL = "not lawful: "
 
 
-class Count:
-    """Counts lines by verdict, without the details of verdicts."""
+def counting(lines: Iterable[Judged], counts: collections.Counter[str]) -> Iterator[Judged]:
+    """Yields the lines, and counts them by verdict, without the details of verdicts."""
+    for judged in lines:
+        counts[judged.verdict.partition(":")[0]] += 1
+        yield judged
 
-    def __init__(self) -> None:
-        self.by_verdict: collections.Counter[str] = collections.Counter()
 
-    def over(self, lines: Iterable[Judged]) -> Iterator[Judged]:
-        for judged in lines:
-            self.by_verdict[judged.verdict.partition(":")[0]] += 1
-            yield judged
-
-    def words(self, skipped: int) -> str:
-        parts = [f"{count:,} {verdict}" for verdict, count in self.by_verdict.most_common()]
-        parts += [f"{counted(skipped, 'call log line')} skipped"] * bool(skipped)
-        return ", ".join(parts) or "no records"
-
-    def are_all_lawful(self) -> bool:
-        return set(self.by_verdict) <= {"lawful"}
+def count_words(counts: collections.Counter[str], skipped: int) -> str:
+    parts = [f"{count:,} {verdict}" for verdict, count in counts.most_common()]
+    parts += [f"{counted(skipped, 'call log line')} skipped"] * bool(skipped)
+    return ", ".join(parts) or "no records"
 
 
 def row_of(judged: Judged) -> str:
@@ -100,10 +91,13 @@ def print_check(lines: Iterable[Judged], explains: bool) -> None:
         say("\n\t".join([row_of(judged), *map(shown, explained(judged) if explains else ())]))
 
 
-def name_others(others: Iterable[Judged]) -> None:
-    """Reports each line that was not written."""
-    for judged in others:
-        report(f"{COMMAND}: not written: {judged.line.file}, line {judged.line.number}: {judged.verdict}")
+def lawful_ones(lines: Iterable[Judged]) -> Iterator[tuple[int, Judged]]:
+    """Yields the lawful records with their numbers, and reports each other line."""
+    for number, judged in enumerate(lines, 1):
+        if judged.is_lawful:
+            yield number, judged
+        else:
+            report(f"{COMMAND}: not written: {judged.line.file}, line {judged.line.number}: {judged.verdict}")
 
 
 def facts_for(given: argparse.Namespace, referee: Referee, logs: MatchLogs) -> Facts:
@@ -163,7 +157,7 @@ def perform(given: argparse.Namespace) -> int:
     """Performs the action. Returns the exit status."""
     if given.action == "log":
         return print_log(given.files)
-    referee, pile, count = Referee(find_program(given.program), given.large), Pile(given.files), Count()
+    referee, pile, counts = Referee(find_program(given.program), given.large), Pile(given.files), collections.Counter()
     logs = MatchLogs(given.log or ())
     report_others(logs.others)
     facts = facts_for(given, referee, logs) if given.action == "facts" else None
@@ -173,7 +167,7 @@ def perform(given: argparse.Namespace) -> int:
     if not games:
         report(f"{COMMAND}: {given.rules} has no rules of a game, in a file NAME.kif")
         return 3
-    lines = count.over(judged_lines(referee, games, pile, given.jobs))
+    lines = counting(judged_lines(referee, games, pile, given.jobs), counts)
     match given.action:
         case "check":
             print_check(lines, given.explain)
@@ -184,15 +178,15 @@ def perform(given: argparse.Namespace) -> int:
         case "pages":
             write_pages(given.output, lines)
         case "ggp-base":
-            name_others(write_matches(given.output, lines, logs, given.games))
+            write_matches(given.output, lawful_ones(lines), logs, given.games)
         case "pgn":
-            name_others(write_pgn(given.output, lines, logs))
+            write_pgn(given.output, lawful_ones(lines), logs)
         case "facts":
-            name_others(write_facts(given.output, lines, facts))
+            write_facts(given.output, lawful_ones(lines), facts)
             for match_id, why in facts.faults.items():
                 report(f"{COMMAND}: nothing of a log is written of {match_id}: {why}")
-    report(f"{COMMAND}: {count.words(pile.skipped)}")
-    return 0 if count.are_all_lawful() else 1
+    report(f"{COMMAND}: {count_words(counts, pile.skipped)}")
+    return 0 if counts.keys() <= {LAWFUL} else 1
 
 
 def main() -> int:

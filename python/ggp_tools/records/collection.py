@@ -13,7 +13,7 @@ from dataclasses import dataclass
 
 from ggp_tools.holding.game import Game
 from ggp_tools.holding.match import texts_of
-from ggp_tools.kif import Refused, has_variables, spelled, told
+from ggp_tools.kif import Refused, grouped, has_variables, spelled, told
 from ggp_tools.records.record import ACCOUNT_LINE, LONGEST_RECORD, TOO_LONG, NoRecord, checked_record, numbered_lines, parsed
 from ggp_tools.referee import LAWFUL, BadRules, Referee
 from ggp_tools.streams import opened
@@ -157,26 +157,16 @@ class Pile:
 
 def judged_batch(referee: Referee, games: list[KnownGame], batch: list[Line]) -> list[Judged]:
     """Returns the verdict on each line. If several games are possible, a line is lawful if it is lawful for one of them."""
-    open_lines = {index: candidates(line.record, games) for index, line in enumerate(batch) if line.record is not None}
-    judged: dict[int, Judged] = {}
-    for index, line in enumerate(batch):
-        if line.record is None:
-            judged[index] = Judged(line, None, NO_RECORD + line.said)
-        elif not open_lines[index]:
-            judged[index] = Judged(line, None, NO_GAME)
-    turn = 0
-    while any(len(tries) > turn for tries in open_lines.values()):
-        by_game = collections.defaultdict(list)
-        for index, tries in open_lines.items():
-            if len(tries) > turn and not (index in judged and judged[index].is_lawful):
-                by_game[tries[turn]].append(index)
-        for game, indices in by_game.items():
+    tries = [[] if line.record is None else candidates(line.record, games) for line in batch]
+    judged = [Judged(line, None, NO_RECORD + line.said if line.record is None else NO_GAME) for line in batch]
+    for turn in range(max(map(len, tries), default=0)):
+        open_lines = (index for index, games_of_line in enumerate(tries) if len(games_of_line) > turn and not judged[index].is_lawful)
+        for game, indices in grouped(open_lines, lambda index: tries[index][turn]).items():
             verdicts = referee.verdicts(game.path, [batch[index].data + b"\n" for index in indices])
             for index, verdict in zip(indices, verdicts):
-                if index not in judged or verdict == LAWFUL:
+                if turn == 0 or verdict == LAWFUL:
                     judged[index] = Judged(batch[index], game, verdict)
-        turn += 1
-    return [judged[index] for index in range(len(batch))]
+    return judged
 
 
 def judged_lines(referee: Referee, games: list[KnownGame], pile: Pile, jobs: int) -> Iterator[Judged]:

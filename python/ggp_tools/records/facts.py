@@ -162,16 +162,12 @@ def line_of(found: dict[str, object]) -> bytes:
     return (json.dumps(found, separators=(",", ":")) + "\n").encode("ascii")
 
 
-def write_facts(path: pathlib.Path, lines: Iterable[Judged], facts: Facts) -> Iterator[Judged]:
-    """Writes a line for each lawful record, and yields the other lines. Duplicate ids are known only at the end."""
+def write_facts(path: pathlib.Path, lawful: Iterable[tuple[int, Judged]], facts: Facts) -> None:
+    """Writes a line for each record. Duplicate ids are known only at the end."""
     with made_whole(path) as made:
         first = made.with_name("first")
         with open(first, "wb") as file:
-            for judged in lines:
-                if judged.is_lawful:
-                    file.write(line_of(facts.of(judged)))
-                else:
-                    yield judged
+            file.writelines(line_of(facts.of(judged)) for _, judged in lawful)
         if TWO_RECORDS not in facts.faults.values():
             first.rename(made)
             return

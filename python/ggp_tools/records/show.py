@@ -11,7 +11,7 @@ from typing import TYPE_CHECKING, Any, BinaryIO
 
 from ggp_tools.answers import Whys
 from ggp_tools.holding.game import Game
-from ggp_tools.kif import Expression, expressions, head_of, is_variable, spelled
+from ggp_tools.kif import Expression, expressions, grouped, head_of, is_variable, spelled
 from ggp_tools.printable import MOST_SHOWN, visible
 from ggp_tools.records.marks import PIECES, Mark, marks_of
 from ggp_tools.records.record import ACCOUNT_LINE, CAUSE, LONGEST_RECORD, TOO_LONG, NoRecord, numbered_lines, read_record
@@ -109,6 +109,10 @@ def words_of(term: str) -> list[str]:
     return term[1:-1].split(" ") if is_flat else []
 
 
+def group_of(words: Sequence[str]) -> Group:
+    return (words[0] if words else "", len(words))
+
+
 def axis_of(values: Iterable[str]) -> list[str] | None:
     """Returns the places of an axis in order: numbers after at most one letter, or single letters. Returns None if the values are not such places."""
     if all(re.fullmatch("[a-z]", value) for value in values):
@@ -161,7 +165,7 @@ class Board:
         return len(self.across) + len(self.up) + (len(self.across) * len(self.up) if is_played else len(self.places))
 
     def place(self, words: tuple[str, ...]) -> tuple[int, int, str]:
-        at, labels = self.forms[words[0], len(words)]
+        at, labels = self.forms[group_of(words)]
         return self.across.index(words[at]) + 1, self.up.index(words[at + 1]) + 1, " ".join(words[place] for place in labels)
 
     def marks(self, named: "Named") -> dict[str, Mark]:
@@ -220,9 +224,8 @@ class Named:
     def __init__(self, sentences: Iterable[Expression] = (), is_hex: bool = False) -> None:
         heads = [head for head in map(head_of, sentences) if head[0] in ("init", "next", "legal") and len(head) > 1]
         self.is_hex, self.moves = is_hex, list(dict.fromkeys(spelled(head[-1]) for head in heads if head[0] == "legal"))
-        self.terms: dict[Group, list[list[str]]] = {}
-        for words in filter(None, map(words_of, dict.fromkeys(spelled(head[1]) for head in heads if head[0] != "legal"))):
-            self.terms.setdefault((words[0], len(words)), []).append(words)
+        terms = dict.fromkeys(spelled(head[1]) for head in heads if head[0] != "legal")
+        self.terms = grouped(filter(None, map(words_of, terms)), group_of)
         self.ground = {group: [words for words in terms if not any(map(is_variable, words))] for group, terms in self.terms.items()}
         # The possible words of each member, by relation.
         self.members = {group: members_of([terms]) for group, terms in self.ground.items() if terms}
@@ -230,7 +233,7 @@ class Named:
     @functools.cached_property
     def boards(self) -> list[Board]:
         """The boards that are known without a state: those with places that moves name. Rows are not letters, because (on a b) is a pile."""
-        found = grouped_boards({group: {0: terms} for group, terms in self.ground.items() if terms}, Named((), self.is_hex))
+        found = boards_of_terms({group: {0: terms} for group, terms in self.ground.items() if terms}, Named((), self.is_hex))
         return [board for board in found if kind_of(board.up) != "letters" and any(places_of(move, board) for move in self.moves)]
 
 
@@ -243,17 +246,17 @@ def named_in(rules: bytes, is_hex: bool) -> Named:
 def boards_of(states: Iterable[list[str]], named: Named = Named()) -> list[Board]:
     """Returns the boards of a match: one for each relation like (cell X Y V), and one for all others with the same kinds of places. A board also has
     the places that the rules name, and may be empty."""
-    grouped: dict[Group, dict[int, list[list[str]]]] = {}
+    terms: dict[Group, dict[int, list[list[str]]]] = {}
     for at, state in enumerate(states):
         for words in filter(None, map(words_of, state)):
-            grouped.setdefault((words[0], len(words)), {}).setdefault(at, []).append(words)
-    return grouped_boards(grouped, named) or named.boards
+            terms.setdefault(group_of(words), {}).setdefault(at, []).append(words)
+    return boards_of_terms(terms, named) or named.boards
 
 
-def grouped_boards(grouped: dict[Group, dict[int, list[list[str]]]], named: Named) -> list[Board]:
+def boards_of_terms(terms: dict[Group, dict[int, list[list[str]]]], named: Named) -> list[Board]:
     """Returns the boards of terms, given by relation and state, with the places that the rules name."""
     boards, found = {}, []
-    for group, by_state in grouped.items():
+    for group, by_state in terms.items():
         states, seen = list(by_state.values()), members_of(by_state.values())
         words = [word | more for word, more in zip(seen, named.members.get(group, seen))]
         # Words in rules may not be places, for example words for places off the board.
@@ -265,7 +268,7 @@ def grouped_boards(grouped: dict[Group, dict[int, list[list[str]]]], named: Name
             forms[group] = form
             known.update(map(tuple, itertools.chain(*states, further)))
     for forms, known in boards.values():
-        across, up = (axis_of({words[forms[words[0], len(words)][0] + side] for words in known}) for side in (0, 1))
+        across, up = (axis_of({words[forms[group_of(words)][0] + side] for words in known}) for side in (0, 1))
         found += [Board(across, up, forms, known, named.is_hex)] if across and up else []
     return found
 
@@ -361,7 +364,7 @@ def states_of_page(
         mover = mover_of(state, roles)
         # A term that only says whose turn it is becomes the heading of the state.
         shown_above = [] if mover is None else [term for _, term in named_roles(state, roles) if len(words_of(term)) == 2]
-        terms = [term for term in state if not is_on_board(term, on_boards) and term not in shown_above]
+        terms = [term for term in state if group_of(words_of(term)) not in on_boards and term not in shown_above]
         known, known_before = set(terms), known
         if number >= since:
             drawn = joined([board_page(*parts, is_played) for parts in zip(boards, places, before, ground, marks)])
@@ -399,11 +402,6 @@ def winner_words(players: Sequence[str], worths: Sequence[int]) -> str:
     best = max(worths, default=-1)
     names = [player for player, worth in zip(players, worths) if worth == best >= 0]
     return f"{' and '.join(names)} {'won' if len(names) == 1 else 'drew'}." if names and len(players) > 1 else ""
-
-
-def is_on_board(term: str, forms: set[tuple[str, int]]) -> bool:
-    words = words_of(term)
-    return bool(words) and (words[0], len(words)) in forms
 
 
 def turn_of_page(moves: Sequence[str], errors: Sequence[str], mover: int | None, why: Callable[[int, str], str]) -> list[dict[str, object]]:

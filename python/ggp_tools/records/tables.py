@@ -35,15 +35,6 @@ def stored(value: object) -> object:
     return value.encode("ascii", "backslashreplace").decode() if isinstance(value, str) and SURROGATE.search(value) else value
 
 
-def names_of(table: str) -> list[str]:
-    """Returns the names of the columns."""
-    return [column.split()[0] for column in TABLES[table].split(", ")]
-
-
-def stored_row(row: Row) -> Row:
-    return tuple(map(stored, row))
-
-
 def match_row(number: int, judged: Judged, record: dict) -> Row:
     game, line = judged.game, judged.line
     named = (game.name, game.rules_sum) if game else (None, None)
@@ -51,16 +42,12 @@ def match_row(number: int, judged: Judged, record: dict) -> Row:
     return (number, line.file, line.number, line.match_id, *named, judged.verdict, record.get("phase"), record.get("cause"), len(record.get("moves", ())), *clocks)
 
 
-def mark_word(mark: str | None) -> str | None:
-    """Returns a mark as a word, because in CSV an empty text would look like no value."""
-    return "answered" if mark == "" else mark
-
-
 def player_rows(number: int, record: dict) -> Iterator[Row]:
     goals = record["goalValues"] or [None] * len(record["roles"])
     for role, (name, player, goal) in enumerate(zip(record["roles"], record["players"], goals)):
         substitutions = sum(bool(errors[role]) for errors in record["errors"])
-        marks = (mark_word(record[key][role]) for key in ("startMarks", "endMarks"))
+        # In CSV an empty text would look like no value.
+        marks = ("answered" if record[key][role] == "" else record[key][role] for key in ("startMarks", "endMarks"))
         yield number, role, name, player, goal, substitutions, *marks
 
 
@@ -79,10 +66,10 @@ def all_rows(lines: Iterable[Judged]) -> Iterator[tuple[str, Row]]:
         first = firsts.setdefault(checksum, number) if checksum else number
         marks = int(judged.is_lawful), first if first != number else None
         record = judged.line.shaped or {}
-        yield "matches", stored_row((*match_row(number, judged, record), checksum, *marks))
+        rows = {"matches": [(*match_row(number, judged, record), checksum)]}
         if record:
-            yield from (("players", stored_row((*row, *marks))) for row in player_rows(number, record))
-            yield from (("moves", stored_row((*row, *marks))) for row in move_rows(number, record))
+            rows |= {"players": player_rows(number, record), "moves": move_rows(number, record)}
+        yield from ((table, tuple(map(stored, (*row, *marks)))) for table, own in rows.items() for row in own)
 
 
 @contextlib.contextmanager
@@ -97,32 +84,23 @@ def made_whole(path: pathlib.Path) -> Iterator[pathlib.Path]:
 
 
 def write_sqlite(path: pathlib.Path, lines: Iterable[Judged]) -> None:
-    with made_whole(path) as made, contextlib.closing(sqlite3.connect(made)) as database:
-        fill_database(database, lines)
-
-
-def fill_database(database: sqlite3.Connection, lines: Iterable[Judged]) -> None:
-    for table, columns in TABLES.items():
-        database.execute(f"CREATE TABLE {table} ({columns})")
-    for table, row in all_rows(lines):
-        database.execute(f"INSERT INTO {table} VALUES ({', '.join('?' * len(row))})", row)
-    for table in COUNTED:
-        database.execute(f"CREATE VIEW counted_{table} AS SELECT * FROM {table} WHERE lawful = 1 AND copy_of IS NULL")
-    database.execute("CREATE INDEX players_by_name ON players (player)")
-    database.execute("CREATE INDEX moves_by_match ON moves (match_number)")
-    database.commit()
+    with made_whole(path) as made, contextlib.closing(sqlite3.connect(made)) as database, database:
+        for table, columns in TABLES.items():
+            database.execute(f"CREATE TABLE {table} ({columns})")
+        for table, row in all_rows(lines):
+            database.execute(f"INSERT INTO {table} VALUES ({', '.join('?' * len(row))})", row)
+        for table in COUNTED:
+            database.execute(f"CREATE VIEW counted_{table} AS SELECT * FROM {table} WHERE lawful = 1 AND copy_of IS NULL")
+        database.execute("CREATE INDEX players_by_name ON players (player)")
+        database.execute("CREATE INDEX moves_by_match ON moves (match_number)")
 
 
 def write_csv(folder: pathlib.Path, lines: Iterable[Judged]) -> None:
     """Writes a CSV file for each table, with the names of the columns first."""
     folder.mkdir(parents=True, exist_ok=True)
-    files = {table: open(folder / f"{table}.csv", "w", encoding="utf-8", newline="") for table in TABLES}
-    try:
-        writers = {table: csv.writer(file) for table, file in files.items()}
+    with contextlib.ExitStack() as files:
+        writers = {table: csv.writer(files.enter_context(open(folder / f"{table}.csv", "w", encoding="utf-8", newline=""))) for table in TABLES}
         for table, writer in writers.items():
-            writer.writerow(names_of(table))
+            writer.writerow(column.split()[0] for column in TABLES[table].split(", "))
         for table, row in all_rows(lines):
             writers[table].writerow(row)
-    finally:
-        for file in files.values():
-            file.close()

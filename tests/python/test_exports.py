@@ -1,49 +1,16 @@
 """Records in the format of ggp-base, parsed like ggp-base's own `Match` (`org.ggp.base.util.match`) does."""
 
-import io
 import json
-import pathlib
 import re
-import subprocess
-import sys
-import tempfile
 import unittest
 
-from ggp_tools.competition.schedule import Match
 from ggp_tools.kif import expressions, spelled
-from ggp_tools.match_log import Open, events, line_of
-from ggp_tools.records.ggp_base import spaced, times_of
-from ggp_tools.records.match_logs import beginnings
-from live_support import SILENT, line
-from support import GAMES, TOP, program
+from ggp_tools.records.exports import times_of
+from test_collection import FAULTY as NOT_LAWFUL, LAWFUL, WithPile, record
+from test_facts import LOG, SIX, read
 
-RECORDS = TOP / "examples/records"
-WHOLE, FAULTY = "countdown-3-second_version", "countdown-3-another_state"
-M1 = Match("m1", "countdown", 10, 10, ("ann", "bob"))
-# 2026-11-28T06:00:01Z
-BEGAN = 1_795_845_601_000
-
-
-def message(role: int, number: int, text: str, answer: str, ms: int, came: int) -> str:
-    """Returns the line of a message whose answer came this many milliseconds after the first START was sent."""
-    return line(M1, role, number, text, answer, ms, BEGAN + came - ms)
-
-
-LINES = [
-    line_of(Open("m1", BEGAN)).decode(),
-    message(0, 1, "(START m1 red ... 10 10)", "ready", 250, 250),
-    message(1, 1, "(START m1 blue ... 10 10)", "ready", 300, 300),
-    message(1, 2, "(PLAY m1 NIL)", "noop", 5, 1_000),
-    message(0, 2, "(PLAY m1 NIL)", "(take 1)", 505, 1_500),
-    message(0, 3, "(PLAY m1 ((take 1) noop))", "noop", 9, 2_000),
-    message(1, 3, "(PLAY m1 ((take 1) noop))", SILENT, 1_000, 3_000),
-    message(1, 4, "(STOP m1 (noop (take 2)))", "done", 3, 4_000),
-]
-LOG = "".join(LINES)
-
-
-def record(name: str) -> str:
-    return (RECORDS / f"{name}.record").read_text(encoding="ascii")
+WHOLE, FAULTY = record(LAWFUL[1]), record(NOT_LAWFUL)
+BEGAN = SIX + 900
 
 
 def terms_of(state: str) -> list:
@@ -67,41 +34,26 @@ def read_match(text: str) -> dict[str, object]:
 
 class TimesOfLogs(unittest.TestCase):
     def times(self, turns: int, *logs: str) -> tuple[int, list[int]]:
-        return times_of([found for log in logs for _, found in beginnings(events(io.BytesIO(log.encode())))], turns)
+        return times_of([found for log in logs for _, found in read(log)], turns)
 
     def test_a_match_begins_and_a_turn_ends_with_its_last_answer(self):
-        self.assertEqual(self.times(2, LOG), (BEGAN, [BEGAN, BEGAN + 1_500, BEGAN + 3_000]))
+        self.assertEqual(self.times(2, LOG), (BEGAN, [BEGAN, SIX + 2_500, SIX + 4_000]))
         self.assertEqual(self.times(3, LOG), (BEGAN, []))
-
-    def test_a_match_that_begins_again_has_its_new_times(self):
-        early = "".join(LINES[:5]).replace(str(BEGAN)[:6], str(BEGAN - 10_000_000)[:6])
-        self.assertEqual(self.times(1, early + LOG), (BEGAN, [BEGAN, BEGAN + 1_500]))
 
     def test_what_is_not_known(self):
         self.assertEqual(self.times(0, re.sub('"time":[0-9]+', '"time":null', LOG) + "\x00\n"), (0, []))
         self.assertEqual((self.times(0), self.times(0, LOG, LOG)), ((0, []),) * 2)
 
 
-class Files(unittest.TestCase):
-    def setUp(self):
-        self.folder = pathlib.Path(self.enterContext(tempfile.TemporaryDirectory()))
-        (self.folder / "rules").mkdir()
-        (self.folder / "rules/countdown.kif").write_bytes((GAMES / "countdown.kif").read_bytes())
-        self.pile = self.folder / "pile"
-
-    def converted(self, text: str, *words: str, action: str = "ggp-base") -> subprocess.CompletedProcess:
-        self.pile.write_text(text, encoding="ascii")
-        call = [sys.executable, TOP / "python/ggp-records", "--program", program(), "--rules", self.folder / "rules"]
-        return subprocess.run([*call, action, *words, self.folder / "out", self.pile], capture_output=True, text=True)
-
+class Files(WithPile):
     def files(self) -> list[str]:
-        return sorted(path.name for path in (self.folder / "out").iterdir())
+        return sorted(path.name for path in self.out.iterdir())
 
     def test_a_record_is_read_as_the_match_that_it_is(self):
-        said = self.converted(record(WHOLE))
+        said = self.converted(WHOLE, "ggp-base")
         self.assertEqual((said.returncode, self.files()), (0, ["000001-m1.json"]), said.stderr)
-        text = (self.folder / "out/000001-m1.json").read_text(encoding="ascii")
-        match, given = read_match(text), json.loads(record(WHOLE))
+        text = (self.out / "000001-m1.json").read_text(encoding="ascii")
+        match, given = read_match(text), json.loads(WHOLE)
         self.assertEqual(match["states"], [[expressions(term)[0] for term in state] for state in given["states"]])
         self.assertEqual(match["moves"], [[("take", "1"), "noop"], ["noop", ("take", "2")]])
         self.assertIn('[["( take 1 )", "noop"], ["noop", "( take 2 )"]]', text)
@@ -114,13 +66,13 @@ class Files(unittest.TestCase):
     def test_times_and_the_address_of_the_game_are_those_that_are_named(self):
         (self.folder / "logs").mkdir()
         (self.folder / "logs/m1.jsonl").write_text(LOG, encoding="ascii")
-        self.assertEqual(self.converted(record(WHOLE), "--log", str(self.folder / "logs"), "--games", "http://games/base/").returncode, 0)
-        found = json.loads((self.folder / "out/000001-m1.json").read_text(encoding="ascii"))
-        self.assertEqual((found["startTime"], found["stateTimes"]), (BEGAN, [BEGAN, BEGAN + 1_500, BEGAN + 3_000]))
+        self.assertEqual(self.converted(WHOLE, "ggp-base", "--log", self.folder / "logs", "--games", "http://games/base/").returncode, 0)
+        found = json.loads((self.out / "000001-m1.json").read_text(encoding="ascii"))
+        self.assertEqual((found["startTime"], found["stateTimes"]), (BEGAN, [BEGAN, SIX + 2_500, SIX + 4_000]))
         self.assertEqual(found["gameMetaURL"], "http://games/base/countdown/")
 
     def test_nothing_is_written_for_a_record_that_is_not_lawful(self):
-        said = self.converted(record(FAULTY) + "no record\n" + record(WHOLE))
+        said = self.converted(FAULTY + "no record\n" + WHOLE, "ggp-base")
         self.assertEqual((said.returncode, self.files()), (1, ["000003-m1.json"]))
         lines = said.stderr.splitlines()
         self.assertEqual(lines[0], f"ggp-records: not written: {self.pile}, line 1: not lawful: state 1")
@@ -128,34 +80,27 @@ class Files(unittest.TestCase):
         self.assertEqual(lines[2], "ggp-records: 1 not lawful, 1 no record, 1 lawful")
 
     def test_a_match_that_was_given_up_has_no_goals(self):
-        aborted = json.loads(record(WHOLE))
+        aborted = json.loads(WHOLE)
         aborted |= {"states": aborted["states"][:1], "moves": [], "errors": [], "goalValues": [], "phase": "aborted", "cause": "asked"}
-        self.assertEqual(self.converted(json.dumps(aborted) + "\n").returncode, 0)
-        text = (self.folder / "out/000001-m1.json").read_text(encoding="ascii")
+        self.assertEqual(self.converted(json.dumps(aborted) + "\n", "ggp-base").returncode, 0)
+        text = (self.out / "000001-m1.json").read_text(encoding="ascii")
         found = json.loads(text)
         self.assertEqual((found["isCompleted"], found["isAborted"], found["moves"]), (False, True, []))
         self.assertFalse({"goalValues", "errors"} & set(found))
         read_match(text)
 
-    def test_a_log_that_is_not_there_is_told_before_anything_is_written(self):
-        said = self.converted(record(WHOLE), "--log", str(self.folder / "none"))
-        self.assertEqual((said.returncode, (self.folder / "out").exists()), (3, False))
-
     def test_a_text_gives_back_the_moves_and_errors(self):
         """The text of a match is a paragraph: headers, and a row for each turn. The error of a replaced move comes after `;`."""
         (self.folder / "m1.jsonl").write_text(LOG, encoding="ascii")
-        replaced = json.dumps(json.loads(record(WHOLE)) | {"errors": [["", "CE"], ["IL (take 9)", ""]]}) + "\n"
-        said = self.converted(record(WHOLE) + record(FAULTY) + replaced, "--log", str(self.folder / "m1.jsonl"), action="pgn")
+        replaced = json.dumps(json.loads(WHOLE) | {"errors": [["", "CE"], ["IL (take 9)", ""]]}) + "\n"
+        said = self.converted(WHOLE + FAULTY + replaced, "pgn", "--log", self.folder / "m1.jsonl")
         self.assertEqual((said.returncode, said.stderr.count("not written: ")), (1, 1), said.stderr)
-        texts = (self.folder / "out").read_text(encoding="ascii").split("\n\n")
+        texts = self.out.read_text(encoding="ascii").split("\n\n")
         headers = dict(re.findall('^\\[(.*) "(.*)"\\]$', texts[0], re.MULTILINE))
-        names = {"Match": "m1", "Game": "countdown", "red": "ann", "blue": "bob", "Result": "0-100", "Date": "2026-11-28T06:00:01.000Z"}
+        names = {"Match": "m1", "Game": "countdown", "red": "ann", "blue": "bob", "Result": "0-100", "Date": "2026-11-28T06:00:00.900Z"}
         self.assertEqual({name: headers[name] for name in names}, names)
-        for text, found in zip(texts, map(json.loads, (record(WHOLE), replaced)), strict=True):
+        for text, found in zip(texts, map(json.loads, (WHOLE, replaced)), strict=True):
             turns = [row.partition(". ")[2].partition(" ; ") for row in text.splitlines() if row[0] != "["]
             self.assertEqual([list(map(spelled, expressions(moves))) for moves, _, _ in turns], found["moves"])
             errors = [dict(error.split(": ") for error in said.split("; ") if error) for _, _, said in turns]
             self.assertEqual([[said.get(role, "") for role in found["roles"]] for said in errors], found["errors"])
-
-    def test_lists_are_spaced_as_ggp_base_spaces_them(self):
-        self.assertEqual(spaced("(a (b c) d)"), "( a ( b c ) d )")
